@@ -1,0 +1,45 @@
+-- Lists of numbers: membership, counting, searching and tabulating. Every other crate's definitions are made of these. Assumes nothing.
+use mathlib.Core.Bool.{Bool, true, false, _&&_, _||_, cond}
+use mathlib.Core.List.{List, [], _∷_, _++_}
+use mathlib.Core.Option.{Option, none, some}
+use Prim.Native.Nat.{ℕ, zero, suc, _+_, _<_}
+use lib.Dec.{eqb, ltb}
+use lib.ListN.{length, drop}
+
+unfoldable pub member : ℕ → List ℕ → Bool
+member v [] = false
+member v (x ∷ xs) = eqb x v || member v xs
+
+-- how many numbers below n pass a test
+unfoldable pub tally : (n : ℕ) → (ℕ → Bool) → ℕ
+tally zero f = 0
+tally (suc n) f = cond (f n) 1 0 + tally n f
+
+-- every number below n passes a test
+unfoldable pub all-below : (n : ℕ) → (ℕ → Bool) → Bool
+all-below zero f = true
+all-below (suc n) f = f n && all-below n f
+
+-- the first answer that f gives at start, start + 1, ..
+unfoldable pub first-from {ℓ} : {A : Type ℓ} → (left start : ℕ) → (ℕ → Option A) → Option A
+first-from zero i f = none
+first-from (suc k) i f = elim (f i) [ none ↦ first-from k (suc i) f | some a ↦ some a ]
+
+abbrev pub first-below {ℓ} : {A : Type ℓ} → (n : ℕ) → (ℕ → Option A) → Option A
+first-below n f = first-from n 0 f
+
+unfoldable pub when-true : Bool → ℕ → Option ℕ
+when-true b i = cond b (some i) none
+
+-- the lowest number below n that passes a test
+abbrev pub lowest-below : (n : ℕ) → (ℕ → Bool) → Option ℕ
+lowest-below n f = first-below n (λ i. when-true (f i) i)
+
+-- f start ∷ f (start + 1) ∷ ..
+unfoldable pub tabulate-from {ℓ} : {A : Type ℓ} → (many start : ℕ) → (ℕ → A) → List A
+tabulate-from zero i f = []
+tabulate-from (suc k) i f = f i ∷ tabulate-from k (suc i) f
+
+-- a list written over the front of another
+unfoldable pub in-front {ℓ} : {A : Type ℓ} → (new old : List A) → List A
+in-front new old = new ++ drop (length new) old
