@@ -2,3 +2,4 @@ pub mod Tests
 pub mod Members
 pub mod Tallies
 pub mod Distinct
+pub mod Filters

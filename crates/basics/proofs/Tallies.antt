@@ -5,8 +5,8 @@ use mathlib.Core.Logic.{_⊎_, inl, inr}
 use Prim.Native.Nat.{ℕ, zero, suc, _+_, _≤_, _<_, zero-le}
 use native.Mathlib.Nat.{not-suc-le-zero, le-refl}
 use native.Mathlib.Omega.{arith}
-use lib.Dec.{eqb}
-use borrow.Author.Tests.{eqb-true, eqb-false}
+use lib.Dec.{eqb, leb}
+use borrow.Author.Tests.{leb-true, leb-false, eqb-true, eqb-false}
 use Rattle.basics.specs.Lists.{tally}
 use Rattle.basics.proofs.Tests.{by-cases, either}
 
@@ -68,3 +68,18 @@ pub tally-full : (n : ℕ) (f : ℕ → Bool) → ((i : ℕ) → i < n → f i �
 unfolding tally
 tally-full zero f h = refl
 tally-full (suc n) f h = rw (h n (le-refl (suc n)), tally-full n f (λ i l. h i (omega arith))) (omega arith)
+
+-- ---- a lower bound, and a test that fails from there on
+pub tally-further : (m n : ℕ) (f : ℕ → Bool) → m ≤ n → tally m f ≤ tally n f
+unfolding tally
+tally-further m zero f h = subst (λ (z : ℕ). tally m f ≤ tally z f) (let e : m ≡ 0 = omega arith in e) (le-refl (tally m f))
+tally-further m (suc n) f h =
+    by-cases (eqb m (suc n)) (λ t. subst (λ (z : ℕ). tally m f ≤ tally z f) (eqb-true m (suc n) t) (le-refl (tally m f)))
+    (λ e. omega (arith, tally-further m n f (omega (arith, eqb-false m (suc n) e))))
+
+pub tally-ends : (m n : ℕ) (f : ℕ → Bool) → ((k : ℕ) → m ≤ k → k < n → f k ≡ false) → tally n f ≤ tally m f
+unfolding tally
+tally-ends m zero f h = zero-le
+tally-ends m (suc n) f h =
+    by-cases (leb m n) (λ t. rw (h n (leb-true m n t) (le-refl (suc n))) (omega (arith, tally-ends m n f (λ k a b. h k a (omega arith)))))
+    (λ e. tally-further (suc n) m f (omega (arith, leb-false m n e)))

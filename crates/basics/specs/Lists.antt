@@ -10,6 +10,16 @@ unfoldable pub member : ℕ → List ℕ → Bool
 member v [] = false
 member v (x ∷ xs) = eqb x v || member v xs
 
+-- the elements that pass a test
+unfoldable pub filter {ℓ} : {A : Type ℓ} → (A → Bool) → List A → List A
+filter f [] = []
+filter f (x ∷ xs) = cond (f x) (x ∷ filter f xs) (filter f xs)
+
+-- every element passes a test
+unfoldable pub all {ℓ} : {A : Type ℓ} → (A → Bool) → List A → Bool
+all f [] = true
+all f (x ∷ xs) = f x && all f xs
+
 -- how many numbers below n pass a test
 unfoldable pub tally : (n : ℕ) → (ℕ → Bool) → ℕ
 tally zero f = 0

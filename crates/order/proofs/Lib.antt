@@ -1,0 +1,6 @@
+pub mod Runs
+pub mod Greedy
+pub mod Steps
+pub mod Closure
+pub mod Extensions
+pub mod Columns

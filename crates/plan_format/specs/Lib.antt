@@ -1,0 +1,6 @@
+pub mod Refusal
+pub mod Grammar
+pub mod Form
+pub mod Plan
+pub mod Sound
+pub mod Stored

@@ -1,0 +1,86 @@
+-- A plan, and the plan of a list of numbers. Assumes nothing: these are definitions.
+use mathlib.Core.Bool.{Bool, true, false, cond}
+use mathlib.Core.List.{List, [], _∷_}
+use Prim.Native.Nat.{ℕ, zero, suc, _+_, _*_}
+use lib.ListN.{length, getD, take, drop}
+use Rattle.plan_format.specs.Form.{Form}
+
+-- a value of a semaphore, waited for or signalled
+pub record Point : Type 0 where
+  pub semaphore : ℕ
+  pub value : ℕ
+
+-- a use (kind 0) or a free (kind 1) of a buffer
+pub record Mark : Type 0 where
+  pub buffer : ℕ
+  pub kind : ℕ
+
+pub record Operation : Type 0 where
+  pub queue : ℕ
+  pub waits : List Point
+  pub signals : List Point
+  pub marks : List Mark
+
+-- 01: "Queues, semaphores, buffers and operations are named by position from 0."
+pub record Plan : Type 0 where
+  pub axes : List ℕ
+  pub owners : List ℕ
+  pub sizes : List ℕ
+  pub operations : List Operation
+
+abbrev pub no-operation : Operation
+no-operation = record { queue = 0; waits = []; signals = []; marks = [] }
+
+-- how many operations, and the one at a position
+unfoldable pub count : Plan → ℕ
+count p = length (p .operations)
+
+unfoldable pub op : Plan → (i : ℕ) → Operation
+op p i = getD (p .operations) i no-operation
+
+unfoldable pub queues : Plan → ℕ
+queues p = length (p .axes)
+
+-- ---- from numbers, in stored order
+unfoldable pub points-in : (many : ℕ) → List ℕ → List Point
+points-in zero xs = []
+points-in (suc k) xs = record { semaphore = getD xs 0 0; value = getD xs 1 0 } ∷ points-in k (drop 2 xs)
+
+unfoldable pub marks-in : (many : ℕ) → List ℕ → List Mark
+marks-in zero xs = []
+marks-in (suc k) xs = record { buffer = getD xs 0 0; kind = getD xs 1 0 } ∷ marks-in k (drop 2 xs)
+
+-- how many numbers stand before an operation's wait count
+unfoldable pub heading : Form → ℕ
+heading F = cond (F .has-part) 2 1
+
+unfoldable pub operation-in : Form → List ℕ → Operation
+operation-in F xs =
+    let h = heading F in
+    let w = getD xs h 0 in
+    let s = getD xs (h + 1 + 2 * w) 0 in
+    let m = getD xs (h + 2 + 2 * w + 2 * s) 0 in
+    record { queue = getD xs 0 0; waits = points-in w (drop (h + 1) xs); signals = points-in s (drop (h + 2 + 2 * w) xs); marks = marks-in m (drop (h + 3 + 2 * w + 2 * s) xs) }
+
+-- how many numbers an operation takes
+unfoldable pub operation-long : Form → List ℕ → ℕ
+operation-long F xs =
+    let h = heading F in
+    let w = getD xs h 0 in
+    let s = getD xs (h + 1 + 2 * w) 0 in h + 3 + 2 * w + 2 * s + 2 * getD xs (h + 2 + 2 * w + 2 * s) 0
+
+unfoldable pub operations-in : Form → (many : ℕ) → List ℕ → List Operation
+operations-in F zero xs = []
+operations-in F (suc k) xs = operation-in F xs ∷ operations-in F k (drop (operation-long F xs) xs)
+
+unfoldable pub plan-of : Form → List ℕ → Plan
+plan-of F xs =
+    let q = getD xs 0 0 in
+    let s = getD xs (1 + q) 0 in
+    let b = getD xs (2 + q + s) 0 in
+    record {
+      axes = take q (drop 1 xs);
+      owners = take s (drop (2 + q) xs);
+      sizes = take b (drop (3 + q + s) xs);
+      operations = operations-in F (getD xs (3 + q + s + b) 0) (drop (4 + q + s + b) xs);
+    }

@@ -1,0 +1,74 @@
+-- Refusals 6 to 8, and sound plans: those with none of them, every position in range. Assumes nothing: these are definitions.
+use mathlib.Core.Path.{_≡_}
+use mathlib.Core.Bool.{Bool, true, false, _&&_, _||_, not, cond}
+use mathlib.Core.List.{List, [], _∷_, _++_}
+use mathlib.Core.Option.{Option, none, some}
+use Prim.Native.Nat.{ℕ, zero, suc, _≤_, _<_, max}
+use lib.Dec.{ltb, leb, eqb}
+use lib.ListN.{length, getD, getElem?}
+use Rattle.plan_format.specs.Refusal.{Refusal, refusal, none-given, or-else}
+use Rattle.plan_format.specs.Plan.{Point, Mark, Operation, Plan, count, op, queues}
+
+-- 01: "Semaphores start at 0": the highest value signalled on a semaphore, 0 where there is none
+unfoldable pub highest-in : (s : ℕ) → List Point → ℕ
+highest-in s [] = 0
+highest-in s (x ∷ xs) = max (cond (eqb (x .semaphore) s) (x .value) 0) (highest-in s xs)
+
+unfoldable pub highest : (s : ℕ) → List Operation → ℕ
+highest s [] = 0
+highest s (o ∷ os) = max (highest-in s (o .signals)) (highest s os)
+
+-- 01: "Only the owner queue signals"
+unfoldable pub is-queue : Option ℕ → (q : ℕ) → Bool
+is-queue none q = false
+is-queue (some o) q = eqb o q
+
+unfoldable pub owns : Plan → (q s : ℕ) → Bool
+owns p q s = is-queue (getElem? (p .owners) s) q
+
+-- 01: "6: signal by a queue that isn't the owner. 7: signal not higher than the last, or 0", "6 and 7 in operation order and list
+-- order, 6 first for one signal"; `own` are the operation's signals before these
+unfoldable pub signals-number : Plan → (queue : ℕ) → (before : List Operation) → (own rest : List Point) → ℕ
+signals-number p q bs own [] = 0
+signals-number p q bs own (x ∷ xs) =
+    cond (not (owns p q (x .semaphore))) 6
+    (cond (leb (x .value) (max (highest (x .semaphore) bs) (highest-in (x .semaphore) own))) 7
+    (signals-number p q bs (x ∷ own) xs))
+
+unfoldable pub signals-refusal : (i : ℕ) → Plan → (before rest : List Operation) → Refusal
+signals-refusal i p bs [] = none-given
+signals-refusal i p bs (o ∷ os) =
+    let n = signals-number p (o .queue) bs [] (o .signals) in
+    cond (eqb n 0) (signals-refusal (suc i) p (bs ++ (o ∷ [])) os) (refusal n i)
+
+-- 01: "8: wait above the highest signal of its semaphore, and above 0"
+unfoldable pub too-high : Plan → Point → Bool
+too-high p w = ltb 0 (w .value) && ltb (highest (w .semaphore) (p .operations)) (w .value)
+
+unfoldable pub any-too-high : Plan → List Point → Bool
+any-too-high p [] = false
+any-too-high p (w ∷ ws) = too-high p w || any-too-high p ws
+
+unfoldable pub waits-refusal : (i : ℕ) → Plan → List Operation → Refusal
+waits-refusal i p [] = none-given
+waits-refusal i p (o ∷ os) = cond (any-too-high p (o .waits)) (refusal 8 i) (waits-refusal (suc i) p os)
+
+-- 01: "Then 6 and 7 in operation order and list order ..; then 8 likewise"
+unfoldable pub rules-refusal : Plan → Refusal
+rules-refusal p = or-else (signals-refusal 0 p [] (p .operations)) (waits-refusal 0 p (p .operations))
+
+-- every position that an operation names is in its list
+pub record In-range (p : Plan) (o : Operation) : Type 0 where
+  pub queue : o .queue < queues p
+  pub waits : (k : ℕ) → k < length (o .waits) → getD (o .waits) k (record { semaphore = 0; value = 0 }) .semaphore < length (p .owners)
+  pub signals : (k : ℕ) → k < length (o .signals) → getD (o .signals) k (record { semaphore = 0; value = 0 }) .semaphore < length (p .owners)
+  pub marks : (k : ℕ) → k < length (o .marks) → getD (o .marks) k (record { buffer = 0; kind = 0 }) .buffer < length (p .sizes)
+  pub kinds : (k : ℕ) → k < length (o .marks) → getD (o .marks) k (record { buffer = 0; kind = 0 }) .kind < 2
+
+-- what refusals 1 to 8 leave of a plan
+pub record Sound (p : Plan) : Type 0 where
+  pub few-queues : queues p ≤ 16
+  pub few-operations : count p ≤ 1024
+  pub axes-distinct : (i k : ℕ) → i < k → k < queues p → getD (p .axes) i 0 ≡ getD (p .axes) k 0 → ⊥
+  pub in-range : (i : ℕ) → i < count p → In-range p (op p i)
+  pub rules : rules-refusal p .number ≡ 0

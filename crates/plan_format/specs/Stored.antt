@@ -1,0 +1,58 @@
+-- Stored plans as bytes and as lists of numbers: what the reader and the writer answer and leave. Assumes nothing: these are definitions.
+use mathlib.Core.Path.{_≡_}
+use mathlib.Core.Bool.{Bool, true, false, cond}
+use mathlib.Core.List.{List, [], _∷_, _++_}
+use Prim.Native.Nat.{ℕ}
+use lib.Dec.{ltb}
+use lib.ListN.{length}
+use Rattle.basics.specs.Lists.{in-front}
+use Rattle.plan_format.specs.Refusal.{Refusal, refusal, none-given, given, or-else}
+use Rattle.plan_format.specs.Grammar.{bytes, numbers, Scan, spell-by}
+use Rattle.plan_format.specs.Form.{Form, first-form, plan-grammar, scanned-by}
+use Rattle.plan_format.specs.Plan.{Plan, plan-of}
+use Rattle.plan_format.specs.Sound.{rules-refusal}
+use Rattle.plan_format.specs.declared.Told.{Told}
+
+-- the reading of bytes, and of a list of numbers
+unfoldable pub scanned : List ℕ → Scan
+scanned bs = scanned-by bytes first-form bs
+
+unfoldable pub listed : List ℕ → Scan
+listed xs = scanned-by numbers first-form xs
+
+unfoldable pub plan-in : List ℕ → Plan
+plan-in bs = plan-of first-form (scanned bs .got)
+
+-- the stored bytes of a list of numbers
+unfoldable pub spelled : List ℕ → List ℕ
+spelled xs = first-form .lead ++ spell-by (plan-grammar first-form) (record { left = xs; made = [] }) .made
+
+-- refusals 1 to 8
+unfoldable pub plan-refusal : List ℕ → Refusal
+plan-refusal bs = or-else (scanned bs .fault) (rules-refusal (plan-in bs))
+
+-- 01: "After those, for reader and writer alike, too little room is 9 with the length needed."
+unfoldable pub room-for : (needed room : ℕ) → Refusal
+room-for n k = cond (ltb k n) (refusal 9 n) none-given
+
+unfoldable pub read-refusal : (bytes : List ℕ) → (room : ℕ) → Refusal
+read-refusal bs k = or-else (scanned bs .fault) (room-for (length (scanned bs .got)) k)
+
+unfoldable pub write-refusal : (numbers : List ℕ) → (room : ℕ) → Refusal
+write-refusal xs k = or-else (listed xs .fault) (room-for (length (spelled xs)) k)
+
+-- number and place as the refusal has them; the answer where none is given, else 0
+pub record Tells (f : Refusal) (answer : ℕ) (r : Told) : Type 0 where
+  pub number : r .number ≡ f .number
+  pub place : r .place ≡ f .place
+  pub answer-is : r .answer ≡ cond (given f) 0 answer
+
+-- 01: "A success hands back 0 and, beside it, the length. A refusal leaves the room untouched; past the length nothing is touched."
+unfoldable pub Fills : Refusal → (new : List ℕ) → Told → (room room-now : List ℕ) → Type 0
+Fills f new r o x = Tells f (length new) r × (x ≡ cond (given f) o (in-front new o))
+
+unfoldable pub Read-says : (bytes : List ℕ) → Told → (room room-now : List ℕ) → Type 0
+Read-says bs r o x = Fills (read-refusal bs (length o)) (scanned bs .got) r o x
+
+unfoldable pub Write-says : (numbers : List ℕ) → Told → (room room-now : List ℕ) → Type 0
+Write-says xs r o x = Fills (write-refusal xs (length o)) (spelled xs) r o x
