@@ -45,10 +45,24 @@ when-true b i = cond b (some i) none
 abbrev pub lowest-below : (n : ℕ) → (ℕ → Bool) → Option ℕ
 lowest-below n f = first-below n (λ i. when-true (f i) i)
 
+-- the highest number below n that passes a test
+unfoldable pub highest-below : (n : ℕ) → (ℕ → Bool) → Option ℕ
+highest-below zero f = none
+highest-below (suc n) f = cond (f n) (some n) (highest-below n f)
+
+unfoldable pub is-some {ℓ} : {A : Type ℓ} → Option A → Bool
+is-some none = false
+is-some (some a) = true
+
 -- f start ∷ f (start + 1) ∷ ..
 unfoldable pub tabulate-from {ℓ} : {A : Type ℓ} → (many start : ℕ) → (ℕ → A) → List A
 tabulate-from zero i f = []
 tabulate-from (suc k) i f = f i ∷ tabulate-from k (suc i) f
+
+-- f start ++ f (start + 1) ++ ..
+unfoldable pub join-from {ℓ} : {A : Type ℓ} → (many start : ℕ) → (ℕ → List A) → List A
+join-from zero i f = []
+join-from (suc k) i f = f i ++ join-from k (suc i) f
 
 -- a list written over the front of another
 unfoldable pub in-front {ℓ} : {A : Type ℓ} → (new old : List A) → List A

@@ -1,0 +1,76 @@
+-- The check of a plan: refusals 9 to 11, what a call tells and what it leaves in table and list (01, "Numbers handed back").
+-- Assumes nothing: these are definitions.
+use mathlib.Core.Path.{_≡_}
+use mathlib.Core.Bool.{Bool, true, false, _&&_, cond}
+use mathlib.Core.List.{List, [], _∷_, _++_}
+use mathlib.Core.Option.{Option, none, some}
+use Prim.Native.Nat.{ℕ, _*_}
+use lib.Dec.{ltb, eqb}
+use lib.ListN.{length, replicate}
+use Rattle.basics.specs.Lists.{in-front}
+use Rattle.plan_format.specs.Refusal.{Refusal, refusal, none-given, given, or-else}
+use Rattle.plan_format.specs.Plan.{Plan, count}
+use Rattle.plan_format.specs.Stored.{plan-in, plan-refusal, room-for, Tells}
+use Rattle.plan_format.specs.declared.Told.{Told}
+use Rattle.plan_order.specs.Rows.{rows}
+use Rattle.plan_order.specs.Runs.{missing, run-list}
+use Rattle.plan_order.specs.Holdings.{broken}
+
+-- 01: "9: lent table under 16 numbers for each operation, or lent run list under two for each", "table before list"
+unfoldable pub room-refusal : (n table list : ℕ) → Refusal
+room-refusal n t l = or-else (room-for (16 * n) t) (room-for (2 * n) l)
+
+unfoldable pub refused-at : (number : ℕ) → (place : Option ℕ) → (otherwise : Refusal) → Refusal
+refused-at n none r = r
+refused-at n (some i) r = refusal n i
+
+-- 01: "10: stuck: no full run; lowest operation that is in no run. 11: a broken mark; lowest operation with one."
+unfoldable pub order-refusal : Plan → Refusal
+order-refusal p = refused-at 10 (missing p) (refused-at 11 (broken p) none-given)
+
+-- what is left in table and list
+pub data Leaves : Type 0 where
+  untouched : Leaves
+  zeros : Leaves
+  rows-and-run : Leaves
+
+pub record Outcome : Type 0 where
+  pub refusal : Refusal
+  pub leaves : Leaves
+
+unfoldable pub outcome : Refusal → Leaves → Outcome
+outcome f l = record { refusal = f; leaves = l }
+
+-- the first of two whose refusal is given, else the second
+unfoldable pub or-then : Outcome → Outcome → Outcome
+or-then a b = cond (given (a .refusal)) a b
+
+-- 01: "Refusals 1 to 9 leave table and list untouched. 10 and 11 leave zeros .. A pass, any answer, and 12, 13, 15 and 21 leave the rows
+-- and the run there"
+unfoldable pub check-outcome : (bytes : List ℕ) → (table list : ℕ) → Outcome
+check-outcome bs t l =
+    let p = plan-in bs in
+    or-then (outcome (plan-refusal bs) untouched)
+    (or-then (outcome (room-refusal (count p) t l) untouched)
+    (or-then (outcome (order-refusal p) zeros) (outcome none-given rows-and-run)))
+
+-- 01: "zeros in the first 16 × n numbers of the table and the first 2 × n of the list", "Numbers past those are never touched."
+unfoldable pub left-in : Leaves → (size : ℕ) → (new old : List ℕ) → List ℕ
+left-in untouched k new old = old
+left-in zeros k new old = in-front (replicate k 0) old
+left-in rows-and-run k new old = in-front new old
+
+unfoldable pub table-left : Leaves → Plan → (table : List ℕ) → List ℕ
+table-left l p t = left-in l (16 * count p) (rows p) t
+
+unfoldable pub list-left : Leaves → Plan → (list : List ℕ) → List ℕ
+list-left l p t = left-in l (2 * count p) (run-list p) t
+
+-- what a call on a plan hands back and leaves
+pub record Says (o : Outcome) (answer : ℕ) (p : Plan) (r : Told) (table table-now list list-now : List ℕ) : Type 0 where
+  pub tells : Tells (o .refusal) answer r
+  pub table-holds : table-now ≡ table-left (o .leaves) p table
+  pub list-holds : list-now ≡ list-left (o .leaves) p list
+
+unfoldable pub Check-says : (bytes : List ℕ) → Told → (table table-now list list-now : List ℕ) → Type 0
+Check-says bs r t x l y = Says (check-outcome bs (length t) (length l)) 0 (plan-in bs) r t x l y

@@ -1,0 +1,65 @@
+-- The reuse question (01, "The reuse question"). Assumes nothing: these are definitions.
+use mathlib.Core.Bool.{Bool, true, false, not, cond}
+use mathlib.Core.List.{List, [], _∷_}
+use mathlib.Core.Option.{Option, none, some}
+use Prim.Native.Nat.{ℕ}
+use lib.Dec.{leb, eqb}
+use lib.ListN.{length}
+use Rattle.basics.specs.Lists.{all, highest-below}
+use Rattle.plan_format.specs.Refusal.{Refusal, refusal, none-given, or-else}
+use Rattle.plan_format.specs.Plan.{Plan, count, op, queues}
+use Rattle.plan_format.specs.Stored.{plan-in}
+use Rattle.plan_format.specs.declared.Told.{Told}
+use Rattle.plan_order.specs.Precedence.{at-or-before}
+use Rattle.plan_order.specs.Holdings.{Placed, is-free, buffer-marks}
+use Rattle.plan_order.specs.Check.{Outcome, outcome, or-then, rows-and-run, check-outcome, Says}
+use Rattle.plan_order.specs.declared.Verdict.{Verdict}
+use Rattle.plan_order.specs.declared.Verdict.the-variants.{Fresh, Reusable, Held, NotOrdered, StrayUse}
+
+-- 01: "0 fresh, 1 reusable, 2 held, 3 not ordered, 4 stray use"
+unfoldable pub number-of : Verdict → ℕ
+number-of Fresh = 0
+number-of Reusable = 1
+number-of Held = 2
+number-of NotOrdered = 3
+number-of StrayUse = 4
+
+-- the queue's last operation
+unfoldable pub last-on : Plan → (q : ℕ) → Option ℕ
+last-on p q = highest-below (count p) (λ i. eqb (op p i .queue) q)
+
+-- i is the last operation or before it; with no operation on the queue it is not
+unfoldable pub seen-by : Plan → (last : Option ℕ) → (i : ℕ) → Bool
+seen-by p none i = false
+seen-by p (some j) i = at-or-before p i j
+
+unfoldable pub last-mark : List Placed → Option Placed
+last-mark [] = none
+last-mark (m ∷ []) = some m
+last-mark (m ∷ n ∷ ms) = last-mark (n ∷ ms)
+
+-- 01: "fresh: the buffer has no mark. held: its last mark is a use. reusable: the last mark is a free, and every operation with a mark on
+-- it is the queue's last operation or before it. stray use: the last mark is a free that is so placed, but another marked operation
+-- isn't. not ordered: otherwise, also for a queue with no operations"
+unfoldable pub verdict-on : Plan → (last : Option ℕ) → (marks : List Placed) → (last-mark : Option Placed) → Verdict
+verdict-on p j ms none = Fresh
+verdict-on p j ms (some m) =
+    cond (not (is-free m)) Held
+    (cond (not (seen-by p j (m .by))) NotOrdered (cond (all (λ n. seen-by p j (n .by)) ms) Reusable StrayUse))
+
+unfoldable pub verdict : Plan → (q b : ℕ) → Verdict
+verdict p q b = let ms = buffer-marks p b in verdict-on p (last-on p q) ms (last-mark ms)
+
+-- 01: "12, 13: question names no such queue; no such buffer, place the number asked"
+unfoldable pub question-refusal : Plan → (q b : ℕ) → Refusal
+question-refusal p q b =
+    or-else (cond (leb (queues p) q) (refusal 12 q) none-given) (cond (leb (length (p .sizes)) b) (refusal 13 b) none-given)
+
+-- 01: "The plan is checked first."
+unfoldable pub reuse-outcome : (bytes : List ℕ) → (q b table list : ℕ) → Outcome
+reuse-outcome bs q b t l =
+    or-then (check-outcome bs t l) (outcome (question-refusal (plan-in bs) q b) rows-and-run)
+
+unfoldable pub Reuse-says : (bytes : List ℕ) → (q b : ℕ) → Told → (table table-now list list-now : List ℕ) → Type 0
+Reuse-says bs q b r t x l y =
+    Says (reuse-outcome bs q b (length t) (length l)) (number-of (verdict (plan-in bs) q b)) (plan-in bs) r t x l y

@@ -1,0 +1,147 @@
+-- The small plans that 01 judges by hand, each with its answer. Assumes nothing: these are definitions.
+use mathlib.Core.Bool.{Bool, true, false, cond}
+use mathlib.Core.List.{List, [], _∷_, _++_, map, flatten}
+use Prim.Native.Nat.{ℕ, _-_, _*_}
+use lib.ListN.{length, replicate, take}
+use Rattle.plan_format.specs.Refusal.{given}
+use Rattle.plan_format.specs.Grammar.{digits}
+use Rattle.plan_format.specs.Plan.{count}
+use Rattle.plan_format.specs.Stored.{plan-in}
+use Rattle.plan_order.specs.Rows.{rows}
+use Rattle.plan_order.specs.Runs.{standard, ready-numbers}
+use Rattle.plan_order.specs.Check.{check-outcome}
+
+-- ---- stored bytes, written out section by section
+unfoldable pub section : (width : ℕ) → (entries : List (List ℕ)) → List ℕ
+section w es = digits w (length es) ++ flatten es
+
+-- a value of a semaphore, waited for or signalled
+unfoldable pub at : (semaphore value : ℕ) → List ℕ
+at s v = s ∷ digits 8 v
+
+unfoldable pub use-of : (buffer : ℕ) → List ℕ
+use-of b = digits 2 b ++ (0 ∷ [])
+
+unfoldable pub free-of : (buffer : ℕ) → List ℕ
+free-of b = digits 2 b ++ (1 ∷ [])
+
+unfoldable pub operation : (queue : ℕ) → (waits signals marks : List (List ℕ)) → List ℕ
+operation q ws ss ms = q ∷ section 1 ws ++ section 1 ss ++ section 1 ms
+
+unfoldable pub plan : (axes owners sizes : List ℕ) → (operations : List (List ℕ)) → List ℕ
+plan as-read os bs ops =
+    section 1 (map (λ a. digits 8 a) as-read) ++ section 1 (map (λ o. o ∷ []) os) ++ section 2 (map (λ b. digits 4 b) bs) ++ section 2 ops
+
+-- ---- answers
+pub data Answer : Type 0 where
+  passed : (run ready rows : List ℕ) → Answer
+  refused : (number place : ℕ) → Answer
+
+-- rows of few columns, filled up with zeros to sixteen
+unfoldable pub wide : List (List ℕ) → List ℕ
+wide rs = flatten (map (λ r. r ++ replicate (16 - length r) 0) rs)
+
+unfoldable pub judge : (bytes : List ℕ) → Answer
+judge bs =
+    let f = check-outcome bs 1000 1000 .refusal in
+    let p = plan-in bs in
+    cond (given f) (refused (f .number) (f .place)) (passed (standard p) (ready-numbers p [] (standard p)) (rows p))
+
+pub record Case : Type 0 where
+  pub stored : List ℕ
+  pub answer : Answer
+
+unfoldable pub case : List ℕ → Answer → Case
+case bs a = record { stored = bs; answer = a }
+
+-- ---- the cases, in 01's order
+-- T1: six zero bytes: passed, empty run; five: 1 at 4; seven: 3 at 6
+unfoldable pub t1 : List Case
+t1 =
+    case (replicate 6 0) (passed [] [] []) ∷ case (replicate 5 0) (refused 1 4) ∷ case (replicate 7 0) (refused 3 6) ∷ []
+
+-- T2: passed, row 1
+unfoldable pub t2 : List Case
+t2 =
+    case (1 ∷ 7 ∷ 0 ∷ 0 ∷ 0 ∷ 0 ∷ 0 ∷ 0 ∷ 0 ∷ 0 ∷ 0 ∷ 0 ∷ 1 ∷ 0 ∷ 0 ∷ 0 ∷ 0 ∷ 0 ∷ [])
+    (passed (0 ∷ []) (1 ∷ []) (wide ((1 ∷ []) ∷ []))) ∷ []
+
+-- first byte 17: 2 at 0
+unfoldable pub first-17 : List Case
+first-17 = case (17 ∷ replicate 5 0) (refused 2 0) ∷ []
+
+-- T3: run 0 1 2, ready 1 1 1, rows 1 0 0, 1 1 0 and 1 1 1
+unfoldable pub t3-stored : List ℕ
+t3-stored =
+    plan (1 ∷ 2 ∷ 3 ∷ []) (0 ∷ 1 ∷ []) (4096 ∷ [])
+    (operation 0 [] (at 0 1 ∷ []) (use-of 0 ∷ [])
+    ∷ operation 1 (at 0 1 ∷ []) (at 1 1 ∷ []) (use-of 0 ∷ free-of 0 ∷ [])
+    ∷ operation 2 (at 1 1 ∷ []) [] (use-of 0 ∷ []) ∷ [])
+
+unfoldable pub t3 : List Case
+t3 =
+    case t3-stored
+    (passed (0 ∷ 1 ∷ 2 ∷ []) (1 ∷ 1 ∷ 1 ∷ []) (wide ((1 ∷ 0 ∷ 0 ∷ []) ∷ (1 ∷ 1 ∷ 0 ∷ []) ∷ (1 ∷ 1 ∷ 1 ∷ []) ∷ []))) ∷ []
+
+-- T4: queue 0 waits S1≥1 and signals S0=1, queue 1 waits S0≥1 and signals S1=1: 10 at 0
+unfoldable pub t4 : List Case
+t4 =
+    case (plan (1 ∷ 2 ∷ []) (0 ∷ 1 ∷ []) []
+    (operation 0 (at 1 1 ∷ []) (at 0 1 ∷ []) [] ∷ operation 1 (at 0 1 ∷ []) (at 1 1 ∷ []) [] ∷ [])) (refused 10 0) ∷ []
+
+-- T5: one operation waits S0≥1 and signals S0=1: 10 at 0
+unfoldable pub t5 : List Case
+t5 = case (plan (1 ∷ []) (0 ∷ []) [] (operation 0 (at 0 1 ∷ []) (at 0 1 ∷ []) [] ∷ [])) (refused 10 0) ∷ []
+
+-- T6: operation 0 (queue 1) waits S0≥1; operation 1 (queue 0) signals S0=1: run 1 0, rows 1 1 and 1 0
+unfoldable pub t6 : List Case
+t6 =
+    case (plan (1 ∷ 2 ∷ []) (0 ∷ []) [] (operation 1 (at 0 1 ∷ []) [] [] ∷ operation 0 [] (at 0 1 ∷ []) [] ∷ []))
+    (passed (1 ∷ 0 ∷ []) (1 ∷ 1 ∷ []) (wide ((1 ∷ 1 ∷ []) ∷ (1 ∷ 0 ∷ []) ∷ []))) ∷ []
+
+-- T7: queue 0 signals 1 to 5 in five operations; operation 5 on queue 1 waits for 2: row 2 1
+unfoldable pub signals-to : List ℕ → List (List ℕ)
+signals-to vs = map (λ v. operation 0 [] (at 0 v ∷ []) []) vs
+
+unfoldable pub t7 : List Case
+t7 =
+    case (plan (1 ∷ 2 ∷ []) (0 ∷ []) [] (signals-to (1 ∷ 2 ∷ 3 ∷ 4 ∷ 5 ∷ []) ++ (operation 1 (at 0 2 ∷ []) [] [] ∷ [])))
+    (passed (0 ∷ 1 ∷ 2 ∷ 3 ∷ 4 ∷ 5 ∷ []) (1 ∷ 1 ∷ 2 ∷ 2 ∷ 2 ∷ 1 ∷ [])
+    (wide ((1 ∷ []) ∷ (2 ∷ []) ∷ (3 ∷ []) ∷ (4 ∷ []) ∷ (5 ∷ []) ∷ (2 ∷ 1 ∷ []) ∷ []))) ∷ []
+
+-- T8: signals 3 and 7: a wait for 4 resolves to 7; a wait for 8 is refusal 8
+unfoldable pub t8-stored : (wait : ℕ) → List ℕ
+t8-stored v = plan (1 ∷ 2 ∷ []) (0 ∷ []) [] (signals-to (3 ∷ 7 ∷ []) ++ (operation 1 (at 0 v ∷ []) [] [] ∷ []))
+
+unfoldable pub t8 : List Case
+t8 =
+    case (t8-stored 4) (passed (0 ∷ 1 ∷ 2 ∷ []) (1 ∷ 1 ∷ 1 ∷ []) (wide ((1 ∷ []) ∷ (2 ∷ []) ∷ (2 ∷ 1 ∷ []) ∷ [])))
+    ∷ case (t8-stored 8) (refused 8 2) ∷ []
+
+-- T9: operation 0 (queue 0) uses and frees b0; 1 (queue 1) uses it, no wait: 11 at 1
+unfoldable pub t9 : List Case
+t9 =
+    case (plan (1 ∷ 2 ∷ []) [] (64 ∷ [])
+    (operation 0 [] [] (use-of 0 ∷ free-of 0 ∷ []) ∷ operation 1 [] [] (use-of 0 ∷ []) ∷ [])) (refused 11 1) ∷ []
+
+-- T10: one operation frees b0, then uses it: 11 at 0
+unfoldable pub t10 : List Case
+t10 = case (plan (1 ∷ []) [] (64 ∷ []) (operation 0 [] [] (free-of 0 ∷ use-of 0 ∷ []) ∷ [])) (refused 11 0) ∷ []
+
+-- T11: queue 0 uses b0, then queue 1, unordered, frees it: 11 at 0
+unfoldable pub t11 : List Case
+t11 =
+    case (plan (1 ∷ 2 ∷ []) [] (64 ∷ [])
+    (operation 0 [] [] (use-of 0 ∷ []) ∷ operation 1 [] [] (free-of 0 ∷ []) ∷ [])) (refused 11 0) ∷ []
+
+-- a signal of 2^64−1 is allowed; any later one on that semaphore is 7
+unfoldable pub greatest-signal : List Case
+greatest-signal =
+    case (plan (1 ∷ []) (0 ∷ []) [] (signals-to (18446744073709551615 ∷ [])))
+    (passed (0 ∷ []) (1 ∷ []) (wide ((1 ∷ []) ∷ [])))
+    ∷ case (plan (1 ∷ []) (0 ∷ []) [] (signals-to (18446744073709551615 ∷ 18446744073709551615 ∷ []))) (refused 7 1)
+    ∷ case (plan (1 ∷ []) (0 ∷ []) [] (signals-to (18446744073709551615 ∷ 1 ∷ []))) (refused 7 1) ∷ []
+
+unfoldable pub cases : List Case
+cases =
+    t1 ++ t2 ++ first-17 ++ t3 ++ t4 ++ t5 ++ t6 ++ t7 ++ t8 ++ t9 ++ t10 ++ t11 ++ greatest-signal
