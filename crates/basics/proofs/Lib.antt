@@ -3,3 +3,5 @@ pub mod Members
 pub mod Tallies
 pub mod Distinct
 pub mod Filters
+pub mod Searches
+pub mod Tables

@@ -1,7 +1,7 @@
 -- Lists of numbers: membership, counting, searching and tabulating. Every other crate's definitions are made of these. Assumes nothing.
 use mathlib.Core.Bool.{Bool, true, false, _&&_, _||_, cond}
 use mathlib.Core.List.{List, [], _∷_, _++_}
-use mathlib.Core.Option.{Option, none, some}
+use mathlib.Core.Option.{Option, none, some, orElse}
 use Prim.Native.Nat.{ℕ, zero, suc, _+_, _<_}
 use lib.Dec.{eqb, ltb}
 use lib.ListN.{length, drop}
@@ -33,7 +33,7 @@ all-below (suc n) f = f n && all-below n f
 -- the first answer that f gives at start, start + 1, ..
 unfoldable pub first-from {ℓ} : {A : Type ℓ} → (left start : ℕ) → (ℕ → Option A) → Option A
 first-from zero i f = none
-first-from (suc k) i f = elim (f i) [ none ↦ first-from k (suc i) f | some a ↦ some a ]
+first-from (suc k) i f = orElse (f i) (first-from k (suc i) f)
 
 abbrev pub first-below {ℓ} : {A : Type ℓ} → (n : ℕ) → (ℕ → Option A) → Option A
 first-below n f = first-from n 0 f

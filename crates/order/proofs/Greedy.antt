@@ -1,13 +1,16 @@
--- The greedy run is a run, and nothing can come after it. Assumes nothing.
-use mathlib.Core.Path.{_≡_, refl}
+-- The greedy run is a run that nothing can follow, and each step is what the choice gave. Assumes nothing.
+use mathlib.Core.Path.{_≡_, refl, sym, _∙_}
 use mathlib.Core.Bool.{Bool, true, false}
-use mathlib.Core.List.{List, [], _∷_, _++_}
+use mathlib.Core.List.{List, [], _∷_, _++_, append-assoc, append-nil}
 use mathlib.Core.Option.{Option, none, some}
-use Prim.Native.Nat.{ℕ, zero, suc, _+_, _≤_}
+use Prim.Native.Nat.{ℕ, zero, suc, _+_, _≤_, _<_, zero-le}
 use native.Mathlib.Omega.{arith}
-use lib.ListN.{length, length-append}
+use lib.Dec.{eqb}
+use lib.ListN.{length, getD, take, length-append}
+use lib.Seq.{take-at, getD-at}
+use borrow.Author.Tests.{eqb-true, eqb-false}
 use Rattle.basics.specs.Lists.{member}
-use Rattle.basics.proofs.Tests.{by-option, clash, is-false}
+use Rattle.basics.proofs.Tests.{by-cases, by-option, clash, is-false}
 use Rattle.order.specs.Runs.{can, runs}
 use Rattle.order.specs.Greedy.{with-next, greedy}
 use Rattle.order.proofs.Runs.{can-below, can-fresh, runs-nil, runs-snoc, full-all}
@@ -41,3 +44,30 @@ module _ (n : ℕ) (enabled : List ℕ → ℕ → Bool) (next : List ℕ → Op
   pub greedy-stuck : (j : ℕ) → can n enabled (greedy next n []) j ≡ false
   unfolding Ends
   greedy-stuck = ends-from n [] (runs-nil n enabled []) (omega arith) .1
+
+-- ---- what the choice gave at each step
+module _ (next : List ℕ → Option ℕ) where
+  greedy-extends : (k : ℕ) (r : List ℕ) → (rest : List ℕ) × (greedy next k r ≡ r ++ rest)
+  unfolding greedy with-next
+  greedy-extends zero r = ([], sym (append-nil r))
+  greedy-extends (suc k) r =
+      by-option (next r) (λ e. rw e (greedy-extends k r))
+      (λ j e. rw e (let w = greedy-extends k (r ++ (j ∷ [])) in ((j ∷ []) ++ w .0, w .1 ∙ append-assoc r (j ∷ []) (w .0))))
+
+  greedy-steps-from : (k : ℕ) (r : List ℕ) (m : ℕ) → length r ≤ m → m < length (greedy next k r) →
+      next (take m (greedy next k r)) ≡ some (getD (greedy next k r) m 0)
+  unfolding greedy with-next
+  greedy-steps-from zero r m a b = absurd (omega arith)
+  greedy-steps-from (suc k) r m a b =
+      by-option (next r)
+      (λ e. rw e (greedy-steps-from k r m a (rw e at b)))
+      (λ j e. let b′ : m < length (greedy next k (r ++ (j ∷ []))) = rw e at b in
+      rw e (by-cases (eqb m (length r))
+      (λ t. let q = eqb-true m (length r) t in
+      let w = greedy-extends k (r ++ (j ∷ [])) in
+      let whole : greedy next k (r ++ (j ∷ [])) ≡ r ++ j ∷ w .0 = w .1 ∙ append-assoc r (j ∷ []) (w .0) in
+      rw (whole, take-at r (j ∷ w .0) m (sym q), getD-at r j (w .0) 0 m (sym q)) e)
+      (λ f. greedy-steps-from k (r ++ (j ∷ [])) m (rw length-append (omega (arith, eqb-false m (length r) f))) b′)))
+
+  pub greedy-steps : (n m : ℕ) → m < length (greedy next n []) → next (take m (greedy next n [])) ≡ some (getD (greedy next n []) m 0)
+  greedy-steps n m l = greedy-steps-from n [] m zero-le l

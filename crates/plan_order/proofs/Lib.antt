@@ -1,0 +1,5 @@
+pub mod Signals
+pub mod Resolution
+pub mod Readiness
+pub mod Standard
+pub mod Precedence

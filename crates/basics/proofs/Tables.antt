@@ -1,0 +1,42 @@
+-- Tabulated and joined lists: their lengths, and what stands at a place. Assumes nothing.
+use mathlib.Core.Path.{_≡_, refl, ap, _∙_}
+use mathlib.Core.List.{List, [], _∷_, _++_}
+use Prim.Native.Nat.{ℕ, zero, suc, _+_, _*_, _<_}
+use native.Mathlib.Nat.{not-suc-le-zero, le-of-suc-le-suc, mul-suc}
+use native.Mathlib.Omega.{arith}
+use lib.ListN.{length, getD, length-append, List·getD-append}
+use lib.Seq.{getD-append-add}
+use Rattle.basics.specs.Lists.{tabulate-from, join-from}
+
+module _ {A : Type 0} (f : ℕ → A) where
+  pub tabulate-length : (many i : ℕ) → length (tabulate-from many i f) ≡ many
+  unfolding tabulate-from
+  tabulate-length zero i = refl
+  tabulate-length (suc k) i = ap suc (tabulate-length k (suc i))
+
+  pub tabulate-at : (many i k : ℕ) (d : A) → k < many → getD (tabulate-from many i f) k d ≡ f (i + k)
+  unfolding tabulate-from
+  tabulate-at zero i k d l = absurd (not-suc-le-zero l)
+  tabulate-at (suc many) i zero d l = ap f (let e : i ≡ i + 0 = omega arith in e)
+  tabulate-at (suc many) i (suc k) d l =
+      tabulate-at many (suc i) k d (le-of-suc-le-suc l) ∙ ap f (let e : suc i + k ≡ i + suc k = omega arith in e)
+
+-- blocks of one width
+module _ {A : Type 0} (w : ℕ) (f : ℕ → List A) (even : (i : ℕ) → length (f i) ≡ w) where
+  pub join-length : (many i : ℕ) → length (join-from many i f) ≡ w * many
+  unfolding join-from
+  join-length zero i = let e : 0 ≡ w * 0 = omega arith in e
+  join-length (suc k) i = length-append (f i) (join-from k (suc i) f) ∙ omega (arith, even i, join-length k (suc i), mul-suc w k)
+
+  pub join-at : (many i k c : ℕ) (d : A) → k < many → c < w → getD (join-from many i f) (w * k + c) d ≡ getD (f (i + k)) c d
+  unfolding join-from
+  join-at zero i k c d l b = absurd (not-suc-le-zero l)
+  join-at (suc many) i zero c d l b =
+      ap (λ (z : ℕ). getD (f i ++ join-from many (suc i) f) z d) (let e : w * 0 + c ≡ c = omega arith in e)
+      ∙ List·getD-append (f i) (join-from many (suc i) f) d c (omega (arith, even i))
+      ∙ ap (λ (z : ℕ). getD (f z) c d) (let e : i ≡ i + 0 = omega arith in e)
+  join-at (suc many) i (suc k) c d l b =
+      ap (λ (z : ℕ). getD (f i ++ join-from many (suc i) f) z d) (let e : w * suc k + c ≡ length (f i) + (w * k + c) = omega (arith, even i, mul-suc w k) in e)
+      ∙ getD-append-add (f i) (join-from many (suc i) f) (w * k + c) d
+      ∙ join-at many (suc i) k c d (le-of-suc-le-suc l) b
+      ∙ ap (λ (z : ℕ). getD (f z) c d) (let e : suc i + k ≡ i + suc k = omega arith in e)

@@ -1,0 +1,79 @@
+-- Before: worked out as by chains, forced in every full run, and nothing else is forced. Assumes nothing.
+use mathlib.Core.Path.{_≡_, refl, _∙_, subst}
+use mathlib.Core.Bool.{true, false, not}
+use mathlib.Core.Logic.{_⊎_, inl, inr, _↔_}
+use mathlib.Core.List.{List, []}
+use mathlib.Core.Option.{some}
+use Prim.Native.Nat.{ℕ, _<_}
+use native.Mathlib.Nat.{lt-irrefl}
+use native.Mathlib.Omega.{arith}
+use lib.Dec.{eqb}
+use borrow.Author.Tests.{eqb-true, eq-eqb, ne-eqb}
+use Rattle.basics.proofs.Tests.{is-false, or-cases, or-left, or-right, either}
+use Rattle.order.specs.Runs.{step-of}
+use Rattle.order.specs.Closure.{once, more, predecessors}
+use Rattle.order.proofs.Closure.{chain-from, worked-chain, chain-worked}
+use Rattle.order.proofs.Extensions.{chain-steps, other-way}
+use Rattle.plan_format.specs.Plan.{Plan, count}
+use Rattle.plan_format.specs.Sound.{signals-refusal, waits-refusal}
+use Rattle.plan_order.specs.Precedence.{direct, Before, all-before, before, at-or-before}
+use Rattle.plan_order.specs.Runs.{enabled, is-run, is-full}
+use Rattle.plan_order.proofs.Readiness.{direct-below, predecessors-run, predecessors-suffice}
+use Rattle.plan_order.proofs.Standard.{full-run, run-full, full-has}
+
+module _ (p : Plan) where
+  pub before-chain : (i j : ℕ) → before p i j ≡ true → Before p i j
+  unfolding before all-before predecessors
+  before-chain i j h = worked-chain (direct p) j (count p) (count p) i h
+
+  pub chain-before : (i j : ℕ) → Before p i j → before p i j ≡ true
+  unfolding before all-before predecessors
+  chain-before i j c = chain-worked (direct p) j (count p) (λ i k e. direct-below p i k e .0) i c
+
+  -- both ends of a chain are operations
+  pub chain-below : (i j : ℕ) → Before p i j → (i < count p) × (j < count p)
+  chain-below i j (once _ _ e) = direct-below p i j e
+  chain-below i j (more _ k _ c e) = (chain-below i k c .0, direct-below p k j e .1)
+
+  -- what is directly before what is before
+  pub before-down : (i k j : ℕ) → direct p i k ≡ true → before p k j ≡ true → before p i j ≡ true
+  before-down i k j e b = chain-before i j (chain-from (direct p) i k j e (before-chain k j b))
+
+  pub before-join : (i m k : ℕ) → Before p i m → before p m k ≡ true → before p i k ≡ true
+  before-join i m k (once _ _ d) b = before-down i m k d b
+  before-join i m k (more _ h _ c d) b = before-join i h k c (before-down h m k d b)
+
+  pub at-or-down : (i k j : ℕ) → at-or-before p k j ≡ true → direct p i k ≡ true → at-or-before p i j ≡ true
+  unfolding at-or-before
+  at-or-down i k j t e =
+      or-right (eqb i j) (before p i j)
+      (either (or-cases (eqb k j) (before p k j) t) (λ q. chain-before i j (once i j (subst (λ (z : ℕ). direct p i z ≡ true) (eqb-true k j q) e))) (λ b. before-down i k j e b))
+
+  pub at-or-means : (i j : ℕ) → (at-or-before p i j ≡ true) ↔ ((i ≡ j) ⊎ Before p i j)
+  unfolding at-or-before
+  at-or-means i j = (
+    (λ t. either (or-cases (eqb i j) (before p i j) t) (λ q. inl (eqb-true i j q)) (λ b. inr (before-chain i j b))),
+    (λ w. either w (λ q. or-left (eqb i j) (before p i j) (eq-eqb i j q)) (λ c. or-right (eqb i j) (before p i j) (chain-before i j c))),
+  )
+
+  module _ (signals-good : signals-refusal 0 p [] (p .operations) .number ≡ 0) where
+    -- before, so at an earlier step of every run that has the later one
+    pub before-steps : (r : List ℕ) → is-full p r ≡ true → (i j : ℕ) → before p i j ≡ true → step-of 0 r i < step-of 0 r j
+    unfolding is-run
+    before-steps r h i j e =
+        let c = before-chain i j e in
+        chain-steps (count p) (enabled p) (direct p) (predecessors-run p signals-good) r i j (full-run p r h .0) (full-has p r h j (chain-below i j c .1)) c .1
+
+    pub not-itself : (r : List ℕ) → is-full p r ≡ true → (j : ℕ) → before p j j ≡ false
+    not-itself r h j = is-false (before p j j) (λ t. lt-irrefl (step-of 0 r j) (before-steps r h j j t))
+
+    module _ (waits-good : waits-refusal 0 p (p .operations) .number ≡ 0) where
+      -- not before, and another: some full run has it the other way
+      pub unordered : (f : List ℕ) → is-full p f ≡ true → (i j : ℕ) → j < count p → (i ≡ j → ⊥) → before p i j ≡ false →
+          (g : List ℕ) × (is-full p g ≡ true) × (step-of 0 g j < step-of 0 g i)
+      unfolding at-or-before is-run
+      unordered f h i j b ne n =
+          let r = full-run p f h in
+          let w = other-way (count p) (enabled p) (direct p) (predecessors-run p signals-good) (predecessors-suffice p waits-good) (λ i k e. direct-below p i k e .0) f (r .0) (omega (arith, r .1)) (λ i. at-or-before p i j) (λ i k t e. at-or-down i k j t e) i j b
+          (or-left (eqb j j) (before p j j) (eq-eqb j j refl)) (rw (ne-eqb i j ne) n) in
+          (w .0, run-full p (w .0) (w .1) (w .2 ∙ r .1), w .3)
