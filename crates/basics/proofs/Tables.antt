@@ -1,12 +1,16 @@
 -- Tabulated and joined lists: their lengths, and what stands at a place. Assumes nothing.
-use mathlib.Core.Path.{_≡_, refl, ap, _∙_}
-use mathlib.Core.List.{List, [], _∷_, _++_}
-use Prim.Native.Nat.{ℕ, zero, suc, _+_, _*_, _<_}
-use native.Mathlib.Nat.{not-suc-le-zero, le-of-suc-le-suc, mul-suc}
+use mathlib.Core.Path.{_≡_, refl, sym, ap, _∙_, subst}
+use mathlib.Core.Bool.{true, false}
+use mathlib.Core.List.{List, [], _∷_, _++_, List·Memᴰ, List·Memᴰ·not-nil, List·Memᴰ·append-cases, Memᴰ·append-left, Memᴰ·append-right}
+use Prim.Native.Nat.{ℕ, zero, suc, _+_, _*_, _≤_, _<_}
+use native.Mathlib.Nat.{not-suc-le-zero, le-of-suc-le-suc, le-refl, mul-suc}
 use native.Mathlib.Omega.{arith}
+use lib.Dec.{eqb}
 use lib.ListN.{length, getD, length-append, List·getD-append}
 use lib.Seq.{getD-append-add}
+use borrow.Author.Tests.{eqb-true, eqb-false}
 use Rattle.basics.specs.Lists.{tabulate-from, join-from}
+use Rattle.basics.proofs.Tests.{by-cases, either}
 
 module _ {A : Type 0} (f : ℕ → A) where
   pub tabulate-length : (many i : ℕ) → length (tabulate-from many i f) ≡ many
@@ -40,3 +44,18 @@ module _ {A : Type 0} (w : ℕ) (f : ℕ → List A) (even : (i : ℕ) → lengt
       ∙ getD-append-add (f i) (join-from many (suc i) f) (w * k + c) d
       ∙ join-at many (suc i) k c d (le-of-suc-le-suc l) b
       ∙ ap (λ (z : ℕ). getD (f z) c d) (let e : suc i + k ≡ i + suc k = omega arith in e)
+
+-- ---- members of a joined list
+pub join-gives : {A : Type 0} (f : ℕ → List A) (many i : ℕ) (a : A) → List·Memᴰ a (join-from many i f) → (k : ℕ) × (i ≤ k) × (k < many + i) × List·Memᴰ a (f k)
+unfolding join-from
+join-gives f zero i a e = absurd (List·Memᴰ·not-nil e)
+join-gives f (suc many) i a e =
+    either (List·Memᴰ·append-cases (f i) e) (λ t. (i, le-refl i, omega arith, t))
+    (λ t. let w = join-gives f many (suc i) a t in (w .0, omega (arith, w .1), omega (arith, w .2), w .3))
+
+pub join-has : {A : Type 0} (f : ℕ → List A) (many i k : ℕ) (a : A) → i ≤ k → k < many + i → List·Memᴰ a (f k) → List·Memᴰ a (join-from many i f)
+unfolding join-from
+join-has f zero i k a l u m = absurd (omega arith)
+join-has f (suc many) i k a l u m =
+    by-cases (eqb i k) (λ t. Memᴰ·append-left (join-from many (suc i) f) (subst (λ (z : ℕ). List·Memᴰ a (f z)) (sym (eqb-true i k t)) m))
+    (λ t. Memᴰ·append-right (f i) (join-has f many (suc i) k a (omega (arith, eqb-false i k t)) (omega arith) m))

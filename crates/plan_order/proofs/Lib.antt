@@ -3,3 +3,6 @@ pub mod Resolution
 pub mod Readiness
 pub mod Standard
 pub mod Precedence
+pub mod Raises
+pub mod Keeping
+pub mod Rows
