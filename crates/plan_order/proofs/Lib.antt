@@ -6,3 +6,4 @@ pub mod Precedence
 pub mod Raises
 pub mod Keeping
 pub mod Rows
+pub mod Demand3

@@ -1,0 +1,145 @@
+-- What is promised of plans: demands 2 and 3, for any sound plan and for stored plans. Each statement is proved in proofs/.
+-- Assumes nothing: these are definitions.
+use mathlib.Core.Path.{_≡_}
+use mathlib.Core.Bool.{Bool, true, false, _&&_, not}
+use mathlib.Core.Logic.{_⊎_, _↔_}
+use mathlib.Core.List.{List, [], _∷_, _++_, List·Memᴰ}
+use mathlib.Core.Option.{Option, none, some}
+use Prim.Native.Nat.{ℕ, _+_, _*_, _≤_, _<_, max}
+use lib.Dec.{eqb}
+use lib.ListN.{length, getD, take}
+use Rattle.basics.specs.Lists.{member, Counts}
+use Rattle.order.specs.Runs.{step-of}
+use Rattle.plan_format.specs.Refusal.{given}
+use Rattle.plan_format.specs.Plan.{Plan, count, op}
+use Rattle.plan_format.specs.Sound.{Sound}
+use Rattle.plan_format.specs.Stored.{all-bytes, plan-in, plan-refusal}
+use Rattle.plan_order.specs.Precedence.{direct, Before, before, at-or-before}
+use Rattle.plan_order.specs.Rows.{epoch, row, rows}
+use Rattle.plan_order.specs.Runs.{is-run, is-full, ahead, ready, raises-in-order, next, standard}
+use Rattle.plan_order.specs.Holdings.{Ask, asks, asked-of, met, keeps, marks-buffer}
+use Rattle.plan_order.specs.Check.{room-refusal, order-refusal}
+
+-- ---- DEMAND 3
+-- 01: "10: stuck: no full run; lowest operation that is in no run"
+pub record Stuck-at (p : Plan) (i : ℕ) : Type 0 where
+  pub inside : i < count p
+  pub in-none : (r : List ℕ) → is-run p r ≡ true → member i r ≡ false
+  pub no-full : (r : List ℕ) → is-full p r ≡ false
+  pub lower : (k : ℕ) → k < i → (r : List ℕ) × (is-run p r ≡ true) × (member k r ≡ true)
+
+-- 01: "11: a broken mark; lowest operation with one": a full run breaks what keeping asks of one of its own marks, and every full run has
+-- what is asked of every mark of a lower operation
+pub record Broken-at (p : Plan) (i : ℕ) : Type 0 where
+  pub inside : i < count p
+  pub run : List ℕ
+  pub buffer : ℕ
+  pub ask : Ask
+  pub full : is-full p run ≡ true
+  pub breaks : keeps p run buffer ≡ false
+  pub marks : marks-buffer p i buffer ≡ true
+  pub among : List·Memᴰ ask (asks p buffer)
+  pub own : asked-of ask ≡ i
+  pub unmet : met (λ i j. ahead run i j) ask ≡ false
+  pub lower :
+      (b : ℕ) (a : Ask) → List·Memᴰ a (asks p b) → asked-of a < i → (r : List ℕ) → is-full p r ≡ true → met (λ i j. ahead r i j) a ≡ true
+
+-- "passed exactly when some full run exists and every full run keeps every buffer"
+abbrev pub Safe : Plan → Type 0
+Safe p = ((r : List ℕ) × (is-full p r ≡ true)) × ((r : List ℕ) (b : ℕ) → is-full p r ≡ true → keeps p r b ≡ true)
+
+-- the number and place handed back for a plan with none of refusals 1 to 9
+pub record Demand-3 (p : Plan) (number place : ℕ) : Type 0 where
+  pub only : (number ≡ 0) ⊎ ((number ≡ 10) ⊎ (number ≡ 11))
+  pub exactly : (number ≡ 0) ↔ Safe p
+  pub passed-place : number ≡ 0 → place ≡ 0
+  pub never-stuck :
+      number ≡ 0 → (r : List ℕ) → is-run p r ≡ true → length r < count p → (j : ℕ) × (is-run p (r ++ (j ∷ [])) ≡ true)
+  pub raises : (r : List ℕ) → is-run p r ≡ true → raises-in-order p r ≡ true
+  pub stuck : number ≡ 10 → Stuck-at p place
+  pub broken : number ≡ 11 → Broken-at p place
+
+-- none of refusals 1 to 9
+unfoldable pub unrefused : (bytes : List ℕ) → (table list : ℕ) → Bool
+unrefused bs t l = not (given (plan-refusal bs)) && not (given (room-refusal (count (plan-in bs)) t l))
+
+unfoldable pub Demand-3-stored : (bytes : List ℕ) → (table list number place : ℕ) → Type 0
+Demand-3-stored bs t l n i = unrefused bs t l ≡ true → Demand-3 (plan-in bs) n i
+
+-- ---- DEMAND 2
+-- an entry of the table is the number of the queue's operations that are j or before j, by chains
+unfoldable pub Demand-2 : Plan → (table : List ℕ) → Type 0
+Demand-2 p t =
+    (j q : ℕ) → j < count p → q < 16 →
+    Counts (getD t (16 * j + q) 0) (λ i. (i < count p) × (op p i .queue ≡ q) × ((i ≡ j) ⊎ Before p i j))
+
+-- what is worked out as before is before by chains
+unfoldable pub Before-right : Type 0
+Before-right = (bs : List ℕ) (i j : ℕ) → (before (plan-in bs) i j ≡ true) ↔ Before (plan-in bs) i j
+
+-- in a plan with a full run, i is before j exactly if every full run has i at an earlier step
+unfoldable pub Before-forces : Plan → Type 0
+Before-forces p =
+    (i j : ℕ) → i < count p → j < count p →
+    Before p i j ↔ ((r : List ℕ) → is-full p r ≡ true → step-of 0 r i < step-of 0 r j)
+
+-- a row's entry reaches an operation's epoch exactly if that operation is it or before it
+unfoldable pub Row-epoch : Plan → Type 0
+Row-epoch p =
+    (i j : ℕ) → i < count p → op p i .queue < 16 →
+    ((i ≡ j) ⊎ Before p i j) ↔ (epoch p i ≤ getD (row p j) (op p i .queue) 0)
+
+-- the largest entry of some rows in a column
+unfoldable pub most-of : Plan → (q : ℕ) → List ℕ → ℕ
+most-of p q [] = 0
+most-of p q (k ∷ ks) = max (getD (row p k) q 0) (most-of p q ks)
+
+-- a row is merged from rows of direct predecessors that have every other one at or before one of them, and the own epoch
+unfoldable pub Row-step : Plan → Type 0
+Row-step p =
+    (j : ℕ) (ks : List ℕ) → j < count p → ((k : ℕ) → member k ks ≡ true → direct p k j ≡ true) →
+    ((i : ℕ) → direct p i j ≡ true → (k : ℕ) × (member k ks ≡ true) × (at-or-before p i k ≡ true)) → (q : ℕ) → q < 16 →
+    getD (row p j) q 0 ≡ max (mathlib.Core.Bool.cond (eqb (op p j .queue) q) (epoch p j) 0) (most-of p q ks)
+
+-- ---- THE STANDARD RUN
+-- it is a run, has every operation that is in any run, and takes the lowest ready queue at each step
+pub record Standard-right (p : Plan) : Type 0 where
+  pub a-run : is-run p (standard p) ≡ true
+  pub has-all : (r : List ℕ) (j : ℕ) → is-run p r ≡ true → member j r ≡ true → member j (standard p) ≡ true
+  pub steps : (k : ℕ) → k < length (standard p) → next p (take k (standard p)) ≡ some (getD (standard p) k 0)
+  pub chosen : (r : List ℕ) (j : ℕ) → next p r ≡ some j → ready p r j ≡ true
+  pub lowest : (r : List ℕ) (j k : ℕ) → next p r ≡ some j → ready p r k ≡ true → op p j .queue ≤ op p k .queue
+  pub ends : (j : ℕ) → ready p (standard p) j ≡ false
+
+-- ---- paper 03's statements, over stored plans
+-- a plan that gets none of refusals 1 to 8
+unfoldable pub good : List ℕ → Bool
+good bs = all-bytes bs && eqb (plan-refusal bs .number) 0
+
+unfoldable pub passed : List ℕ → Bool
+passed bs = good bs && eqb (order-refusal (plan-in bs) .number) 0
+
+unfoldable pub Passed-keeps : Type 0
+Passed-keeps = (bs r : List ℕ) (b : ℕ) → passed bs ≡ true → is-full (plan-in bs) r ≡ true → keeps (plan-in bs) r b ≡ true
+
+unfoldable pub Passed-runs : Type 0
+Passed-runs = (bs : List ℕ) → passed bs ≡ true → (r : List ℕ) × (is-full (plan-in bs) r ≡ true)
+
+unfoldable pub Never-stuck : Type 0
+Never-stuck =
+    (bs r : List ℕ) → passed bs ≡ true → is-run (plan-in bs) r ≡ true → length r < count (plan-in bs) →
+    (j : ℕ) × (ready (plan-in bs) r j ≡ true)
+
+unfoldable pub Raises : Type 0
+Raises = (bs r : List ℕ) → good bs ≡ true → is-run (plan-in bs) r ≡ true → raises-in-order (plan-in bs) r ≡ true
+
+unfoldable pub Stuck-truly : Type 0
+Stuck-truly =
+    (bs : List ℕ) → good bs ≡ true → order-refusal (plan-in bs) .number ≡ 10 → Stuck-at (plan-in bs) (order-refusal (plan-in bs) .place)
+
+unfoldable pub Broken-truly : Type 0
+Broken-truly =
+    (bs : List ℕ) → good bs ≡ true → order-refusal (plan-in bs) .number ≡ 11 → Broken-at (plan-in bs) (order-refusal (plan-in bs) .place)
+
+unfoldable pub None-itself : Type 0
+None-itself = (bs : List ℕ) (j : ℕ) → passed bs ≡ true → before (plan-in bs) j j ≡ false
