@@ -7,3 +7,4 @@ pub mod Raises
 pub mod Keeping
 pub mod Rows
 pub mod Demand3
+pub mod Demand2
