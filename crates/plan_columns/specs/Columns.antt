@@ -1,0 +1,81 @@
+-- Columns of a plan: flat lists with a place for each operation, wait, signal and mark, in plan order and list order. The passes of the
+-- check read these, and say what they answer for every plan that the columns show. Assumes nothing: these are definitions.
+use mathlib.Core.Path.{_≡_}
+use mathlib.Core.List.{List, [], _∷_, _++_}
+use Prim.Native.Nat.{ℕ, zero, suc, _+_, _*_, _≤_, _<_}
+use lib.ListN.{length, getD}
+use Rattle.plan_format.specs.Plan.{Point, Mark, Operation, Plan, count, op}
+use Rattle.plan_order.specs.Precedence.{Signal, plan-signals, Resolution, free, on, never, resolve}
+use Rattle.plan_order.specs.Rows.{row}
+
+abbrev pub no-point : Point
+no-point = record { semaphore = 0; value = 0 }
+
+abbrev pub no-signal : Signal
+no-signal = record { operation = 0; position = 0; semaphore = 0; value = 0 }
+
+-- the owner of each semaphore
+unfoldable pub Owner-column : Plan → (owner : List ℕ) → Type 0
+Owner-column p owner = (s : ℕ) → s < length (p .owners) → getD owner s 0 ≡ getD (p .owners) s 0
+
+-- the queue of each operation
+unfoldable pub Queue-column : Plan → (queue : List ℕ) → Type 0
+Queue-column p queue = (i : ℕ) → i < count p → getD queue i 0 ≡ op p i .queue
+
+-- the k-th wait of operation i; a wait for 0 where it has fewer
+unfoldable pub wait-at : Plan → (i k : ℕ) → Point
+wait-at p i k = getD (op p i .waits) k no-point
+
+-- three places for each operation
+pub record Wait-columns (p : Plan) (semaphore value : List ℕ) : Type 0 where
+  pub few : (i : ℕ) → i < count p → length (op p i .waits) ≤ 3
+  pub semaphores : (i k : ℕ) → i < count p → k < 3 → getD semaphore (3 * i + k) 0 ≡ wait-at p i k .semaphore
+  pub values : (i k : ℕ) → i < count p → k < 3 → getD value (3 * i + k) 0 ≡ wait-at p i k .value
+
+-- one place for each signal, and how many there are
+pub record Signal-columns (p : Plan) (many : ℕ) (semaphore value operation : List ℕ) : Type 0 where
+  pub few : many ≤ 2048
+  pub all : many ≡ length (plan-signals p)
+  pub semaphores : (k : ℕ) → k < many → getD semaphore k 0 ≡ getD (plan-signals p) k no-signal .semaphore
+  pub values : (k : ℕ) → k < many → getD value k 0 ≡ getD (plan-signals p) k no-signal .value
+  pub operations : (k : ℕ) → k < many → getD operation k 0 ≡ getD (plan-signals p) k no-signal .operation
+
+-- a mark of a plan with its operation
+pub record Marked : Type 0 where
+  pub by : ℕ
+  pub buffer : ℕ
+  pub kind : ℕ
+
+abbrev pub no-mark : Marked
+no-mark = record { by = 0; buffer = 0; kind = 0 }
+
+unfoldable pub marked-of : (i : ℕ) → List Mark → List Marked
+marked-of i [] = []
+marked-of i (m ∷ ms) = record { by = i; buffer = m .buffer; kind = m .kind } ∷ marked-of i ms
+
+unfoldable pub marked-from : (i : ℕ) → List Operation → List Marked
+marked-from i [] = []
+marked-from i (o ∷ os) = marked-of i (o .marks) ++ marked-from (suc i) os
+
+unfoldable pub plan-marks : Plan → List Marked
+plan-marks p = marked-from 0 (p .operations)
+
+-- one place for each mark, twice its buffer and one more for a free, and how many there are
+pub record Mark-columns (p : Plan) (many : ℕ) (mark operation : List ℕ) : Type 0 where
+  pub few : many ≤ 4096
+  pub all : many ≡ length (plan-marks p)
+  pub marks : (k : ℕ) → k < many → getD mark k 0 ≡ 2 * getD (plan-marks p) k no-mark .buffer + getD (plan-marks p) k no-mark .kind
+  pub operations : (k : ℕ) → k < many → getD operation k 0 ≡ getD (plan-marks p) k no-mark .by
+
+-- the operation that a wait rests on; 1,024 for none
+unfoldable pub source-of : Resolution → ℕ
+source-of free = 1024
+source-of (on x) = x .operation
+source-of never = 1024
+
+unfoldable pub Source-column : Plan → (source : List ℕ) → Type 0
+Source-column p source = (i k : ℕ) → i < count p → k < 3 → getD source (3 * i + k) 0 ≡ source-of (resolve p (wait-at p i k))
+
+-- rows one after the other, sixteen places each, of the operations in a list
+unfoldable pub Row-columns : Plan → (done : ℕ → Type 0) → (rows : List ℕ) → Type 0
+Row-columns p done rows = (j q : ℕ) → done j → q < 16 → getD rows (16 * j + q) 0 ≡ getD (row p j) q 0

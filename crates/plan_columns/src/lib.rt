@@ -1,0 +1,1 @@
+// Columns of a plan: flat arrays that the passes of the check read.
