@@ -5,13 +5,17 @@ use mathlib.Core.List.{List, [], _∷_, _++_}
 use Prim.Native.Nat.{ℕ}
 use lib.Dec.{ltb}
 use lib.ListN.{length}
-use Rattle.basics.specs.Lists.{in-front}
+use Rattle.basics.specs.Lists.{all, in-front}
 use Rattle.plan_format.specs.Refusal.{Refusal, refusal, none-given, given, or-else}
 use Rattle.plan_format.specs.Grammar.{bytes, numbers, Scan, spell-by}
 use Rattle.plan_format.specs.Form.{Form, first-form, plan-grammar, scanned-by}
 use Rattle.plan_format.specs.Plan.{Plan, plan-of}
 use Rattle.plan_format.specs.Sound.{rules-refusal}
 use Rattle.plan_format.specs.declared.Told.{Told}
+
+-- these are bytes
+unfoldable pub all-bytes : List ℕ → Bool
+all-bytes bs = all (λ b. ltb b 256) bs
 
 -- the reading of bytes, and of a list of numbers
 unfoldable pub scanned : List ℕ → Scan
