@@ -1,2 +1,5 @@
 pub mod Judged
 pub mod Faults
+pub mod Bytes
+pub mod Parses
+pub mod Reading
