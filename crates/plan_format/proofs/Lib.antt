@@ -3,3 +3,4 @@ pub mod Faults
 pub mod Bytes
 pub mod Parses
 pub mod Reading
+pub mod Accepting

@@ -74,7 +74,7 @@ count-zero l m v e =
     by-cases (ltb v l) (λ t. absurd (let z : 2 ≡ 0 = rw t at e in omega arith)) (λ f.
     by-cases (ltb m v) (λ t. absurd (let z : 2 ≡ 0 = rw (f, t) at e in omega arith)) (λ g. (ltb-false v l f, ltb-false m v g)))
 
-zero-count : (l m v : ℕ) → l ≤ v → v ≤ m → count-check l m v ≡ 0
+pub zero-count : (l m v : ℕ) → l ≤ v → v ≤ m → count-check l m v ≡ 0
 unfolding count-check
 zero-count l m v a b = rw (le-ltb v l a, le-ltb m v b)
 
@@ -84,7 +84,7 @@ go-on t u e =
     by-cases (given (t .fault)) (λ y. clash (given (t .fault)) y (zero-not-given (t .fault) (subst (λ b. cond b t u .fault .number ≡ 0) y e)))
     (λ n. (not-given-zero (t .fault) n, ap (λ b. cond b t u) n))
 
-last-is : (r got : List ℕ) (p v : ℕ) (f : Refusal) → last-got (scan r p (got ++ (v ∷ [])) f) ≡ v
+pub last-is : (r got : List ℕ) (p v : ℕ) (f : Refusal) → last-got (scan r p (got ++ (v ∷ [])) f) ≡ v
 unfolding last-got scan
 last-is r got p v f = getD-at got v [] 0 (length (got ++ (v ∷ [])) - 1) (rw length-append (omega arith))
 
@@ -120,7 +120,7 @@ module _ (S : Source) (L : Lawful S) where
     pub rest-is : s .rest ≡ L .view vs ds ++ more
     pub result : t ≡ scan more (s .place + length (L .view vs ds)) (s .got ++ vs) (s .fault)
 
-  places : (p : ℕ) (vs vs′ ds ds′ : List ℕ) → p + length (L .view vs ds) + length (L .view vs′ ds′) ≡ p + length (L .view (vs ++ vs′) (ds ++ ds′))
+  pub places : (p : ℕ) (vs vs′ ds ds′ : List ℕ) → p + length (L .view vs ds) + length (L .view vs′ ds′) ≡ p + length (L .view (vs ++ vs′) (ds ++ ds′))
   places p vs vs′ ds ds′ = rw (L .view-append vs vs′ ds ds′, length-append) (omega arith)
 
   joined : (t : Scan) (more more′ got vs vs′ ds ds′ : List ℕ) (p : ℕ) (f : Refusal) → t ≡ scan more (p + length (L .view vs ds)) (got ++ vs) f →
