@@ -4,3 +4,6 @@ pub mod Bytes
 pub mod Parses
 pub mod Reading
 pub mod Accepting
+pub mod Sources
+pub mod Whole
+pub mod RoundTrip
