@@ -2,8 +2,10 @@ pub mod Judged
 pub mod Faults
 pub mod Bytes
 pub mod Parses
+pub mod Fields
 pub mod Reading
 pub mod Accepting
+pub mod Spellings
 pub mod Sources
 pub mod Whole
 pub mod RoundTrip

@@ -8,48 +8,32 @@ use lib.ListN.{length, take, drop, length-append, take-append-drop}
 use lib.Seq.{drop-at}
 use Rattle.basics.specs.Lists.{all}
 use Rattle.plan_format.specs.Refusal.{none-given}
-use Rattle.plan_format.specs.Grammar.{Grammar, field, seq, counted, nothing, digits, bytes, numbers, scan, spell-by}
+use Rattle.plan_format.specs.Grammar.{bytes, numbers, scan, spell-by}
 use Rattle.plan_format.specs.Form.{Form, first-form, plan-grammar, scanned-by, spelled-by}
 use Rattle.plan_format.specs.Stored.{all-bytes, scanned, listed, spelled}
 use Rattle.plan_format.specs.Promise.{One-string}
-use Rattle.plan_format.proofs.Bytes.{digits-bytes, bytes-drop, bytes-append}
-use Rattle.plan_format.proofs.Parses.{Takes, Many, Parses, spells}
-use Rattle.plan_format.proofs.Sources.{bytes-lawful, numbers-lawful}
-use Rattle.plan_format.proofs.Whole.{Whole, whole, whole-of}
-
--- what is spelled is bytes
-many-bytes : (P : Takes) → ((got vs ds : List ℕ) → P got vs ds → all-bytes ds ≡ true) → (k : ℕ) (got vs ds : List ℕ) → Many P k got vs ds → all-bytes ds ≡ true
-unfolding all-bytes all
-many-bytes P h zero got vs ds p = rw (p .bytes-are)
-many-bytes P h (suc k) got vs ds p =
-    rw (p .bytes-are) (bytes-append (p .ds₁) (p .ds₂) (h got (p .vs₁) (p .ds₁) (p .first)) (many-bytes P h k (got ++ p .vs₁) (p .vs₂) (p .ds₂) (p .second)))
-
-pub parsed-bytes : (g : Grammar) (got vs ds : List ℕ) → Parses g got vs ds → all-bytes ds ≡ true
-unfolding all-bytes all
-parsed-bytes (field w c) got vs ds p = rw (p .bytes-are) (digits-bytes w (p .number))
-parsed-bytes (seq g h) got vs ds p =
-    rw (p .bytes-are) (bytes-append (p .ds₁) (p .ds₂) (parsed-bytes g got (p .vs₁) (p .ds₁) (p .first)) (parsed-bytes h (got ++ p .vs₁) (p .vs₂) (p .ds₂) (p .second)))
-parsed-bytes (counted l m w g) got vs ds p =
-    rw (p .bytes-are) (bytes-append (digits w (p .count)) (p .ds′) (digits-bytes w (p .count))
-    (many-bytes (Parses g) (parsed-bytes g) (p .count) (got ++ (p .count ∷ [])) (p .vs′) (p .ds′) (p .entries)))
-parsed-bytes nothing got vs ds p = rw (p .bytes-are)
+use Rattle.plan_format.proofs.Bytes.{bytes-drop, bytes-append}
+use Rattle.plan_format.proofs.Parses.{Exact, Parses}
+use Rattle.plan_format.proofs.Spellings.{spells, parsed-bytes}
+use Rattle.plan_format.proofs.Sources.{exact-bytes, exact-numbers}
+use Rattle.plan_format.proofs.Whole.{whole, whole-of}
 
 module _ (F : Form) where
-  pub spelled-parsed : (vs ds : List ℕ) → Parses (plan-grammar F) [] vs ds → spelled-by F vs ≡ F .lead ++ ds
+  pub spelled-parsed : (vs ds : List ℕ) → Parses Exact (plan-grammar F) [] vs ds → spelled-by F vs ≡ F .lead ++ ds
   spelled-parsed vs ds p =
       ap (λ z. F .lead ++ z) (ap (λ z. spell-by (plan-grammar F) (record { left = z; made = [] }) .made) (sym (append-nil vs)) ∙ ap (λ z. z .made) (spells (plan-grammar F) [] vs ds p [] []))
 
   -- a plan as bytes, and as numbers
-  pub bytes-whole : (vs ds : List ℕ) → Parses (plan-grammar F) [] vs ds → scanned-by bytes F (F .lead ++ ds) ≡ scan [] (length (F .lead ++ ds)) vs none-given
-  unfolding bytes-lawful bytes
+  pub bytes-whole : (vs ds : List ℕ) → Parses Exact (plan-grammar F) [] vs ds → scanned-by bytes F (F .lead ++ ds) ≡ scan [] (length (F .lead ++ ds)) vs none-given
+  unfolding exact-bytes bytes
   bytes-whole vs ds p =
-      whole bytes bytes-lawful F (F .lead ++ ds) vs ds p (drop-at (F .lead) ds (1 * length (F .lead)) (omega arith))
+      whole bytes Exact exact-bytes F (F .lead ++ ds) vs ds p (drop-at (F .lead) ds (1 * length (F .lead)) (omega arith))
       ∙ ap (λ n. scan [] n vs none-given) (rw length-append (omega arith))
 
-  pub numbers-whole : (vs ds : List ℕ) → Parses (plan-grammar F) [] vs ds → scanned-by numbers F vs ≡ scan [] (length vs) vs none-given
-  unfolding numbers-lawful numbers
+  pub numbers-whole : (vs ds : List ℕ) → Parses Exact (plan-grammar F) [] vs ds → scanned-by numbers F vs ≡ scan [] (length vs) vs none-given
+  unfolding exact-numbers numbers
   numbers-whole vs ds p =
-      whole numbers numbers-lawful F vs vs ds p (drop-at [] vs (0 * length (F .lead)) (omega arith)) ∙ ap (λ n. scan [] n vs none-given) (omega arith)
+      whole numbers Exact exact-numbers F vs vs ds p (drop-at [] vs (0 * length (F .lead)) (omega arith)) ∙ ap (λ n. scan [] n vs none-given) (omega arith)
 
   -- the bytes of a form begin with its lead
   abbrev pub Led : List ℕ → Type 0
@@ -57,22 +41,22 @@ module _ (F : Form) where
 
   -- bytes that are read without a fault are the spelling of the numbers read
   pub bytes-read : (bs : List ℕ) → all-bytes bs ≡ true → Led bs → scanned-by bytes F bs .fault .number ≡ 0 →
-      (ds : List ℕ) × Parses (plan-grammar F) [] (scanned-by bytes F bs .got) ds × (bs ≡ F .lead ++ ds)
-  unfolding bytes-lawful bytes scan
+      (ds : List ℕ) × Parses Exact (plan-grammar F) [] (scanned-by bytes F bs .got) ds × (bs ≡ F .lead ++ ds)
+  unfolding exact-bytes bytes scan
   bytes-read bs b l e =
-      let w = whole-of bytes bytes-lawful F bs (bytes-drop (1 * length (F .lead)) bs b) e in
+      let w = whole-of bytes Exact exact-bytes F bs (bytes-drop (1 * length (F .lead)) bs b) e in
       let one : 1 * length (F .lead) ≡ length (F .lead) = omega arith in (
         w .ds,
-        subst (λ z. Parses (plan-grammar F) [] z (w .ds)) (sym (ap (λ z. z .got) (w .result))) (w .parsed),
+        subst (λ z. Parses Exact (plan-grammar F) [] z (w .ds)) (sym (ap (λ z. z .got) (w .result))) (w .parsed),
         sym (take-append-drop (length (F .lead)) bs) ∙ ap₂ {C = List ℕ} (λ x y. x ++ y) l (ap (λ n. drop n bs) (sym one) ∙ w .shown),
       )
 
-  pub numbers-read : (xs : List ℕ) → scanned-by numbers F xs .fault .number ≡ 0 → (ds : List ℕ) × Parses (plan-grammar F) [] xs ds
-  unfolding numbers-lawful numbers
+  pub numbers-read : (xs : List ℕ) → scanned-by numbers F xs .fault .number ≡ 0 → (ds : List ℕ) × Parses Exact (plan-grammar F) [] xs ds
+  unfolding exact-numbers numbers
   numbers-read xs e =
-      let w = whole-of numbers numbers-lawful F xs tt e in
+      let w = whole-of numbers Exact exact-numbers F xs tt e in
       let zero-long : 0 * length (F .lead) ≡ 0 = omega arith in
-      (w .ds, subst (λ z. Parses (plan-grammar F) [] z (w .ds)) (sym (w .shown) ∙ ap (λ n. drop n xs) zero-long) (w .parsed))
+      (w .ds, subst (λ z. Parses Exact (plan-grammar F) [] z (w .ds)) (sym (w .shown) ∙ ap (λ n. drop n xs) zero-long) (w .parsed))
 
   -- numbers that the writer takes as they are, and the bytes it writes
   pub record Written-back (bs : List ℕ) : Type 0 where

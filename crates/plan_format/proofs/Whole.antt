@@ -13,8 +13,9 @@ use Rattle.plan_format.specs.Grammar.{Source, Scan, scan, refused, read-
 use Rattle.plan_format.specs.Form.{Form, plan-grammar, scanned-by}
 use Rattle.plan_format.proofs.Judged.{zero-not-given}
 use Rattle.plan_format.proofs.Faults.{ended-began}
-use Rattle.plan_format.proofs.Parses.{Parses}
-use Rattle.plan_format.proofs.Reading.{Lawful, Took, sound}
+use Rattle.plan_format.proofs.Parses.{Spelt, Parses}
+use Rattle.plan_format.proofs.Fields.{Lawful}
+use Rattle.plan_format.proofs.Reading.{sound}
 use Rattle.plan_format.proofs.Accepting.{accepts}
 
 empty : (xs : List ℕ) → length xs ≡ 0 → xs ≡ []
@@ -32,7 +33,7 @@ pub ended-same : (s : Scan) → s .rest ≡ [] → ended s ≡ s
 unfolding ended
 ended-same s e = ap (λ b. cond b s (refused 3 s)) (or-right (given (s .fault)) (eqb (length (s .rest)) 0) (eq-eqb (length (s .rest)) 0 (ap length e)))
 
-module _ (S : Source) (L : Lawful S) (F : Form) (xs : List ℕ) where
+module _ (S : Source) (D : Spelt) (L : Lawful S D) (F : Form) (xs : List ℕ) where
   -- how far the lead reaches
   abbrev pub lead-long : ℕ
   lead-long = S .leads * length (F .lead)
@@ -41,17 +42,17 @@ module _ (S : Source) (L : Lawful S) (F : Form) (xs : List ℕ) where
   pub record Whole : Type 0 where
     pub vs : List ℕ
     pub ds : List ℕ
-    pub parsed : Parses (plan-grammar F) [] vs ds
+    pub parsed : Parses D (plan-grammar F) [] vs ds
     pub shown : drop lead-long xs ≡ L .view vs ds
     pub result : scanned-by S F xs ≡ scan [] (lead-long + length (L .view vs ds)) vs none-given
 
-  pub whole : (vs ds : List ℕ) → Parses (plan-grammar F) [] vs ds → drop lead-long xs ≡ L .view vs ds → scanned-by S F xs ≡ scan [] (lead-long + length (L .view vs ds)) vs none-given
+  pub whole : (vs ds : List ℕ) → Parses D (plan-grammar F) [] vs ds → drop lead-long xs ≡ L .view vs ds → scanned-by S F xs ≡ scan [] (lead-long + length (L .view vs ds)) vs none-given
   unfolding scanned-by scan none-given
   whole vs ds p e =
       let s = scan (drop lead-long xs) lead-long [] none-given in
       let t = scan [] (lead-long + length (L .view vs ds)) vs none-given in
       let is : read-by S (plan-grammar F) s ≡ t =
-      ap (λ z. read-by S (plan-grammar F) (scan z lead-long [] none-given)) (e ∙ sym (append-nil (L .view vs ds))) ∙ accepts S L (plan-grammar F) [] vs ds p [] lead-long none-given refl in
+      ap (λ z. read-by S (plan-grammar F) (scan z lead-long [] none-given)) (e ∙ sym (append-nil (L .view vs ds))) ∙ accepts S D L (plan-grammar F) [] vs ds p [] lead-long none-given refl in
       ap ended is ∙ ended-same t refl
 
   pub whole-of : L .Clean (drop lead-long xs) → scanned-by S F xs .fault .number ≡ 0 → Whole
@@ -59,7 +60,7 @@ module _ (S : Source) (L : Lawful S) (F : Form) (xs : List ℕ) where
   whole-of c e =
       let s = scan (drop lead-long xs) lead-long [] none-given in
       let t = read-by S (plan-grammar F) s in
-      let a = sound S L (plan-grammar F) s c (ended-began t e) in
+      let a = sound S D L (plan-grammar F) s c (ended-began t e) in
       let more : a .more ≡ [] = sym (ap (λ z. z .rest) (a .result)) ∙ ended-empty t e in
       let shown : drop lead-long xs ≡ L .view (a .vs) (a .ds) = a .rest-is ∙ ap (λ z. L .view (a .vs) (a .ds) ++ z) more ∙ append-nil (L .view (a .vs) (a .ds)) in
       record { vs = a .vs; ds = a .ds; parsed = a .parsed; shown = shown; result = whole (a .vs) (a .ds) (a .parsed) shown }
