@@ -9,3 +9,5 @@ pub mod Spellings
 pub mod Sources
 pub mod Whole
 pub mod RoundTrip
+pub mod Entries
+pub mod Blocks
