@@ -11,3 +11,4 @@ pub mod Whole
 pub mod RoundTrip
 pub mod Entries
 pub mod Blocks
+pub mod Operations
