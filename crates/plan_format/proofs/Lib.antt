@@ -10,5 +10,8 @@ pub mod Sources
 pub mod Whole
 pub mod RoundTrip
 pub mod Entries
+pub mod Seams
+pub mod Pairs
 pub mod Blocks
 pub mod Operations
+pub mod Sections
