@@ -15,3 +15,5 @@ pub mod Pairs
 pub mod Blocks
 pub mod Operations
 pub mod Sections
+pub mod Shape
+pub mod Plans

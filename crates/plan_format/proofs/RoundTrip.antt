@@ -42,21 +42,18 @@ module _ (F : Form) where
   -- bytes that are read without a fault are the spelling of the numbers read
   pub bytes-read : (bs : List ℕ) → all-bytes bs ≡ true → Led bs → scanned-by bytes F bs .fault .number ≡ 0 →
       (ds : List ℕ) × Parses Exact (plan-grammar F) [] (scanned-by bytes F bs .got) ds × (bs ≡ F .lead ++ ds)
-  unfolding exact-bytes bytes scan
+  unfolding exact-bytes bytes
   bytes-read bs b l e =
       let w = whole-of bytes Exact exact-bytes F bs (bytes-drop (1 * length (F .lead)) bs b) e in
-      let one : 1 * length (F .lead) ≡ length (F .lead) = omega arith in (
-        w .ds,
-        subst (λ z. Parses Exact (plan-grammar F) [] z (w .ds)) (sym (ap (λ z. z .got) (w .result))) (w .parsed),
-        sym (take-append-drop (length (F .lead)) bs) ∙ ap₂ {C = List ℕ} (λ x y. x ++ y) l (ap (λ n. drop n bs) (sym one) ∙ w .shown),
-      )
+      let one : length (F .lead) ≡ 1 * length (F .lead) = omega arith in
+      (w .ds, w .parsed, sym (take-append-drop (length (F .lead)) bs) ∙ ap₂ {C = List ℕ} (λ x y. x ++ y) l (ap (λ n. drop n bs) one ∙ w .shown))
 
   pub numbers-read : (xs : List ℕ) → scanned-by numbers F xs .fault .number ≡ 0 → (ds : List ℕ) × Parses Exact (plan-grammar F) [] xs ds
   unfolding exact-numbers numbers
   numbers-read xs e =
       let w = whole-of numbers Exact exact-numbers F xs tt e in
-      let zero-long : 0 * length (F .lead) ≡ 0 = omega arith in
-      (w .ds, subst (λ z. Parses Exact (plan-grammar F) [] z (w .ds)) (sym (w .shown) ∙ ap (λ n. drop n xs) zero-long) (w .parsed))
+      let none : 0 * length (F .lead) ≡ 0 = omega arith in
+      (w .ds, subst (λ z. Parses Exact (plan-grammar F) [] z (w .ds)) (sym (w .shown) ∙ ap (λ n. drop n xs) none) (w .parsed))
 
   -- numbers that the writer takes as they are, and the bytes it writes
   pub record Written-back (bs : List ℕ) : Type 0 where

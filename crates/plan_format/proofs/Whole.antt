@@ -38,14 +38,6 @@ module _ (S : Source) (D : Spelt) (L : Lawful S D) (F : Form) (xs : List ℕ) wh
   abbrev pub lead-long : ℕ
   lead-long = S .leads * length (F .lead)
 
-  -- the numbers of a whole plan and their bytes
-  pub record Whole : Type 0 where
-    pub vs : List ℕ
-    pub ds : List ℕ
-    pub parsed : Parses D (plan-grammar F) [] vs ds
-    pub shown : drop lead-long xs ≡ L .view vs ds
-    pub result : scanned-by S F xs ≡ scan [] (lead-long + length (L .view vs ds)) vs none-given
-
   pub whole : (vs ds : List ℕ) → Parses D (plan-grammar F) [] vs ds → drop lead-long xs ≡ L .view vs ds → scanned-by S F xs ≡ scan [] (lead-long + length (L .view vs ds)) vs none-given
   unfolding scanned-by scan none-given
   whole vs ds p e =
@@ -55,6 +47,12 @@ module _ (S : Source) (D : Spelt) (L : Lawful S D) (F : Form) (xs : List ℕ) wh
       ap (λ z. read-by S (plan-grammar F) (scan z lead-long [] none-given)) (e ∙ sym (append-nil (L .view vs ds))) ∙ accepts S D L (plan-grammar F) [] vs ds p [] lead-long none-given refl in
       ap ended is ∙ ended-same t refl
 
+  -- the numbers got parse, and they are all that there is
+  pub record Whole : Type 0 where
+    pub ds : List ℕ
+    pub parsed : Parses D (plan-grammar F) [] (scanned-by S F xs .got) ds
+    pub shown : drop lead-long xs ≡ L .view (scanned-by S F xs .got) ds
+
   pub whole-of : L .Clean (drop lead-long xs) → scanned-by S F xs .fault .number ≡ 0 → Whole
   unfolding scanned-by scan
   whole-of c e =
@@ -63,4 +61,9 @@ module _ (S : Source) (D : Spelt) (L : Lawful S D) (F : Form) (xs : List ℕ) wh
       let a = sound S D L (plan-grammar F) s c (ended-began t e) in
       let more : a .more ≡ [] = sym (ap (λ z. z .rest) (a .result)) ∙ ended-empty t e in
       let shown : drop lead-long xs ≡ L .view (a .vs) (a .ds) = a .rest-is ∙ ap (λ z. L .view (a .vs) (a .ds) ++ z) more ∙ append-nil (L .view (a .vs) (a .ds)) in
-      record { vs = a .vs; ds = a .ds; parsed = a .parsed; shown = shown; result = whole (a .vs) (a .ds) (a .parsed) shown }
+      let got : a .vs ≡ scanned-by S F xs .got = sym (ap (λ z. z .got) (whole (a .vs) (a .ds) (a .parsed) shown)) in
+      record {
+        ds = a .ds;
+        parsed = subst (λ z. Parses D (plan-grammar F) [] z (a .ds)) got (a .parsed);
+        shown = shown ∙ ap (λ z. L .view z (a .ds)) got;
+      }
