@@ -47,6 +47,17 @@ pub record Counts (q s b : ℕ) (got : List ℕ) : Type 0 where
   pub semaphores : semaphore-count got ≡ s
   pub buffers : buffer-count got ≡ b
 
+-- they stay whatever is read after
+abbrev pub Kept : (q s b : ℕ) → List ℕ → Type 0
+Kept q s b got = (more : List ℕ) → Counts q s b (got ++ more)
+
+module _ (q s b : ℕ) where
+  pub kept-now : (got : List ℕ) → Kept q s b got → Counts q s b got
+  kept-now got k = rw append-nil at (k [])
+
+  pub kept-more : (got vs : List ℕ) → Kept q s b got → Kept q s b (got ++ vs)
+  kept-more got vs k more = rw append-assoc (k (vs ++ more))
+
 pub below-lt : (l v : ℕ) → below l v ≡ 0 → v < l
 unfolding below
 below-lt l v e = by-cases (ltb v l) (λ t. ltb-true v l t) (λ f. absurd (let z : 4 ≡ 0 = rw f at e in omega arith))
@@ -64,32 +75,32 @@ module _ (D : Spelt) where
       go true q = ap (λ z. suc (length z)) (q .holds .numbers-are)
       go false q = ap (λ z. suc (length z)) (q .numbers-are)
 
-  module _ (F : Form) (q s b : ℕ) (G : List ℕ → Type 0) (stays : (got vs : List ℕ) → G got → G (got ++ vs)) (counts : (got : List ℕ) → G got → Counts q s b got) where
-    is-queue : (got : List ℕ) (v : ℕ) → G got → a-queue got v ≡ 0 → v < q
+  module _ (F : Form) (q s b : ℕ) where
+    is-queue : (got : List ℕ) (v : ℕ) → Kept q s b got → a-queue got v ≡ 0 → v < q
     unfolding a-queue
-    is-queue got v g e = subst (λ z. v < z) (counts got g .queues) (below-lt (queue-count got) v e)
+    is-queue got v g e = subst (λ z. v < z) (kept-now q s b got g .queues) (below-lt (queue-count got) v e)
 
-    is-semaphore : (got : List ℕ) (v : ℕ) → G got → a-semaphore got v ≡ 0 → v < s
+    is-semaphore : (got : List ℕ) (v : ℕ) → Kept q s b got → a-semaphore got v ≡ 0 → v < s
     unfolding a-semaphore
-    is-semaphore got v g e = subst (λ z. v < z) (counts got g .semaphores) (below-lt (semaphore-count got) v e)
+    is-semaphore got v g e = subst (λ z. v < z) (kept-now q s b got g .semaphores) (below-lt (semaphore-count got) v e)
 
-    is-buffer : (got : List ℕ) (v : ℕ) → G got → a-buffer got v ≡ 0 → v < b
+    is-buffer : (got : List ℕ) (v : ℕ) → Kept q s b got → a-buffer got v ≡ 0 → v < b
     unfolding a-buffer
-    is-buffer got v g e = subst (λ z. v < z) (counts got g .buffers) (below-lt (buffer-count got) v e)
+    is-buffer got v g e = subst (λ z. v < z) (kept-now q s b got g .buffers) (below-lt (buffer-count got) v e)
 
-    is-kind : (got : List ℕ) (v : ℕ) → G got → a-kind got v ≡ 0 → v < 2
+    is-kind : (got : List ℕ) (v : ℕ) → Kept q s b got → a-kind got v ≡ 0 → v < 2
     unfolding a-kind
     is-kind got v g e = below-lt 2 v e
 
-    are-points : (k : ℕ) (got vs ds : List ℕ) → G got → Many (Parses D (point F)) k got vs ds → Points s k vs
+    are-points : (k : ℕ) (got vs ds : List ℕ) → Kept q s b got → Many (Parses D (point F)) k got vs ds → Points s k vs
     unfolding point
-    are-points = many-pairs D G stays (λ v. v < s) (λ _. Unit {0}) (F .semaphore-width) 8 a-semaphore any-number is-semaphore (λ _ _ _ _. tt)
+    are-points = many-pairs D (Kept q s b) (kept-more q s b) (λ v. v < s) (λ _. Unit {0}) (F .semaphore-width) 8 a-semaphore any-number is-semaphore (λ _ _ _ _. tt)
 
-    are-marks : (k : ℕ) (got vs ds : List ℕ) → G got → Many (Parses D mark) k got vs ds → Marks b k vs
+    are-marks : (k : ℕ) (got vs ds : List ℕ) → Kept q s b got → Many (Parses D mark) k got vs ds → Marks b k vs
     unfolding mark
-    are-marks = many-pairs D G stays (λ v. v < b) (λ v. v < 2) 2 1 a-buffer a-kind is-buffer is-kind
+    are-marks = many-pairs D (Kept q s b) (kept-more q s b) (λ v. v < b) (λ v. v < 2) 2 1 a-buffer a-kind is-buffer is-kind
 
-    pub operation-block : (got vs ds : List ℕ) → G got → Parses D (operation F) got vs ds → Block F q s b vs
+    pub operation-block : (got vs ds : List ℕ) → Kept q s b got → Parses D (operation F) got vs ds → Block F q s b vs
     unfolding operation
     operation-block got vs ds g p =
         let p₁ = p .second in
@@ -99,30 +110,30 @@ module _ (D : Spelt) where
         let got₂ = got₁ ++ p₁ .vs₁ in
         let got₃ = got₂ ++ p₂ .vs₁ in
         let got₄ = got₃ ++ p₃ .vs₁ in
-        let g₁ = stays got (p .vs₁) g in
-        let g₂ = stays got₁ (p₁ .vs₁) g₁ in
-        let g₃ = stays got₂ (p₂ .vs₁) g₂ in
-        let g₄ = stays got₃ (p₃ .vs₁) g₃ in
-        let w = listing D 0 3 1 (Parses D (point F)) got₂ (p₂ .vs₁) (p₂ .ds₁) (p₂ .first) in
-        let s = listing D 0 2 1 (Parses D (point F)) got₃ (p₃ .vs₁) (p₃ .ds₁) (p₃ .first) in
-        let m = listing D 0 4 1 (Parses D mark) got₄ (p₃ .vs₂) (p₃ .ds₂) (p₃ .second) in
+        let g₁ = kept-more q s b got (p .vs₁) g in
+        let g₂ = kept-more q s b got₁ (p₁ .vs₁) g₁ in
+        let g₃ = kept-more q s b got₂ (p₂ .vs₁) g₂ in
+        let g₄ = kept-more q s b got₃ (p₃ .vs₁) g₃ in
+        let cw = listing D 0 3 1 (Parses D (point F)) got₂ (p₂ .vs₁) (p₂ .ds₁) (p₂ .first) in
+        let cs = listing D 0 2 1 (Parses D (point F)) got₃ (p₃ .vs₁) (p₃ .ds₁) (p₃ .first) in
+        let cm = listing D 0 4 1 (Parses D mark) got₄ (p₃ .vs₂) (p₃ .ds₂) (p₃ .second) in
         let o = p .first in
         record {
           queue = o .number;
           part = p₁ .vs₁;
-          waits = w .count;
-          signals = s .count;
-          marks = m .count;
-          ws = w .entries;
-          ss = s .entries;
-          ms = m .entries;
+          waits = cw .count;
+          signals = cs .count;
+          marks = cm .count;
+          ws = cw .entries;
+          ss = cs .entries;
+          ms = cm .entries;
           queue-in = is-queue got (o .number) g (o .holds .passes);
           part-long = part-heads F got₁ (p₁ .vs₁) (p₁ .ds₁) (p₁ .first);
-          few-waits = w .most;
-          few-signals = s .most;
-          few-marks = m .most;
-          waited = are-points (w .count) (got₂ ++ (w .count ∷ [])) (w .entries) (w .spelling) (stays got₂ (w .count ∷ []) g₂) (w .many);
-          signalled = are-points (s .count) (got₃ ++ (s .count ∷ [])) (s .entries) (s .spelling) (stays got₃ (s .count ∷ []) g₃) (s .many);
-          marked = are-marks (m .count) (got₄ ++ (m .count ∷ [])) (m .entries) (m .spelling) (stays got₄ (m .count ∷ []) g₄) (m .many);
-          numbers-are = glued (p₁ .vs₁) (p .numbers-are) (o .holds .numbers-are) (p₁ .numbers-are) (p₂ .numbers-are) (w .numbers-are) (p₃ .numbers-are) (s .numbers-are) (m .numbers-are);
+          few-waits = cw .most;
+          few-signals = cs .most;
+          few-marks = cm .most;
+          waited = are-points (cw .count) (got₂ ++ (cw .count ∷ [])) (cw .entries) (cw .spelling) (kept-more q s b got₂ (cw .count ∷ []) g₂) (cw .many);
+          signalled = are-points (cs .count) (got₃ ++ (cs .count ∷ [])) (cs .entries) (cs .spelling) (kept-more q s b got₃ (cs .count ∷ []) g₃) (cs .many);
+          marked = are-marks (cm .count) (got₄ ++ (cm .count ∷ [])) (cm .entries) (cm .spelling) (kept-more q s b got₄ (cm .count ∷ []) g₄) (cm .many);
+          numbers-are = glued (p₁ .vs₁) (p .numbers-are) (o .holds .numbers-are) (p₁ .numbers-are) (p₂ .numbers-are) (cw .numbers-are) (p₃ .numbers-are) (cs .numbers-are) (cm .numbers-are);
         }

@@ -12,7 +12,7 @@ use Rattle.plan_format.specs.Plan.{Plan, operations-in, plan-of}
 use Rattle.plan_format.proofs.Parses.{Spelt, Many, Field, Parses}
 use Rattle.plan_format.proofs.Entries.{Row, listing, many-fields}
 use Rattle.plan_format.proofs.Seams.{at-seam, after-seam}
-use Rattle.plan_format.proofs.Blocks.{Counts, operation-block}
+use Rattle.plan_format.proofs.Blocks.{Counts, Kept, kept-more, operation-block}
 use Rattle.plan_format.proofs.Operations.{Block-then, Blocks}
 
 pub record Sections (F : Form) (xs : List ℕ) : Type 0 where
@@ -36,17 +36,15 @@ pub record Sections (F : Form) (xs : List ℕ) : Type 0 where
   pub numbers-are : xs ≡ queues ∷ (axes ++ (semaphores ∷ (owners ++ (buffers ∷ (sizes ++ (operations ∷ blocks))))))
 
 -- ---- from a parse
-module _ (D : Spelt) (F : Form) where
-  many-blocks : (q s b : ℕ) (G : List ℕ → Type 0) → ((got vs : List ℕ) → G got → G (got ++ vs)) → ((got : List ℕ) → G got → Counts q s b got) →
-      (n : ℕ) (got vs ds : List ℕ) → G got → Many (Parses D (operation F)) n got vs ds → Blocks F q s b n vs
-  many-blocks q s b G stays counts zero got vs ds g p = p .numbers-are
-  many-blocks q s b G stays counts (suc n) got vs ds g p = record {
-    block = p .vs₁;
-    rest = p .vs₂;
-    first = operation-block D F q s b G stays counts got (p .vs₁) (p .ds₁) g (p .first);
-    more = many-blocks q s b G stays counts n (got ++ p .vs₁) (p .vs₂) (p .ds₂) (stays got (p .vs₁) g) (p .second);
-    numbers-are = p .numbers-are;
-  }
+many-blocks : (D : Spelt) (F : Form) (q s b n : ℕ) (got vs ds : List ℕ) → Kept q s b got → Many (Parses D (operation F)) n got vs ds → Blocks F q s b n vs
+many-blocks D F q s b zero got vs ds k p = p .numbers-are
+many-blocks D F q s b (suc n) got vs ds k p = record {
+  block = p .vs₁;
+  rest = p .vs₂;
+  first = operation-block D F q s b got (p .vs₁) (p .ds₁) k (p .first);
+  more = many-blocks D F q s b n (got ++ p .vs₁) (p .vs₂) (p .ds₂) (kept-more q s b got (p .vs₁) k) (p .second);
+  numbers-are = p .numbers-are;
+}
 
 module _ (q s b : ℕ) (axes owners sizes : List ℕ) (la : length axes ≡ q) (lo : length owners ≡ s) (lb : length sizes ≡ b) where
   header : List ℕ
@@ -65,19 +63,12 @@ module _ (q s b : ℕ) (axes owners sizes : List ℕ) (la : length axes ≡ q) (
         ∙ at-seam (header ++ more) (q ∷ (axes ++ (s ∷ owners))) (sizes ++ more) b (2 + q + s) (simp append-assoc) (simp length-append (omega arith));
   }
 
-  -- the numbers read so far begin with the header
-  abbrev Begins : List ℕ → Type 0
-  Begins got = (more : List ℕ) × (got ≡ header ++ more)
-
-  begins-stays : (got vs : List ℕ) → Begins got → Begins (got ++ vs)
-  begins-stays got vs (more, e) = (more ++ vs, ap (λ z. z ++ vs) e ∙ append-assoc header more vs)
-
-  begins-counts : (got : List ℕ) → Begins got → Counts q s b got
-  begins-counts got (more, e) = subst (Counts q s b) (sym e) (header-counts more)
-
-  begins-here : (v₁ v₂ v₃ : List ℕ) (n : ℕ) → v₁ ≡ q ∷ axes → v₂ ≡ s ∷ owners → v₃ ≡ b ∷ sizes → Begins (((v₁ ++ v₂) ++ v₃) ++ (n ∷ []))
+  -- three sections read, and the count of the fourth
+  pub sections-kept : (v₁ v₂ v₃ : List ℕ) (n : ℕ) → v₁ ≡ q ∷ axes → v₂ ≡ s ∷ owners → v₃ ≡ b ∷ sizes → Kept q s b (((v₁ ++ v₂) ++ v₃) ++ (n ∷ []))
   unfolding header
-  begins-here v₁ v₂ v₃ n e₁ e₂ e₃ = (n ∷ [], cc (append-assoc axes (s ∷ owners) (b ∷ sizes)))
+  sections-kept v₁ v₂ v₃ n e₁ e₂ e₃ =
+      let same : ((v₁ ++ v₂) ++ v₃) ++ (n ∷ []) ≡ header ++ (n ∷ []) = cc (append-assoc axes (s ∷ owners) (b ∷ sizes)) in
+      subst (Kept q s b) (sym same) (kept-more q s b header (n ∷ []) header-counts)
 
 module _ (D : Spelt) (F : Form) where
   pub sections : (xs ds : List ℕ) → Parses D (plan-grammar F) [] xs ds → Sections F xs
@@ -115,11 +106,8 @@ module _ (D : Spelt) (F : Form) where
         axes-row = r₁;
         owners-row = subst (λ z. Row a-queue (z ++ (s ∷ [])) s (c₂ .entries)) (c₁ .numbers-are) r₂;
         sizes-long = r₃ .long;
-        blocks-are = many-blocks D F q s b (Begins q s b (c₁ .entries) (c₂ .entries) (c₃ .entries) (r₁ .long) (r₂ .long) (r₃ .long))
-            (begins-stays q s b (c₁ .entries) (c₂ .entries) (c₃ .entries) (r₁ .long) (r₂ .long) (r₃ .long))
-            (begins-counts q s b (c₁ .entries) (c₂ .entries) (c₃ .entries) (r₁ .long) (r₂ .long) (r₃ .long))
-            n (got₃ ++ (n ∷ [])) (c₄ .entries) (c₄ .spelling)
-            (begins-here q s b (c₁ .entries) (c₂ .entries) (c₃ .entries) (r₁ .long) (r₂ .long) (r₃ .long) (p .vs₁) (p₁ .vs₁) (p₂ .vs₁) n (c₁ .numbers-are) (c₂ .numbers-are) (c₃ .numbers-are)) (c₄ .many);
+        blocks-are = many-blocks D F q s b n (got₃ ++ (n ∷ [])) (c₄ .entries) (c₄ .spelling)
+            (sections-kept q s b (c₁ .entries) (c₂ .entries) (c₃ .entries) (r₁ .long) (r₂ .long) (r₃ .long) (p .vs₁) (p₁ .vs₁) (p₂ .vs₁) n (c₁ .numbers-are) (c₂ .numbers-are) (c₃ .numbers-are)) (c₄ .many);
         numbers-are = cc;
       }
 
