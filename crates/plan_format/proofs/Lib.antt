@@ -17,3 +17,5 @@ pub mod Operations
 pub mod Sections
 pub mod Shape
 pub mod Plans
+pub mod Sizes
+pub mod Largest
