@@ -5,7 +5,7 @@
 --   buffers     count 2 bytes, 0..256    size in bytes, 4 bytes, any number
 --   operations  count 2 bytes, 0..1,024  queue 1; waits 1 + 9 each, 0..3; signals 1 + 9 each, 0..2; marks 1 + 3 each, 0..4
 use mathlib.Core.Bool.{Bool, true, false, cond}
-use mathlib.Core.List.{List, [], _∷_}
+use mathlib.Core.List.{List, [], _∷_, _++_}
 use Prim.Native.Nat.{ℕ, _+_, _*_}
 use lib.Dec.{ltb}
 use lib.ListN.{length, getD, drop}
@@ -86,3 +86,7 @@ plan-grammar F =
 unfoldable pub scanned-by : Source → Form → List ℕ → Scan
 scanned-by S F xs =
     let k = S .leads * length (F .lead) in ended (read-by S (plan-grammar F) (scan (drop k xs) k [] none-given))
+
+-- the stored bytes of a list of numbers
+abbrev pub spelled-by : Form → List ℕ → List ℕ
+spelled-by F xs = F .lead ++ spell-by (plan-grammar F) (record { left = xs; made = [] }) .made

@@ -4,3 +4,4 @@ pub mod Form
 pub mod Plan
 pub mod Sound
 pub mod Stored
+pub mod Promise

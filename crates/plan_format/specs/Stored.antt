@@ -1,14 +1,14 @@
 -- Stored plans as bytes and as lists of numbers: what the reader and the writer answer and leave. Assumes nothing: these are definitions.
 use mathlib.Core.Path.{_≡_}
 use mathlib.Core.Bool.{Bool, true, false, cond}
-use mathlib.Core.List.{List, [], _∷_, _++_}
+use mathlib.Core.List.{List}
 use Prim.Native.Nat.{ℕ}
 use lib.Dec.{ltb}
 use lib.ListN.{length}
 use Rattle.basics.specs.Lists.{all, in-front}
 use Rattle.plan_format.specs.Refusal.{Refusal, refusal, none-given, given, or-else}
-use Rattle.plan_format.specs.Grammar.{bytes, numbers, Scan, spell-by}
-use Rattle.plan_format.specs.Form.{Form, first-form, plan-grammar, scanned-by}
+use Rattle.plan_format.specs.Grammar.{bytes, numbers, Scan}
+use Rattle.plan_format.specs.Form.{first-form, scanned-by, spelled-by}
 use Rattle.plan_format.specs.Plan.{Plan, plan-of}
 use Rattle.plan_format.specs.Sound.{rules-refusal}
 use Rattle.plan_format.specs.declared.Told.{Told}
@@ -29,7 +29,7 @@ plan-in bs = plan-of first-form (scanned bs .got)
 
 -- the stored bytes of a list of numbers
 unfoldable pub spelled : List ℕ → List ℕ
-spelled xs = first-form .lead ++ spell-by (plan-grammar first-form) (record { left = xs; made = [] }) .made
+spelled xs = spelled-by first-form xs
 
 -- refusals 1 to 8
 unfoldable pub plan-refusal : List ℕ → Refusal

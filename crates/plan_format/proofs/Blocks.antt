@@ -1,0 +1,139 @@
+-- The numbers of an operation: its queue, then its waits, signals and marks, each after their count. Assumes nothing.
+use mathlib.Core.Path.{_≡_, refl, sym, ap, _∙_, subst}
+use mathlib.Core.Bool.{Bool, true, false, cond}
+use mathlib.Core.List.{List, [], _∷_, _++_, append-assoc, append-nil}
+use Prim.Native.Nat.{ℕ, zero, suc, _+_, _*_, _≤_, _<_}
+use native.Mathlib.Omega.{arith}
+use lib.Dec.{ltb}
+use lib.ListN.{length, getD, drop, length-append}
+use lib.Seq.{getD-at, drop-at}
+use borrow.Author.Tests.{ltb-true}
+use Rattle.basics.proofs.Tests.{by-cases}
+use Rattle.plan_format.specs.Grammar.{field, nothing}
+use Rattle.plan_format.specs.Form.{Form, queue-count, semaphore-count, buffer-count, any-number, below, a-queue, a-semaphore, a-buffer, a-kind, point, mark, part, operation}
+use Rattle.plan_format.specs.Plan.{heading}
+use Rattle.plan_format.proofs.Parses.{Takes, Spelt, Then, Many, Field, Counted, Parses}
+use Rattle.plan_format.proofs.Entries.{Pairs, Listing, listing, many-pairs}
+
+-- points of semaphores below s; marks of buffers below b, each a use or a free
+abbrev pub Points : (s k : ℕ) → List ℕ → Type 0
+Points s = Pairs (λ v. v < s) (λ _. Unit {0})
+
+abbrev pub Marks : (b k : ℕ) → List ℕ → Type 0
+Marks b = Pairs (λ v. v < b) (λ v. v < 2)
+
+pub record Block (F : Form) (q s b : ℕ) (xs : List ℕ) : Type 0 where
+  pub queue : ℕ
+  pub part : List ℕ
+  pub waits : ℕ
+  pub signals : ℕ
+  pub marks : ℕ
+  pub ws : List ℕ
+  pub ss : List ℕ
+  pub ms : List ℕ
+  pub queue-in : queue < q
+  pub part-long : suc (length part) ≡ heading F
+  pub few-waits : waits ≤ 3
+  pub few-signals : signals ≤ 2
+  pub few-marks : marks ≤ 4
+  pub waited : Points s waits ws
+  pub signalled : Points s signals ss
+  pub marked : Marks b marks ms
+  pub numbers-are : xs ≡ queue ∷ (part ++ (waits ∷ (ws ++ (signals ∷ (ss ++ (marks ∷ ms))))))
+
+-- the counts that the numbers read so far begin with
+pub record Counts (q s b : ℕ) (got : List ℕ) : Type 0 where
+  pub queues : queue-count got ≡ q
+  pub semaphores : semaphore-count got ≡ s
+  pub buffers : buffer-count got ≡ b
+
+-- they stay whatever is read after
+abbrev pub Kept : (q s b : ℕ) → List ℕ → Type 0
+Kept q s b got = (more : List ℕ) → Counts q s b (got ++ more)
+
+module _ (q s b : ℕ) where
+  pub kept-now : (got : List ℕ) → Kept q s b got → Counts q s b got
+  kept-now got k = rw append-nil at (k [])
+
+  pub kept-more : (got vs : List ℕ) → Kept q s b got → Kept q s b (got ++ vs)
+  kept-more got vs k more = rw append-assoc (k (vs ++ more))
+
+pub below-lt : (l v : ℕ) → below l v ≡ 0 → v < l
+unfolding below
+below-lt l v e = by-cases (ltb v l) (λ t. ltb-true v l t) (λ f. absurd (let z : 4 ≡ 0 = rw f at e in omega arith))
+
+glued : (pt : List ℕ) {vs v₁ v₂ v₃ v₄ v₅ v₆ v₇ ws ss ms : List ℕ} {q w s m : ℕ} → vs ≡ v₁ ++ v₂ → v₁ ≡ q ∷ [] → v₂ ≡ pt ++ v₃ → v₃ ≡ v₄ ++ v₅ → v₄ ≡ w ∷ ws →
+    v₅ ≡ v₆ ++ v₇ → v₆ ≡ s ∷ ss → v₇ ≡ m ∷ ms → vs ≡ q ∷ (pt ++ (w ∷ (ws ++ (s ∷ (ss ++ (m ∷ ms))))))
+glued pt a b c d e f g h = cc
+
+module _ (D : Spelt) where
+  part-heads : (F : Form) (got vs ds : List ℕ) → Parses D (part F) got vs ds → suc (length vs) ≡ heading F
+  unfolding part heading
+  part-heads F got vs ds p = go (F .has-part) p
+    where
+      go : (h : Bool) → Parses D (cond h (field 4 any-number) nothing) got vs ds → suc (length vs) ≡ cond h 2 1
+      go true q = ap (λ z. suc (length z)) (q .holds .numbers-are)
+      go false q = ap (λ z. suc (length z)) (q .numbers-are)
+
+  module _ (F : Form) (q s b : ℕ) where
+    is-queue : (got : List ℕ) (v : ℕ) → Kept q s b got → a-queue got v ≡ 0 → v < q
+    unfolding a-queue
+    is-queue got v g e = subst (λ z. v < z) (kept-now q s b got g .queues) (below-lt (queue-count got) v e)
+
+    is-semaphore : (got : List ℕ) (v : ℕ) → Kept q s b got → a-semaphore got v ≡ 0 → v < s
+    unfolding a-semaphore
+    is-semaphore got v g e = subst (λ z. v < z) (kept-now q s b got g .semaphores) (below-lt (semaphore-count got) v e)
+
+    is-buffer : (got : List ℕ) (v : ℕ) → Kept q s b got → a-buffer got v ≡ 0 → v < b
+    unfolding a-buffer
+    is-buffer got v g e = subst (λ z. v < z) (kept-now q s b got g .buffers) (below-lt (buffer-count got) v e)
+
+    is-kind : (got : List ℕ) (v : ℕ) → Kept q s b got → a-kind got v ≡ 0 → v < 2
+    unfolding a-kind
+    is-kind got v g e = below-lt 2 v e
+
+    are-points : (k : ℕ) (got vs ds : List ℕ) → Kept q s b got → Many (Parses D (point F)) k got vs ds → Points s k vs
+    unfolding point
+    are-points = many-pairs D (Kept q s b) (kept-more q s b) (λ v. v < s) (λ _. Unit {0}) (F .semaphore-width) 8 a-semaphore any-number is-semaphore (λ _ _ _ _. tt)
+
+    are-marks : (k : ℕ) (got vs ds : List ℕ) → Kept q s b got → Many (Parses D mark) k got vs ds → Marks b k vs
+    unfolding mark
+    are-marks = many-pairs D (Kept q s b) (kept-more q s b) (λ v. v < b) (λ v. v < 2) 2 1 a-buffer a-kind is-buffer is-kind
+
+    pub operation-block : (got vs ds : List ℕ) → Kept q s b got → Parses D (operation F) got vs ds → Block F q s b vs
+    unfolding operation
+    operation-block got vs ds g p =
+        let p₁ = p .second in
+        let p₂ = p₁ .second in
+        let p₃ = p₂ .second in
+        let got₁ = got ++ p .vs₁ in
+        let got₂ = got₁ ++ p₁ .vs₁ in
+        let got₃ = got₂ ++ p₂ .vs₁ in
+        let got₄ = got₃ ++ p₃ .vs₁ in
+        let g₁ = kept-more q s b got (p .vs₁) g in
+        let g₂ = kept-more q s b got₁ (p₁ .vs₁) g₁ in
+        let g₃ = kept-more q s b got₂ (p₂ .vs₁) g₂ in
+        let g₄ = kept-more q s b got₃ (p₃ .vs₁) g₃ in
+        let cw = listing D 0 3 1 (Parses D (point F)) got₂ (p₂ .vs₁) (p₂ .ds₁) (p₂ .first) in
+        let cs = listing D 0 2 1 (Parses D (point F)) got₃ (p₃ .vs₁) (p₃ .ds₁) (p₃ .first) in
+        let cm = listing D 0 4 1 (Parses D mark) got₄ (p₃ .vs₂) (p₃ .ds₂) (p₃ .second) in
+        let o = p .first in
+        record {
+          queue = o .number;
+          part = p₁ .vs₁;
+          waits = cw .count;
+          signals = cs .count;
+          marks = cm .count;
+          ws = cw .entries;
+          ss = cs .entries;
+          ms = cm .entries;
+          queue-in = is-queue got (o .number) g (o .holds .passes);
+          part-long = part-heads F got₁ (p₁ .vs₁) (p₁ .ds₁) (p₁ .first);
+          few-waits = cw .most;
+          few-signals = cs .most;
+          few-marks = cm .most;
+          waited = are-points (cw .count) (got₂ ++ (cw .count ∷ [])) (cw .entries) (cw .spelling) (kept-more q s b got₂ (cw .count ∷ []) g₂) (cw .many);
+          signalled = are-points (cs .count) (got₃ ++ (cs .count ∷ [])) (cs .entries) (cs .spelling) (kept-more q s b got₃ (cs .count ∷ []) g₃) (cs .many);
+          marked = are-marks (cm .count) (got₄ ++ (cm .count ∷ [])) (cm .entries) (cm .spelling) (kept-more q s b got₄ (cm .count ∷ []) g₄) (cm .many);
+          numbers-are = glued (p₁ .vs₁) (p .numbers-are) (o .holds .numbers-are) (p₁ .numbers-are) (p₂ .numbers-are) (cw .numbers-are) (p₃ .numbers-are) (cs .numbers-are) (cm .numbers-are);
+        }

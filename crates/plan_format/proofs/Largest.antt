@@ -1,0 +1,240 @@
+-- A largest plan: every list as long as its limit allows; so the greatest sizes are reached. Assumes nothing.
+use mathlib.Core.Path.{_≡_, refl, sym, ap, ap₂, _∙_, subst}
+use mathlib.Core.Bool.{Bool, true, false, _&&_}
+use mathlib.Core.List.{List, [], _∷_, _++_, append-assoc, append-nil}
+use Prim.Native.Nat.{ℕ, zero, suc, _+_, _*_, _^_, _≤_, _<_}
+use native.Mathlib.Nat.{suc-mul, not-suc-le-zero}
+use native.Mathlib.Omega.{arith}
+use lib.Dec.{ltb, eqb, lit<, lit≤}
+use lib.ListN.{length, getD, take, length-append}
+use borrow.Author.Tests.{ltb-true, lt-ltb, eqb-true, eqb-false}
+use Rattle.basics.specs.Lists.{member, all-below, tabulate-from}
+use Rattle.basics.proofs.Tests.{by-cases, and-left, and-right}
+use Rattle.plan_format.specs.Refusal.{none-given}
+use Rattle.plan_format.specs.Grammar.{Check, Grammar, counted, digits, scan, count-check}
+use Rattle.plan_format.specs.Form.{first-form, queue-count, semaphore-count, buffer-count, any-number, below, new-axis, a-queue, a-semaphore, a-buffer, a-kind, point, mark, part, operation, plan-grammar}
+use Rattle.plan_format.specs.Stored.{listed, spelled}
+use Rattle.plan_format.proofs.Bytes.{length-digits}
+use Rattle.plan_format.proofs.Parses.{Takes, Exact, Nothing, Then, Many, Holds, Field, Counted, Parses}
+use Rattle.plan_format.proofs.Fields.{count-passes}
+use Rattle.plan_format.proofs.Entries.{Row}
+use Rattle.plan_format.proofs.Blocks.{Counts, Kept, kept-now, kept-more}
+use Rattle.plan_format.proofs.Sections.{sections-kept}
+use Rattle.plan_format.proofs.RoundTrip.{spelled-parsed, numbers-whole}
+
+-- ---- parses of given numbers, with the length of their bytes
+record Spells-in (P : Takes) (n : ℕ) (got vs : List ℕ) : Type 0 where
+  ds : List ℕ
+  parsed : P got vs ds
+  long : length ds ≡ n
+
+a-field : (w : ℕ) (c : Check) (got : List ℕ) (v : ℕ) → v < 256 ^ w → c got v ≡ 0 → Spells-in (Field Exact w c) w got (v ∷ [])
+a-field w c got v l e = record {
+  ds = digits w v;
+  parsed = record { number = v; holds = record { passes = e; spelt = record { fits = l; bytes-are = refl }; numbers-are = refl } };
+  long = length-digits w v;
+}
+
+after : (P Q : Takes) (n m : ℕ) (got vs vs′ : List ℕ) → Spells-in P n got vs → Spells-in Q m (got ++ vs) vs′ → Spells-in (Then P Q) (n + m) got (vs ++ vs′)
+after P Q n m got vs vs′ a b = record {
+  ds = a .ds ++ b .ds;
+  parsed = record { vs₁ = vs; vs₂ = vs′; ds₁ = a .ds; ds₂ = b .ds; first = a .parsed; second = b .parsed; numbers-are = refl; bytes-are = refl };
+  long = length-append (a .ds) (b .ds) ∙ ap₂ _+_ (a .long) (b .long);
+}
+
+a-list : (l m w : ℕ) (P : Takes) (n k : ℕ) (got vs : List ℕ) → l ≤ k → k ≤ m → k < 256 ^ w → Spells-in (Many P k) n (got ++ (k ∷ [])) vs → Spells-in (Counted Exact l m w P) (w + n) got (k ∷ vs)
+a-list l m w P n k got vs a b f e =
+    let H : Takes = Holds Exact w (λ _ v. count-check l m v) k in
+    let h : Spells-in H w got (k ∷ []) = record {
+      ds = digits w k;
+      parsed = record { passes = count-passes l m k a b; spelt = record { fits = f; bytes-are = refl }; numbers-are = refl };
+      long = length-digits w k;
+    } in
+    let both = after H (Many P k) w n got (k ∷ []) vs h e in
+    record { ds = both .ds; parsed = record { count = k; parts = both .parsed }; long = both .long }
+
+no-more : (P : Takes) (got : List ℕ) → Spells-in (Many P 0) 0 got []
+no-more P got = record { ds = []; parsed = record { numbers-are = refl; bytes-are = refl }; long = refl }
+
+-- the same entry over and over, where it parses after all that begins in one way
+repeated : (k : ℕ) → List ℕ → List ℕ
+repeated zero xs = []
+repeated (suc k) xs = xs ++ repeated k xs
+
+repeated-long : (k : ℕ) (xs : List ℕ) → length (repeated k xs) ≡ k * length xs
+unfolding repeated
+repeated-long zero xs = omega arith
+repeated-long (suc k) xs = length-append xs (repeated k xs) ∙ omega (arith, repeated-long k xs, suc-mul k (length xs))
+
+module _ (G : List ℕ → Type 0) (stays : (got vs : List ℕ) → G got → G (got ++ vs)) (P : Takes) (n : ℕ) (vs : List ℕ) (entry : (got : List ℕ) → G got → Spells-in P n got vs) where
+  entries : (k : ℕ) (got : List ℕ) → G got → Spells-in (Many P k) (k * n) got (repeated k vs)
+  unfolding repeated
+  entries zero got g = subst (λ z. Spells-in (Many P 0) z got []) (let e : 0 ≡ 0 * n = omega arith in e) (no-more P got)
+  entries (suc k) got g =
+      subst (λ z. Spells-in (Many P (suc k)) z got (repeated (suc k) vs)) (let e : n + k * n ≡ suc k * n = omega (arith, suc-mul k n) in e)
+      (after P (Many P k) n (k * n) got vs (repeated k vs) (entry got g) (entries k (got ++ vs) (stays got vs g)))
+
+-- fields in a row, each of which passes
+row-entries : (w : ℕ) (c : Check) (k : ℕ) (got vs : List ℕ) → Row c got k vs → ((i : ℕ) → i < k → getD vs i 0 < 256 ^ w) → Spells-in (Many (Field Exact w c) k) (k * w) got vs
+row-entries w c zero got [] r f = subst (λ z. Spells-in Nothing z got []) (let e : 0 ≡ 0 * w = omega arith in e) (no-more (Field Exact w c) got)
+row-entries w c zero got (v ∷ vs) r f = absurd (omega (arith, r .long))
+row-entries w c (suc k) got [] r f = absurd (omega (arith, r .long))
+row-entries w c (suc k) got (v ∷ vs) r f =
+    let rest : Row c (got ++ (v ∷ [])) k vs = record {
+      long = omega (arith, r .long);
+      pass = λ i l. ap (λ z. c z (getD vs i 0)) (append-assoc got (v ∷ []) (take i vs)) ∙ r .pass (suc i) (omega arith);
+    } in
+    let e : w + k * w ≡ suc k * w = omega (arith, suc-mul k w) in
+    let here : c got v ≡ 0 = rw append-nil at (r .pass 0 (omega arith)) in
+    subst (λ z. Spells-in (Many (Field Exact w c) (suc k)) z got (v ∷ vs)) e
+    (after (Field Exact w c) (Many (Field Exact w c) k) w (k * w) got (v ∷ []) vs (a-field w c got v (f 0 (omega arith)) here) (row-entries w c k (got ++ (v ∷ [])) vs rest (λ i l. f (suc i) (omega arith))))
+
+-- ---- the largest plan
+axes : List ℕ
+axes = tabulate-from 16 0 (λ i. i)
+
+owners : List ℕ
+owners = repeated 64 (0 ∷ [])
+
+sizes : List ℕ
+sizes = repeated 256 (0 ∷ [])
+
+pair : List ℕ
+pair = 0 ∷ 0 ∷ []
+
+filled : (m : ℕ) → List ℕ
+filled m = m ∷ repeated m pair
+
+largest-operation : List ℕ
+largest-operation = 0 ∷ (filled 3 ++ (filled 2 ++ filled 4))
+
+-- 16 axes, 64 owners, 256 sizes, 1,024 operations of 3 waits, 2 signals and 4 marks
+pub largest : List ℕ
+largest = (16 ∷ axes) ++ ((64 ∷ owners) ++ ((256 ∷ sizes) ++ (1024 ∷ repeated 1024 largest-operation)))
+
+all-below-at : (n : ℕ) (f : ℕ → Bool) → all-below n f ≡ true → (i : ℕ) → i < n → f i ≡ true
+unfolding all-below
+all-below-at zero f e i l = absurd (not-suc-le-zero l)
+all-below-at (suc n) f e i l =
+    by-cases (eqb i n) (λ t. ap f (eqb-true i n t) ∙ and-left (f n) (all-below n f) e)
+    (λ d. all-below-at n f (and-right (f n) (all-below n f) e) i (omega (arith, eqb-false i n d)))
+
+axes-row : Row new-axis (16 ∷ []) 16 axes
+unfolding axes tabulate-from all-below new-axis member
+axes-row = record { long = refl; pass = λ i l. eqb-true _ 0 (all-below-at 16 (λ k. eqb (new-axis (16 ∷ take k axes) (getD axes k 0)) 0) refl i l) }
+
+axes-small : (i : ℕ) → i < 16 → getD axes i 0 < 256 ^ 8
+unfolding axes tabulate-from all-below
+axes-small i l = ltb-true _ _ (all-below-at 16 (λ k. ltb (getD axes k 0) (256 ^ 8)) refl i l)
+
+passes-below : (l v n : ℕ) → l ≡ n → v < n → below l v ≡ 0
+unfolding below
+passes-below l v n e h = rw (e, lt-ltb v n h)
+
+abbrev K : List ℕ → Type 0
+K = Kept 16 64 256
+
+point-entry : (got : List ℕ) → K got → Spells-in (Parses Exact (point first-form)) 9 got pair
+unfolding point first-form pair a-semaphore any-number
+point-entry got k =
+    after (Field Exact 1 a-semaphore) (Field Exact 8 any-number) 1 8 got (0 ∷ []) (0 ∷ [])
+    (a-field 1 a-semaphore got 0 (lit< tt) (passes-below (semaphore-count got) 0 64 (kept-now 16 64 256 got k .semaphores) (lit< tt))) (a-field 8 any-number (got ++ (0 ∷ [])) 0 (lit< tt) refl)
+
+mark-entry : (got : List ℕ) → K got → Spells-in (Parses Exact mark) 3 got pair
+unfolding mark pair a-buffer a-kind below
+mark-entry got k =
+    after (Field Exact 2 a-buffer) (Field Exact 1 a-kind) 2 1 got (0 ∷ []) (0 ∷ [])
+    (a-field 2 a-buffer got 0 (lit< tt) (passes-below (buffer-count got) 0 256 (kept-now 16 64 256 got k .buffers) (lit< tt))) (a-field 1 a-kind (got ++ (0 ∷ [])) 0 (lit< tt) refl)
+
+-- k points or marks after their count
+pairs-list : (g : Grammar) (n m : ℕ) → ((got : List ℕ) → K got → Spells-in (Parses Exact g) n got pair) → m < 256 ^ 1 → (got : List ℕ) → K got →
+    Spells-in (Parses Exact (counted 0 m 1 g)) (1 + m * n) got (filled m)
+unfolding filled
+pairs-list g n m entry l got k =
+    a-list 0 m 1 (Parses Exact g) (m * n) m got (repeated m pair) (omega arith) (omega arith) l
+    (entries K (kept-more 16 64 256) (Parses Exact g) n pair entry m (got ++ (m ∷ [])) (kept-more 16 64 256 got (m ∷ []) k))
+
+operation-entry : (got : List ℕ) → K got → Spells-in (Parses Exact (operation first-form)) 61 got largest-operation
+unfolding operation part first-form largest-operation a-queue
+operation-entry got k =
+    let P = Parses Exact (counted 0 3 1 (point first-form)) in
+    let Q = Parses Exact (counted 0 2 1 (point first-form)) in
+    let R = Parses Exact (counted 0 4 1 mark) in
+    let got₁ = got ++ (0 ∷ []) in
+    let got₂ = (got₁ ++ []) ++ filled 3 in
+    let k₁ = kept-more 16 64 256 got₁ [] (kept-more 16 64 256 got (0 ∷ []) k) in
+    let k₂ = kept-more 16 64 256 (got₁ ++ []) (filled 3) k₁ in
+    after (Field Exact 1 a-queue) (Then Nothing (Then P (Then Q R))) 1 60 got (0 ∷ []) (filled 3 ++ (filled 2 ++ filled 4))
+    (a-field 1 a-queue got 0 (lit< tt) (passes-below (queue-count got) 0 16 (kept-now 16 64 256 got k .queues) (lit< tt)))
+    (after Nothing (Then P (Then Q R)) 0 60 got₁ [] (filled 3 ++ (filled 2 ++ filled 4)) (no-more Nothing got₁)
+    (after P (Then Q R) 28 32 (got₁ ++ []) (filled 3) (filled 2 ++ filled 4) (pairs-list (point first-form) 9 3 point-entry (lit< tt) (got₁ ++ []) k₁)
+    (after Q R 19 13 got₂ (filled 2) (filled 4) (pairs-list (point first-form) 9 2 point-entry (lit< tt) got₂ k₂) (pairs-list mark 3 4 mark-entry (lit< tt) (got₂ ++ filled 2) (kept-more 16 64 256 got₂ (filled 2) k₂)))))
+
+-- ---- the whole
+-- the queues are known from the first number on
+abbrev Sixteen : List ℕ → Type 0
+Sixteen got = (more : List ℕ) → queue-count (got ++ more) ≡ 16
+
+owner-entry : (got : List ℕ) → Sixteen got → Spells-in (Field Exact 1 a-queue) 1 got (0 ∷ [])
+unfolding a-queue
+owner-entry got k = a-field 1 a-queue got 0 (lit< tt) (passes-below (queue-count got) 0 16 (rw append-nil at (k [])) (lit< tt))
+
+axes-spell : Spells-in (Counted Exact 0 16 1 (Field Exact 8 new-axis)) 129 [] (16 ∷ axes)
+axes-spell = a-list 0 16 1 (Field Exact 8 new-axis) 128 16 [] axes (lit≤ tt) (lit≤ tt) (lit< tt) (row-entries 8 new-axis 16 (16 ∷ []) axes axes-row axes-small)
+
+owners-spell : Spells-in (Counted Exact 0 64 1 (Field Exact 1 a-queue)) 65 (16 ∷ axes) (64 ∷ owners)
+unfolding owners queue-count
+owners-spell =
+    a-list 0 64 1 (Field Exact 1 a-queue) 64 64 (16 ∷ axes) owners (lit≤ tt) (lit≤ tt) (lit< tt)
+    (entries Sixteen (λ got vs k more. rw append-assoc (k (vs ++ more))) (Field Exact 1 a-queue) 1 (0 ∷ []) owner-entry 64 ((16 ∷ axes) ++ (64 ∷ [])) (λ more. refl))
+
+sizes-spell : (got : List ℕ) → Spells-in (Counted Exact 0 256 2 (Field Exact 4 any-number)) 1026 got (256 ∷ sizes)
+unfolding sizes any-number
+sizes-spell got =
+    a-list 0 256 2 (Field Exact 4 any-number) 1024 256 got sizes (lit≤ tt) (lit≤ tt) (lit< tt)
+    (entries (λ _. Unit {0}) (λ _ _ _. tt) (Field Exact 4 any-number) 4 (0 ∷ []) (λ g _. a-field 4 any-number g 0 (lit< tt) refl) 256 (got ++ (256 ∷ [])) tt)
+
+operations-spell : (got : List ℕ) → K (got ++ (1024 ∷ [])) → Spells-in (Counted Exact 0 1024 2 (Parses Exact (operation first-form))) 62466 got (1024 ∷ repeated 1024 largest-operation)
+operations-spell got k =
+    a-list 0 1024 2 (Parses Exact (operation first-form)) 62464 1024 got (repeated 1024 largest-operation) (lit≤ tt) (lit≤ tt) (lit< tt)
+    (entries K (kept-more 16 64 256) (Parses Exact (operation first-form)) 61 largest-operation operation-entry 1024 (got ++ (1024 ∷ [])) k)
+
+owners-long : length owners ≡ 64
+unfolding owners
+owners-long = repeated-long 64 (0 ∷ [])
+
+sizes-long : length sizes ≡ 256
+unfolding sizes
+sizes-long = repeated-long 256 (0 ∷ [])
+
+operation-long : length largest-operation ≡ 22
+unfolding largest-operation filled repeated pair
+operation-long = refl
+
+plan-spells : Spells-in (Parses Exact (plan-grammar first-form)) 63686 [] largest
+unfolding plan-grammar first-form largest axes tabulate-from
+plan-spells =
+    let A : Takes = Counted Exact 0 16 1 (Field Exact 8 new-axis) in
+    let B : Takes = Counted Exact 0 64 1 (Field Exact 1 a-queue) in
+    let C : Takes = Counted Exact 0 256 2 (Field Exact 4 any-number) in
+    let E : Takes = Counted Exact 0 1024 2 (Parses Exact (operation first-form)) in
+    let fourth : List ℕ = 1024 ∷ repeated 1024 largest-operation in
+    let third : List ℕ = (256 ∷ sizes) ++ fourth in
+    let got = (16 ∷ axes) ++ (64 ∷ owners) in
+    after A (Then B (Then C E)) 129 63557 [] (16 ∷ axes) ((64 ∷ owners) ++ third) axes-spell
+    (after B (Then C E) 65 63492 (16 ∷ axes) (64 ∷ owners) third owners-spell
+    (after C E 1026 62466 got (256 ∷ sizes) fourth (sizes-spell got) (operations-spell (got ++ (256 ∷ sizes))
+    (sections-kept 16 64 256 axes owners sizes refl owners-long sizes-long (16 ∷ axes) (64 ∷ owners) (256 ∷ sizes) 1024 refl refl refl))))
+
+pub largest-long : length largest ≡ 22868
+unfolding largest axes tabulate-from
+largest-long =
+    simp length-append (omega (arith, owners-long, sizes-long, repeated-long 1024 largest-operation ∙ ap (λ n. 1024 * n) operation-long))
+
+pub largest-listed : listed largest ≡ scan [] 22868 largest none-given
+unfolding listed
+largest-listed = numbers-whole first-form largest (plan-spells .ds) (plan-spells .parsed) ∙ ap (λ n. scan [] n largest none-given) largest-long
+
+pub largest-spelled : length (spelled largest) ≡ 63686
+unfolding spelled first-form
+largest-spelled = ap length (spelled-parsed first-form largest (plan-spells .ds) (plan-spells .parsed)) ∙ plan-spells .long

@@ -1,0 +1,102 @@
+-- The operation of a block of numbers, whatever follows it, and the operations of blocks in a row. Assumes nothing.
+use mathlib.Core.Path.{_≡_, refl, sym, ap, ap₂, _∙_}
+use mathlib.Core.List.{List, [], _∷_, _++_, append-assoc}
+use Prim.Native.Nat.{ℕ, zero, suc, _+_, _*_}
+use native.Mathlib.Omega.{arith}
+use lib.ListN.{length, getD, drop, length-append}
+use lib.Seq.{drop-at}
+use Rattle.plan_format.specs.Form.{Form}
+use Rattle.plan_format.specs.Plan.{Operation, points-in, marks-in, heading, operation-in, operation-long, operations-in}
+use Rattle.plan_format.proofs.Pairs.{points-front, marks-front}
+use Rattle.plan_format.proofs.Seams.{at-seam, after-seam}
+use Rattle.plan_format.proofs.Blocks.{Block}
+
+-- ---- one operation
+module _ (F : Form) (q : ℕ) (part : List ℕ) (w s m : ℕ) (ws ss ms : List ℕ) (lp : suc (length part) ≡ heading F) (lw : length ws ≡ 2 * w) (ls : length ss ≡ 2 * s)
+    (lm : length ms ≡ 2 * m) (rest : List ℕ) where
+  block : List ℕ
+  block = q ∷ (part ++ (w ∷ (ws ++ (s ∷ (ss ++ (m ∷ ms))))))
+
+  whole : List ℕ
+  whole = block ++ rest
+
+  split-w : whole ≡ (q ∷ part) ++ (w ∷ (ws ++ (s ∷ (ss ++ (m ∷ (ms ++ rest))))))
+  unfolding whole block
+  split-w = simp append-assoc
+
+  split-s : whole ≡ (q ∷ (part ++ (w ∷ ws))) ++ (s ∷ (ss ++ (m ∷ (ms ++ rest))))
+  unfolding whole block
+  split-s = simp append-assoc
+
+  split-m : whole ≡ (q ∷ (part ++ (w ∷ (ws ++ (s ∷ ss))))) ++ (m ∷ (ms ++ rest))
+  unfolding whole block
+  split-m = simp append-assoc
+
+  at-w : getD whole (heading F) 0 ≡ w
+  at-w = at-seam whole (q ∷ part) (ws ++ (s ∷ (ss ++ (m ∷ (ms ++ rest))))) w (heading F) split-w lp
+
+  at-s : getD whole (heading F + 1 + 2 * w) 0 ≡ s
+  at-s = at-seam whole (q ∷ (part ++ (w ∷ ws))) (ss ++ (m ∷ (ms ++ rest))) s (heading F + 1 + 2 * w) split-s (simp length-append (omega arith))
+
+  at-m : getD whole (heading F + 2 + 2 * w + 2 * s) 0 ≡ m
+  at-m = at-seam whole (q ∷ (part ++ (w ∷ (ws ++ (s ∷ ss))))) (ms ++ rest) m (heading F + 2 + 2 * w + 2 * s) split-m (simp length-append (omega arith))
+
+  long-is : operation-long F whole ≡ length block
+  unfolding operation-long block
+  long-is = rw (at-w, at-s, at-m) (simp length-append (omega arith))
+
+  operation-is : operation-in F whole ≡ record { queue = q; waits = points-in w ws; signals = points-in s ss; marks = marks-in m ms }
+  unfolding operation-in
+  operation-is =
+      rw (at-q, at-w, at-s, at-m, to-w, to-s, to-m, points-front w ws (s ∷ (ss ++ (m ∷ (ms ++ rest)))) lw, points-front s ss (m ∷ (ms ++ rest)) ls, marks-front m ms rest lm)
+    where
+      at-q : getD whole 0 0 ≡ q
+      at-q = ap (λ z. getD z 0 0) split-w
+
+      to-w : drop (heading F + 1) whole ≡ ws ++ (s ∷ (ss ++ (m ∷ (ms ++ rest))))
+      to-w = after-seam whole (q ∷ part) (ws ++ (s ∷ (ss ++ (m ∷ (ms ++ rest))))) w (heading F + 1) split-w (omega arith)
+
+      to-s : drop (heading F + 2 + 2 * w) whole ≡ ss ++ (m ∷ (ms ++ rest))
+      to-s = after-seam whole (q ∷ (part ++ (w ∷ ws))) (ss ++ (m ∷ (ms ++ rest))) s (heading F + 2 + 2 * w) split-s (simp length-append (omega arith))
+
+      to-m : drop (heading F + 3 + 2 * w + 2 * s) whole ≡ ms ++ rest
+      to-m = after-seam whole (q ∷ (part ++ (w ∷ (ws ++ (s ∷ ss))))) (ms ++ rest) m (heading F + 3 + 2 * w + 2 * s) split-m (simp length-append (omega arith))
+
+module _ (F : Form) (q s b : ℕ) where
+  abbrev pub operation-of : (xs : List ℕ) → Block F q s b xs → Operation
+  operation-of xs k = record { queue = k .queue; waits = points-in (k .waits) (k .ws); signals = points-in (k .signals) (k .ss); marks = marks-in (k .marks) (k .ms) }
+
+  pub block-long : (xs rest : List ℕ) → Block F q s b xs → operation-long F (xs ++ rest) ≡ length xs
+  unfolding whole block
+  block-long xs rest k =
+      rw (k .numbers-are) (long-is F (k .queue) (k .part) (k .waits) (k .signals) (k .marks) (k .ws) (k .ss) (k .ms) (k .part-long) (k .waited .long) (k .signalled .long) (k .marked .long) rest)
+
+  pub block-operation : (xs rest : List ℕ) (k : Block F q s b xs) → operation-in F (xs ++ rest) ≡ operation-of xs k
+  unfolding whole block
+  block-operation xs rest k =
+      ap (λ z. operation-in F (z ++ rest)) (k .numbers-are)
+      ∙ operation-is F (k .queue) (k .part) (k .waits) (k .signals) (k .marks) (k .ws) (k .ss) (k .ms) (k .part-long) (k .waited .long) (k .signalled .long) (k .marked .long) rest
+
+  -- ---- blocks in a row
+  pub record Block-then (More : List ℕ → Type 0) (xs : List ℕ) : Type 0 where
+    pub block : List ℕ
+    pub rest : List ℕ
+    pub first : Block F q s b block
+    pub more : More rest
+    pub numbers-are : xs ≡ block ++ rest
+
+  abbrev pub Blocks : (n : ℕ) → List ℕ → Type 0
+  Blocks zero xs = xs ≡ []
+  Blocks (suc n) xs = Block-then (Blocks n) xs
+
+  pub operations-cons : (n : ℕ) (xs : List ℕ) (k : Blocks (suc n) xs) → operations-in F (suc n) xs ≡ operation-of (k .block) (k .first) ∷ operations-in F n (k .rest)
+  unfolding operations-in
+  operations-cons n xs k =
+      let e = k .numbers-are in
+      let long : drop (operation-long F (k .block ++ k .rest)) (k .block ++ k .rest) ≡ k .rest = drop-at (k .block) (k .rest) (operation-long F (k .block ++ k .rest)) (sym (block-long (k .block) (k .rest) (k .first))) in
+      ap₂ {C = List Operation} (λ x y. x ∷ operations-in F n y) (ap (λ z. operation-in F z) e ∙ block-operation (k .block) (k .rest) (k .first)) (ap (λ z. drop (operation-long F z) z) e ∙ long)
+
+pub operations-long : (F : Form) (n : ℕ) (xs : List ℕ) → length (operations-in F n xs) ≡ n
+unfolding operations-in
+operations-long F zero xs = refl
+operations-long F (suc n) xs = ap suc (operations-long F n (drop (operation-long F xs) xs))

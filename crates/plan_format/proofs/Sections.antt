@@ -1,0 +1,163 @@
+-- The numbers of a whole plan: four sections, each after its count, and the plan that they tell. Assumes nothing.
+use mathlib.Core.Path.{_≡_, refl, sym, ap, ap₂, _∙_, subst}
+use mathlib.Core.Bool.{Bool, true, false}
+use mathlib.Core.List.{List, [], _∷_, _++_, append-assoc, append-nil}
+use Prim.Native.Nat.{ℕ, zero, suc, _+_, _≤_, _<_}
+use native.Mathlib.Omega.{arith}
+use lib.ListN.{length, getD, take, drop, length-append}
+use lib.Seq.{take-at}
+use Rattle.plan_format.specs.Form.{Form, queue-count, semaphore-count, buffer-count, any-number, new-axis, a-queue, operation, plan-grammar}
+use Rattle.plan_format.specs.Grammar.{field}
+use Rattle.plan_format.specs.Plan.{Plan, operations-in, plan-of}
+use Rattle.plan_format.proofs.Parses.{Spelt, Many, Field, Parses}
+use Rattle.plan_format.proofs.Entries.{Row, listing, many-fields}
+use Rattle.plan_format.proofs.Seams.{at-seam, after-seam}
+use Rattle.plan_format.proofs.Blocks.{Counts, Kept, kept-more, operation-block}
+use Rattle.plan_format.proofs.Operations.{Block-then, Blocks}
+
+pub record Sections (F : Form) (xs : List ℕ) : Type 0 where
+  pub queues : ℕ
+  pub semaphores : ℕ
+  pub buffers : ℕ
+  pub operations : ℕ
+  pub axes : List ℕ
+  pub owners : List ℕ
+  pub sizes : List ℕ
+  pub blocks : List ℕ
+  pub few-queues : queues ≤ 16
+  pub least-semaphores : F .semaphores-least ≤ semaphores
+  pub few-semaphores : semaphores ≤ F .semaphores-most
+  pub few-buffers : buffers ≤ 256
+  pub few-operations : operations ≤ 1024
+  pub axes-row : Row new-axis (queues ∷ []) queues axes
+  pub owners-row : Row a-queue (queues ∷ (axes ++ (semaphores ∷ []))) semaphores owners
+  pub sizes-long : length sizes ≡ buffers
+  pub blocks-are : Blocks F queues semaphores buffers operations blocks
+  pub numbers-are : xs ≡ queues ∷ (axes ++ (semaphores ∷ (owners ++ (buffers ∷ (sizes ++ (operations ∷ blocks))))))
+
+-- ---- from a parse
+many-blocks : (D : Spelt) (F : Form) (q s b n : ℕ) (got vs ds : List ℕ) → Kept q s b got → Many (Parses D (operation F)) n got vs ds → Blocks F q s b n vs
+many-blocks D F q s b zero got vs ds k p = p .numbers-are
+many-blocks D F q s b (suc n) got vs ds k p = record {
+  block = p .vs₁;
+  rest = p .vs₂;
+  first = operation-block D F q s b got (p .vs₁) (p .ds₁) k (p .first);
+  more = many-blocks D F q s b n (got ++ p .vs₁) (p .vs₂) (p .ds₂) (kept-more q s b got (p .vs₁) k) (p .second);
+  numbers-are = p .numbers-are;
+}
+
+module _ (q s b : ℕ) (axes owners sizes : List ℕ) (la : length axes ≡ q) (lo : length owners ≡ s) (lb : length sizes ≡ b) where
+  header : List ℕ
+  header = q ∷ (axes ++ (s ∷ (owners ++ (b ∷ sizes))))
+
+  header-semaphores : (more : List ℕ) → semaphore-count (header ++ more) ≡ s
+  unfolding header queue-count semaphore-count
+  header-semaphores more = at-seam (header ++ more) (q ∷ axes) (owners ++ (b ∷ (sizes ++ more))) s (1 + q) (simp append-assoc) (omega arith)
+
+  header-counts : (more : List ℕ) → Counts q s b (header ++ more)
+  unfolding header queue-count buffer-count
+  header-counts more = record {
+    queues = refl;
+    semaphores = header-semaphores more;
+    buffers = ap (λ z. getD (header ++ more) (2 + q + z) 0) (header-semaphores more)
+        ∙ at-seam (header ++ more) (q ∷ (axes ++ (s ∷ owners))) (sizes ++ more) b (2 + q + s) (simp append-assoc) (simp length-append (omega arith));
+  }
+
+  -- three sections read, and the count of the fourth
+  pub sections-kept : (v₁ v₂ v₃ : List ℕ) (n : ℕ) → v₁ ≡ q ∷ axes → v₂ ≡ s ∷ owners → v₃ ≡ b ∷ sizes → Kept q s b (((v₁ ++ v₂) ++ v₃) ++ (n ∷ []))
+  unfolding header
+  sections-kept v₁ v₂ v₃ n e₁ e₂ e₃ =
+      let same : ((v₁ ++ v₂) ++ v₃) ++ (n ∷ []) ≡ header ++ (n ∷ []) = cc (append-assoc axes (s ∷ owners) (b ∷ sizes)) in
+      subst (Kept q s b) (sym same) (kept-more q s b header (n ∷ []) header-counts)
+
+module _ (D : Spelt) (F : Form) where
+  pub sections : (xs ds : List ℕ) → Parses D (plan-grammar F) [] xs ds → Sections F xs
+  unfolding plan-grammar
+  sections xs ds p =
+      let p₁ = p .second in
+      let p₂ = p₁ .second in
+      let got₂ = p .vs₁ ++ p₁ .vs₁ in
+      let got₃ = got₂ ++ p₂ .vs₁ in
+      let c₁ = listing D 0 16 1 (Field D 8 new-axis) [] (p .vs₁) (p .ds₁) (p .first) in
+      let c₂ = listing D (F .semaphores-least) (F .semaphores-most) (F .semaphore-width) (Field D 1 a-queue) (p .vs₁) (p₁ .vs₁) (p₁ .ds₁) (p₁ .first) in
+      let c₃ = listing D 0 256 2 (Field D 4 any-number) got₂ (p₂ .vs₁) (p₂ .ds₁) (p₂ .first) in
+      let c₄ = listing D 0 1024 2 (Parses D (operation F)) got₃ (p₂ .vs₂) (p₂ .ds₂) (p₂ .second) in
+      let q = c₁ .count in
+      let s = c₂ .count in
+      let b = c₃ .count in
+      let n = c₄ .count in
+      let r₁ = many-fields D 8 new-axis q (q ∷ []) (c₁ .entries) (c₁ .spelling) (c₁ .many) in
+      let r₂ = many-fields D 1 a-queue s (p .vs₁ ++ (s ∷ [])) (c₂ .entries) (c₂ .spelling) (c₂ .many) in
+      let r₃ = many-fields D 4 any-number b (got₂ ++ (b ∷ [])) (c₃ .entries) (c₃ .spelling) (c₃ .many) in
+      record {
+        queues = q;
+        semaphores = s;
+        buffers = b;
+        operations = n;
+        axes = c₁ .entries;
+        owners = c₂ .entries;
+        sizes = c₃ .entries;
+        blocks = c₄ .entries;
+        few-queues = c₁ .most;
+        least-semaphores = c₂ .least;
+        few-semaphores = c₂ .most;
+        few-buffers = c₃ .most;
+        few-operations = c₄ .most;
+        axes-row = r₁;
+        owners-row = subst (λ z. Row a-queue (z ++ (s ∷ [])) s (c₂ .entries)) (c₁ .numbers-are) r₂;
+        sizes-long = r₃ .long;
+        blocks-are = many-blocks D F q s b n (got₃ ++ (n ∷ [])) (c₄ .entries) (c₄ .spelling)
+            (sections-kept q s b (c₁ .entries) (c₂ .entries) (c₃ .entries) (r₁ .long) (r₂ .long) (r₃ .long) (p .vs₁) (p₁ .vs₁) (p₂ .vs₁) n (c₁ .numbers-are) (c₂ .numbers-are) (c₃ .numbers-are)) (c₄ .many);
+        numbers-are = cc;
+      }
+
+-- ---- the plan
+module _ (F : Form) (q s b n : ℕ) (axes owners sizes blocks : List ℕ) (la : length axes ≡ q) (lo : length owners ≡ s) (lb : length sizes ≡ b) where
+  whole : List ℕ
+  whole = q ∷ (axes ++ (s ∷ (owners ++ (b ∷ (sizes ++ (n ∷ blocks))))))
+
+  seam-s : whole ≡ (q ∷ axes) ++ (s ∷ (owners ++ (b ∷ (sizes ++ (n ∷ blocks)))))
+  unfolding whole
+  seam-s = refl
+
+  seam-b : whole ≡ (q ∷ (axes ++ (s ∷ owners))) ++ (b ∷ (sizes ++ (n ∷ blocks)))
+  unfolding whole
+  seam-b = simp append-assoc
+
+  seam-n : whole ≡ (q ∷ (axes ++ (s ∷ (owners ++ (b ∷ sizes))))) ++ (n ∷ blocks)
+  unfolding whole
+  seam-n = simp append-assoc
+
+  plan-at : plan-of F whole ≡ record { axes = axes; owners = owners; sizes = sizes; operations = operations-in F n blocks }
+  unfolding plan-of
+  plan-at = rw (at-q, at-s, at-b, at-n, to-axes, to-owners, to-sizes, to-blocks)
+    where
+      at-q : getD whole 0 0 ≡ q
+      at-q = ap (λ z. getD z 0 0) seam-s
+
+      at-s : getD whole (1 + q) 0 ≡ s
+      at-s = at-seam whole (q ∷ axes) (owners ++ (b ∷ (sizes ++ (n ∷ blocks)))) s (1 + q) seam-s (omega arith)
+
+      at-b : getD whole (2 + q + s) 0 ≡ b
+      at-b = at-seam whole (q ∷ (axes ++ (s ∷ owners))) (sizes ++ (n ∷ blocks)) b (2 + q + s) seam-b (simp length-append (omega arith))
+
+      at-n : getD whole (3 + q + s + b) 0 ≡ n
+      at-n = at-seam whole (q ∷ (axes ++ (s ∷ (owners ++ (b ∷ sizes))))) blocks n (3 + q + s + b) seam-n (simp length-append (omega arith))
+
+      to-axes : take q (drop 1 whole) ≡ axes
+      to-axes = ap (λ z. take q (drop 1 z)) seam-s ∙ take-at axes (s ∷ (owners ++ (b ∷ (sizes ++ (n ∷ blocks))))) q la
+
+      to-owners : take s (drop (2 + q) whole) ≡ owners
+      to-owners = ap (λ z. take s z) (after-seam whole (q ∷ axes) (owners ++ (b ∷ (sizes ++ (n ∷ blocks)))) s (2 + q) seam-s (omega arith)) ∙ take-at owners (b ∷ (sizes ++ (n ∷ blocks))) s lo
+
+      to-sizes : take b (drop (3 + q + s) whole) ≡ sizes
+      to-sizes = ap (λ z. take b z) (after-seam whole (q ∷ (axes ++ (s ∷ owners))) (sizes ++ (n ∷ blocks)) b (3 + q + s) seam-b (simp length-append (omega arith))) ∙ take-at sizes (n ∷ blocks) b lb
+
+      to-blocks : drop (4 + q + s + b) whole ≡ blocks
+      to-blocks = after-seam whole (q ∷ (axes ++ (s ∷ (owners ++ (b ∷ sizes))))) blocks n (4 + q + s + b) seam-n (simp length-append (omega arith))
+
+pub plan-is : (F : Form) (xs : List ℕ) (c : Sections F xs) → plan-of F xs ≡ record { axes = c .axes; owners = c .owners; sizes = c .sizes; operations = operations-in F (c .operations) (c .blocks) }
+unfolding whole
+plan-is F xs c =
+    ap (λ z. plan-of F z) (c .numbers-are)
+    ∙ plan-at F (c .queues) (c .semaphores) (c .buffers) (c .operations) (c .axes) (c .owners) (c .sizes) (c .blocks) (c .axes-row .long) (c .owners-row .long) (c .sizes-long)
