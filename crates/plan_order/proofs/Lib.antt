@@ -8,3 +8,4 @@ pub mod Keeping
 pub mod Rows
 pub mod Demand3
 pub mod Demand2
+pub mod Promises

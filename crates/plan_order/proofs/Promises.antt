@@ -1,0 +1,96 @@
+-- The statements over stored plans, each under its own name. Assumes nothing.
+use mathlib.Core.Path.{_≡_, sym, subst}
+use mathlib.Core.Bool.{true, false, true≢false}
+use mathlib.Core.List.{List}
+use Prim.Native.Nat.{ℕ}
+use lib.Dec.{eqb}
+use borrow.Author.Tests.{eqb-true}
+use Rattle.basics.proofs.Tests.{by-cases, and-left, and-right}
+use Rattle.order.proofs.Turns.{run-last}
+use Rattle.plan_format.specs.Plan.{count}
+use Rattle.plan_format.specs.Refusal.{Refusal, none-given, given}
+use Rattle.plan_format.specs.Sound.{Sound}
+use Rattle.plan_format.specs.Stored.{all-bytes, plan-in, plan-refusal}
+use Rattle.plan_format.proofs.Plans.{sound-in}
+use Rattle.plan_order.specs.Check.{room-refusal, order-refusal, zeros, rows-and-run, outcome, or-then, check-outcome}
+use Rattle.plan_order.specs.Promise.{Safe, Demand-3, unrefused, Demand-3-stored, Before-right, good, passed, Passed-keeps, Passed-runs, Never-stuck, Raises, Stuck-truly, Broken-truly, None-itself}
+use Rattle.plan_order.specs.Runs.{enabled, ready, is-run}
+use Rattle.plan_order.proofs.Demand3.{rules-good, demand-3}
+use Rattle.plan_order.proofs.Precedence.{before-chain, chain-before, not-itself}
+
+-- ---- what the tests of stored plans say
+pub good-sound : (bs : List ℕ) → good bs ≡ true → Sound (plan-in bs)
+unfolding good
+good-sound bs g = sound-in bs (eqb-true (plan-refusal bs .number) 0 (and-right (all-bytes bs) (eqb (plan-refusal bs .number) 0) g))
+
+passed-good : (bs : List ℕ) → passed bs ≡ true → (good bs ≡ true) × (order-refusal (plan-in bs) .number ≡ 0)
+unfolding passed
+passed-good bs h = (
+  and-left (good bs) (eqb (order-refusal (plan-in bs) .number) 0) h,
+  eqb-true (order-refusal (plan-in bs) .number) 0 (and-right (good bs) (eqb (order-refusal (plan-in bs) .number) 0) h),
+)
+
+of-good : (bs : List ℕ) → good bs ≡ true → Demand-3 (plan-in bs) (order-refusal (plan-in bs) .number) (order-refusal (plan-in bs) .place)
+of-good bs g = demand-3 (plan-in bs) (good-sound bs g)
+
+safe-passed : (bs : List ℕ) → passed bs ≡ true → Safe (plan-in bs)
+safe-passed bs h = let g = passed-good bs h in of-good bs (g .0) .exactly .0 (g .1)
+
+-- ---- paper 03's statements
+pub passed-keeps : Passed-keeps
+unfolding Passed-keeps
+passed-keeps bs r b h f = safe-passed bs h .1 r b f
+
+pub passed-runs : Passed-runs
+unfolding Passed-runs
+passed-runs bs h = safe-passed bs h .0
+
+pub never-stuck-stored : Never-stuck
+unfolding Never-stuck ready is-run
+never-stuck-stored bs r h f l =
+    let g = passed-good bs h in
+    let w = of-good bs (g .0) .never-stuck (g .1) r f l in
+    (w .0, run-last (count (plan-in bs)) (enabled (plan-in bs)) r (w .0) (w .1))
+
+pub raises-stored : Raises
+unfolding Raises
+raises-stored bs r g f = of-good bs g .raises r f
+
+pub stuck-truly : Stuck-truly
+unfolding Stuck-truly
+stuck-truly bs g e = of-good bs g .stuck e
+
+pub broken-truly : Broken-truly
+unfolding Broken-truly
+broken-truly bs g e = of-good bs g .broken e
+
+pub before-right : Before-right
+unfolding Before-right
+before-right bs i j = ((λ h. before-chain (plan-in bs) i j h), (λ c. chain-before (plan-in bs) i j c))
+
+pub none-itself-stored : None-itself
+unfolding None-itself
+none-itself-stored bs j h =
+    let g = passed-good bs h in
+    let s = safe-passed bs h .0 in
+    not-itself (plan-in bs) (rules-good (plan-in bs) (good-sound bs (g .0)) .0) (s .0) (s .1) j
+
+-- ---- demand 3 of what the check hands back
+pub demand-3-stored : (bs : List ℕ) (t l : ℕ) →
+    Demand-3-stored bs t l (check-outcome bs t l .refusal .number) (check-outcome bs t l .refusal .place)
+unfolding Demand-3-stored unrefused check-outcome or-then outcome given none-given
+demand-3-stored bs t l h =
+    let a = plan-refusal bs in
+    let b = room-refusal (count (plan-in bs)) t l in
+    by-cases (eqb (a .number) 0)
+    (λ x. by-cases (eqb (b .number) 0)
+    (λ y. rw (x, y) (either-way (order-refusal (plan-in bs)) (demand-3 (plan-in bs) (sound-in bs (eqb-true (a .number) 0 x)))))
+    (λ y. absurd (true≢false (sym (let z : false ≡ true = rw (x, y) at h in z)))))
+    (λ x. absurd (true≢false (sym (let z : false ≡ true = rw x at h in z))))
+  where
+    either-way : (f : Refusal) → Demand-3 (plan-in bs) (f .number) (f .place) →
+        Demand-3 (plan-in bs) (or-then (outcome f zeros) (outcome none-given rows-and-run) .refusal .number) (or-then (outcome f zeros) (outcome none-given rows-and-run) .refusal .place)
+    either-way f d =
+        by-cases (eqb (f .number) 0)
+        (λ z. rw z (subst (λ (k : ℕ). Demand-3 (plan-in bs) 0 k) (d .passed-place (eqb-true (f .number) 0 z)) (subst (λ (k : ℕ). Demand-3 (plan-in bs) k (f .place)) (eqb-true (f .number) 0 z) d)))
+        (λ z. rw z d)
