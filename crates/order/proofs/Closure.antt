@@ -13,7 +13,7 @@ use Rattle.basics.proofs.Tests.{by-cases, clash, is-true, and-left, and-right, 
 use Rattle.basics.proofs.Members.{member-nil, member-here, member-there, member-cons}
 use Rattle.basics.proofs.Tallies.{find-below}
 use Rattle.basics.proofs.Distinct.{Sized, sized-nil, sized-cons, sized-all}
-use Rattle.order.specs.Closure.{Chain, once, more, any-of, fresh, round, rounds}
+use Rattle.order.specs.Closure.{Chain, once, more, any-of, fresh, round, rounds, predecessors}
 
 pub chain-from : (d : ℕ → ℕ → Bool) (i k j : ℕ) → d i k ≡ true → Chain d k j → Chain d i j
 chain-from d i k j e (once _ _ f) = more i k j (once i k e) f
@@ -60,9 +60,9 @@ module _ (d : ℕ → ℕ → Bool) where
     rounds-good zero n xs g = g
     rounds-good (suc k) n xs g = rounds-good k n (round n 0 d j xs) (round-good n 0 xs g)
 
-    pub worked-chain : (fuel n i : ℕ) → member i (rounds fuel n d j []) ≡ true → Chain d i j
-    unfolding Good
-    worked-chain fuel n = rounds-good fuel n [] (λ i m. member-nil i m)
+    pub worked-chain : (n i : ℕ) → member i (predecessors n d j) ≡ true → Chain d i j
+    unfolding Good predecessors
+    worked-chain n = rounds-good n n [] (λ i m. member-nil i m)
 
     -- a round keeps a list below n without repeats, and makes it longer wherever something is fresh
     round-sized : (n left i : ℕ) (xs : List ℕ) → left + i ≤ n → Sized n xs → Sized n (round left i d j xs)
@@ -122,5 +122,6 @@ module _ (d : ℕ → ℕ → Bool) where
       chain-in i k (once _ _ e) m = closed-down i k e m
       chain-in i k (more _ h _ c e) m = chain-in i h c (member-there h j (rounds n n d j []) (closed-down h k e m))
 
-      pub chain-worked : (i : ℕ) → Chain d i j → member i (rounds n n d j []) ≡ true
+      pub chain-worked : (i : ℕ) → Chain d i j → member i (predecessors n d j) ≡ true
+      unfolding predecessors
       chain-worked i c = chain-in i j c (member-here j (rounds n n d j []))

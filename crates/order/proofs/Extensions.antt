@@ -1,23 +1,25 @@
 -- Linear extensions: chains order the steps of every run, and of two numbers that no chain orders either may come first. Assumes nothing.
-use mathlib.Core.Path.{_≡_, sym, ap, _∙_, subst}
-use mathlib.Core.Bool.{Bool, true, false, not}
+use mathlib.Core.Path.{_≡_, refl, sym, ap, _∙_, subst}
+use mathlib.Core.Bool.{Bool, true, false, _||_, not}
 use mathlib.Core.Logic.{_⊎_, inl, inr}
 use mathlib.Core.List.{List, [], _∷_, _++_, append-assoc}
 use Prim.Native.Nat.{ℕ, _≤_, _<_}
 use native.Mathlib.Nat.{lt-irrefl}
 use native.Mathlib.Omega.{arith}
 use lib.ListN.{length, length-append}
-use borrow.Author.Tests.{not-true}
+use lib.Dec.{eqb}
+use borrow.Author.Tests.{eqb-true, eq-eqb, ne-eqb, not-true}
 use Rattle.basics.specs.Lists.{member, filter}
-use Rattle.basics.proofs.Tests.{by-cases, clash, is-false, not-of-false, either}
+use Rattle.basics.proofs.Tests.{by-cases, clash, is-false, not-of-false, or-cases, or-left, or-right, either}
 use Rattle.basics.proofs.Members.{Sub, member-nil, member-cons, member-left, member-snoc, member-last}
 use Rattle.basics.proofs.Filters.{filter-yes, filter-no, filter-has, filter-passes, filter-lengths}
 use Rattle.order.specs.Runs.{runs, step-of}
-use Rattle.order.specs.Closure.{Chain, once, more, fresh}
+use Rattle.order.specs.Closure.{Chain, once, more, predecessors}
 use Rattle.order.proofs.Runs.{can-below, can-fresh, can-enabled, can-by, runs-head, runs-tail, runs-cons, runs-nil, runs-append, runs-snoc, full-all}
 use Rattle.order.proofs.Steps.{step-order}
+use Rattle.order.proofs.Closure.{chain-from, worked-chain, chain-worked}
 
--- ---- runs where an operation is enabled exactly when what is directly before it has run
+-- ---- runs in which a number is enabled exactly when all that is directly before it has run
 module _ (n : ℕ) (enabled : List ℕ → ℕ → Bool) (direct : ℕ → ℕ → Bool)
     (asks : (r : List ℕ) (i j : ℕ) → runs n enabled [] r ≡ true → enabled r j ≡ true → direct i j ≡ true → member i r ≡ true) where
   -- what is directly before stands at an earlier step
@@ -86,8 +88,8 @@ module _ (n : ℕ) (enabled : List ℕ → ℕ → Bool) (direct : ℕ → ℕ �
         [] (filter down f) f (runs-nil n enabled []) h (λ i m. m) (λ i m k. member-nil i m)
         (λ i m k. clash (down i) (filter-passes down f i m) (not-true (down i) k)))
 
-    -- so of two operations that no chain orders, either may come first
-    pub other-way : (f : List ℕ) → runs n enabled [] f ≡ true → n ≤ length f → (down : ℕ → Bool) →
+    -- so what is in such a part may come before what is not
+    other-way : (f : List ℕ) → runs n enabled [] f ≡ true → n ≤ length f → (down : ℕ → Bool) →
         ((i j : ℕ) → down j ≡ true → direct i j ≡ true → down i ≡ true) → (i j : ℕ) → j < n → down j ≡ true → down i ≡ false →
         (g : List ℕ) × (runs n enabled [] g ≡ true) × (length g ≡ length f) × (step-of 0 g j < step-of 0 g i)
     other-way f h l down closed i j b dj di = (
@@ -97,3 +99,21 @@ module _ (n : ℕ) (enabled : List ℕ → ℕ → Bool) (direct : ℕ → ℕ �
       step-order (filter down f) (filter (λ k. not (down k)) f) j i (filter-has down f j (full-all n enabled f h l j b) dj)
           (is-false (member i (filter down f)) (λ t. clash (down i) (filter-passes down f i t) di)),
     )
+
+    -- of two numbers that no chain orders, either may come first
+    pub either-first : (f : List ℕ) → runs n enabled [] f ≡ true → n ≤ length f → (i j : ℕ) → j < n → (i ≡ j → ⊥) → (Chain direct i j → ⊥) →
+        (g : List ℕ) × (runs n enabled [] g ≡ true) × (length g ≡ length f) × (step-of 0 g j < step-of 0 g i)
+    either-first f h l i j b ne unchained =
+        other-way f h l at-or closed i j b (or-left (eqb j j) (member j (predecessors n direct j)) (eq-eqb j j refl))
+        (rw (ne-eqb i j ne) (is-false (member i (predecessors n direct j)) (λ t. unchained (worked-chain direct j n i t))))
+      where
+        at-or : ℕ → Bool
+        at-or k = eqb k j || member k (predecessors n direct j)
+
+        closed : (k m : ℕ) → at-or m ≡ true → direct k m ≡ true → at-or k ≡ true
+        closed k m t e =
+            or-right (eqb k j) (member k (predecessors n direct j))
+            (chain-worked direct j n (λ a c d. below a c d) k
+            (either (or-cases (eqb m j) (member m (predecessors n direct j)) t)
+            (λ q. once k j (subst (λ (z : ℕ). direct k z ≡ true) (eqb-true m j q) e))
+            (λ u. chain-from direct k m j e (worked-chain direct j n m u))))

@@ -2,7 +2,6 @@
 use mathlib.Core.Path.{_≡_, refl, sym, subst}
 use mathlib.Core.Bool.{Bool, true, false, _&&_, not}
 use mathlib.Core.List.{List, [], _∷_, _++_, append-assoc, append-nil}
-use mathlib.Core.Option.{none}
 use Prim.Native.Nat.{ℕ, _≤_, _<_}
 use native.Mathlib.Omega.{arith}
 use lib.Dec.{ltb}
@@ -70,7 +69,7 @@ module _ (n : ℕ) (enabled : List ℕ → ℕ → Bool) where
   pub run-sized : (r : List ℕ) → runs n enabled [] r ≡ true → Sized n r
   run-sized r h = runs-sized [] r (sized-nil n) h
 
-  -- a full run has every operation
+  -- a full run has every number below n
   pub full-all : (f : List ℕ) → runs n enabled [] f ≡ true → n ≤ length f → (i : ℕ) → i < n → member i f ≡ true
   full-all f h l = sized-all n f (run-sized f h) l
 

@@ -1,10 +1,9 @@
 -- Runs over the numbers below n: lists of distinct numbers, each enabled by what stands before it. A run that has all of them is a
 -- linear extension of whatever order enabling stands for. Assumes nothing: these are definitions.
-use mathlib.Core.Bool.{Bool, true, false, _&&_, not, cond}
+use mathlib.Core.Bool.{Bool, true, _&&_, not, cond}
 use mathlib.Core.List.{List, [], _∷_, _++_}
-use Prim.Native.Nat.{ℕ, zero, suc}
+use Prim.Native.Nat.{ℕ, suc}
 use lib.Dec.{ltb, eqb}
-use lib.ListN.{length}
 use Rattle.basics.specs.Lists.{member}
 
 -- j may come next: it is below n, not done, and enabled by what is done

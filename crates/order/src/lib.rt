@@ -1,1 +1,1 @@
-// Theory only: runs, chains and counts by column over numbered operations. No word of plans.
+// Theory only: runs, chains and counts by column over the numbers below a bound.

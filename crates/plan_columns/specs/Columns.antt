@@ -2,7 +2,7 @@
 -- check read these, and say what they answer for every plan that the columns show. Assumes nothing: these are definitions.
 use mathlib.Core.Path.{_≡_}
 use mathlib.Core.List.{List, [], _∷_, _++_}
-use Prim.Native.Nat.{ℕ, zero, suc, _+_, _*_, _≤_, _<_}
+use Prim.Native.Nat.{ℕ, suc, _+_, _*_, _≤_, _<_}
 use lib.ListN.{length, getD}
 use Rattle.plan_format.specs.Plan.{Point, Mark, Operation, Plan, count, op}
 use Rattle.plan_order.specs.Precedence.{Signal, plan-signals, Resolution, free, on, never, resolve}

@@ -4,8 +4,8 @@
 --   semaphores  count 1 byte, 0..64      owner: a queue, 1 byte
 --   buffers     count 2 bytes, 0..256    size in bytes, 4 bytes, any number
 --   operations  count 2 bytes, 0..1,024  queue 1; waits 1 + 9 each, 0..3; signals 1 + 9 each, 0..2; marks 1 + 3 each, 0..4
-use mathlib.Core.Bool.{Bool, true, false, cond}
-use mathlib.Core.List.{List, [], _∷_, _++_}
+use mathlib.Core.Bool.{Bool, false, cond}
+use mathlib.Core.List.{List, [], _++_}
 use Prim.Native.Nat.{ℕ, _+_, _*_}
 use lib.Dec.{ltb}
 use lib.ListN.{length, getD, drop}

@@ -1,11 +1,11 @@
 -- Grammars of stored numbers: what a field is, how a list of fields is read and judged, and how it is spelled in bytes.
 -- One grammar serves the reader, over bytes, and the writer, over numbers. Assumes nothing: these are definitions.
-use mathlib.Core.Bool.{Bool, true, false, _||_, cond}
+use mathlib.Core.Bool.{Bool, true, _||_, cond}
 use mathlib.Core.List.{List, [], _∷_, _++_}
 use Prim.Native.Nat.{ℕ, zero, suc, _+_, _*_, _-_, _/_, _%_, _^_}
-use lib.Dec.{ltb, leb, eqb}
+use lib.Dec.{ltb, eqb}
 use lib.ListN.{length, getD, take, drop}
-use Rattle.plan_format.specs.Refusal.{Refusal, refusal, none-given, given}
+use Rattle.plan_format.specs.Refusal.{Refusal, refusal, given}
 
 -- what is asked of a field's number, given the numbers read before it: 0, or the number of the refusal
 abbrev pub Check : Type 0

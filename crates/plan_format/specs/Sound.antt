@@ -1,13 +1,13 @@
 -- Refusals 6 to 8, and sound plans: those with none of them, every position in range. Assumes nothing: these are definitions.
 use mathlib.Core.Path.{_≡_}
-use mathlib.Core.Bool.{Bool, true, false, _&&_, _||_, not, cond}
+use mathlib.Core.Bool.{Bool, false, _&&_, _||_, not, cond}
 use mathlib.Core.List.{List, [], _∷_, _++_}
 use mathlib.Core.Option.{Option, none, some}
-use Prim.Native.Nat.{ℕ, zero, suc, _≤_, _<_, max}
+use Prim.Native.Nat.{ℕ, suc, _≤_, _<_, max}
 use lib.Dec.{ltb, leb, eqb}
 use lib.ListN.{length, getD, getElem?}
 use Rattle.plan_format.specs.Refusal.{Refusal, refusal, none-given, or-else}
-use Rattle.plan_format.specs.Plan.{Point, Mark, Operation, Plan, count, op, queues}
+use Rattle.plan_format.specs.Plan.{Point, Operation, Plan, count, op, queues}
 
 -- 01: "Semaphores start at 0": the highest value signalled on a semaphore, 0 where there is none
 unfoldable pub highest-in : (s : ℕ) → List Point → ℕ

@@ -20,7 +20,7 @@ use Rattle.plan_order.specs.Rows.{row, rows}
 use Rattle.plan_order.specs.Runs.{is-full, standard}
 use Rattle.plan_order.proofs.Demand3.{rules-good}
 use Rattle.plan_order.proofs.Precedence.{before-chain, chain-before, at-or-means, before-steps, unordered}
-use Rattle.plan_order.proofs.Rows.{on-queue, entry, row-at, rows-at, most, any-at-has, column-merged, entry-tells, own-is, unused-zero}
+use Rattle.plan_order.proofs.Rows.{on-queue, entry, row-at, rows-at, most, any-at-has, entry-merged, entry-tells, own-is, unused-zero}
 use Rattle.plan_order.proofs.Standard.{next-ready, next-lowest, standard-runs, standard-stuck, standard-lacks, standard-steps}
 
 module _ (p : Plan) where
@@ -51,7 +51,7 @@ module _ (p : Plan) where
   unfolding Row-step
   row-step j ks l directs covers q b =
       row-at p j q b
-      ∙ column-merged p j l ks directs (λ i e. let w = covers i e in any-at-has p ks i (w .0) (w .1) (w .2)) q
+      ∙ entry-merged p j l ks directs (λ i e. let w = covers i e in any-at-has p ks i (w .0) (w .1) (w .2)) q
       ∙ ap₂ (λ (x y : ℕ). max x y) (own-is p q j l) (most-rows q b ks)
 
   pub unused-columns : ((i : ℕ) → i < count p → op p i .queue < queues p) → (j q : ℕ) → q < 16 → queues p ≤ q → getD (row p j) q 0 ≡ 0

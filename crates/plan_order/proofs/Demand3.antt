@@ -1,6 +1,6 @@
 -- Demand 3 for every sound plan: what the number and place of refusals 10 and 11, and of a pass, mean. Assumes nothing.
 use mathlib.Core.Path.{_≡_, refl, sym, _∙_, subst}
-use mathlib.Core.Bool.{true, not, true≢false}
+use mathlib.Core.Bool.{true, true≢false}
 use mathlib.Core.Logic.{inl, inr}
 use mathlib.Core.List.{List, [], _∷_, _++_, List·Memᴰ}
 use mathlib.Core.Option.{Option, none, some}
@@ -10,7 +10,7 @@ use native.Mathlib.Omega.{arith}
 use lib.Dec.{eqb}
 use lib.ListN.{length, getD}
 use borrow.Author.Tests.{ltb-true, eqb-true, eqb-false}
-use Rattle.basics.specs.Lists.{member, all}
+use Rattle.basics.specs.Lists.{member}
 use Rattle.basics.proofs.Tests.{by-cases, clash, is-false, by-option}
 use Rattle.order.proofs.Runs.{runs-snoc, never-stuck}
 use Rattle.plan_format.specs.Plan.{Mark, Plan, count, op, queues}
@@ -18,7 +18,6 @@ use Rattle.plan_format.specs.Refusal.{Refusal, refusal, none-given, given, or-e
 use Rattle.plan_format.specs.Sound.{signals-refusal, waits-refusal, rules-refusal, Sound}
 use Rattle.plan_order.specs.Check.{refused-at, order-refusal}
 use Rattle.plan_order.specs.Holdings.{marks-of, marks-buffer, Ask, asks, all-asks, broken}
-use Rattle.plan_order.specs.Precedence.{on}
 use Rattle.plan_order.specs.Promise.{Stuck-at, Broken-at, Safe, Demand-3}
 use Rattle.plan_order.specs.Runs.{enabled, ready, is-run, is-full, standard, missing}
 use Rattle.plan_order.proofs.Keeping.{Marks, asks-mark, asked-marks, all-asks-has, broken-some, broken-none, forced-met, unforced-breaks, keeps-by, keeps-no}

@@ -1,19 +1,18 @@
 -- Before: worked out as by chains, forced in every full run, and nothing else is forced. Assumes nothing.
-use mathlib.Core.Path.{_≡_, refl, _∙_, subst}
-use mathlib.Core.Bool.{true, false, not}
+use mathlib.Core.Path.{_≡_, _∙_, subst}
+use mathlib.Core.Bool.{true, false}
 use mathlib.Core.Logic.{_⊎_, inl, inr, _↔_}
 use mathlib.Core.List.{List, []}
-use mathlib.Core.Option.{some}
 use Prim.Native.Nat.{ℕ, _<_}
 use native.Mathlib.Nat.{lt-irrefl}
 use native.Mathlib.Omega.{arith}
 use lib.Dec.{eqb}
-use borrow.Author.Tests.{eqb-true, eq-eqb, ne-eqb}
-use Rattle.basics.proofs.Tests.{is-false, or-cases, or-left, or-right, either}
+use borrow.Author.Tests.{eqb-true, eq-eqb}
+use Rattle.basics.proofs.Tests.{clash, is-false, or-cases, or-left, or-right, either}
 use Rattle.order.specs.Runs.{step-of}
-use Rattle.order.specs.Closure.{once, more, predecessors}
+use Rattle.order.specs.Closure.{once, more}
 use Rattle.order.proofs.Closure.{chain-from, worked-chain, chain-worked}
-use Rattle.order.proofs.Extensions.{chain-steps, other-way}
+use Rattle.order.proofs.Extensions.{chain-steps, either-first}
 use Rattle.plan_format.specs.Plan.{Plan, count}
 use Rattle.plan_format.specs.Sound.{signals-refusal, waits-refusal}
 use Rattle.plan_order.specs.Precedence.{direct, Before, all-before, before, at-or-before}
@@ -23,11 +22,11 @@ use Rattle.plan_order.proofs.Standard.{full-run, run-full, full-has}
 
 module _ (p : Plan) where
   pub before-chain : (i j : ℕ) → before p i j ≡ true → Before p i j
-  unfolding before all-before predecessors
-  before-chain i j h = worked-chain (direct p) j (count p) (count p) i h
+  unfolding before all-before
+  before-chain i j h = worked-chain (direct p) j (count p) i h
 
   pub chain-before : (i j : ℕ) → Before p i j → before p i j ≡ true
-  unfolding before all-before predecessors
+  unfolding before all-before
   chain-before i j c = chain-worked (direct p) j (count p) (λ i k e. direct-below p i k e .0) i c
 
   -- both ends of a chain are operations
@@ -71,9 +70,9 @@ module _ (p : Plan) where
       -- not before, and another: some full run has it the other way
       pub unordered : (f : List ℕ) → is-full p f ≡ true → (i j : ℕ) → j < count p → (i ≡ j → ⊥) → before p i j ≡ false →
           (g : List ℕ) × (is-full p g ≡ true) × (step-of 0 g j < step-of 0 g i)
-      unfolding at-or-before is-run
+      unfolding is-run
       unordered f h i j b ne n =
           let r = full-run p f h in
-          let w = other-way (count p) (enabled p) (direct p) (predecessors-run p signals-good) (predecessors-suffice p waits-good) (λ i k e. direct-below p i k e .0) f (r .0) (omega (arith, r .1)) (λ i. at-or-before p i j) (λ i k t e. at-or-down i k j t e) i j b
-          (or-left (eqb j j) (before p j j) (eq-eqb j j refl)) (rw (ne-eqb i j ne) n) in
+          let w = either-first (count p) (enabled p) (direct p) (predecessors-run p signals-good) (predecessors-suffice p waits-good) (λ i k e. direct-below p i k e .0) f (r .0) (omega (arith, r .1)) i j b ne
+          (λ c. clash (before p i j) (chain-before i j c) n) in
           (w .0, run-full p (w .0) (w .1) (w .2 ∙ r .1), w .3)

@@ -7,14 +7,14 @@ use native.Mathlib.Omega.{arith}
 use lib.Dec.{ltb, leb, eqb}
 use lib.ListN.{take}
 use borrow.Author.Tests.{ltb-true, ltb-false, leb-false, eqb-true, eqb-false, lt-ltb}
-use Rattle.basics.specs.Lists.{member, all}
+use Rattle.basics.specs.Lists.{member}
 use Rattle.basics.proofs.Tests.{by-cases, clash, and-both}
 use Rattle.basics.proofs.Members.{member-left, member-last}
 use Rattle.order.specs.Runs.{runs}
 use Rattle.order.proofs.Runs.{can-below, can-fresh, runs-head, runs-tail, runs-nil, runs-snoc, run-below}
-use Rattle.plan_format.specs.Plan.{Point, Operation, Plan, count, op, queues}
+use Rattle.plan_format.specs.Plan.{Point, Operation, Plan, count, op}
 use Rattle.plan_format.specs.Sound.{highest-in, highest, owns, signals-number, signals-refusal}
-use Rattle.plan_order.specs.Runs.{reached, enabled, is-run, points-rise, run-points, raises-in-order, next}
+use Rattle.plan_order.specs.Runs.{reached, enabled, is-run, points-rise, run-points, raises-in-order}
 use Rattle.plan_order.proofs.Signals.{signals-value, value-here, value-there, refusal-none, signal-facts, one-queue, rises}
 use Rattle.plan_order.proofs.Readiness.{reached-has, reached-grows, reached-gives, queue-in}
 

@@ -17,7 +17,7 @@ use Rattle.order.proofs.Runs.{run-below}
 use Rattle.order.proofs.Extensions.{chain-steps}
 use Rattle.plan_format.specs.Plan.{Point, Plan, count, op}
 use Rattle.plan_format.specs.Sound.{highest-in, highest, signals-refusal, any-too-high, waits-refusal}
-use Rattle.plan_order.specs.Precedence.{Signal, on, resolve, rests-on, any-rests-on, same-queue, direct, before}
+use Rattle.plan_order.specs.Precedence.{Signal, resolve, rests-on, any-rests-on, same-queue, direct}
 use Rattle.plan_order.specs.Runs.{reached, wait-met, earlier-run, enabled}
 use Rattle.plan_order.proofs.Signals.{signals-value, value-under, high-gives, highest-gives, too-high-none, waits-none, value-inside, one-queue, rises}
 use Rattle.plan_order.proofs.Resolution.{Rests, rests-gives, rests-somewhere}

@@ -17,7 +17,7 @@ use Rattle.basics.proofs.Tables.{tabulate-length, tabulate-at, join-length, joi
 use Rattle.order.specs.Closure.{once, more}
 use Rattle.order.proofs.Columns.{Initial, union-max, initial-reaches, reaches-initial}
 use Rattle.plan_format.specs.Plan.{Plan, count, op, queues}
-use Rattle.plan_order.specs.Precedence.{on, same-queue, direct, Before, all-before, before, at-or-before}
+use Rattle.plan_order.specs.Precedence.{same-queue, direct, Before, all-before, before, at-or-before}
 use Rattle.plan_order.specs.Rows.{epoch, column, row, rows}
 use Rattle.plan_order.proofs.Readiness.{by-queue, direct-by}
 use Rattle.plan_order.proofs.Precedence.{before-chain, chain-before, before-join, at-or-down}
@@ -141,9 +141,9 @@ module _ (p : Plan) where
         f)))
 
     -- a row is the largest of the rows of what is directly before, and the own position
-    pub column-merged : (q : ℕ) → entry p j q ≡ max (tally (count p) (λ i. on-queue p q i && own j i)) (most q ks)
+    pub entry-merged : (q : ℕ) → entry p j q ≡ max (tally (count p) (λ i. on-queue p q i && own j i)) (most q ks)
     unfolding entry
-    column-merged q =
+    entry-merged q =
         tally-same (count p) (λ i. on-queue p q i && at-or-before p i j) (λ i. on-queue p q i && (own j i || any-at ks i)) (λ i l. ap (λ (b : Bool). on-queue p q i && b) (at-or-is i l))
         ∙ union-max (count p) (λ i. on-queue p q i) (λ i. own j i) (λ i. any-at ks i) (own-initial q j) (any-at-initial q ks)
         ∙ ap (λ (z : ℕ). max (tally (count p) (λ i. on-queue p q i && own j i)) z) (most-is q ks)

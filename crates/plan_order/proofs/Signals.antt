@@ -1,9 +1,8 @@
 -- Signals of operations: the highest of a semaphore, and what refusals 6 to 8 rule out. Assumes nothing.
 use mathlib.Core.Path.{_≡_, refl, sym, _∙_, subst}
-use mathlib.Core.Bool.{Bool, true, false, _&&_, _||_, not, true≢false, false≢true}
+use mathlib.Core.Bool.{Bool, true, false, _&&_, _||_, true≢false, false≢true}
 use mathlib.Core.Logic.{_⊎_, inl, inr}
 use mathlib.Core.List.{List, [], _∷_, _++_, append-assoc, append-nil}
-use mathlib.Core.Option.{none}
 use Prim.Native.Nat.{ℕ, zero, suc, _≤_, _<_, max}
 use native.Mathlib.Nat.{le-of-suc-le-suc, not-suc-le-zero}
 use native.Mathlib.Omega.{arith}
@@ -11,12 +10,10 @@ use lib.Dec.{ltb, leb, eqb}
 use lib.ListN.{length, getD, take, getElem?}
 use lib.Seq.{getD-take}
 use borrow.Author.Tests.{ltb-false, leb-true, leb-false, eqb-true, eqb-false, eq-eqb, lt-ltb}
-use Rattle.basics.specs.Lists.{all}
 use Rattle.basics.proofs.Tests.{by-cases, by-option, clash, is-false, and-left, and-right, and-both, or-cases, or-left, or-right, either}
-use Rattle.plan_format.specs.Refusal.{refusal, none-given, given}
+use Rattle.plan_format.specs.Refusal.{refusal, none-given}
 use Rattle.plan_format.specs.Plan.{Point, Operation, Plan, no-operation, count, op}
 use Rattle.plan_format.specs.Sound.{highest-in, highest, is-queue, owns, signals-number, signals-refusal, too-high, any-too-high, waits-refusal}
-use Rattle.plan_order.specs.Precedence.{before}
 
 -- an operation's list signals s to v
 unfoldable pub signals-value : (s v : ℕ) → List Point → Bool

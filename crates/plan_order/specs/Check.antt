@@ -1,11 +1,10 @@
 -- The check of a plan: refusals 9 to 11, what a call tells and what it leaves in table and list (01, "Numbers handed back").
 -- Assumes nothing: these are definitions.
 use mathlib.Core.Path.{_≡_}
-use mathlib.Core.Bool.{Bool, true, false, _&&_, cond}
-use mathlib.Core.List.{List, [], _∷_, _++_}
+use mathlib.Core.Bool.{cond}
+use mathlib.Core.List.{List}
 use mathlib.Core.Option.{Option, none, some}
 use Prim.Native.Nat.{ℕ, _*_}
-use lib.Dec.{ltb, eqb}
 use lib.ListN.{length, replicate}
 use Rattle.basics.specs.Lists.{in-front}
 use Rattle.plan_format.specs.Refusal.{Refusal, refusal, none-given, given, or-else}

@@ -1,9 +1,9 @@
 -- What waits resolve to, and what is before what: the happens-before order of a plan (01, "Order between operations").
 -- Assumes nothing: these are definitions.
-use mathlib.Core.Bool.{Bool, true, false, _&&_, _||_, cond}
+use mathlib.Core.Bool.{Bool, false, _&&_, _||_, cond}
 use mathlib.Core.List.{List, [], _∷_, _++_}
 use mathlib.Core.Option.{Option, none, some}
-use Prim.Native.Nat.{ℕ, zero, suc}
+use Prim.Native.Nat.{ℕ, suc}
 use lib.Dec.{ltb, leb, eqb}
 use Rattle.basics.specs.Lists.{member}
 use Rattle.order.specs.Closure.{Chain, predecessors}

@@ -4,7 +4,7 @@ use mathlib.Core.Path.{_≡_}
 use mathlib.Core.Bool.{Bool, true, false, _&&_, not}
 use mathlib.Core.Logic.{_⊎_, _↔_}
 use mathlib.Core.List.{List, [], _∷_, _++_, List·Memᴰ}
-use mathlib.Core.Option.{Option, none, some}
+use mathlib.Core.Option.{some}
 use Prim.Native.Nat.{ℕ, _+_, _*_, _≤_, _<_, max}
 use lib.Dec.{eqb}
 use lib.ListN.{length, getD, take}
@@ -12,10 +12,9 @@ use Rattle.basics.specs.Lists.{member, Counts}
 use Rattle.order.specs.Runs.{step-of}
 use Rattle.plan_format.specs.Refusal.{given}
 use Rattle.plan_format.specs.Plan.{Plan, count, op}
-use Rattle.plan_format.specs.Sound.{Sound}
 use Rattle.plan_format.specs.Stored.{all-bytes, plan-in, plan-refusal}
 use Rattle.plan_order.specs.Precedence.{direct, Before, before, at-or-before}
-use Rattle.plan_order.specs.Rows.{epoch, row, rows}
+use Rattle.plan_order.specs.Rows.{epoch, row}
 use Rattle.plan_order.specs.Runs.{is-run, is-full, ahead, ready, raises-in-order, next, standard}
 use Rattle.plan_order.specs.Holdings.{Ask, asks, asked-of, met, keeps, marks-buffer}
 use Rattle.plan_order.specs.Check.{room-refusal, order-refusal}

@@ -1,5 +1,5 @@
 -- Epochs and frontier rows: vector clocks of operations (01, "Order between operations"). Assumes nothing: these are definitions.
-use mathlib.Core.Bool.{Bool, _&&_, _||_}
+use mathlib.Core.Bool.{_&&_, _||_}
 use mathlib.Core.List.{List}
 use Prim.Native.Nat.{ℕ, suc}
 use lib.Dec.{eqb}

@@ -1,8 +1,8 @@
 -- Runs of a plan, raising in order, and the standard run (01, "Runs"). Assumes nothing: these are definitions.
-use mathlib.Core.Bool.{Bool, true, false, _&&_, _||_, not, cond}
+use mathlib.Core.Bool.{Bool, true, _&&_, _||_, not}
 use mathlib.Core.List.{List, [], _∷_, _++_}
-use mathlib.Core.Option.{Option, none, some}
-use Prim.Native.Nat.{ℕ, zero, suc, max}
+use mathlib.Core.Option.{Option}
+use Prim.Native.Nat.{ℕ, max}
 use lib.Dec.{ltb, leb, eqb}
 use lib.ListN.{length}
 use Rattle.basics.specs.Lists.{member, all, all-below, tally, first-below, lowest-below, is-some}

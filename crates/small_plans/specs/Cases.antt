@@ -1,11 +1,10 @@
 -- The small plans that 01 judges by hand, each with its answer. Assumes nothing: these are definitions.
-use mathlib.Core.Bool.{Bool, true, false, cond}
+use mathlib.Core.Bool.{cond}
 use mathlib.Core.List.{List, [], _∷_, _++_, map, flatten}
-use Prim.Native.Nat.{ℕ, _-_, _*_}
-use lib.ListN.{length, replicate, take}
+use Prim.Native.Nat.{ℕ, _-_}
+use lib.ListN.{length, replicate}
 use Rattle.plan_format.specs.Refusal.{given}
 use Rattle.plan_format.specs.Grammar.{digits}
-use Rattle.plan_format.specs.Plan.{count}
 use Rattle.plan_format.specs.Stored.{plan-in}
 use Rattle.plan_order.specs.Rows.{rows}
 use Rattle.plan_order.specs.Runs.{standard, ready-numbers}
