@@ -17,7 +17,8 @@ use Rattle.plan_order.specs.Precedence.{direct, Before, before, at-or-be
 use Rattle.plan_order.specs.Rows.{epoch, row}
 use Rattle.plan_order.specs.Runs.{is-run, is-full, ahead, ready, raises-in-order, next, standard}
 use Rattle.plan_order.specs.Holdings.{Ask, asks, asked-of, met, keeps, marks-buffer}
-use Rattle.plan_order.specs.Check.{room-refusal, order-refusal}
+use Rattle.plan_format.specs.declared.Told.{Told}
+use Rattle.plan_order.specs.Check.{room-refusal, order-refusal, Check-says}
 
 -- ---- DEMAND 3
 -- 01: "10: stuck: no full run; lowest operation that is in no run"
@@ -142,3 +143,10 @@ Broken-truly =
 
 unfoldable pub None-itself : Type 0
 None-itself = (bs : List ℕ) (j : ℕ) → passed bs ≡ true → before (plan-in bs) j j ≡ false
+
+-- ---- THE CHECK
+-- what a caller of the check gets: what it hands back and leaves, by its definition, and with it demands 3 and 2
+pub record Checked (bytes : List ℕ) (r : Told) (table table-now list list-now : List ℕ) : Type 0 where
+  pub says : Check-says bytes r table table-now list list-now
+  pub demand-3 : Demand-3-stored bytes (length table) (length list) (r .number) (r .place)
+  pub demand-2 : r .number ≡ 0 → Demand-2 (plan-in bytes) table-now
