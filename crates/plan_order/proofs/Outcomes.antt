@@ -7,10 +7,11 @@ use mathlib.Core.Option.{Option, none, some}
 use Prim.Native.Nat.{ℕ, _+_, _*_, _<_}
 use native.Mathlib.Omega.{arith}
 use lib.Dec.{eqb}
-use lib.ListN.{length, getD, drop, List·getD-append}
+use lib.ListN.{length}
 use borrow.Author.Tests.{eqb-false}
 use Rattle.basics.specs.Lists.{in-front, Counts}
 use Rattle.basics.proofs.Tests.{by-cases}
+use Rattle.basics.proofs.Fronts.{front-at}
 use Rattle.plan_format.specs.Plan.{Plan, count, op}
 use Rattle.plan_format.specs.Refusal.{refusal, none-given, given}
 use Rattle.plan_format.specs.Stored.{plan-in, plan-refusal}
@@ -69,15 +70,11 @@ leaves-rows bs t l e =
     (λ y. absurd (eqb-false (b .number) 0 y (rw (x, y) at e))))
     (λ x. absurd (eqb-false (a .number) 0 x (rw x at e)))
 
-front-at : (xs ys : List ℕ) (k : ℕ) → k < length xs → getD (in-front xs ys) k 0 ≡ getD xs k 0
-unfolding in-front
-front-at xs ys k l = List·getD-append xs (drop (length xs) ys) 0 k l
-
 table-demand : (p : Plan) (t : List ℕ) → Demand-2 p (in-front (rows p) t)
 unfolding Demand-2
 table-demand p t j q l b =
     let inside : 16 * j + q < length (rows p) = omega (arith, rows-length p) in
-    subst (λ (n : ℕ). Counts n (λ i. (i < count p) × (op p i .queue ≡ q) × ((i ≡ j) ⊎ Before p i j))) (sym (front-at (rows p) t (16 * j + q) inside)) (demand-2 p j q l b)
+    subst (λ (n : ℕ). Counts n (λ i. (i < count p) × (op p i .queue ≡ q) × ((i ≡ j) ⊎ Before p i j))) (sym (front-at (rows p) t (16 * j + q) 0 inside)) (demand-2 p j q l b)
 
 -- what the check's own definition says brings demands 3 and 2 with it
 pub checked : (bs : List ℕ) (r : Told) (t x l y : List ℕ) → Check-says bs r t x l y → Checked bs r t x l y
