@@ -5,3 +5,4 @@ pub mod Distinct
 pub mod Filters
 pub mod Searches
 pub mod Tables
+pub mod Places

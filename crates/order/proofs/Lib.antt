@@ -4,3 +4,4 @@ pub mod Steps
 pub mod Closure
 pub mod Extensions
 pub mod Columns
+pub mod Turns

@@ -6,3 +6,5 @@ pub mod Precedence
 pub mod Raises
 pub mod Keeping
 pub mod Rows
+pub mod RunMeaning
+pub mod RaisesMeaning

@@ -1,0 +1,38 @@
+-- A run by its places: each number may come next after those that stand before it. Assumes nothing.
+use mathlib.Core.Path.{_≡_, refl, sym, subst}
+use mathlib.Core.Bool.{Bool, true}
+use mathlib.Core.List.{List, [], _∷_, _++_, append-assoc, append-nil}
+use Prim.Native.Nat.{ℕ, zero, suc, _<_}
+use native.Mathlib.Nat.{not-suc-le-zero, le-of-suc-le-suc}
+use native.Mathlib.Omega.{arith}
+use lib.ListN.{length, getD, take, length-append}
+use lib.Seq.{take-at, getD-at}
+use Rattle.order.specs.Runs.{can, runs}
+use Rattle.order.proofs.Runs.{runs-head, runs-tail, runs-cons, runs-nil}
+
+module _ (n : ℕ) (enabled : List ℕ → ℕ → Bool) where
+  turns-from : (r js : List ℕ) → runs n enabled r js ≡ true → (k : ℕ) → k < length js → can n enabled (r ++ take k js) (getD js k 0) ≡ true
+  turns-from r [] h k l = absurd (not-suc-le-zero l)
+  turns-from r (j ∷ js) h zero l = rw append-nil (runs-head n enabled r j js h)
+  turns-from r (j ∷ js) h (suc k) l =
+      subst (λ (z : List ℕ). can n enabled z (getD js k 0) ≡ true) (append-assoc r (j ∷ []) (take k js))
+      (turns-from (r ++ (j ∷ [])) js (runs-tail n enabled r j js h) k (le-of-suc-le-suc l))
+
+  from-turns : (r js : List ℕ) → ((k : ℕ) → k < length js → can n enabled (r ++ take k js) (getD js k 0) ≡ true) → runs n enabled r js ≡ true
+  from-turns r [] h = runs-nil n enabled r
+  from-turns r (j ∷ js) h =
+      runs-cons n enabled r j js (rw append-nil at (h 0 (omega arith)))
+      (from-turns (r ++ (j ∷ [])) js (λ k l.
+      subst (λ (z : List ℕ). can n enabled z (getD js k 0) ≡ true) (sym (append-assoc r (j ∷ []) (take k js))) (h (suc k) (omega arith))))
+
+  pub run-turns : (r : List ℕ) → runs n enabled [] r ≡ true → (k : ℕ) → k < length r → can n enabled (take k r) (getD r k 0) ≡ true
+  run-turns r h = turns-from [] r h
+
+  pub turns-run : (r : List ℕ) → ((k : ℕ) → k < length r → can n enabled (take k r) (getD r k 0) ≡ true) → runs n enabled [] r ≡ true
+  turns-run r h = from-turns [] r h
+
+  -- the last of a run may come next after the others
+  pub run-last : (r : List ℕ) (j : ℕ) → runs n enabled [] (r ++ (j ∷ [])) ≡ true → can n enabled r j ≡ true
+  run-last r j h =
+      let t = run-turns (r ++ (j ∷ [])) h (length r) (rw length-append (omega arith)) in
+      rw (take-at r (j ∷ []) (length r) refl, getD-at r j [] 0 (length r) refl) at t
