@@ -8,3 +8,5 @@ pub mod Keeping
 pub mod Rows
 pub mod RunMeaning
 pub mod RaisesMeaning
+pub mod AskedMarks
+pub mod KeepsMeaning
