@@ -10,3 +10,5 @@ pub mod RunMeaning
 pub mod RaisesMeaning
 pub mod AskedMarks
 pub mod KeepsMeaning
+pub mod MarksMeaning
+pub mod VerdictMeaning
