@@ -12,3 +12,4 @@ pub mod AskedMarks
 pub mod KeepsMeaning
 pub mod MarksMeaning
 pub mod VerdictMeaning
+pub mod ReadyMeaning
