@@ -1,8 +1,8 @@
 -- Membership by places, and the tally of a test counts what passes it. Assumes nothing.
 use mathlib.Core.Path.{_≡_, refl, sym, ap, _∙_, subst}
-use mathlib.Core.Bool.{Bool, true, false}
+use mathlib.Core.Bool.{Bool, true}
 use mathlib.Core.Logic.{_⊎_, inl, inr, _↔_}
-use mathlib.Core.List.{List, [], _∷_, _++_}
+use mathlib.Core.List.{List, [], _∷_}
 use Prim.Native.Nat.{ℕ, zero, suc, _≤_, _<_}
 use native.Mathlib.Nat.{not-suc-le-zero, le-of-suc-le-suc, le-refl, lt-irrefl, zero-add}
 use native.Mathlib.Numerals.{one-add}
@@ -13,7 +13,7 @@ use lib.Seq.{length-take-le, getD-take}
 use borrow.Author.Tests.{eqb-true, eqb-false}
 use Rattle.basics.specs.Lists.{member, tally}
 use Rattle.basics.specs.Places.{Among, Counts}
-use Rattle.basics.proofs.Tests.{by-cases, is-true, is-false, clash, either}
+use Rattle.basics.proofs.Tests.{by-cases, is-false, clash, either}
 use Rattle.basics.proofs.Members.{member-nil, member-here, member-there, member-cons}
 use Rattle.basics.proofs.Tallies.{tally-same}
 use Rattle.basics.proofs.Distinct.{Sized, sized-nil, sized-cons}

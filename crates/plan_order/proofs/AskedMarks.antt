@@ -1,21 +1,16 @@
 -- What keeping asks, by the positions of the marks that it is asked of. Assumes nothing.
-use mathlib.Core.Path.{_≡_, refl, sym, ap, _∙_, subst}
-use mathlib.Core.Bool.{Bool, true, false, cond}
-use mathlib.Core.Logic.{_⊎_, inl, inr, _↔_}
+use mathlib.Core.Path.{_≡_, refl, sym, _∙_, subst}
+use mathlib.Core.Bool.{Bool, true, false}
 use mathlib.Core.List.{List, [], _∷_, _++_, List·Memᴰ, List·Memᴰ·head, List·Memᴰ·not-nil, List·Memᴰ·eq-of-singleton, List·Memᴰ·append-cases, Memᴰ·append-left, Memᴰ·append-right}
 use mathlib.Core.Option.{Option, none, some}
-use Prim.Native.Nat.{ℕ, zero, suc, _≤_, _<_, zero-le}
+use Prim.Native.Nat.{ℕ, zero, suc, _<_, zero-le}
 use native.Mathlib.Nat.{not-suc-le-zero, le-of-suc-le-suc}
 use native.Mathlib.Omega.{arith}
-use lib.Dec.{eqb}
 use lib.ListN.{length}
 use borrow.Author.Tests.{eqb-true, eqb-false, eq-eqb, ne-eqb}
-use Rattle.basics.specs.Lists.{all}
-use Rattle.basics.proofs.Tests.{by-cases, by-option, clash, either}
-use Rattle.basics.proofs.Searches.{all-gives, all-by}
-use Rattle.plan_format.specs.Plan.{Plan}
-use Rattle.plan_order.specs.Holdings.{Placed, is-free, freed-by, free-after, Ask, use-asks, later-asks, asks-from, asks, met, keeps, buffer-marks}
-use Rattle.plan_order.specs.Meaning.{mark-at, Frees, No-free, Asked, Keeps-means}
+use Rattle.basics.proofs.Tests.{by-cases, by-option, either}
+use Rattle.plan_order.specs.Holdings.{Placed, is-free, freed-by, free-after, Ask, use-asks, later-asks, asks-from}
+use Rattle.plan_order.specs.Meaning.{mark-at, Frees, No-free}
 
 -- ---- frees, as a test and by kind
 pub free-kind : (m : Placed) → is-free m ≡ true → m .kind ≡ 1

@@ -1,6 +1,6 @@
 -- Keeping a buffer, and broken marks: what is asked of every mark, by positions. Assumes nothing.
 use mathlib.Core.Path.{_≡_, refl, sym, ap, _∙_, subst}
-use mathlib.Core.Bool.{Bool, true, false, _&&_, _||_, not}
+use mathlib.Core.Bool.{Bool, true, false}
 use mathlib.Core.Logic.{_⊎_, inl, inr, _↔_}
 use mathlib.Core.List.{List, List·Memᴰ}
 use mathlib.Core.Option.{Option, none, some}
@@ -9,17 +9,15 @@ use native.Mathlib.Omega.{arith}
 use lib.Dec.{leb, eqb}
 use lib.ListN.{length}
 use borrow.Author.Tests.{ltb-true, lt-ltb, leb-true, leb-false, eqb-true, eq-eqb}
-use Rattle.basics.specs.Lists.{all}
-use Rattle.basics.proofs.Tests.{by-cases, by-option, clash, or-cases, or-left, or-right, not-of-false, either}
-use Rattle.basics.proofs.Searches.{all-gives, all-by, lowest-some, lowest-none}
+use Rattle.basics.proofs.Tests.{by-cases, by-option, clash, or-cases, or-left, or-right, either}
 use Rattle.order.specs.Runs.{step-of}
-use Rattle.plan_format.specs.Plan.{Plan, count}
+use Rattle.plan_format.specs.Plan.{Plan}
 use Rattle.plan_order.specs.Precedence.{before, Before}
 use Rattle.plan_order.specs.Runs.{ahead}
-use Rattle.plan_order.specs.Holdings.{Placed, Ask, asks-from, asks, asked-of, met, keeps, buffer-marks, all-asks, has-broken, broken}
-use Rattle.plan_order.specs.Meaning.{mark-at, Frees, No-free, Asked, Steps-earlier, Keeps-means, Forced, Lowest-broken}
+use Rattle.plan_order.specs.Holdings.{Placed, Ask, asks-from, asks, asked-of, met, keeps, buffer-marks, all-asks, broken}
+use Rattle.plan_order.specs.Meaning.{mark-at, Asked, Steps-earlier, Keeps-means, Forced, Lowest-broken}
 use Rattle.plan_order.proofs.Precedence.{before-chain, chain-before}
-use Rattle.plan_order.proofs.Keeping.{asks-mark, asked-marks, all-asks-gives, all-asks-has, keeps-gives, keeps-by, Breaks, broken-some, broken-none}
+use Rattle.plan_order.proofs.Keeping.{all-asks-has, keeps-gives, keeps-by, broken-some, broken-none}
 use Rattle.plan_order.proofs.AskedMarks.{ask, Origin, own, later, first, asked-origin, origin-asked}
 
 -- ---- met, by a relation that a test works out

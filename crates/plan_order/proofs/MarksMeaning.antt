@@ -1,15 +1,14 @@
 -- The marks on a buffer: every mark of every operation, in plan order. Assumes nothing.
 use mathlib.Core.Path.{_≡_, refl, sym, ap, _∙_, subst}
-use mathlib.Core.Bool.{true, false, cond}
-use mathlib.Core.Logic.{_⊎_}
+use mathlib.Core.Bool.{true}
 use mathlib.Core.List.{List, [], _∷_, _++_, List·Memᴰ, List·Memᴰ·head, List·Memᴰ·tail, List·Memᴰ·not-nil, List·Memᴰ·cases-cons, List·Memᴰ·append-cases, Memᴰ·append-left, Memᴰ·append-right}
 use Prim.Native.Nat.{ℕ, zero, suc, _+_, _≤_, _<_}
 use native.Mathlib.Nat.{not-suc-le-zero, le-of-suc-le-suc, zero-add}
 use native.Mathlib.Omega.{arith}
 use lib.Dec.{eqb}
 use lib.ListN.{length, getD}
-use borrow.Author.Tests.{eqb-true, eqb-false, eq-eqb}
-use Rattle.basics.proofs.Tests.{by-cases, clash, either}
+use borrow.Author.Tests.{eqb-true, eq-eqb}
+use Rattle.basics.proofs.Tests.{by-cases, either}
 use Rattle.plan_format.specs.Plan.{Mark, Operation, Plan, no-operation, op}
 use Rattle.plan_order.specs.Holdings.{Placed, placed, marks-of, marks-from, buffer-marks}
 use Rattle.plan_order.specs.Meaning.{Marks, mark-at, Marks-means}

@@ -1,10 +1,9 @@
 -- A queue has at most one ready operation; the number ready is the number of ready queues; what the run list holds. Assumes nothing.
 use mathlib.Core.Path.{_≡_, refl, sym, ap, _∙_}
-use mathlib.Core.Bool.{true, false, false≢true}
+use mathlib.Core.Bool.{true}
 use mathlib.Core.Logic.{_↔_}
 use mathlib.Core.List.{List, [], _∷_, _++_, append-assoc, append-nil}
-use mathlib.Core.Option.{Option, none, some}
-use Prim.Native.Nat.{ℕ, zero, suc, _+_, _≤_, _<_}
+use Prim.Native.Nat.{ℕ, zero, suc, _+_, _<_}
 use native.Mathlib.Nat.{not-suc-le-zero, le-of-suc-le-suc}
 use native.Mathlib.Omega.{arith}
 use lib.Dec.{ltb}
@@ -20,7 +19,7 @@ use Rattle.order.proofs.Runs.{can-fresh, can-enabled}
 use Rattle.plan_format.specs.Plan.{Plan, count, op, queues}
 use Rattle.plan_order.specs.Runs.{enabled, ready, is-run, ready-on, standard, number-ready, ready-numbers, run-list}
 use Rattle.plan_order.specs.Meaning.{Run-means, Ready-queue}
-use Rattle.plan_order.proofs.Readiness.{Enabled, enabled-gives}
+use Rattle.plan_order.proofs.Readiness.{enabled-gives}
 use Rattle.plan_order.proofs.Standard.{ready-on-gives, ready-on-none}
 use Rattle.plan_order.proofs.RunMeaning.{run-means, ready-adds}
 

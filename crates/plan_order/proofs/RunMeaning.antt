@@ -1,6 +1,6 @@
 -- What a run, a full run and readiness are, by quantifiers. Assumes nothing.
 use mathlib.Core.Path.{_≡_, refl, sym, ap, _∙_, subst}
-use mathlib.Core.Bool.{true, false, false≢true}
+use mathlib.Core.Bool.{true, false≢true}
 use mathlib.Core.Logic.{_↔_}
 use mathlib.Core.List.{List, [], _∷_, _++_, List·Memᴰ, List·Memᴰ·head, List·Memᴰ·tail, List·Memᴰ·not-nil, List·Memᴰ·cases-cons}
 use Prim.Native.Nat.{ℕ, _≤_, _<_}
@@ -8,23 +8,20 @@ use native.Mathlib.Nat.{le-refl, le-trans}
 use native.Mathlib.Omega.{arith}
 use lib.Dec.{ltb}
 use lib.ListN.{length, getD, take}
-use lib.Seq.{length-take-le}
 use borrow.Author.Tests.{ltb-true, ltb-false}
 use Rattle.basics.specs.Lists.{member}
 use Rattle.basics.specs.Places.{Among}
-use Rattle.basics.proofs.Tests.{by-cases, clash, is-true, is-false, either}
+use Rattle.basics.proofs.Tests.{by-cases, clash, is-false, either}
 use Rattle.basics.proofs.Distinct.{sized-full}
 use Rattle.basics.proofs.Places.{member-place, member-at, place-member, take-place, place-take}
-use Rattle.order.specs.Runs.{can}
 use Rattle.order.proofs.Runs.{can-below, can-fresh, can-enabled, can-by, runs-snoc, run-sized}
 use Rattle.order.proofs.Turns.{run-turns, turns-run, run-last}
 use Rattle.plan_format.specs.Plan.{Point, Plan, count, op}
-use Rattle.plan_format.specs.Sound.{highest-in, signals-refusal, waits-refusal}
-use Rattle.plan_order.specs.Precedence.{direct}
+use Rattle.plan_format.specs.Sound.{signals-refusal, waits-refusal}
 use Rattle.plan_order.specs.Runs.{reached, enabled, ready, is-run, is-full}
 use Rattle.plan_order.specs.Meaning.{Signals, Highest-signalled, Run-step, Run-means, Full-means, Ready-means}
 use Rattle.plan_order.proofs.Signals.{signals-value, value-under, value-here, value-there, value-cons}
-use Rattle.plan_order.proofs.Readiness.{reached-has, reached-under, reached-gives, Enabled, enabled-gives, enabled-by, predecessors-run, predecessors-suffice}
+use Rattle.plan_order.proofs.Readiness.{reached-has, reached-gives, enabled-gives, enabled-by, predecessors-run, predecessors-suffice}
 use Rattle.plan_order.proofs.Standard.{full-run, run-full, full-has}
 
 -- ---- signals of an operation, as a test and by membership

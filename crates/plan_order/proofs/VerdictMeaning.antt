@@ -1,21 +1,20 @@
 -- The verdict of the reuse question is the one whose line of the table holds. Assumes nothing.
 use mathlib.Core.Path.{_≡_, refl, sym, ap, _∙_, subst}
-use mathlib.Core.Bool.{Bool, true, false, not, cond, false≢true}
-use mathlib.Core.Logic.{_⊎_, inl, inr, _↔_}
+use mathlib.Core.Bool.{Bool, true, false, false≢true}
+use mathlib.Core.Logic.{_↔_}
 use mathlib.Core.List.{List, [], _∷_, _++_, List·Memᴰ, List·Memᴰ·head, List·Memᴰ·not-nil, Memᴰ·append-right}
 use mathlib.Core.Option.{Option, none, some}
-use Prim.Native.Nat.{ℕ, _<_}
+use Prim.Native.Nat.{ℕ}
 use native.Mathlib.Omega.{arith}
 use lib.Dec.{ltb, eqb}
-use borrow.Author.Tests.{ltb-true, ltb-false, eqb-true, eqb-false, eq-eqb}
-use Rattle.basics.specs.Lists.{all, highest-below}
+use borrow.Author.Tests.{ltb-true, ltb-false, eqb-true, eqb-false}
+use Rattle.basics.specs.Lists.{all}
 use Rattle.basics.proofs.Tests.{by-cases, by-option, clash, is-false}
-use Rattle.basics.proofs.Searches.{all-gives, all-by, all-fails, all-no, Highest, highest-some, highest-none}
+use Rattle.basics.proofs.Searches.{all-gives, all-by, all-fails, all-no, highest-some, highest-none}
 use Rattle.plan_format.specs.Plan.{Plan, count, op}
-use Rattle.plan_order.specs.Precedence.{at-or-before, Before}
 use Rattle.plan_order.specs.Holdings.{Placed, is-free, buffer-marks}
 use Rattle.plan_order.specs.Reuse.{last-on, seen-by, last-mark, verdict-on, verdict}
-use Rattle.plan_order.specs.Meaning.{Marks, Marked, Last-on, Seen, Last-mark, When}
+use Rattle.plan_order.specs.Meaning.{Marked, Last-on, Seen, Last-mark, When}
 use Rattle.plan_order.specs.declared.Verdict.{Verdict}
 use Rattle.plan_order.specs.declared.Verdict.the-variants.{Fresh, Reusable, Held, NotOrdered, StrayUse}
 use Rattle.plan_order.proofs.Precedence.{at-or-means}
