@@ -2,7 +2,7 @@
 use mathlib.Core.Path.{_≡_, refl, sym, ap, _∙_, subst}
 use mathlib.Core.Bool.{Bool, true}
 use mathlib.Core.Logic.{_⊎_, inl, inr, _↔_}
-use mathlib.Core.List.{List, [], _∷_}
+use mathlib.Core.List.{List, [], _∷_, List·Memᴰ, List·Memᴰ·head, List·Memᴰ·tail, List·Memᴰ·not-nil, List·Memᴰ·cases-cons}
 use Prim.Native.Nat.{ℕ, zero, suc, _≤_, _<_}
 use native.Mathlib.Nat.{not-suc-le-zero, le-of-suc-le-suc, le-refl, lt-irrefl, zero-add}
 use native.Mathlib.Numerals.{one-add}
@@ -30,6 +30,17 @@ member-at (x ∷ xs) (suc l) h = member-there (getD xs l 0) x xs (member-at xs l
 
 pub place-member : (xs : List ℕ) (i : ℕ) → Among xs (length xs) i → member i xs ≡ true
 place-member xs i w = subst (λ (z : ℕ). member z xs ≡ true) (w .2) (member-at xs (w .0) (w .1))
+
+-- for elements of any type
+pub mem-place : {A : Type 0} (xs : List A) (d x : A) → List·Memᴰ x xs → (k : ℕ) × (k < length xs) × (getD xs k d ≡ x)
+mem-place [] d x m = absurd (List·Memᴰ·not-nil m)
+mem-place (y ∷ ys) d x m =
+    either (List·Memᴰ·cases-cons m) (λ e. (0, omega arith, sym e)) (λ t. let w = mem-place ys d x t in (suc (w .0), omega (arith, w .1), w .2))
+
+pub mem-at : {A : Type 0} (xs : List A) (d : A) (k : ℕ) → k < length xs → List·Memᴰ (getD xs k d) xs
+mem-at [] d k l = absurd (not-suc-le-zero l)
+mem-at (x ∷ xs) d zero l = List·Memᴰ·head refl
+mem-at (x ∷ xs) d (suc k) l = List·Memᴰ·tail (mem-at xs d k (le-of-suc-le-suc l))
 
 -- ---- among the first k
 pub take-place : (xs : List ℕ) (k i : ℕ) → k ≤ length xs → member i (take k xs) ≡ true → Among xs k i

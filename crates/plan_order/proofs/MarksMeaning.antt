@@ -1,98 +1,217 @@
--- The marks on a buffer: every mark of every operation, in plan order. Assumes nothing.
-use mathlib.Core.Path.{_≡_, refl, sym, ap, _∙_, subst}
-use mathlib.Core.Bool.{true}
-use mathlib.Core.List.{List, [], _∷_, _++_, List·Memᴰ, List·Memᴰ·head, List·Memᴰ·tail, List·Memᴰ·not-nil, List·Memᴰ·cases-cons, List·Memᴰ·append-cases, Memᴰ·append-left, Memᴰ·append-right}
-use Prim.Native.Nat.{ℕ, zero, suc, _+_, _≤_, _<_}
+-- The marks on a buffer: every mark of every operation, in plan order, inside one operation in list order. Assumes nothing.
+use mathlib.Core.Path.{_≡_, refl, sym, ap, _∙_, subst, subst₂}
+use mathlib.Core.Bool.{cond}
+use mathlib.Core.Logic.{_⊎_, inl, inr}
+use mathlib.Core.List.{List, [], _∷_, _++_, map, map-append, List·Memᴰ, List·Memᴰ·head, List·Memᴰ·tail, List·Memᴰ·not-nil, List·Memᴰ·cases-cons, List·Memᴰ·append-cases, Memᴰ·append-left, Memᴰ·append-right}
+use Prim.Native.Nat.{ℕ, zero, suc, _+_, _<_}
 use native.Mathlib.Nat.{not-suc-le-zero, le-of-suc-le-suc, zero-add}
 use native.Mathlib.Omega.{arith}
 use lib.Dec.{eqb}
-use lib.ListN.{length, getD}
+use lib.ListN.{length, getD, length-map, List·getD-map}
 use borrow.Author.Tests.{eqb-true, eq-eqb}
 use Rattle.basics.proofs.Tests.{by-cases, either}
+use Rattle.basics.proofs.Places.{mem-place, mem-at}
 use Rattle.plan_format.specs.Plan.{Mark, Operation, Plan, no-operation, op}
 use Rattle.plan_order.specs.Holdings.{Placed, placed, marks-of, marks-from, buffer-marks}
-use Rattle.plan_order.specs.Meaning.{Marks, mark-at, Marks-means}
+use Rattle.plan_order.specs.Meaning.{mark-at, own-mark, Marks-means, Marked}
 
--- a mark of a kind on the buffer, in a list
-abbrev Marked-in : (b kind : ℕ) → List Mark → Type 0
-Marked-in b kind ms = (m : Mark) × List·Memᴰ m ms × (m .buffer ≡ b) × (m .kind ≡ kind)
+-- a mark with its place in its operation's list
+record Located : Type 0 where
+  by : ℕ
+  place : ℕ
+  kind : ℕ
 
--- ---- the marks of one operation
-of-only : (i b : ℕ) (ms : List Mark) (n : Placed) → List·Memᴰ n (marks-of i b ms) → (n .by ≡ i) × Marked-in b (n .kind) ms
-unfolding marks-of placed
-of-only i b [] n t = absurd (List·Memᴰ·not-nil t)
-of-only i b (m ∷ ms) n t =
+located : (i n kind : ℕ) → Located
+located i n k = record { by = i; place = n; kind = k }
+
+located-of : (i b n : ℕ) → List Mark → List Located
+located-of i b n [] = []
+located-of i b n (m ∷ ms) = cond (eqb (m .buffer) b) (located i n (m .kind) ∷ located-of i b (suc n) ms) (located-of i b (suc n) ms)
+
+located-from : (i b : ℕ) → List Operation → List Located
+located-from i b [] = []
+located-from i b (o ∷ os) = located-of i b 0 (o .marks) ++ located-from (suc i) b os
+
+-- ---- without the places they are the marks on the buffer
+forget : Located → Placed
+forget x = placed (x .by) (x .kind)
+
+of-forget : (i b n : ℕ) (ms : List Mark) → map forget (located-of i b n ms) ≡ marks-of i b ms
+unfolding located-of marks-of forget located
+of-forget i b n [] = refl
+of-forget i b n (m ∷ ms) = by-cases (eqb (m .buffer) b) (λ t. rw (t, of-forget i b (suc n) ms)) (λ f. rw f (of-forget i b (suc n) ms))
+
+from-forget : (i b : ℕ) (os : List Operation) → map forget (located-from i b os) ≡ marks-from i b os
+unfolding located-from marks-from
+from-forget i b [] = refl
+from-forget i b (o ∷ os) = map-append forget (located-of i b 0 (o .marks)) (located-from (suc i) b os) ∙ rw (of-forget i b 0 (o .marks), from-forget (suc i) b os)
+
+-- ---- each is a mark on the buffer
+abbrev mark-in : List Mark → (n : ℕ) → Mark
+mark-in ms n = getD ms n (record { buffer = 0; kind = 0 })
+
+record Marking (b : ℕ) (ms : List Mark) (n kind : ℕ) : Type 0 where
+  inside : n < length ms
+  on-buffer : mark-in ms n .buffer ≡ b
+  same-kind : mark-in ms n .kind ≡ kind
+
+of-only : (i b n : ℕ) (ms : List Mark) (x : Located) → List·Memᴰ x (located-of i b n ms) → (x .by ≡ i) × ((k : ℕ) × (x .place ≡ n + k) × Marking b ms k (x .kind))
+unfolding located-of located
+of-only i b n [] x t = absurd (List·Memᴰ·not-nil t)
+of-only i b n (m ∷ ms) x t =
     by-cases (eqb (m .buffer) b)
     (λ e. either (List·Memᴰ·cases-cons (rw e at t))
-    (λ q. (ap (λ (z : Placed). z .by) q, (m, List·Memᴰ·head refl, eqb-true (m .buffer) b e, sym (ap (λ (z : Placed). z .kind) q))))
-    (λ u. there (of-only i b ms n u)))
-    (λ f. there (of-only i b ms n (rw f at t)))
+    (λ q. (ap (λ (z : Located). z .by) q, (0, ap (λ (z : Located). z .place) q ∙ omega arith, record { inside = omega arith; on-buffer = eqb-true (m .buffer) b e; same-kind = sym (ap (λ (z : Located). z .kind) q) })))
+    (λ u. there (of-only i b (suc n) ms x u)))
+    (λ f. there (of-only i b (suc n) ms x (rw f at t)))
   where
-    there : (n .by ≡ i) × Marked-in b (n .kind) ms → (n .by ≡ i) × Marked-in b (n .kind) (m ∷ ms)
-    there w = (w .0, (w .1 .0, List·Memᴰ·tail (w .1 .1), w .1 .2, w .1 .3))
+    there : (x .by ≡ i) × ((k : ℕ) × (x .place ≡ suc n + k) × Marking b ms k (x .kind)) → (x .by ≡ i) × ((k : ℕ) × (x .place ≡ n + k) × Marking b (m ∷ ms) k (x .kind))
+    there w =
+        let g = w .1 in
+        (w .0, (suc (g .0), omega (arith, g .1), record { inside = omega (arith, g .2 .inside); on-buffer = g .2 .on-buffer; same-kind = g .2 .same-kind }))
 
-of-every : (i b kind : ℕ) (ms : List Mark) → Marked-in b kind ms → List·Memᴰ (placed i kind) (marks-of i b ms)
-unfolding marks-of
-of-every i b kind [] w = absurd (List·Memᴰ·not-nil (w .1))
-of-every i b kind (m ∷ ms) w =
-    either (List·Memᴰ·cases-cons (w .1))
-    (λ q. let e : eqb (m .buffer) b ≡ true = eq-eqb (m .buffer) b (ap (λ (z : Mark). z .buffer) (sym q) ∙ w .2) in
-    rw e (List·Memᴰ·head (ap (λ (z : ℕ). placed i z) (sym (w .3) ∙ ap (λ (z : Mark). z .kind) q))))
-    (λ u. let t : List·Memᴰ (placed i kind) (marks-of i b ms) = of-every i b kind ms (w .0, u, w .2, w .3) in
-    by-cases (eqb (m .buffer) b) (λ e. rw e (List·Memᴰ·tail t)) (λ f. rw f t))
+from-only : (i b : ℕ) (os : List Operation) (x : Located) → List·Memᴰ x (located-from i b os) →
+    (k : ℕ) × (x .by ≡ i + k) × Marking b (getD os k no-operation .marks) (x .place) (x .kind)
+unfolding located-from
+from-only i b [] x t = absurd (List·Memᴰ·not-nil t)
+from-only i b (o ∷ os) x t =
+    either (List·Memᴰ·append-cases (located-of i b 0 (o .marks)) t)
+    (λ u. let w = of-only i b 0 (o .marks) x u in
+    (0, omega (arith, w .0), subst (λ (z : ℕ). Marking b (o .marks) z (x .kind)) (let e : w .1 .0 ≡ x .place = omega (arith, w .1 .1) in e) (w .1 .2)))
+    (λ u. let w = from-only (suc i) b os x u in (suc (w .0), omega (arith, w .1), w .2))
 
--- ---- the marks of the operations from a position on
-from-only : (i b : ℕ) (os : List Operation) (n : Placed) → List·Memᴰ n (marks-from i b os) →
-    (k : ℕ) × (k < length os) × (n .by ≡ i + k) × Marked-in b (n .kind) (getD os k no-operation .marks)
-unfolding marks-from
-from-only i b [] n t = absurd (List·Memᴰ·not-nil t)
-from-only i b (o ∷ os) n t =
-    either (List·Memᴰ·append-cases (marks-of i b (o .marks)) t)
-    (λ u. let w = of-only i b (o .marks) n u in (0, omega arith, omega (arith, w .0), w .1))
-    (λ u. let w = from-only (suc i) b os n u in (suc (w .0), omega (arith, w .1), omega (arith, w .2), w .3))
+-- ---- every mark on the buffer is there
+of-every : (i b n k : ℕ) (ms : List Mark) → k < length ms → mark-in ms k .buffer ≡ b → List·Memᴰ (located i (n + k) (mark-in ms k .kind)) (located-of i b n ms)
+unfolding located-of
+of-every i b n k [] l e = absurd (not-suc-le-zero l)
+of-every i b n zero (m ∷ ms) l e =
+    rw (eq-eqb (m .buffer) b e) (List·Memᴰ·head (ap (λ (z : ℕ). located i z (m .kind)) (let q : n + 0 ≡ n = omega arith in q)))
+of-every i b n (suc k) (m ∷ ms) l e =
+    let t : List·Memᴰ (located i (n + suc k) (mark-in ms k .kind)) (located-of i b (suc n) ms) =
+    subst (λ (z : ℕ). List·Memᴰ (located i z (mark-in ms k .kind)) (located-of i b (suc n) ms)) (let q : suc n + k ≡ n + suc k = omega arith in q)
+    (of-every i b (suc n) k ms (le-of-suc-le-suc l) e) in
+    by-cases (eqb (m .buffer) b) (λ u. rw u (List·Memᴰ·tail t)) (λ f. rw f t)
 
-from-every : (i b kind k : ℕ) (os : List Operation) → Marked-in b kind (getD os k no-operation .marks) → List·Memᴰ (placed (i + k) kind) (marks-from i b os)
-unfolding marks-from
-from-every i b kind k [] w = absurd (List·Memᴰ·not-nil (w .1))
-from-every i b kind zero (o ∷ os) w =
-    Memᴰ·append-left (marks-from (suc i) b os) (subst (λ (z : ℕ). List·Memᴰ (placed z kind) (marks-of i b (o .marks))) (omega arith) (of-every i b kind (o .marks) w))
-from-every i b kind (suc k) (o ∷ os) w =
-    Memᴰ·append-right (marks-of i b (o .marks)) (subst (λ (z : ℕ). List·Memᴰ (placed z kind) (marks-from (suc i) b os)) (omega arith) (from-every (suc i) b kind k os w))
+from-every : (i b j n : ℕ) (os : List Operation) → n < length (getD os j no-operation .marks) → mark-in (getD os j no-operation .marks) n .buffer ≡ b →
+    List·Memᴰ (located (i + j) n (mark-in (getD os j no-operation .marks) n .kind)) (located-from i b os)
+unfolding located-from
+from-every i b j n [] l e = absurd (not-suc-le-zero l)
+from-every i b zero n (o ∷ os) l e =
+    Memᴰ·append-left (located-from (suc i) b os)
+    (subst₂ (λ (y z : ℕ). List·Memᴰ (located y z (mark-in (o .marks) n .kind)) (located-of i b 0 (o .marks))) (let q : i ≡ i + 0 = omega arith in q) (zero-add n) (of-every i b 0 n (o .marks) l e))
+from-every i b (suc j) n (o ∷ os) l e =
+    Memᴰ·append-right (located-of i b 0 (o .marks))
+    (subst (λ (z : ℕ). List·Memᴰ (located z n (mark-in (getD os j no-operation .marks) n .kind)) (located-from (suc i) b os)) (let q : suc i + j ≡ i + suc j = omega arith in q) (from-every (suc i) b j n os l e))
 
--- ---- in plan order
-abbrev Rising : List Placed → Type 0
-Rising ms = (k l : ℕ) → k < l → l < length ms → mark-at ms k .by ≤ mark-at ms l .by
+-- ---- in plan order, inside one operation in list order
+abbrev at : List Located → (k : ℕ) → Located
+at xs k = getD xs k (record { by = 0; place = 0; kind = 0 })
 
-place-mem : (ms : List Placed) (k : ℕ) → k < length ms → List·Memᴰ (mark-at ms k) ms
-place-mem [] k l = absurd (not-suc-le-zero l)
-place-mem (m ∷ ms) zero l = List·Memᴰ·head refl
-place-mem (m ∷ ms) (suc k) l = List·Memᴰ·tail (place-mem ms k (le-of-suc-le-suc l))
+abbrev Earlier : (x y : Located) → Type 0
+Earlier x y = (x .by < y .by) ⊎ ((x .by ≡ y .by) × (x .place < y .place))
 
-rising-cons : (m : Placed) (ms : List Placed) → ((n : Placed) → List·Memᴰ n ms → m .by ≤ n .by) → Rising ms → Rising (m ∷ ms)
-rising-cons m ms h w k zero a b = absurd (not-suc-le-zero a)
-rising-cons m ms h w zero (suc l) a b = h (mark-at ms l) (place-mem ms l (le-of-suc-le-suc b))
-rising-cons m ms h w (suc k) (suc l) a b = w k l (le-of-suc-le-suc a) (le-of-suc-le-suc b)
+abbrev Rising : List Located → Type 0
+Rising xs = (k l : ℕ) → k < l → l < length xs → Earlier (at xs k) (at xs l)
 
-rising-append : (ms ns : List Placed) (i : ℕ) → ((m : Placed) → List·Memᴰ m ms → m .by ≡ i) → ((n : Placed) → List·Memᴰ n ns → i ≤ n .by) → Rising ns → Rising (ms ++ ns)
-rising-append [] ns i h g w = w
-rising-append (m ∷ ms) ns i h g w =
-    rising-cons m (ms ++ ns)
-    (λ n t. let e = h m (List·Memᴰ·head refl) in
-    either (List·Memᴰ·append-cases ms t) (λ u. let q = h n (List·Memᴰ·tail u) in omega arith) (λ u. let q = g n u in omega arith))
-    (rising-append ms ns i (λ n t. h n (List·Memᴰ·tail t)) g w)
+rising-nil : Rising []
+rising-nil k l a b = absurd (not-suc-le-zero b)
 
-from-rising : (i b : ℕ) (os : List Operation) → Rising (marks-from i b os)
-unfolding marks-from
-from-rising i b [] = λ k l a c. absurd (not-suc-le-zero c)
+rising-cons : (x : Located) (xs : List Located) → ((y : Located) → List·Memᴰ y xs → Earlier x y) → Rising xs → Rising (x ∷ xs)
+rising-cons x xs h w k zero a b = absurd (not-suc-le-zero a)
+rising-cons x xs h w zero (suc l) a b = h (at xs l) (mem-at xs (record { by = 0; place = 0; kind = 0 }) l (le-of-suc-le-suc b))
+rising-cons x xs h w (suc k) (suc l) a b = w k l (le-of-suc-le-suc a) (le-of-suc-le-suc b)
+
+rising-append : (xs ys : List Located) → ((x y : Located) → List·Memᴰ x xs → List·Memᴰ y ys → x .by < y .by) → Rising xs → Rising ys → Rising (xs ++ ys)
+rising-append [] ys h a b = b
+rising-append (x ∷ xs) ys h a b =
+    rising-cons x (xs ++ ys)
+    (λ y t. either (List·Memᴰ·append-cases xs t) (λ u. first y u) (λ u. inl (h x y (List·Memᴰ·head refl) u)))
+    (rising-append xs ys (λ z y t u. h z y (List·Memᴰ·tail t) u) (λ k l c d. a (suc k) (suc l) (omega arith) (omega arith)) b)
+  where
+    first : (y : Located) → List·Memᴰ y xs → Earlier x y
+    first y t =
+        let w = mem-place xs (record { by = 0; place = 0; kind = 0 }) y t in
+        subst (λ (z : Located). Earlier x z) (w .2) (a 0 (suc (w .0)) (omega arith) (omega (arith, w .1)))
+
+of-rising : (i b n : ℕ) (ms : List Mark) → Rising (located-of i b n ms)
+unfolding located-of located
+of-rising i b n [] = rising-nil
+of-rising i b n (m ∷ ms) =
+    by-cases (eqb (m .buffer) b)
+    (λ t. rw t (rising-cons (located i n (m .kind)) (located-of i b (suc n) ms)
+    (λ y u. let w = of-only i b (suc n) ms y u in inr (sym (w .0), omega (arith, w .1 .1))) (of-rising i b (suc n) ms)))
+    (λ f. rw f (of-rising i b (suc n) ms))
+
+from-rising : (i b : ℕ) (os : List Operation) → Rising (located-from i b os)
+unfolding located-from
+from-rising i b [] = rising-nil
 from-rising i b (o ∷ os) =
-    rising-append (marks-of i b (o .marks)) (marks-from (suc i) b os) i (λ m t. of-only i b (o .marks) m t .0)
-    (λ n t. let w = from-only (suc i) b os n t in omega (arith, w .2)) (from-rising (suc i) b os)
+    rising-append (located-of i b 0 (o .marks)) (located-from (suc i) b os)
+    (λ x y t u. let v = of-only i b 0 (o .marks) x t in let w = from-only (suc i) b os y u in omega (arith, v .0, w .1))
+    (of-rising i b 0 (o .marks)) (from-rising (suc i) b os)
 
-pub marks-means : (p : Plan) (b : ℕ) → Marks-means p b (buffer-marks p b)
-unfolding buffer-marks op placed
-marks-means p b = record {
-  only = λ m t. let w = from-only 0 b (p .operations) m t in
-      subst (λ (z : ℕ). Marks p b z (m .kind)) (let e : w .0 ≡ m .by = omega (arith, w .2) in e) (w .3);
-  every = λ i kind w. subst (λ (z : ℕ). List·Memᴰ (placed z kind) (marks-from 0 b (p .operations))) (zero-add i) (from-every 0 b kind i (p .operations) w);
-  plan-order = from-rising 0 b (p .operations);
-}
+-- ---- the marks on a buffer
+module _ (p : Plan) (b : ℕ) where
+  abbrev all-located : List Located
+  all-located = located-from 0 b (p .operations)
+
+  marks-located : buffer-marks p b ≡ map forget all-located
+  unfolding buffer-marks
+  marks-located = sym (from-forget 0 b (p .operations))
+
+  long : length (buffer-marks p b) ≡ length all-located
+  long = rw marks-located (length-map all-located forget)
+
+  mark-forget : (k : ℕ) → mark-at (buffer-marks p b) k ≡ forget (at all-located k)
+  unfolding forget placed
+  mark-forget k = rw marks-located (List·getD-map forget all-located k (record { by = 0; place = 0; kind = 0 }))
+
+  same-by : (k : ℕ) → mark-at (buffer-marks p b) k .by ≡ at all-located k .by
+  unfolding forget placed
+  same-by k = ap (λ (z : Placed). z .by) (mark-forget k)
+
+  same-kind : (k : ℕ) → mark-at (buffer-marks p b) k .kind ≡ at all-located k .kind
+  unfolding forget placed
+  same-kind k = ap (λ (z : Placed). z .kind) (mark-forget k)
+
+  marking : (k : ℕ) → k < length (buffer-marks p b) → Marking b (op p (mark-at (buffer-marks p b) k .by) .marks) (at all-located k .place) (at all-located k .kind)
+  unfolding op
+  marking k l =
+      let x = at all-located k in
+      let w = from-only 0 b (p .operations) x (mem-at all-located (record { by = 0; place = 0; kind = 0 }) k (omega (arith, long))) in
+      subst (λ (z : ℕ). Marking b (getD (p .operations) z no-operation .marks) (x .place) (x .kind)) (let e : w .0 ≡ mark-at (buffer-marks p b) k .by = omega (arith, w .1, same-by k) in e) (w .2)
+
+  found : (i n : ℕ) → n < length (op p i .marks) → own-mark p i n .buffer ≡ b →
+      (k : ℕ) × (k < length (buffer-marks p b)) × (mark-at (buffer-marks p b) k .by ≡ i) × (at all-located k .place ≡ n)
+  unfolding op located
+  found i n l e =
+      let x = located (0 + i) n (own-mark p i n .kind) in
+      let w = mem-place all-located (record { by = 0; place = 0; kind = 0 }) x (from-every 0 b i n (p .operations) l e) in
+      (w .0, omega (arith, w .1, long), same-by (w .0) ∙ ap (λ (z : Located). z .by) (w .2) ∙ zero-add i, ap (λ (z : Located). z .place) (w .2))
+
+  ordered : (k l : ℕ) → k < l → l < length (buffer-marks p b) →
+      (mark-at (buffer-marks p b) k .by < mark-at (buffer-marks p b) l .by) ⊎ ((mark-at (buffer-marks p b) k .by ≡ mark-at (buffer-marks p b) l .by) × (at all-located k .place < at all-located l .place))
+  ordered k l a c =
+      either (from-rising 0 b (p .operations) k l a (omega (arith, long)))
+      (λ t. inl (omega (arith, same-by k, same-by l))) (λ t. inr (omega (arith, t .0, same-by k, same-by l), t .1))
+
+  pub marks-means : Marks-means p b (buffer-marks p b)
+  marks-means = record {
+    place = λ k. at all-located k .place;
+    inside = λ k l. marking k l .inside;
+    on-buffer = λ k l. marking k l .on-buffer;
+    same-kind = λ k l. marking k l .same-kind ∙ sym (same-kind k);
+    every = found;
+    in-order = ordered;
+  }
+
+  -- a mark of the list is one of an operation that marks the buffer, and the other way round
+  pub mark-marked : (m : Placed) → List·Memᴰ m (buffer-marks p b) → Marked p b (m .by)
+  mark-marked m t =
+      let w = mem-place (buffer-marks p b) (record { by = 0; kind = 0 }) m t in
+      subst (λ (z : Placed). Marked p b (z .by)) (w .2) (at all-located (w .0) .place, marking (w .0) (w .1) .inside, marking (w .0) (w .1) .on-buffer)
+
+  pub marked-mark : (i : ℕ) → Marked p b i → (m : Placed) × List·Memᴰ m (buffer-marks p b) × (m .by ≡ i)
+  marked-mark i w =
+      let g = found i (w .0) (w .1) (w .2) in
+      (mark-at (buffer-marks p b) (g .0), mem-at (buffer-marks p b) (record { by = 0; kind = 0 }) (g .0) (g .1), g .2)

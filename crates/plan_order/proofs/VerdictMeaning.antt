@@ -14,12 +14,12 @@ use Rattle.basics.proofs.Searches.{all-gives, all-by, all-fails, all-no, highes
 use Rattle.plan_format.specs.Plan.{Plan, count, op}
 use Rattle.plan_order.specs.Holdings.{Placed, is-free, buffer-marks}
 use Rattle.plan_order.specs.Reuse.{last-on, seen-by, last-mark, verdict-on, verdict}
-use Rattle.plan_order.specs.Meaning.{Marked, Last-on, Seen, Last-mark, When}
+use Rattle.plan_order.specs.Meaning.{Last-on, Seen, Last-mark, When}
 use Rattle.plan_order.specs.declared.Verdict.{Verdict}
 use Rattle.plan_order.specs.declared.Verdict.the-variants.{Fresh, Reusable, Held, NotOrdered, StrayUse}
 use Rattle.plan_order.proofs.Precedence.{at-or-means}
 use Rattle.plan_order.proofs.AskedMarks.{free-kind, kind-free, kind-use, use-kind}
-use Rattle.plan_order.proofs.MarksMeaning.{marks-means}
+use Rattle.plan_order.proofs.MarksMeaning.{mark-marked, marked-mark}
 
 module _ (p : Plan) (q : ℕ) where
   -- ---- the queue's last operation
@@ -92,9 +92,6 @@ module _ (p : Plan) (q b : ℕ) where
   last-in : (m : Placed) → Last-mark p b m → List·Memᴰ m marks
   last-in m w = subst (λ (z : List Placed). List·Memᴰ m z) (sym (w .1)) (Memᴰ·append-right (w .0) (List·Memᴰ·head refl))
 
-  mark-in : (n : Placed) → List·Memᴰ n marks → Marked p b (n .by)
-  mark-in n t = (n .kind, marks-means p b .only n t)
-
   -- one line each
   module _ (m : Placed) (e : last-mark marks ≡ some m) where
     is-held : is-free m ≡ false → verdict p q b ≡ Held
@@ -121,14 +118,14 @@ module _ (p : Plan) (q b : ℕ) where
   unfolding When
   table =
       by-option (last-mark marks)
-      (λ e. rw (is-fresh e) (λ i w. List·Memᴰ·not-nil (subst (λ (z : List Placed). List·Memᴰ (record { by = i; kind = w .0 }) z) (none-last marks e) (marks-means p b .every i (w .0) (w .1)))))
+      (λ e. rw (is-fresh e) (λ i w. let x = marked-mark p b i w in List·Memᴰ·not-nil (subst (λ (z : List Placed). List·Memᴰ (x .0) z) (none-last marks e) (x .1))))
       (λ m e. let last = some-last marks m e in
       by-cases (is-free m)
       (λ t. by-cases (sees m)
       (λ s. by-cases (all sees marks)
-      (λ a. rw (is-reusable m e t s a) (m, last, free-kind m t, λ i w. seen-means p q i .0 (all-gives sees marks a (record { by = i; kind = w .0 }) (marks-means p b .every i (w .0) (w .1)))))
+      (λ a. rw (is-reusable m e t s a) (m, last, free-kind m t, λ i w. let x = marked-mark p b i w in subst (λ (z : ℕ). Seen p q z) (x .2) (seen-means p q (x .0 .by) .0 (all-gives sees marks a (x .0) (x .1)))))
       (λ a. rw (is-stray m e t s a) (let x = all-fails sees marks a in
-      (m, last, free-kind m t, seen-means p q (m .by) .0 s, (x .0 .by, mark-in (x .0) (x .1), unseen p q (x .0 .by) (x .2))))))
+      (m, last, free-kind m t, seen-means p q (m .by) .0 s, (x .0 .by, mark-marked p b (x .0) (x .1), unseen p q (x .0 .by) (x .2))))))
       (λ s. rw (is-not-ordered m e t s) (m, last, free-kind m t, unseen p q (m .by) s)))
       (λ f. rw (is-held m e f) (m, last, use-kind m f)))
 
@@ -137,17 +134,18 @@ module _ (p : Plan) (q b : ℕ) where
 
   when-is : (v : Verdict) → When p q b v → verdict p q b ≡ v
   unfolding When
-  when-is Fresh w = by-option (last-mark marks) is-fresh (λ m e. absurd (w (m .by) (mark-in m (last-in m (some-last marks m e)))))
+  when-is Fresh w = by-option (last-mark marks) is-fresh (λ m e. absurd (w (m .by) (mark-marked p b m (last-in m (some-last marks m e)))))
   when-is Held w = is-held (w .0) (last-is (w .0) (w .1)) (kind-use (w .0) (w .2))
   when-is Reusable w =
       let m = w .0 in
-      is-reusable m (last-is m (w .1)) (kind-free m (w .2)) (seen-means p q (m .by) .1 (w .3 (m .by) (mark-in m (last-in m (w .1)))))
-      (all-by sees marks (λ n t. seen-means p q (n .by) .1 (w .3 (n .by) (mark-in n t))))
+      is-reusable m (last-is m (w .1)) (kind-free m (w .2)) (seen-means p q (m .by) .1 (w .3 (m .by) (mark-marked p b m (last-in m (w .1)))))
+      (all-by sees marks (λ n t. seen-means p q (n .by) .1 (w .3 (n .by) (mark-marked p b n t))))
   when-is NotOrdered w = is-not-ordered (w .0) (last-is (w .0) (w .1)) (kind-free (w .0) (w .2)) (sees-not (w .0 .by) (w .3))
   when-is StrayUse w =
       let x = w .4 in
+      let n = marked-mark p b (x .0) (x .1) in
       is-stray (w .0) (last-is (w .0) (w .1)) (kind-free (w .0) (w .2)) (seen-means p q (w .0 .by) .1 (w .3))
-      (all-no sees marks (record { by = x .0; kind = x .1 .0 }) (marks-means p b .every (x .0) (x .1 .0) (x .1 .1)) (sees-not (x .0) (x .2)))
+      (all-no sees marks (n .0) (n .1) (sees-not (n .0 .by) (λ v. x .2 (subst (λ (z : ℕ). Seen p q z) (n .2) v))))
 
   -- 01, the table of verdicts
   pub verdict-means : (v : Verdict) → (verdict p q b ≡ v) ↔ When p q b v

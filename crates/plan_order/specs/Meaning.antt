@@ -62,18 +62,21 @@ pub record Raises-means (p : Plan) (r : List ℕ) : Type 0 where
       point-at (run-points p r) k .value < point-at (run-points p r) l .value
 
 -- ---- holdings
--- the operation has a mark of a kind on the buffer
-abbrev pub Marks : Plan → (b i kind : ℕ) → Type 0
-Marks p b i kind = (m : Mark) × List·Memᴰ m (op p i .marks) × (m .buffer ≡ b) × (m .kind ≡ kind)
-
 abbrev pub mark-at : List Placed → (k : ℕ) → Placed
 mark-at ms k = getD ms k (record { by = 0; kind = 0 })
 
--- 01: "Take the marks on a buffer in plan order"
+-- the mark at a place of an operation's list
+abbrev pub own-mark : Plan → (i n : ℕ) → Mark
+own-mark p i n = getD (op p i .marks) n (record { buffer = 0; kind = 0 })
+
+-- 01: "Take the marks on a buffer in plan order, inside one operation in list order"; `place` is where each stands in its operation's list
 pub record Marks-means (p : Plan) (b : ℕ) (ms : List Placed) : Type 0 where
-  pub only : (m : Placed) → List·Memᴰ m ms → Marks p b (m .by) (m .kind)
-  pub every : (i kind : ℕ) → Marks p b i kind → List·Memᴰ (record { by = i; kind = kind }) ms
-  pub plan-order : (k l : ℕ) → k < l → l < length ms → mark-at ms k .by ≤ mark-at ms l .by
+  pub place : (k : ℕ) → ℕ
+  pub inside : (k : ℕ) → k < length ms → place k < length (op p (mark-at ms k .by) .marks)
+  pub on-buffer : (k : ℕ) → k < length ms → own-mark p (mark-at ms k .by) (place k) .buffer ≡ b
+  pub same-kind : (k : ℕ) → k < length ms → own-mark p (mark-at ms k .by) (place k) .kind ≡ mark-at ms k .kind
+  pub every : (i n : ℕ) → n < length (op p i .marks) → own-mark p i n .buffer ≡ b → (k : ℕ) × (k < length ms) × (mark-at ms k .by ≡ i) × (place k ≡ n)
+  pub in-order : (k l : ℕ) → k < l → l < length ms → (mark-at ms k .by < mark-at ms l .by) ⊎ ((mark-at ms k .by ≡ mark-at ms l .by) × (place k < place l))
 
 abbrev pub Frees : List Placed → (k : ℕ) → Type 0
 Frees ms k = mark-at ms k .kind ≡ 1
@@ -117,8 +120,9 @@ pub record Last-on (p : Plan) (q j : ℕ) : Type 0 where
 abbrev pub Seen : Plan → (q i : ℕ) → Type 0
 Seen p q i = (j : ℕ) × Last-on p q j × ((i ≡ j) ⊎ Before p i j)
 
+-- the operation has a mark on the buffer
 abbrev pub Marked : Plan → (b i : ℕ) → Type 0
-Marked p b i = (kind : ℕ) × Marks p b i kind
+Marked p b i = (n : ℕ) × (n < length (op p i .marks)) × (own-mark p i n .buffer ≡ b)
 
 abbrev pub Last-mark : Plan → (b : ℕ) → Placed → Type 0
 Last-mark p b m = (ms : List Placed) × (buffer-marks p b ≡ ms ++ (m ∷ []))
