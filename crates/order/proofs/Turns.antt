@@ -2,11 +2,11 @@
 use mathlib.Core.Path.{_≡_, refl, sym, subst}
 use mathlib.Core.Bool.{Bool, true}
 use mathlib.Core.List.{List, [], _∷_, _++_, append-assoc, append-nil}
-use Prim.Native.Nat.{ℕ, zero, suc, _<_}
+use Prim.Native.Nat.{ℕ, zero, suc, _≤_, _<_}
 use native.Mathlib.Nat.{not-suc-le-zero, le-of-suc-le-suc}
 use native.Mathlib.Omega.{arith}
 use lib.ListN.{length, getD, take, length-append}
-use lib.Seq.{take-at, getD-at}
+use lib.Seq.{length-take-le, take-take, getD-take, take-at, getD-at}
 use Rattle.order.specs.Runs.{can, runs}
 use Rattle.order.proofs.Runs.{runs-head, runs-tail, runs-cons, runs-nil}
 
@@ -36,3 +36,10 @@ module _ (n : ℕ) (enabled : List ℕ → ℕ → Bool) where
   run-last r j h =
       let t = run-turns (r ++ (j ∷ [])) h (length r) (rw length-append (omega arith)) in
       rw (take-at r (j ∷ []) (length r) refl, getD-at r j [] 0 (length r) refl) at t
+
+  -- the front of a run is a run
+  pub run-take : (r : List ℕ) → runs n enabled [] r ≡ true → (k : ℕ) → k ≤ length r → runs n enabled [] (take k r) ≡ true
+  run-take r h k b =
+      turns-run (take k r) (λ m l.
+      let a : m < k = omega (arith, length-take-le k r b) in
+      rw (take-take m k r (omega arith), getD-take k r m 0 a) (run-turns r h m (omega arith)))

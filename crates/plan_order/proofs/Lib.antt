@@ -13,3 +13,5 @@ pub mod KeepsMeaning
 pub mod MarksMeaning
 pub mod VerdictMeaning
 pub mod ReadyMeaning
+pub mod StandardMeaning
+pub mod RowsMeaning

@@ -37,7 +37,7 @@ module _ (p : Plan) (r : List ℕ) where
 
   -- ---- ready queues
   module _ (run : is-run p r ≡ true) where
-    ready-runs : (j : ℕ) → (ready p r j ≡ true) ↔ Run-means p (r ++ (j ∷ []))
+    pub ready-runs : (j : ℕ) → (ready p r j ≡ true) ↔ Run-means p (r ++ (j ∷ []))
     ready-runs j = (
       (λ h. run-means p (r ++ (j ∷ [])) .0 (sym (ready-adds p r j run) ∙ h)),
       (λ h. ready-adds p r j run ∙ run-means p (r ++ (j ∷ [])) .1 h),

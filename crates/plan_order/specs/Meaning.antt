@@ -15,6 +15,15 @@ use Rattle.plan_order.specs.Holdings.{Placed, buffer-marks}
 use Rattle.plan_order.specs.declared.Verdict.{Verdict}
 use Rattle.plan_order.specs.declared.Verdict.the-variants.{Fresh, Reusable, Held, NotOrdered, StrayUse}
 
+-- ---- order
+-- 01: "The k-th operation on a queue in plan order has epoch k, from 1."
+abbrev pub Up-to : Plan → (i h : ℕ) → Type 0
+Up-to p i h = (h ≤ i) × (op p h .queue ≡ op p i .queue)
+
+-- 01: "Column q is the number of operations on queue q that are j or before j"
+abbrev pub In-column : Plan → (j q i : ℕ) → Type 0
+In-column p j q i = (i < count p) × (op p i .queue ≡ q) × ((i ≡ j) ⊎ Before p i j)
+
 -- ---- runs
 -- the operation signals the value on the semaphore
 abbrev pub Signals : Plan → (i s v : ℕ) → Type 0
@@ -50,6 +59,21 @@ pub record Ready-means (p : Plan) (r : List ℕ) (j : ℕ) : Type 0 where
 -- 01: "An operation, and so its queue, is ready after a run if adding the operation at the end gives a run."
 abbrev pub Ready-queue : Plan → (run : List ℕ) → (q : ℕ) → Type 0
 Ready-queue p r q = (q < queues p) × ((j : ℕ) × (op p j .queue ≡ q) × Run-means p (r ++ (j ∷ [])))
+
+-- 01: "The standard run takes at each step, of all ready queues, the one with the lowest position."
+pub record Takes (p : Plan) (r : List ℕ) (j : ℕ) : Type 0 where
+  pub ready : Run-means p (r ++ (j ∷ []))
+  pub lowest : (i : ℕ) → Run-means p (r ++ (i ∷ [])) → op p j .queue ≤ op p i .queue
+
+pub record Standard-means (p : Plan) (r : List ℕ) : Type 0 where
+  pub takes : (k : ℕ) → k < length r → Takes p (take k r) (getD r k 0)
+  pub ends : (j : ℕ) → Run-means p (r ++ (j ∷ [])) → ⊥
+
+-- 01: "10: stuck: no full run; lowest operation that is in no run"
+pub record Lowest-in-no-run (p : Plan) (j : ℕ) : Type 0 where
+  pub operation : j < count p
+  pub in-no-run : (r : List ℕ) → Run-means p r → Among r (length r) j → ⊥
+  pub lowest : (i : ℕ) → i < j → (r : List ℕ) × Run-means p r × Among r (length r) i
 
 -- 01: "A run raises a semaphore in order if each signal of that semaphore in the run, by step and then in list order, is above 0 and
 -- above every earlier one."
