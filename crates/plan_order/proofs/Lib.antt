@@ -6,6 +6,7 @@ pub mod Precedence
 pub mod Raises
 pub mod Keeping
 pub mod Rows
+pub mod OrderMeaning
 pub mod RunMeaning
 pub mod RaisesMeaning
 pub mod AskedMarks

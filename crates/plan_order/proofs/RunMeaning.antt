@@ -1,8 +1,8 @@
 -- What a run, a full run and readiness are, by quantifiers. Assumes nothing.
-use mathlib.Core.Path.{_≡_, refl, sym, ap, _∙_, subst}
-use mathlib.Core.Bool.{true, false≢true}
+use mathlib.Core.Path.{_≡_, sym, _∙_, subst, subst₂}
+use mathlib.Core.Bool.{true}
 use mathlib.Core.Logic.{_↔_}
-use mathlib.Core.List.{List, [], _∷_, _++_, List·Memᴰ, List·Memᴰ·head, List·Memᴰ·tail, List·Memᴰ·not-nil, List·Memᴰ·cases-cons}
+use mathlib.Core.List.{List, [], _∷_, _++_}
 use Prim.Native.Nat.{ℕ, _≤_, _<_}
 use native.Mathlib.Nat.{le-refl, le-trans}
 use native.Mathlib.Omega.{arith}
@@ -11,43 +11,29 @@ use lib.ListN.{length, getD, take}
 use borrow.Author.Tests.{ltb-true, ltb-false}
 use Rattle.basics.specs.Lists.{member}
 use Rattle.basics.specs.Places.{Among}
-use Rattle.basics.proofs.Tests.{by-cases, clash, is-false, either}
+use Rattle.basics.proofs.Tests.{by-cases, clash, is-false}
 use Rattle.basics.proofs.Distinct.{sized-full}
 use Rattle.basics.proofs.Places.{member-place, member-at, place-member, take-place, place-take}
 use Rattle.order.proofs.Runs.{can-below, can-fresh, can-enabled, can-by, runs-snoc, run-sized}
 use Rattle.order.proofs.Turns.{run-turns, turns-run, run-last}
-use Rattle.plan_format.specs.Plan.{Point, Plan, count, op}
+use Rattle.plan_format.specs.Plan.{Plan, count, op}
 use Rattle.plan_format.specs.Sound.{signals-refusal, waits-refusal}
 use Rattle.plan_order.specs.Runs.{reached, enabled, ready, is-run, is-full}
 use Rattle.plan_order.specs.Meaning.{Signals, Highest-signalled, Run-step, Run-means, Full-means, Ready-means}
-use Rattle.plan_order.proofs.Signals.{signals-value, value-under, value-here, value-there, value-cons}
+use Rattle.plan_order.proofs.Signals.{signals-value, value-under}
 use Rattle.plan_order.proofs.Readiness.{reached-has, reached-gives, enabled-gives, enabled-by, predecessors-run, predecessors-suffice}
+use Rattle.plan_order.proofs.OrderMeaning.{signals-means, direct-means}
 use Rattle.plan_order.proofs.Standard.{full-run, run-full, full-has}
-
--- ---- signals of an operation, as a test and by membership
-value-in : (s v : ℕ) (xs : List Point) → signals-value s v xs ≡ true → (x : Point) × List·Memᴰ x xs × (x .semaphore ≡ s) × (x .value ≡ v)
-unfolding signals-value
-value-in s v [] h = absurd (false≢true h)
-value-in s v (x ∷ xs) h =
-    either (value-cons s v x xs h) (λ d. (x, List·Memᴰ·head refl, d .0, d .1))
-    (λ t. let w = value-in s v xs t in (w .0, List·Memᴰ·tail (w .1), w .2, w .3))
-
-in-value : (s v : ℕ) (xs : List Point) (x : Point) → List·Memᴰ x xs → x .semaphore ≡ s → x .value ≡ v → signals-value s v xs ≡ true
-in-value s v [] x m a b = absurd (List·Memᴰ·not-nil m)
-in-value s v (y ∷ ys) x m a b =
-    either (List·Memᴰ·cases-cons m) (λ e. value-here s v y ys (ap (λ (z : Point). z .semaphore) (sym e) ∙ a) (ap (λ (z : Point). z .value) (sym e) ∙ b))
-    (λ t. value-there s v y ys (in-value s v ys x t a b))
 
 module _ (p : Plan) where
   -- ---- the value that a semaphore has reached is the highest signalled
   signals-at : (s v i u : ℕ) (r : List ℕ) → Among r (length r) i → signals-value s u (op p i .signals) ≡ true → u ≡ v → (k : ℕ) × (k < length r) × Signals p (getD r k 0) s v
   signals-at s v i u r w h e =
-      let x = value-in s u (op p i .signals) h in
-      (w .0, w .1, subst (λ (z : ℕ). Signals p z s v) (sym (w .2)) (x .0, x .1, x .2, x .3 ∙ e))
+      (w .0, w .1, subst₂ (λ (y z : ℕ). Signals p y s z) (sym (w .2)) e (signals-means p i s u .0 h))
 
   reached-highest : (s : ℕ) (r : List ℕ) → Highest-signalled p s r (reached p s r)
   reached-highest s r = record {
-    highest = λ k u l w. le-trans (value-under s u (op p (getD r k 0) .signals) (in-value s u (op p (getD r k 0) .signals) (w .0) (w .1) (w .2) (w .3)))
+    highest = λ k u l w. le-trans (value-under s u (op p (getD r k 0) .signals) (signals-means p (getD r k 0) s u .1 w))
         (reached-has p s r (getD r k 0) (member-at r k l));
     signalled = λ pos. let g = reached-gives p s (reached p s r) r pos (le-refl (reached p s r)) in
         let under : g .1 ≤ reached p s r = le-trans (value-under s (g .1) (op p (g .0) .signals) (g .4)) (reached-has p s r (g .0) (g .2)) in
@@ -121,8 +107,8 @@ module _ (p : Plan) where
     (λ c. record {
       operation = can-below (count p) (enabled p) r j c;
       not-run = λ w. clash (member j r) (place-member r j w) (can-fresh (count p) (enabled p) r j c);
-      before = λ i d. member-place r i (predecessors-run p signals-good r i j h (can-enabled (count p) (enabled p) r j c) d);
+      before = λ i d. member-place r i (predecessors-run p signals-good r i j h (can-enabled (count p) (enabled p) r j c) (direct-means p signals-good i j .1 d));
     }),
     (λ m. can-by (count p) (enabled p) r j (m .operation) (is-false (member j r) (λ t. m .not-run (member-place r j t)))
-        (predecessors-suffice p waits-good r j (m .operation) (λ i d. place-member r i (m .before i d)))),
+        (predecessors-suffice p waits-good r j (m .operation) (λ i d. place-member r i (m .before i (direct-means p signals-good i j .0 d))))),
   )

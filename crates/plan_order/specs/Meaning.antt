@@ -1,7 +1,6 @@
 -- What the definitions say, by quantifiers over positions, marks, signals and chains. The laws *-means of proofs/ show each the same as its definition.
 -- Assumes nothing: these are definitions.
 use mathlib.Core.Path.{_≡_}
-use mathlib.Core.Bool.{true}
 use mathlib.Core.Logic.{_⊎_}
 use mathlib.Core.List.{List, [], _∷_, _++_, List·Memᴰ}
 use Prim.Native.Nat.{ℕ, suc, _≤_, _<_}
@@ -9,13 +8,31 @@ use lib.ListN.{length, getD, take}
 use Rattle.basics.specs.Places.{Among}
 use Rattle.order.specs.Runs.{step-of}
 use Rattle.plan_format.specs.Plan.{Point, Mark, Plan, count, op, queues}
-use Rattle.plan_order.specs.Precedence.{direct, Before}
+use Rattle.plan_order.specs.Precedence.{Before}
 use Rattle.plan_order.specs.Runs.{run-points}
 use Rattle.plan_order.specs.Holdings.{Placed, buffer-marks}
 use Rattle.plan_order.specs.declared.Verdict.{Verdict}
 use Rattle.plan_order.specs.declared.Verdict.the-variants.{Fresh, Reusable, Held, NotOrdered, StrayUse}
 
 -- ---- order
+-- the operation signals the value on the semaphore
+abbrev pub Signals : Plan → (i s v : ℕ) → Type 0
+Signals p i s v = (x : Point) × List·Memᴰ x (op p i .signals) × (x .semaphore ≡ s) × (x .value ≡ v)
+
+-- 01: "A wait for 0 is met at once and orders nothing. A wait for v above 0 resolves to the operation whose signal has the least value
+-- that is at least v, never to a later one"
+pub record Resolves (p : Plan) (w : Point) (i : ℕ) : Type 0 where
+  pub above-zero : 0 < w .value
+  pub value : ℕ
+  pub signalled : Signals p i (w .semaphore) value
+  pub enough : w .value ≤ value
+  pub least : (k v : ℕ) → Signals p k (w .semaphore) v → w .value ≤ v → value ≤ v
+
+-- 01: "i is earlier on the same queue, or j has a wait resolved to i"
+pub record Directly (p : Plan) (i j : ℕ) : Type 0 where
+  pub operations : (i < count p) × (j < count p)
+  pub why : ((i < j) × (op p i .queue ≡ op p j .queue)) ⊎ ((w : Point) × List·Memᴰ w (op p j .waits) × Resolves p w i)
+
 -- 01: "The k-th operation on a queue in plan order has epoch k, from 1."
 abbrev pub Up-to : Plan → (i h : ℕ) → Type 0
 Up-to p i h = (h ≤ i) × (op p h .queue ≡ op p i .queue)
@@ -25,10 +42,6 @@ abbrev pub In-column : Plan → (j q i : ℕ) → Type 0
 In-column p j q i = (i < count p) × (op p i .queue ≡ q) × ((i ≡ j) ⊎ Before p i j)
 
 -- ---- runs
--- the operation signals the value on the semaphore
-abbrev pub Signals : Plan → (i s v : ℕ) → Type 0
-Signals p i s v = (x : Point) × List·Memᴰ x (op p i .signals) × (x .semaphore ≡ s) × (x .value ≡ v)
-
 -- 01: "the highest value signalled so far on that semaphore", "Semaphores start at 0"
 pub record Highest-signalled (p : Plan) (s : ℕ) (r : List ℕ) (v : ℕ) : Type 0 where
   pub highest : (k u : ℕ) → k < length r → Signals p (getD r k 0) s u → u ≤ v
@@ -54,7 +67,7 @@ pub record Full-means (p : Plan) (r : List ℕ) : Type 0 where
 pub record Ready-means (p : Plan) (r : List ℕ) (j : ℕ) : Type 0 where
   pub operation : j < count p
   pub not-run : Among r (length r) j → ⊥
-  pub before : (i : ℕ) → direct p i j ≡ true → Among r (length r) i
+  pub before : (i : ℕ) → Directly p i j → Among r (length r) i
 
 -- 01: "An operation, and so its queue, is ready after a run if adding the operation at the end gives a run."
 abbrev pub Ready-queue : Plan → (run : List ℕ) → (q : ℕ) → Type 0
