@@ -11,6 +11,7 @@ use lib.ListN.{length, getD, length-map, List·getD-map}
 use borrow.Author.Tests.{eqb-true, eq-eqb}
 use Rattle.basics.proofs.Tests.{by-cases, either}
 use Rattle.basics.proofs.Places.{mem-place, mem-at}
+use Rattle.basics.proofs.Pairwise.{Pairwise, pairwise-nil, pairwise-cons, pairwise-append}
 use Rattle.plan_format.specs.Plan.{Mark, Operation, Plan, no-operation, op}
 use Rattle.plan_order.specs.Holdings.{Placed, placed, marks-of, marks-from, buffer-marks}
 use Rattle.plan_order.specs.Meaning.{mark-at, own-mark, Marks-means, Marked}
@@ -104,50 +105,33 @@ from-every i b (suc j) n (o ∷ os) l e =
     (subst (λ (z : ℕ). List·Memᴰ (located z n (mark-in (getD os j no-operation .marks) n .kind)) (located-from (suc i) b os)) (let q : suc i + j ≡ i + suc j = omega arith in q) (from-every (suc i) b j n os l e))
 
 -- ---- in plan order, inside one operation in list order
-abbrev at : List Located → (k : ℕ) → Located
-at xs k = getD xs k (record { by = 0; place = 0; kind = 0 })
-
 abbrev Earlier : (x y : Located) → Type 0
 Earlier x y = (x .by < y .by) ⊎ ((x .by ≡ y .by) × (x .place < y .place))
 
+abbrev nowhere : Located
+nowhere = record { by = 0; place = 0; kind = 0 }
+
+abbrev at : List Located → (k : ℕ) → Located
+at xs k = getD xs k nowhere
+
 abbrev Rising : List Located → Type 0
-Rising xs = (k l : ℕ) → k < l → l < length xs → Earlier (at xs k) (at xs l)
-
-rising-nil : Rising []
-rising-nil k l a b = absurd (not-suc-le-zero b)
-
-rising-cons : (x : Located) (xs : List Located) → ((y : Located) → List·Memᴰ y xs → Earlier x y) → Rising xs → Rising (x ∷ xs)
-rising-cons x xs h w k zero a b = absurd (not-suc-le-zero a)
-rising-cons x xs h w zero (suc l) a b = h (at xs l) (mem-at xs (record { by = 0; place = 0; kind = 0 }) l (le-of-suc-le-suc b))
-rising-cons x xs h w (suc k) (suc l) a b = w k l (le-of-suc-le-suc a) (le-of-suc-le-suc b)
-
-rising-append : (xs ys : List Located) → ((x y : Located) → List·Memᴰ x xs → List·Memᴰ y ys → x .by < y .by) → Rising xs → Rising ys → Rising (xs ++ ys)
-rising-append [] ys h a b = b
-rising-append (x ∷ xs) ys h a b =
-    rising-cons x (xs ++ ys)
-    (λ y t. either (List·Memᴰ·append-cases xs t) (λ u. first y u) (λ u. inl (h x y (List·Memᴰ·head refl) u)))
-    (rising-append xs ys (λ z y t u. h z y (List·Memᴰ·tail t) u) (λ k l c d. a (suc k) (suc l) (omega arith) (omega arith)) b)
-  where
-    first : (y : Located) → List·Memᴰ y xs → Earlier x y
-    first y t =
-        let w = mem-place xs (record { by = 0; place = 0; kind = 0 }) y t in
-        subst (λ (z : Located). Earlier x z) (w .2) (a 0 (suc (w .0)) (omega arith) (omega (arith, w .1)))
+Rising xs = Pairwise Earlier nowhere xs
 
 of-rising : (i b n : ℕ) (ms : List Mark) → Rising (located-of i b n ms)
 unfolding located-of located
-of-rising i b n [] = rising-nil
+of-rising i b n [] = pairwise-nil Earlier nowhere
 of-rising i b n (m ∷ ms) =
     by-cases (eqb (m .buffer) b)
-    (λ t. rw t (rising-cons (located i n (m .kind)) (located-of i b (suc n) ms)
+    (λ t. rw t (pairwise-cons Earlier nowhere (located i n (m .kind)) (located-of i b (suc n) ms)
     (λ y u. let w = of-only i b (suc n) ms y u in inr (sym (w .0), omega (arith, w .1 .1))) (of-rising i b (suc n) ms)))
     (λ f. rw f (of-rising i b (suc n) ms))
 
 from-rising : (i b : ℕ) (os : List Operation) → Rising (located-from i b os)
 unfolding located-from
-from-rising i b [] = rising-nil
+from-rising i b [] = pairwise-nil Earlier nowhere
 from-rising i b (o ∷ os) =
-    rising-append (located-of i b 0 (o .marks)) (located-from (suc i) b os)
-    (λ x y t u. let v = of-only i b 0 (o .marks) x t in let w = from-only (suc i) b os y u in omega (arith, v .0, w .1))
+    pairwise-append Earlier nowhere (located-of i b 0 (o .marks)) (located-from (suc i) b os)
+    (λ x y t u. let v = of-only i b 0 (o .marks) x t in let w = from-only (suc i) b os y u in inl (omega (arith, v .0, w .1)))
     (of-rising i b 0 (o .marks)) (from-rising (suc i) b os)
 
 -- ---- the marks on a buffer
@@ -164,7 +148,7 @@ module _ (p : Plan) (b : ℕ) where
 
   mark-forget : (k : ℕ) → mark-at (buffer-marks p b) k ≡ forget (at all-located k)
   unfolding forget placed
-  mark-forget k = rw marks-located (List·getD-map forget all-located k (record { by = 0; place = 0; kind = 0 }))
+  mark-forget k = rw marks-located (List·getD-map forget all-located k nowhere)
 
   same-by : (k : ℕ) → mark-at (buffer-marks p b) k .by ≡ at all-located k .by
   unfolding forget placed
@@ -178,7 +162,7 @@ module _ (p : Plan) (b : ℕ) where
   unfolding op
   marking k l =
       let x = at all-located k in
-      let w = from-only 0 b (p .operations) x (mem-at all-located (record { by = 0; place = 0; kind = 0 }) k (omega (arith, long))) in
+      let w = from-only 0 b (p .operations) x (mem-at all-located nowhere k (omega (arith, long))) in
       subst (λ (z : ℕ). Marking b (getD (p .operations) z no-operation .marks) (x .place) (x .kind)) (let e : w .0 ≡ mark-at (buffer-marks p b) k .by = omega (arith, w .1, same-by k) in e) (w .2)
 
   found : (i n : ℕ) → n < length (op p i .marks) → own-mark p i n .buffer ≡ b →
@@ -186,7 +170,7 @@ module _ (p : Plan) (b : ℕ) where
   unfolding op located
   found i n l e =
       let x = located (0 + i) n (own-mark p i n .kind) in
-      let w = mem-place all-located (record { by = 0; place = 0; kind = 0 }) x (from-every 0 b i n (p .operations) l e) in
+      let w = mem-place all-located nowhere x (from-every 0 b i n (p .operations) l e) in
       (w .0, omega (arith, w .1, long), same-by (w .0) ∙ ap (λ (z : Located). z .by) (w .2) ∙ zero-add i, ap (λ (z : Located). z .place) (w .2))
 
   ordered : (k l : ℕ) → k < l → l < length (buffer-marks p b) →

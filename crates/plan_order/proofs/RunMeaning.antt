@@ -1,5 +1,5 @@
 -- What a run, a full run and readiness are, by quantifiers. Assumes nothing.
-use mathlib.Core.Path.{_≡_, sym, _∙_, subst, subst₂}
+use mathlib.Core.Path.{_≡_, refl, sym, _∙_, subst, subst₂}
 use mathlib.Core.Bool.{true}
 use mathlib.Core.Logic.{_↔_}
 use mathlib.Core.List.{List, [], _∷_, _++_}
@@ -14,8 +14,9 @@ use Rattle.basics.specs.Places.{Among}
 use Rattle.basics.proofs.Tests.{by-cases, clash, is-false}
 use Rattle.basics.proofs.Distinct.{sized-full}
 use Rattle.basics.proofs.Places.{member-place, member-at, place-member, take-place, place-take}
+use Rattle.order.specs.Runs.{step-of}
 use Rattle.order.proofs.Runs.{can-below, can-fresh, can-enabled, can-by, runs-snoc, run-sized}
-use Rattle.order.proofs.Turns.{run-turns, turns-run, run-last}
+use Rattle.order.proofs.Turns.{run-turns, turns-run, run-last, step-is}
 use Rattle.plan_format.specs.Plan.{Plan, count, op}
 use Rattle.plan_format.specs.Sound.{signals-refusal, waits-refusal}
 use Rattle.plan_order.specs.Runs.{reached, enabled, ready, is-run, is-full}
@@ -82,6 +83,10 @@ module _ (p : Plan) where
     (λ h k l. step-gives r k l (run-turns (count p) (enabled p) r h k l)),
     (λ h. turns-run (count p) (enabled p) r (λ k l. gives-step r k l (h k l))),
   )
+
+  -- the step of an operation is its place in the run
+  pub step-place : (r : List ℕ) → is-run p r ≡ true → (k : ℕ) → k < length r → step-of 0 r (getD r k 0) ≡ k
+  step-place r h k l = step-is r (getD r k 0) k l refl (run-means r .0 h k l .distinct)
 
   pub full-means : (r : List ℕ) → (is-full p r ≡ true) ↔ Full-means p r
   unfolding is-run
