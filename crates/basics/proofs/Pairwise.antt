@@ -1,5 +1,5 @@
 -- A relation between each element of a list and every later one: in joined lists, and by places. Assumes nothing.
-use mathlib.Core.Path.{refl, sym, subst}
+use mathlib.Core.Path.{_≡_, refl, sym, _∙_, subst}
 use mathlib.Core.List.{List, [], _∷_, _++_, List·Memᴰ, List·Memᴰ·head, List·Memᴰ·tail, List·Memᴰ·not-nil, List·Memᴰ·cases-cons, List·Memᴰ·append-cases, Memᴰ·append-left, Memᴰ·append-right}
 use Prim.Native.Nat.{ℕ, zero, suc, _<_}
 use native.Mathlib.Nat.{not-suc-le-zero, le-of-suc-le-suc}
@@ -47,3 +47,23 @@ module _ {A : Type 0} (R : A → A → Type 0) (d : A) where
   pairwise-cross (z ∷ xs) ys w x y t u =
       either (List·Memᴰ·cases-cons t) (λ e. subst (λ (v : A). R v y) (sym e) (pairwise-head z (xs ++ ys) w y (Memᴰ·append-right xs u)))
       (λ v. pairwise-cross xs ys (pairwise-tail z (xs ++ ys) w) x y v u)
+
+  -- where no two are related both ways, the elements tell the list
+  pub pairwise-same : ((x y : A) → R x y → R y x → ⊥) → (xs ys : List A) → Pairwise xs → Pairwise ys →
+      ((x : A) → List·Memᴰ x xs → List·Memᴰ x ys) → ((y : A) → List·Memᴰ y ys → List·Memᴰ y xs) → xs ≡ ys
+  pairwise-same strict [] [] a b f g = refl
+  pairwise-same strict [] (y ∷ ys) a b f g = absurd (List·Memᴰ·not-nil (g y (List·Memᴰ·head refl)))
+  pairwise-same strict (x ∷ xs) [] a b f g = absurd (List·Memᴰ·not-nil (f x (List·Memᴰ·head refl)))
+  pairwise-same strict (x ∷ xs) (y ∷ ys) a b f g =
+      let e : x ≡ y =
+      either (List·Memᴰ·cases-cons (f x (List·Memᴰ·head refl))) (λ q. q)
+      (λ t. either (List·Memᴰ·cases-cons (g y (List·Memᴰ·head refl))) (λ q. sym q) (λ u. absurd (strict x y (pairwise-head x xs a y u) (pairwise-head y ys b x t)))) in
+      same-cons e (pairwise-same strict xs ys (pairwise-tail x xs a) (pairwise-tail y ys b)
+      (λ z t. either (List·Memᴰ·cases-cons (f z (List·Memᴰ·tail t))) (λ q. absurd (itself x (subst (λ (v : A). R x v) (q ∙ sym e) (pairwise-head x xs a z t)))) (λ u. u))
+      (λ z t. either (List·Memᴰ·cases-cons (g z (List·Memᴰ·tail t))) (λ q. absurd (itself y (subst (λ (v : A). R y v) (q ∙ e) (pairwise-head y ys b z t)))) (λ u. u)))
+    where
+      itself : (z : A) → R z z → ⊥
+      itself z h = strict z z h h
+
+      same-cons : {x y : A} {xs ys : List A} → x ≡ y → xs ≡ ys → x ∷ xs ≡ y ∷ ys
+      same-cons e q = cc

@@ -54,7 +54,7 @@ place-take xs k i h w =
     place-member (take k xs) i (w .0, omega (arith, w .1, length-take-le k xs h), getD-take k xs (w .0) 0 (w .1) ∙ w .2)
 
 -- ---- distinct places, below a bound
-pub once-sized : (n : ℕ) (xs : List ℕ) → ((k : ℕ) → k < length xs → getD xs k 0 < n) →
+once-sized : (n : ℕ) (xs : List ℕ) → ((k : ℕ) → k < length xs → getD xs k 0 < n) →
     ((k l : ℕ) → k < l → l < length xs → getD xs k 0 ≡ getD xs l 0 → ⊥) → Sized n xs
 once-sized n [] below once = sized-nil n
 once-sized n (x ∷ xs) below once =
@@ -64,7 +64,7 @@ once-sized n (x ∷ xs) below once =
 
 -- ---- counting what has a property
 module _ (P Q : ℕ → Type 0) (many : ℕ) (c : Counts P many) (more : (i : ℕ) → P i → Q i) where
-  pub counts-same : ((i : ℕ) → Q i → P i) → Counts Q many
+  counts-same : ((i : ℕ) → Q i → P i) → Counts Q many
   counts-same less = record {
     list = c .list;
     long = c .long;

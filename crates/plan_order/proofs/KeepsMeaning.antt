@@ -49,10 +49,10 @@ module _ (test : ℕ → ℕ → Bool) (Rel : ℕ → ℕ → Type 0) (works : (
   }
 
   -- each ask is asked of a mark, and met where the mark has what is asked of it
-  pub record Of-mark (ms : List Placed) (a : Ask) (k : ℕ) : Type 0 where
-    pub inside : k < length ms
-    pub same : asked-of a ≡ mark-at ms k .by
-    pub meets : Asked ms (λ i j. (i ≡ j) ⊎ Rel i j) Rel k → Met a
+  record Of-mark (ms : List Placed) (a : Ask) (k : ℕ) : Type 0 where
+    inside : k < length ms
+    same : asked-of a ≡ mark-at ms k .by
+    meets : Asked ms (λ i j. (i ≡ j) ⊎ Rel i j) Rel k → Met a
 
   asked-met : (ms : List Placed) (a : Ask) → Origin none ms a → (k : ℕ) × Of-mark ms a k
   unfolding asked-of

@@ -1,17 +1,20 @@
 -- The marks on a buffer: every mark of every operation, in plan order, inside one operation in list order. Assumes nothing.
-use mathlib.Core.Path.{_≡_, refl, sym, ap, _∙_, subst, subst₂}
+use mathlib.Core.Path.{_≡_, refl, sym, ap, ap₂, _∙_, subst, subst₂}
 use mathlib.Core.Bool.{cond}
-use mathlib.Core.Logic.{_⊎_, inl, inr}
+use mathlib.Core.Logic.{_⊎_, inl, inr, _↔_}
 use mathlib.Core.List.{List, [], _∷_, _++_, map, map-append, List·Memᴰ, List·Memᴰ·head, List·Memᴰ·tail, List·Memᴰ·not-nil, List·Memᴰ·cases-cons, List·Memᴰ·append-cases, Memᴰ·append-left, Memᴰ·append-right}
 use Prim.Native.Nat.{ℕ, zero, suc, _+_, _<_}
 use native.Mathlib.Nat.{not-suc-le-zero, le-of-suc-le-suc, zero-add}
 use native.Mathlib.Omega.{arith}
 use lib.Dec.{eqb}
 use lib.ListN.{length, getD, length-map, List·getD-map}
+use lib.Seq.{ext-getD}
 use borrow.Author.Tests.{eqb-true, eq-eqb}
 use Rattle.basics.proofs.Tests.{by-cases, either}
+use Rattle.basics.specs.Lists.{tabulate-from}
+use Rattle.basics.proofs.Tables.{tabulate-length, tabulate-at}
 use Rattle.basics.proofs.Places.{mem-place, mem-at}
-use Rattle.basics.proofs.Pairwise.{Pairwise, pairwise-nil, pairwise-cons, pairwise-append}
+use Rattle.basics.proofs.Pairwise.{Pairwise, pairwise-nil, pairwise-cons, pairwise-append, pairwise-same}
 use Rattle.plan_format.specs.Plan.{Mark, Operation, Plan, no-operation, op}
 use Rattle.plan_order.specs.Holdings.{Placed, placed, marks-of, marks-from, buffer-marks}
 use Rattle.plan_order.specs.Meaning.{mark-at, own-mark, Marks-means, Marked}
@@ -24,6 +27,9 @@ record Located : Type 0 where
 
 located : (i n kind : ℕ) → Located
 located i n k = record { by = i; place = n; kind = k }
+
+located-same : {i j m n k l : ℕ} → i ≡ j → m ≡ n → k ≡ l → located i m k ≡ located j n l
+located-same e f g = cc
 
 located-of : (i b n : ℕ) → List Mark → List Located
 located-of i b n [] = []
@@ -179,8 +185,8 @@ module _ (p : Plan) (b : ℕ) where
       either (from-rising 0 b (p .operations) k l a (omega (arith, long)))
       (λ t. inl (omega (arith, same-by k, same-by l))) (λ t. inr (omega (arith, t .0, same-by k, same-by l), t .1))
 
-  pub marks-means : Marks-means p b (buffer-marks p b)
-  marks-means = record {
+  in-order : Marks-means p b (buffer-marks p b)
+  in-order = record {
     place = λ k. at all-located k .place;
     inside = λ k l. marking k l .inside;
     on-buffer = λ k l. marking k l .on-buffer;
@@ -199,3 +205,71 @@ module _ (p : Plan) (b : ℕ) where
   marked-mark i w =
       let g = found i (w .0) (w .1) (w .2) in
       (mark-at (buffer-marks p b) (g .0), mem-at (buffer-marks p b) (record { by = 0; kind = 0 }) (g .0) (g .1), g .2)
+
+  -- ---- and no other list is
+  module _ (ms : List Placed) (w : Marks-means p b ms) where
+    its : ℕ → Located
+    its k = located (mark-at ms k .by) (w .place k) (mark-at ms k .kind)
+
+    abbrev its-located : List Located
+    its-located = tabulate-from (length ms) 0 its
+
+    its-at : (k : ℕ) → k < length ms → at its-located k ≡ its k
+    its-at k l = tabulate-at its (length ms) 0 k nowhere l ∙ ap its (zero-add k)
+
+    its-long : length its-located ≡ length ms
+    its-long = tabulate-length its (length ms) 0
+
+    its-forget : map forget its-located ≡ ms
+    unfolding forget placed its located
+    its-forget =
+        ext-getD (record { by = 0; kind = 0 }) (map forget its-located) ms (length-map its-located forget ∙ its-long)
+        (λ k l. let b : k < length ms = omega (arith, length-map its-located forget, its-long) in
+        List·getD-map forget its-located k nowhere ∙ ap forget (its-at k b))
+
+    its-earlier : (k l : ℕ) → k < l → l < length ms → Earlier (its k) (its l)
+    unfolding its located
+    its-earlier k l a c = w .in-order k l a c
+
+    its-rising : Rising its-located
+    its-rising k l a c =
+        let d : l < length ms = omega (arith, its-long) in
+        subst₂ (λ (x y : Located). Earlier x y) (sym (its-at k (omega arith))) (sym (its-at l d)) (its-earlier k l a d)
+
+    its-marks : (k : ℕ) → k < length ms → List·Memᴰ (its k) all-located
+    unfolding op its
+    its-marks k l =
+        subst (λ (z : Located). List·Memᴰ z all-located) (located-same (zero-add (mark-at ms k .by)) refl (w .same-kind k l))
+        (from-every 0 b (mark-at ms k .by) (w .place k) (p .operations) (w .inside k l) (w .on-buffer k l))
+
+    its-in : (x : Located) → List·Memᴰ x its-located → List·Memᴰ x all-located
+    its-in x t =
+        let g = mem-place its-located nowhere x t in
+        let l : g .0 < length ms = omega (arith, g .1, its-long) in
+        subst (λ (z : Located). List·Memᴰ z all-located) (sym (its-at (g .0) l) ∙ g .2) (its-marks (g .0) l)
+
+    in-its : (x : Located) → List·Memᴰ x all-located → List·Memᴰ x its-located
+    unfolding op its located
+    in-its x t =
+        let g = from-only 0 b (p .operations) x t in
+        let m = g .2 in
+        let e = w .every (g .0) (x .place) (m .inside) (m .on-buffer) in
+        let k = e .0 in
+        let kinds : mark-at ms k .kind ≡ x .kind = sym (w .same-kind k (e .1)) ∙ same-own (e .2) (e .3) ∙ m .same-kind in
+        let same : its k ≡ x = located-same (e .2 ∙ (let q : g .0 ≡ x .by = omega (arith, g .1) in q)) (e .3) kinds in
+        subst (λ (z : Located). List·Memᴰ z its-located) (its-at k (e .1) ∙ same) (mem-at its-located nowhere k (omega (arith, e .1, its-long)))
+      where
+        same-own : {i j m n : ℕ} → i ≡ j → m ≡ n → own-mark p i m .kind ≡ own-mark p j n .kind
+        same-own e q = ap₂ (λ (y z : ℕ). own-mark p y z .kind) e q
+
+    only-marks : buffer-marks p b ≡ ms
+    only-marks = marks-located ∙ ap (λ (z : List Located). map forget z) (pairwise-same Earlier nowhere strict all-located its-located (from-rising 0 b (p .operations)) its-rising in-its its-in) ∙ its-forget
+      where
+        strict : (x y : Located) → Earlier x y → Earlier y x → ⊥
+        strict x y (inl a) (inl c) = omega arith
+        strict x y (inl a) (inr c) = omega (arith, c .0)
+        strict x y (inr a) (inl c) = omega (arith, a .0)
+        strict x y (inr a) (inr c) = omega (arith, a .1, c .1)
+
+  pub marks-means : (ms : List Placed) → (buffer-marks p b ≡ ms) ↔ Marks-means p b ms
+  marks-means ms = ((λ e. subst (λ (z : List Placed). Marks-means p b z) e in-order), only-marks ms)
