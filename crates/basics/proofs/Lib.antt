@@ -5,5 +5,6 @@ pub mod Distinct
 pub mod Filters
 pub mod Searches
 pub mod Tables
-pub mod Counts
 pub mod Fronts
+pub mod Places
+pub mod Pairwise

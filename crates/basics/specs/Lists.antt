@@ -1,12 +1,10 @@
 -- Lists of numbers: membership, counting, searching and tabulating. Every other crate's definitions are made of these. Assumes nothing.
-use mathlib.Core.Path.{_≡_}
-use mathlib.Core.Logic.{_↔_}
 use mathlib.Core.Bool.{Bool, true, false, _&&_, _||_, cond}
 use mathlib.Core.List.{List, [], _∷_, _++_}
 use mathlib.Core.Option.{Option, none, some, orElse}
-use Prim.Native.Nat.{ℕ, zero, suc, _+_, _<_}
+use Prim.Native.Nat.{ℕ, zero, suc, _+_}
 use lib.Dec.{eqb}
-use lib.ListN.{length, getD, drop}
+use lib.ListN.{length, drop}
 
 unfoldable pub member : ℕ → List ℕ → Bool
 member v [] = false
@@ -69,14 +67,3 @@ join-from (suc k) i f = f i ++ join-from k (suc i) f
 -- a list written over the front of another
 unfoldable pub in-front {ℓ} : {A : Type ℓ} → (new old : List A) → List A
 in-front new old = new ++ drop (length new) old
-
--- no number stands twice
-unfoldable pub Distinct : List ℕ → Type 0
-Distinct xs = (k l : ℕ) → k < l → l < length xs → getD xs k 0 ≡ getD xs l 0 → ⊥
-
--- n is how many numbers have a property: the length of a list of them all, none twice
-pub record Counts (n : ℕ) (P : ℕ → Type 0) : Type 0 where
-  pub members : List ℕ
-  pub distinct : Distinct members
-  pub exactly : (i : ℕ) → (member i members ≡ true) ↔ P i
-  pub many : length members ≡ n

@@ -1,13 +1,15 @@
--- A run by its places: each number may come next after those that stand before it. Assumes nothing.
-use mathlib.Core.Path.{_≡_, refl, sym, subst}
+-- A run by its places: each number may come next after those that stand before it; a number's step is its first place. Assumes nothing.
+use mathlib.Core.Path.{_≡_, refl, sym, _∙_, subst}
 use mathlib.Core.Bool.{Bool, true}
 use mathlib.Core.List.{List, [], _∷_, _++_, append-assoc, append-nil}
-use Prim.Native.Nat.{ℕ, zero, suc, _<_}
-use native.Mathlib.Nat.{not-suc-le-zero, le-of-suc-le-suc}
+use Prim.Native.Nat.{ℕ, zero, suc, _+_, _≤_, _<_}
+use native.Mathlib.Nat.{not-suc-le-zero, le-of-suc-le-suc, zero-add}
 use native.Mathlib.Omega.{arith}
 use lib.ListN.{length, getD, take, length-append}
-use lib.Seq.{take-at, getD-at}
-use Rattle.order.specs.Runs.{can, runs}
+use lib.Seq.{length-take-le, take-take, getD-take, take-at, getD-at}
+use borrow.Author.Tests.{eq-eqb, ne-eqb}
+use Rattle.basics.specs.Places.{Among}
+use Rattle.order.specs.Runs.{can, runs, step-of}
 use Rattle.order.proofs.Runs.{runs-head, runs-tail, runs-cons, runs-nil}
 
 module _ (n : ℕ) (enabled : List ℕ → ℕ → Bool) where
@@ -36,3 +38,22 @@ module _ (n : ℕ) (enabled : List ℕ → ℕ → Bool) where
   run-last r j h =
       let t = run-turns (r ++ (j ∷ [])) h (length r) (rw length-append (omega arith)) in
       rw (take-at r (j ∷ []) (length r) refl, getD-at r j [] 0 (length r) refl) at t
+
+  -- the front of a run is a run
+  pub run-take : (r : List ℕ) → runs n enabled [] r ≡ true → (k : ℕ) → k ≤ length r → runs n enabled [] (take k r) ≡ true
+  run-take r h k b =
+      turns-run (take k r) (λ m l.
+      let a : m < k = omega (arith, length-take-le k r b) in
+      rw (take-take m k r (omega arith), getD-take k r m 0 a) (run-turns r h m (omega arith)))
+
+-- ---- steps
+step-shift : (xs : List ℕ) (a j k : ℕ) → k < length xs → getD xs k 0 ≡ j → (Among xs k j → ⊥) → step-of a xs j ≡ a + k
+unfolding step-of
+step-shift [] a j k l e h = absurd (not-suc-le-zero l)
+step-shift (x ∷ xs) a j zero l e h = rw (eq-eqb x j e) (omega arith)
+step-shift (x ∷ xs) a j (suc k) l e h =
+    rw (ne-eqb x j (λ q. h (0, omega arith, q)))
+    (step-shift xs (suc a) j k (le-of-suc-le-suc l) e (λ w. h (suc (w .0), omega (arith, w .1), w .2)) ∙ omega arith)
+
+pub step-is : (r : List ℕ) (j k : ℕ) → k < length r → getD r k 0 ≡ j → (Among r k j → ⊥) → step-of 0 r j ≡ k
+step-is r j k l e h = step-shift r 0 j k l e h ∙ zero-add k

@@ -1,37 +1,31 @@
 -- Demand 2 for any plan: rows count what is at or before, tell it by epochs, and merge; before is what every full run forces. Assumes nothing.
-use mathlib.Core.Path.{_≡_, refl, sym, ap, ap₂, _∙_, subst}
-use mathlib.Core.Bool.{true, _&&_}
-use mathlib.Core.Logic.{_⊎_}
+use mathlib.Core.Path.{_≡_, refl, sym, ap, ap₂, _∙_}
+use mathlib.Core.Bool.{true}
 use mathlib.Core.List.{List, [], _∷_}
-use Prim.Native.Nat.{ℕ, _≤_, _<_, max}
+use Prim.Native.Nat.{ℕ, _+_, _*_, _≤_, _<_, max}
 use native.Mathlib.Omega.{arith}
 use lib.Dec.{eqb}
 use lib.ListN.{getD}
-use borrow.Author.Tests.{eqb-true, eqb-false, eq-eqb}
-use Rattle.basics.specs.Lists.{member, Counts}
-use Rattle.basics.proofs.Counts.{tally-counts}
-use Rattle.basics.proofs.Tests.{by-cases, clash, is-true, and-left, and-right, and-both}
+use borrow.Author.Tests.{eqb-true, eqb-false}
+use Rattle.basics.specs.Lists.{member}
+use Rattle.basics.proofs.Tests.{by-cases, clash, is-true}
 use Rattle.order.specs.Runs.{step-of}
 use Rattle.plan_format.specs.Plan.{Plan, count, op, queues}
 use Rattle.plan_format.specs.Sound.{Sound}
-use Rattle.plan_order.specs.Precedence.{Before, before, at-or-before}
+use Rattle.plan_order.specs.Precedence.{before}
 use Rattle.plan_order.specs.Promise.{Demand-2, Before-forces, Row-epoch, most-of, Row-step, Standard-right}
 use Rattle.plan_order.specs.Rows.{row, rows}
 use Rattle.plan_order.specs.Runs.{is-full, standard}
 use Rattle.plan_order.proofs.Demand3.{rules-good}
 use Rattle.plan_order.proofs.Precedence.{before-chain, chain-before, at-or-means, before-steps, unordered}
-use Rattle.plan_order.proofs.Rows.{on-queue, entry, row-at, rows-at, most, any-at-has, entry-merged, entry-tells, own-is, unused-zero}
+use Rattle.plan_order.proofs.RowsMeaning.{rows-means}
+use Rattle.plan_order.proofs.Rows.{row-at, most, any-at-has, entry-merged, entry-tells, own-is, unused-zero}
 use Rattle.plan_order.proofs.Standard.{next-ready, next-lowest, standard-runs, standard-stuck, standard-lacks, standard-steps}
 
 module _ (p : Plan) where
   pub demand-2 : Demand-2 p (rows p)
   unfolding Demand-2
-  demand-2 j q l b =
-      subst (λ (n : ℕ). Counts n (λ i. (i < count p) × (op p i .queue ≡ q) × ((i ≡ j) ⊎ Before p i j))) (sym (rows-at p j q l b))
-      (unfold entry on-queue in (tally-counts (λ i. on-queue p q i && at-or-before p i j) (count p) (λ i. (i < count p) × (op p i .queue ≡ q) × ((i ≡ j) ⊎ Before p i j)) (λ i. (
-        (λ w. (w .0, eqb-true (op p i .queue) q (and-left (eqb (op p i .queue) q) (at-or-before p i j) (w .1)), at-or-means p i j .0 (and-right (eqb (op p i .queue) q) (at-or-before p i j) (w .1)))),
-        (λ w. (w .0, and-both (eqb (op p i .queue) q) (at-or-before p i j) (eq-eqb (op p i .queue) q (w .1)) (at-or-means p i j .1 (w .2)))),
-      ))))
+  demand-2 j q l b = rows-means p j q (getD (rows p) (16 * j + q) 0) l b .0 refl
 
   pub row-epoch : Row-epoch p
   unfolding Row-epoch

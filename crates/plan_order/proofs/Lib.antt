@@ -10,3 +10,13 @@ pub mod Demand3
 pub mod Demand2
 pub mod Promises
 pub mod Outcomes
+pub mod OrderMeaning
+pub mod RunMeaning
+pub mod RaisesMeaning
+pub mod AskedMarks
+pub mod KeepsMeaning
+pub mod MarksMeaning
+pub mod VerdictMeaning
+pub mod ReadyMeaning
+pub mod StandardMeaning
+pub mod RowsMeaning

@@ -1,7 +1,6 @@
 -- The outcome of the check, case by case, and what a caller gets with it. Assumes nothing.
 use mathlib.Core.Path.{_≡_, sym, ap, _∙_, subst, subst₂}
 use mathlib.Core.Bool.{true}
-use mathlib.Core.Logic.{_⊎_}
 use mathlib.Core.List.{List}
 use mathlib.Core.Option.{Option, none, some}
 use Prim.Native.Nat.{ℕ, _+_, _*_, _<_}
@@ -9,17 +8,18 @@ use native.Mathlib.Omega.{arith}
 use lib.Dec.{eqb}
 use lib.ListN.{length}
 use borrow.Author.Tests.{eqb-false}
-use Rattle.basics.specs.Lists.{in-front, Counts}
+use Rattle.basics.specs.Lists.{in-front}
+use Rattle.basics.specs.Places.{Counts}
 use Rattle.basics.proofs.Tests.{by-cases}
 use Rattle.basics.proofs.Fronts.{front-at}
-use Rattle.plan_format.specs.Plan.{Plan, count, op}
+use Rattle.plan_format.specs.Plan.{Plan, count}
 use Rattle.plan_format.specs.Refusal.{refusal, none-given, given}
 use Rattle.plan_format.specs.Stored.{plan-in, plan-refusal}
 use Rattle.plan_format.specs.declared.Told.{Told}
 use Rattle.plan_format.proofs.Judged.{zero-not-given, refusal-given}
 use Rattle.plan_order.specs.Check.{room-refusal, refused-at, order-refusal, Leaves, untouched, zeros, rows-and-run, outcome, or-then, check-outcome, left-in, table-left, Check-says}
 use Rattle.plan_order.specs.Holdings.{broken}
-use Rattle.plan_order.specs.Precedence.{Before}
+use Rattle.plan_order.specs.Meaning.{In-column}
 use Rattle.plan_order.specs.Promise.{Demand-3-stored, Demand-2, Checked}
 use Rattle.plan_order.specs.Rows.{rows}
 use Rattle.plan_order.specs.Runs.{missing}
@@ -74,7 +74,7 @@ table-demand : (p : Plan) (t : List ℕ) → Demand-2 p (in-front (rows p) t)
 unfolding Demand-2
 table-demand p t j q l b =
     let inside : 16 * j + q < length (rows p) = omega (arith, rows-length p) in
-    subst (λ (n : ℕ). Counts n (λ i. (i < count p) × (op p i .queue ≡ q) × ((i ≡ j) ⊎ Before p i j))) (sym (front-at (rows p) t (16 * j + q) 0 inside)) (demand-2 p j q l b)
+    subst (λ (n : ℕ). Counts (In-column p j q) n) (sym (front-at (rows p) t (16 * j + q) 0 inside)) (demand-2 p j q l b)
 
 -- what the check's own definition says brings demands 3 and 2 with it
 pub checked : (bs : List ℕ) (r : Told) (t x l y : List ℕ) → Check-says bs r t x l y → Checked bs r t x l y

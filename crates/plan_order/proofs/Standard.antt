@@ -19,17 +19,17 @@ use Rattle.plan_order.specs.Runs.{enabled, ready, is-run, is-full, ready
 use Rattle.plan_order.proofs.Readiness.{grows}
 
 module _ (p : Plan) where
-  ready-on-gives : (r : List ℕ) (q j : ℕ) → ready-on p r q ≡ some j → (op p j .queue ≡ q) × (ready p r j ≡ true)
+  pub ready-on-gives : (r : List ℕ) (q j : ℕ) → ready-on p r q ≡ some j → (op p j .queue ≡ q) × (ready p r j ≡ true)
   unfolding ready-on
   ready-on-gives r q j e =
       let t = lowest-some (count p) (λ j. eqb (op p j .queue) q && ready p r j) j e .passes in
       (eqb-true (op p j .queue) q (and-left (eqb (op p j .queue) q) (ready p r j) t), and-right (eqb (op p j .queue) q) (ready p r j) t)
 
-  ready-below : (r : List ℕ) (j : ℕ) → ready p r j ≡ true → j < count p
+  pub ready-below : (r : List ℕ) (j : ℕ) → ready p r j ≡ true → j < count p
   unfolding ready
   ready-below r j h = can-below (count p) (enabled p) r j h
 
-  ready-on-none : (r : List ℕ) (q : ℕ) → _≡_ {A = Option ℕ} (ready-on p r q) none → (j : ℕ) → op p j .queue ≡ q → ready p r j ≡ false
+  pub ready-on-none : (r : List ℕ) (q : ℕ) → _≡_ {A = Option ℕ} (ready-on p r q) none → (j : ℕ) → op p j .queue ≡ q → ready p r j ≡ false
   unfolding ready-on
   ready-on-none r q e j o =
       is-false (ready p r j) (λ t. clash (eqb (op p j .queue) q && ready p r j) (and-both (eqb (op p j .queue) q) (ready p r j) (eq-eqb (op p j .queue) q o) t)

@@ -5,3 +5,4 @@ pub mod Holdings
 pub mod Check
 pub mod Reuse
 pub mod Promise
+pub mod Meaning

@@ -8,7 +8,8 @@ use mathlib.Core.Option.{some}
 use Prim.Native.Nat.{ℕ, _+_, _*_, _≤_, _<_, max}
 use lib.Dec.{eqb}
 use lib.ListN.{length, getD, take}
-use Rattle.basics.specs.Lists.{member, Counts}
+use Rattle.basics.specs.Lists.{member}
+use Rattle.basics.specs.Places.{Counts}
 use Rattle.order.specs.Runs.{step-of}
 use Rattle.plan_format.specs.Refusal.{given}
 use Rattle.plan_format.specs.Plan.{Plan, count, op}
@@ -18,6 +19,7 @@ use Rattle.plan_order.specs.Rows.{epoch, row}
 use Rattle.plan_order.specs.Runs.{is-run, is-full, ahead, ready, raises-in-order, next, standard}
 use Rattle.plan_order.specs.Holdings.{Ask, asks, asked-of, met, keeps, marks-buffer}
 use Rattle.plan_format.specs.declared.Told.{Told}
+use Rattle.plan_order.specs.Meaning.{In-column}
 use Rattle.plan_order.specs.Check.{room-refusal, order-refusal, Check-says}
 
 -- ---- DEMAND 3
@@ -69,9 +71,7 @@ Demand-3-stored bs t l n i = unrefused bs t l ≡ true → Demand-3 (plan-in bs)
 -- ---- DEMAND 2
 -- an entry of the table is the number of the queue's operations that are j or before j, by chains
 unfoldable pub Demand-2 : Plan → (table : List ℕ) → Type 0
-Demand-2 p t =
-    (j q : ℕ) → j < count p → q < 16 →
-    Counts (getD t (16 * j + q) 0) (λ i. (i < count p) × (op p i .queue ≡ q) × ((i ≡ j) ⊎ Before p i j))
+Demand-2 p t = (j q : ℕ) → j < count p → q < 16 → Counts (In-column p j q) (getD t (16 * j + q) 0)
 
 -- what is worked out as before is before by chains
 unfoldable pub Before-right : Type 0

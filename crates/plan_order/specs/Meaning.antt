@@ -1,0 +1,178 @@
+-- What the definitions say, by quantifiers over positions, marks, signals and chains. The laws *-means of proofs/ show each the same as its definition.
+-- Assumes nothing: these are definitions.
+use mathlib.Core.Path.{_≡_}
+use mathlib.Core.Logic.{_⊎_}
+use mathlib.Core.List.{List, [], _∷_, _++_, List·Memᴰ}
+use Prim.Native.Nat.{ℕ, suc, _≤_, _<_}
+use lib.ListN.{length, getD, take}
+use Rattle.basics.specs.Places.{Among}
+use Rattle.order.specs.Runs.{step-of}
+use Rattle.plan_format.specs.Plan.{Point, Mark, Plan, count, op, queues}
+use Rattle.plan_order.specs.Precedence.{Before}
+use Rattle.plan_order.specs.Holdings.{Placed, buffer-marks}
+use Rattle.plan_order.specs.declared.Verdict.{Verdict}
+use Rattle.plan_order.specs.declared.Verdict.the-variants.{Fresh, Reusable, Held, NotOrdered, StrayUse}
+
+-- ---- order
+-- the operation signals the value on the semaphore
+abbrev pub Signals : Plan → (i s v : ℕ) → Type 0
+Signals p i s v = (x : Point) × List·Memᴰ x (op p i .signals) × (x .semaphore ≡ s) × (x .value ≡ v)
+
+-- 01: "A wait for 0 is met at once and orders nothing. A wait for v above 0 resolves to the operation whose signal has the least value
+-- that is at least v, never to a later one"
+pub record Resolves (p : Plan) (w : Point) (i : ℕ) : Type 0 where
+  pub above-zero : 0 < w .value
+  pub value : ℕ
+  pub signalled : Signals p i (w .semaphore) value
+  pub enough : w .value ≤ value
+  pub least : (k v : ℕ) → Signals p k (w .semaphore) v → w .value ≤ v → value ≤ v
+
+-- 01: "i is earlier on the same queue, or j has a wait resolved to i"
+pub record Directly (p : Plan) (i j : ℕ) : Type 0 where
+  pub operations : (i < count p) × (j < count p)
+  pub why : ((i < j) × (op p i .queue ≡ op p j .queue)) ⊎ ((w : Point) × List·Memᴰ w (op p j .waits) × Resolves p w i)
+
+-- 01: "The k-th operation on a queue in plan order has epoch k, from 1."
+abbrev pub Up-to : Plan → (i h : ℕ) → Type 0
+Up-to p i h = (h ≤ i) × (op p h .queue ≡ op p i .queue)
+
+-- 01: "Column q is the number of operations on queue q that are j or before j"
+abbrev pub In-column : Plan → (j q i : ℕ) → Type 0
+In-column p j q i = (i < count p) × (op p i .queue ≡ q) × ((i ≡ j) ⊎ Before p i j)
+
+-- ---- runs
+-- 01: "the highest value signalled so far on that semaphore", "Semaphores start at 0"
+pub record Highest-signalled (p : Plan) (s : ℕ) (r : List ℕ) (v : ℕ) : Type 0 where
+  pub highest : (k u : ℕ) → k < length r → Signals p (getD r k 0) s u → u ≤ v
+  pub signalled : 0 < v → (k : ℕ) × (k < length r) × Signals p (getD r k 0) s v
+
+-- 01: "A run is a list of distinct operations. Each, at its turn, has all earlier operations of its queue already in the run, and each
+-- of its waits is met: the highest value signalled so far on that semaphore is at least the value waited for."
+pub record Run-step (p : Plan) (r : List ℕ) (k : ℕ) : Type 0 where
+  pub operation : getD r k 0 < count p
+  pub distinct : Among r k (getD r k 0) → ⊥
+  pub earlier : (i : ℕ) → i < getD r k 0 → op p i .queue ≡ op p (getD r k 0) .queue → Among r k i
+  pub waits : (w : Point) → List·Memᴰ w (op p (getD r k 0) .waits) → (v : ℕ) × Highest-signalled p (w .semaphore) (take k r) v × (w .value ≤ v)
+
+abbrev pub Run-means : Plan → List ℕ → Type 0
+Run-means p r = (k : ℕ) → k < length r → Run-step p r k
+
+-- 01: "A full run has every operation."
+pub record Full-means (p : Plan) (r : List ℕ) : Type 0 where
+  pub run : Run-means p r
+  pub every : (i : ℕ) → i < count p → Among r (length r) i
+
+-- after a run of a plan without refusals 6 to 8: what is directly before the operation has run
+pub record Ready-means (p : Plan) (r : List ℕ) (j : ℕ) : Type 0 where
+  pub operation : j < count p
+  pub not-run : Among r (length r) j → ⊥
+  pub before : (i : ℕ) → Directly p i j → Among r (length r) i
+
+-- 01: "An operation, and so its queue, is ready after a run if adding the operation at the end gives a run."
+abbrev pub Ready-queue : Plan → (run : List ℕ) → (q : ℕ) → Type 0
+Ready-queue p r q = (q < queues p) × ((j : ℕ) × (op p j .queue ≡ q) × Run-means p (r ++ (j ∷ [])))
+
+-- 01: "The standard run takes at each step, of all ready queues, the one with the lowest position."
+pub record Takes (p : Plan) (r : List ℕ) (j : ℕ) : Type 0 where
+  pub ready : Run-means p (r ++ (j ∷ []))
+  pub lowest : (i : ℕ) → Run-means p (r ++ (i ∷ [])) → op p j .queue ≤ op p i .queue
+
+pub record Standard-means (p : Plan) (r : List ℕ) : Type 0 where
+  pub takes : (k : ℕ) → k < length r → Takes p (take k r) (getD r k 0)
+  pub ends : (j : ℕ) → Run-means p (r ++ (j ∷ [])) → ⊥
+
+-- 01: "10: stuck: no full run; lowest operation that is in no run"
+pub record Lowest-in-no-run (p : Plan) (j : ℕ) : Type 0 where
+  pub operation : j < count p
+  pub in-no-run : (r : List ℕ) → Run-means p r → Among r (length r) j → ⊥
+  pub lowest : (i : ℕ) → i < j → (r : List ℕ) × Run-means p r × Among r (length r) i
+
+-- 01: "A run raises a semaphore in order if each signal of that semaphore in the run, by step and then in list order, is above 0 and
+-- above every earlier one."
+abbrev pub own-signal : Plan → (i n : ℕ) → Point
+own-signal p i n = getD (op p i .signals) n (record { semaphore = 0; value = 0 })
+
+pub record Raises-means (p : Plan) (r : List ℕ) : Type 0 where
+  pub above-zero : (k s v : ℕ) → k < length r → Signals p (getD r k 0) s v → 0 < v
+  pub above-earlier-step : (k l s u v : ℕ) → k < l → l < length r → Signals p (getD r k 0) s u → Signals p (getD r l 0) s v → u < v
+  pub above-earlier-in-list : (k m n : ℕ) → k < length r → m < n → n < length (op p (getD r k 0) .signals) →
+      own-signal p (getD r k 0) m .semaphore ≡ own-signal p (getD r k 0) n .semaphore → own-signal p (getD r k 0) m .value < own-signal p (getD r k 0) n .value
+
+-- ---- holdings
+abbrev pub mark-at : List Placed → (k : ℕ) → Placed
+mark-at ms k = getD ms k (record { by = 0; kind = 0 })
+
+-- the mark at a place of an operation's list
+abbrev pub own-mark : Plan → (i n : ℕ) → Mark
+own-mark p i n = getD (op p i .marks) n (record { buffer = 0; kind = 0 })
+
+-- 01: "Take the marks on a buffer in plan order, inside one operation in list order"; `place` is where each stands in its operation's list
+pub record Marks-means (p : Plan) (b : ℕ) (ms : List Placed) : Type 0 where
+  pub place : (k : ℕ) → ℕ
+  pub inside : (k : ℕ) → k < length ms → place k < length (op p (mark-at ms k .by) .marks)
+  pub on-buffer : (k : ℕ) → k < length ms → own-mark p (mark-at ms k .by) (place k) .buffer ≡ b
+  pub same-kind : (k : ℕ) → k < length ms → own-mark p (mark-at ms k .by) (place k) .kind ≡ mark-at ms k .kind
+  pub every : (i n : ℕ) → n < length (op p i .marks) → own-mark p i n .buffer ≡ b → (k : ℕ) × (k < length ms) × (mark-at ms k .by ≡ i) × (place k ≡ n)
+  pub in-order : (k l : ℕ) → k < l → l < length ms → (mark-at ms k .by < mark-at ms l .by) ⊎ ((mark-at ms k .by ≡ mark-at ms l .by) × (place k < place l))
+
+abbrev pub Frees : List Placed → (k : ℕ) → Type 0
+Frees ms k = mark-at ms k .kind ≡ 1
+
+-- no mark from k up to before l is a free
+abbrev pub No-free : List Placed → (k l : ℕ) → Type 0
+No-free ms k l = (n : ℕ) → k ≤ n → n < l → Frees ms n → ⊥
+
+-- what keeping asks of the mark at k; "no later" and "earlier" are those of a run, or what before forces
+pub record Asked (ms : List Placed) (no-later earlier : (i j : ℕ) → Type 0) (k : ℕ) : Type 0 where
+  -- 01: "each use comes no later than the operation that frees its own holding (where there is such a free)"
+  pub own-free : (l : ℕ) → k < l → l < length ms → No-free ms k l → Frees ms l → no-later (mark-at ms k .by) (mark-at ms l .by)
+  -- 01: "each mark of a later holding comes in a later step than the free before that holding"
+  pub free-before : (l : ℕ) → l < k → Frees ms l → No-free ms (suc l) k → earlier (mark-at ms l .by) (mark-at ms k .by)
+
+abbrev pub Steps-earlier : List ℕ → (i j : ℕ) → Type 0
+Steps-earlier r i j = step-of 0 r i < step-of 0 r j
+
+-- 01: "A full run keeps the buffer when .. Any other full run breaks it."
+abbrev pub Keeps-means : Plan → (run : List ℕ) → (b : ℕ) → Type 0
+Keeps-means p r b =
+    (k : ℕ) → k < length (buffer-marks p b) → Asked (buffer-marks p b) (λ i j. (i ≡ j) ⊎ Steps-earlier r i j) (λ i j. Steps-earlier r i j) k
+
+-- 01: "A mark is broken when "before" doesn't force all that keeping asks of it; a use in the very operation that frees its own holding
+-- counts as no later than that operation."
+abbrev pub Forced : Plan → (b k : ℕ) → Type 0
+Forced p b k = Asked (buffer-marks p b) (λ i j. (i ≡ j) ⊎ Before p i j) (λ i j. Before p i j) k
+
+-- 01: "11: a broken mark, lowest operation with one"
+pub record Lowest-broken (p : Plan) (i : ℕ) : Type 0 where
+  pub broken : (b k : ℕ) × (b < length (p .sizes)) × (k < length (buffer-marks p b)) × (mark-at (buffer-marks p b) k .by ≡ i) × (Forced p b k → ⊥)
+  pub lowest : (b k : ℕ) → b < length (p .sizes) → k < length (buffer-marks p b) → mark-at (buffer-marks p b) k .by < i → Forced p b k
+
+-- ---- the reuse question
+pub record Last-on (p : Plan) (q j : ℕ) : Type 0 where
+  pub operation : j < count p
+  pub own : op p j .queue ≡ q
+  pub last : (k : ℕ) → j < k → k < count p → op p k .queue ≡ q → ⊥
+
+-- the operation is the queue's last operation or before it
+abbrev pub Seen : Plan → (q i : ℕ) → Type 0
+Seen p q i = (j : ℕ) × Last-on p q j × ((i ≡ j) ⊎ Before p i j)
+
+-- the operation has a mark on the buffer
+abbrev pub Marked : Plan → (b i : ℕ) → Type 0
+Marked p b i = (n : ℕ) × (n < length (op p i .marks)) × (own-mark p i n .buffer ≡ b)
+
+abbrev pub Last-mark : Plan → (b : ℕ) → Placed → Type 0
+Last-mark p b m = (ms : List Placed) × (buffer-marks p b ≡ ms ++ (m ∷ []))
+
+-- 01, the table of verdicts
+unfoldable pub When : Plan → (q b : ℕ) → Verdict → Type 0
+-- "the buffer has no mark"
+When p q b Fresh = (i : ℕ) → Marked p b i → ⊥
+-- "its last mark is a use"
+When p q b Held = (m : Placed) × Last-mark p b m × (m .kind ≡ 1 → ⊥)
+-- "the last mark is a free, and every operation with a mark on it is the queue's last operation or before it"
+When p q b Reusable = (m : Placed) × Last-mark p b m × (m .kind ≡ 1) × ((i : ℕ) → Marked p b i → Seen p q i)
+-- "the last mark is a free that is so placed, but another marked operation isn't"
+When p q b StrayUse = (m : Placed) × Last-mark p b m × (m .kind ≡ 1) × Seen p q (m .by) × ((i : ℕ) × Marked p b i × (Seen p q i → ⊥))
+-- "otherwise, also for a queue with no operations"
+When p q b NotOrdered = (m : Placed) × Last-mark p b m × (m .kind ≡ 1) × (Seen p q (m .by) → ⊥)
