@@ -19,3 +19,4 @@ pub mod Shape
 pub mod Plans
 pub mod Sizes
 pub mod Largest
+pub mod Prefix
