@@ -20,3 +20,4 @@ pub mod Plans
 pub mod Sizes
 pub mod Largest
 pub mod Prefix
+pub mod Widths

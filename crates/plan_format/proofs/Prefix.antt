@@ -17,7 +17,7 @@ use Rattle.plan_format.specs.Stored.{scanned, listed}
 use Rattle.plan_format.proofs.Judged.{zero-not-given, not-given-zero}
 use Rattle.plan_format.proofs.Fields.{field-done, count-limits}
 use Rattle.plan_format.proofs.Reading.{last-is}
-use Rattle.plan_format.proofs.Sizes.{longest-plan, most-plan-numbers}
+use Rattle.plan_format.proofs.Sizes.{Most, bytes-most, numbers-most, longest-plan, most-plan-numbers}
 
 -- a reading with more behind what is left
 unfoldable pub longer : List ℕ → Scan → Scan
@@ -63,38 +63,11 @@ within-counted n m k h f H F limit = record {
   same = λ b s l. ap (λ z. times-last f z) (H .same b s (omega arith)) ∙ last-same k f F b (h s) (λ e. omega (arith, H .left s, mul-le-mul-right k (limit s e)));
 }
 
--- ---- a source whose fields are told by the places they take, and how many places a grammar takes at most
-pub record Bounded (S : Source) : Type 0 where
-  pub front-is : (w : ℕ) (a b : List ℕ) → S .wide w ≤ length a → S .front w (a ++ b) ≡ S .front w a
-  pub most : Grammar → ℕ
-  pub field-most : (w : ℕ) (c : Check) → most (field w c) ≡ S .wide w
-  pub seq-most : (g h : Grammar) → most (seq g h) ≡ most g + most h
-  pub counted-most : (l m w : ℕ) (g : Grammar) → most (counted l m w g) ≡ S .wide w + m * most g
-  pub nothing-most : most nothing ≡ 0
+-- ---- a source whose fields are told by the places they take
+abbrev pub Fronted : Source → Type 0
+Fronted S = (w : ℕ) (a b : List ℕ) → S .wide w ≤ length a → S .front w (a ++ b) ≡ S .front w a
 
-unfoldable pub bytes-bounded : Bounded bytes
-unfolding bytes most-bytes
-bytes-bounded = record {
-  front-is = λ w a b l. ap value (take-append-le w a b l);
-  most = most-bytes;
-  field-most = λ w c. refl;
-  seq-most = λ g h. refl;
-  counted-most = λ l m w g. refl;
-  nothing-most = refl;
-}
-
-unfoldable pub numbers-bounded : Bounded numbers
-unfolding numbers most-numbers
-numbers-bounded = record {
-  front-is = λ w a b l. List·getD-append a b 0 0 l;
-  most = most-numbers;
-  field-most = λ w c. refl;
-  seq-most = λ g h. refl;
-  counted-most = λ l m w g. refl;
-  nothing-most = refl;
-}
-
-module _ (S : Source) (B : Bounded S) where
+module _ (S : Source) (front-is : Fronted S) (T : Most (S .wide)) where
   field-left : (w : ℕ) (c : ℕ → ℕ) (s : Scan) → length (s .rest) ≤ length (read-field S w c s .rest) + S .wide w
   unfolding read-field refused scan
   field-left w c s =
@@ -103,14 +76,14 @@ module _ (S : Source) (B : Bounded S) where
 
   number-same : (w : ℕ) (c : ℕ → ℕ) (a b : List ℕ) → S .wide w ≤ length a → field-number S w c (a ++ b) ≡ field-number S w c a
   unfolding field-number
-  number-same w c a b l = rw (le-ltb (length (a ++ b)) (S .wide w) (rw length-append (omega arith)), le-ltb (length a) (S .wide w) l, B .front-is w a b l)
+  number-same w c a b l = rw (le-ltb (length (a ++ b)) (S .wide w) (rw length-append (omega arith)), le-ltb (length a) (S .wide w) l, front-is w a b l)
 
   field-same : (w : ℕ) (c : ℕ → ℕ) (b : List ℕ) (s : Scan) → S .wide w ≤ length (s .rest) → read-field S w c (longer b s) ≡ longer b (read-field S w c s)
   unfolding read-field refused scan longer
   field-same w c b s l =
       let n = number-same w c (s .rest) b l in
       by-cases (given (s .fault)) (λ t. rw t) (λ f.
-      by-cases (eqb (field-number S w c (s .rest)) 0) (λ t. rw (f, n, t, B .front-is w (s .rest) b l, drop-append-le (S .wide w) (s .rest) b)) (λ g. rw (f, n, g)))
+      by-cases (eqb (field-number S w c (s .rest)) 0) (λ t. rw (f, n, t, front-is w (s .rest) b l, drop-append-le (S .wide w) (s .rest) b)) (λ g. rw (f, n, g)))
 
   within-field : (w : ℕ) (c : Check) → Within (S .wide w) (λ s. read-field S w (λ v. c (s .got) v) s)
   unfolding longer scan
@@ -123,14 +96,14 @@ module _ (S : Source) (B : Bounded S) where
       let v = S .front w (s .rest) in
       omega (arith, ap last-got (d .result) ∙ last-is (drop (S .wide w) (s .rest)) (s .got) (s .place + S .wide w) v (s .fault), count-limits l m v (d .passes) .1)
 
-  pub within : (g : Grammar) → Within (B .most g) (λ s. read-by S g s)
+  pub within : (g : Grammar) → Within (T .most g) (λ s. read-by S g s)
   unfolding read-by times-last
-  within (field w c) = rw (B .field-most w c) (within-field w c)
-  within (seq g h) = rw (B .seq-most g h) (within-then (B .most g) (B .most h) (λ s. read-by S g s) (λ s. read-by S h s) (within g) (within h))
+  within (field w c) = rw (T .field-is w c) (within-field w c)
+  within (seq g h) = rw (T .seq-is g h) (within-then (T .most g) (T .most h) (λ s. read-by S g s) (λ s. read-by S h s) (within g) (within h))
   within (counted l m w g) =
-      rw (B .counted-most l m w g)
-      (within-counted (S .wide w) m (B .most g) (λ s. read-field S w (λ v. count-check l m v) s) (λ s. read-by S g s) (within-field w (λ _ v. count-check l m v)) (within g) (last-most l m w))
-  within nothing = rw (B .nothing-most) within-none
+      rw (T .counted-is l m w g)
+      (within-counted (S .wide w) m (T .most g) (λ s. read-field S w (λ v. count-check l m v) s) (λ s. read-by S g s) (within-field w (λ _ v. count-check l m v)) (within g) (last-most l m w))
+  within nothing = rw (T .nothing-is) within-none
 
   -- ---- a whole plan
   ended-fault : (b : List ℕ) (s : Scan) → 0 < length (s .rest) → ended (longer b s) .fault ≡ ended s .fault
@@ -138,7 +111,7 @@ module _ (S : Source) (B : Bounded S) where
   ended-fault b s l =
       by-cases (given (s .fault)) (λ t. rw t) (λ f. rw (f, ne-eqb (length (s .rest ++ b)) 0 (λ e. omega (arith, length-append (s .rest) b)), ne-eqb (length (s .rest)) 0 (λ e. omega arith)))
 
-  pub prefix-decides : (F : Form) (n : ℕ) (xs : List ℕ) → S .leads * length (F .lead) + B .most (plan-grammar F) < n → scanned-by S F xs .fault ≡ scanned-by S F (take n xs) .fault
+  pub prefix-decides : (F : Form) (n : ℕ) (xs : List ℕ) → S .leads * length (F .lead) + T .most (plan-grammar F) < n → scanned-by S F xs .fault ≡ scanned-by S F (take n xs) .fault
   unfolding scanned-by longer scan
   prefix-decides F n xs h =
       by-cases (leb (length xs) n) (λ t. ap (λ z. scanned-by S F z .fault) (sym (take-all n xs (leb-true (length xs) n t)))) (λ f.
@@ -155,9 +128,9 @@ module _ (S : Source) (B : Bounded S) where
 
 -- ---- the first form: one byte, or one number, past the greatest size
 pub first-bytes-decide : (bs : List ℕ) → scanned bs .fault ≡ scanned (take 63687 bs) .fault
-unfolding scanned bytes-bounded bytes first-form
-first-bytes-decide bs = prefix-decides bytes bytes-bounded first-form 63687 bs (omega (arith, longest-plan))
+unfolding scanned bytes bytes-most first-form
+first-bytes-decide bs = prefix-decides bytes (λ w a b l. ap value (take-append-le w a b l)) bytes-most first-form 63687 bs (omega (arith, longest-plan))
 
 pub first-numbers-decide : (xs : List ℕ) → listed xs .fault ≡ listed (take 22869 xs) .fault
-unfolding listed numbers-bounded numbers first-form
-first-numbers-decide xs = prefix-decides numbers numbers-bounded first-form 22869 xs (omega (arith, most-plan-numbers))
+unfolding listed numbers numbers-most first-form
+first-numbers-decide xs = prefix-decides numbers (λ w a b l. List·getD-append a b 0 0 l) numbers-most first-form 22869 xs (omega (arith, most-plan-numbers))
