@@ -1,10 +1,10 @@
 -- What parses is read, wherever it stands and whatever follows: so every plan within the limits is accepted. Assumes nothing.
-use mathlib.Core.Path.{_≡_, refl, sym, ap, ap₂, _∙_}
+use mathlib.Core.Path.{_≡_, ap, ap₂, _∙_}
 use mathlib.Core.Bool.{cond}
 use mathlib.Core.List.{List, [], _∷_, _++_, append-assoc, append-nil}
 use Prim.Native.Nat.{ℕ, zero, suc, _+_}
 use native.Mathlib.Omega.{arith}
-use lib.ListN.{length, drop, length-append}
+use lib.ListN.{length, length-append}
 use lib.Seq.{drop-at}
 use Rattle.plan_format.specs.Refusal.{Refusal, given}
 use Rattle.plan_format.specs.Grammar.{Grammar, field, seq, counted, nothing, Source, Scan, scan, read-field, last-got, times, count-check, read-by}

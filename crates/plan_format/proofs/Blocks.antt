@@ -1,19 +1,18 @@
 -- The numbers of an operation: its queue, then its waits, signals and marks, each after their count. Assumes nothing.
-use mathlib.Core.Path.{_≡_, refl, sym, ap, _∙_, subst}
+use mathlib.Core.Path.{_≡_, ap, subst}
 use mathlib.Core.Bool.{Bool, true, false, cond}
 use mathlib.Core.List.{List, [], _∷_, _++_, append-assoc, append-nil}
-use Prim.Native.Nat.{ℕ, zero, suc, _+_, _*_, _≤_, _<_}
+use Prim.Native.Nat.{ℕ, suc, _≤_, _<_}
 use native.Mathlib.Omega.{arith}
 use lib.Dec.{ltb}
-use lib.ListN.{length, getD, drop, length-append}
-use lib.Seq.{getD-at, drop-at}
+use lib.ListN.{length}
 use borrow.Author.Tests.{ltb-true}
 use Rattle.basics.proofs.Tests.{by-cases}
 use Rattle.plan_format.specs.Grammar.{field, nothing}
 use Rattle.plan_format.specs.Form.{Form, queue-count, semaphore-count, buffer-count, any-number, below, a-queue, a-semaphore, a-buffer, a-kind, point, mark, part, operation}
 use Rattle.plan_format.specs.Plan.{heading}
-use Rattle.plan_format.proofs.Parses.{Takes, Spelt, Then, Many, Field, Counted, Parses}
-use Rattle.plan_format.proofs.Entries.{Pairs, Listing, listing, many-pairs}
+use Rattle.plan_format.proofs.Parses.{Spelt, Many, Parses}
+use Rattle.plan_format.proofs.Entries.{Pairs, listing, many-pairs}
 
 -- points of semaphores below s; marks of buffers below b, each a use or a free
 abbrev pub Points : (s k : ℕ) → List ℕ → Type 0

@@ -1,6 +1,6 @@
 -- A largest plan: every list as long as its limit allows; so the greatest sizes are reached. Assumes nothing.
-use mathlib.Core.Path.{_≡_, refl, sym, ap, ap₂, _∙_, subst}
-use mathlib.Core.Bool.{Bool, true, false, _&&_}
+use mathlib.Core.Path.{_≡_, refl, ap, ap₂, _∙_, subst}
+use mathlib.Core.Bool.{Bool, true}
 use mathlib.Core.List.{List, [], _∷_, _++_, append-assoc, append-nil}
 use Prim.Native.Nat.{ℕ, zero, suc, _+_, _*_, _^_, _≤_, _<_}
 use native.Mathlib.Nat.{suc-mul, not-suc-le-zero}
@@ -18,7 +18,7 @@ use Rattle.plan_format.proofs.Bytes.{length-digits}
 use Rattle.plan_format.proofs.Parses.{Takes, Exact, Nothing, Then, Many, Holds, Field, Counted, Parses}
 use Rattle.plan_format.proofs.Fields.{count-passes}
 use Rattle.plan_format.proofs.Entries.{Row}
-use Rattle.plan_format.proofs.Blocks.{Counts, Kept, kept-now, kept-more}
+use Rattle.plan_format.proofs.Blocks.{Kept, kept-now, kept-more}
 use Rattle.plan_format.proofs.Sections.{sections-kept}
 use Rattle.plan_format.proofs.RoundTrip.{spelled-parsed, numbers-whole}
 

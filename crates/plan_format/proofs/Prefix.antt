@@ -1,20 +1,20 @@
 -- A grammar reads no further than its greatest size, so a plan's first bytes decide. Assumes nothing.
 use mathlib.Core.Path.{_≡_, refl, sym, ap, _∙_, subst}
-use mathlib.Core.Bool.{Bool, true, false, _||_, cond}
-use mathlib.Core.List.{List, [], _∷_, _++_}
+use mathlib.Core.Bool.{cond}
+use mathlib.Core.List.{List, [], _++_}
 use Prim.Native.Nat.{ℕ, zero, suc, _+_, _*_, _-_, _≤_, _<_}
-use native.Mathlib.Nat.{suc-mul, mul-le-mul-right, le-trans}
+use native.Mathlib.Nat.{suc-mul, mul-le-mul-right}
 use native.Mathlib.Omega.{arith}
-use lib.Dec.{ltb, leb, eqb}
-use lib.ListN.{length, getD, take, drop, length-append, length-drop, take-append-drop, List·getD-append}
+use lib.Dec.{leb, eqb}
+use lib.ListN.{length, take, drop, length-append, length-drop, take-append-drop, List·getD-append}
 use lib.Seq.{take-append-le, drop-append-le, length-take-le, take-all}
-use borrow.Author.Tests.{le-ltb, eqb-true, leb-true, leb-false, ne-eqb}
+use borrow.Author.Tests.{le-ltb, leb-true, leb-false, ne-eqb}
 use Rattle.basics.proofs.Tests.{by-cases}
-use Rattle.plan_format.specs.Refusal.{refusal, none-given, given}
-use Rattle.plan_format.specs.Grammar.{Check, Grammar, field, seq, counted, nothing, Source, bytes, numbers, Scan, scan, refused, field-number, read-field, last-got, times, count-check, read-by, ended, most-bytes, most-numbers, value}
+use Rattle.plan_format.specs.Refusal.{none-given, given}
+use Rattle.plan_format.specs.Grammar.{Check, Grammar, field, seq, counted, nothing, Source, bytes, numbers, Scan, scan, refused, field-number, read-field, last-got, times, count-check, read-by, ended, value}
 use Rattle.plan_format.specs.Form.{Form, first-form, plan-grammar, scanned-by}
 use Rattle.plan_format.specs.Stored.{scanned, listed}
-use Rattle.plan_format.proofs.Judged.{zero-not-given, not-given-zero}
+use Rattle.plan_format.proofs.Judged.{not-given-zero}
 use Rattle.plan_format.proofs.Fields.{field-done, count-limits}
 use Rattle.plan_format.proofs.Reading.{last-is}
 use Rattle.plan_format.proofs.Sizes.{Most, bytes-most, numbers-most, longest-plan, most-plan-numbers}
@@ -36,9 +36,6 @@ within-then n m f g F G = record {
   left = λ s. omega (arith, F .left s, G .left (f s));
   same = λ b s l. ap g (F .same b s (omega arith)) ∙ G .same b (f s) (omega (arith, F .left s));
 }
-
-within-more : (n m : ℕ) (f : Scan → Scan) → n ≤ m → Within n f → Within m f
-within-more n m f h F = record { left = λ s. omega (arith, F .left s); same = λ b s l. F .same b s (omega arith) }
 
 within-times : (n : ℕ) (f : Scan → Scan) → Within n f → (k : ℕ) → Within (k * n) (λ s. times k f s)
 unfolding times

@@ -1,19 +1,17 @@
 -- The numbers of a whole plan: four sections, each after its count, and the plan that they tell. Assumes nothing.
-use mathlib.Core.Path.{_≡_, refl, sym, ap, ap₂, _∙_, subst}
-use mathlib.Core.Bool.{Bool, true, false}
-use mathlib.Core.List.{List, [], _∷_, _++_, append-assoc, append-nil}
-use Prim.Native.Nat.{ℕ, zero, suc, _+_, _≤_, _<_}
+use mathlib.Core.Path.{_≡_, refl, sym, ap, _∙_, subst}
+use mathlib.Core.List.{List, [], _∷_, _++_, append-assoc}
+use Prim.Native.Nat.{ℕ, zero, suc, _+_, _≤_}
 use native.Mathlib.Omega.{arith}
 use lib.ListN.{length, getD, take, drop, length-append}
 use lib.Seq.{take-at}
 use Rattle.plan_format.specs.Form.{Form, queue-count, semaphore-count, buffer-count, any-number, new-axis, a-queue, operation, plan-grammar}
-use Rattle.plan_format.specs.Grammar.{field}
-use Rattle.plan_format.specs.Plan.{Plan, operations-in, plan-of}
+use Rattle.plan_format.specs.Plan.{operations-in, plan-of}
 use Rattle.plan_format.proofs.Parses.{Spelt, Many, Field, Parses}
 use Rattle.plan_format.proofs.Entries.{Row, listing, many-fields}
 use Rattle.plan_format.proofs.Seams.{at-seam, after-seam}
 use Rattle.plan_format.proofs.Blocks.{Counts, Kept, kept-more, operation-block}
-use Rattle.plan_format.proofs.Operations.{Block-then, Blocks}
+use Rattle.plan_format.proofs.Operations.{Blocks}
 
 pub record Sections (F : Form) (xs : List ℕ) : Type 0 where
   pub queues : ℕ

@@ -1,14 +1,13 @@
 -- What the numbers of a read plan obey: the limits, distinct axes, every position in its list; so a plan that is not refused is sound. Assumes nothing.
-use mathlib.Core.Path.{_≡_, refl, sym, ap, _∙_, subst}
-use mathlib.Core.Bool.{Bool, true, false}
+use mathlib.Core.Path.{_≡_, sym, _∙_, subst}
+use mathlib.Core.Bool.{true}
 use mathlib.Core.List.{List, [], _∷_, _++_}
-use Prim.Native.Nat.{ℕ, zero, suc, _+_, _≤_, _<_}
+use Prim.Native.Nat.{ℕ, zero, suc, _≤_, _<_}
 use native.Mathlib.Nat.{not-suc-le-zero, le-of-suc-le-suc}
 use native.Mathlib.Omega.{arith}
 use lib.ListN.{length, getD, take}
 use lib.Seq.{getD-take, length-take-le}
 use Rattle.basics.specs.Lists.{member}
-use Rattle.basics.proofs.Tests.{is-false}
 use Rattle.basics.proofs.Members.{member-here, member-there}
 use Rattle.plan_format.specs.Form.{Form, queue-count, new-axis, a-queue, plan-grammar}
 use Rattle.plan_format.specs.Plan.{Point, Mark, Operation, Plan, no-operation, count, op, queues, points-in, marks-in, operations-in, plan-of}

@@ -1,10 +1,10 @@
 -- How long a plan can be: at most so many bytes and so many numbers. Assumes nothing.
-use mathlib.Core.Path.{_≡_, refl, sym, ap, _∙_}
+use mathlib.Core.Path.{_≡_, refl, ap, _∙_}
 use mathlib.Core.List.{List, [], _∷_, _++_}
 use Prim.Native.Nat.{ℕ, zero, suc, _+_, _*_, _≤_}
 use native.Mathlib.Nat.{suc-mul, mul-le-mul-right}
 use native.Mathlib.Omega.{arith}
-use lib.ListN.{length, drop, length-append, length-drop}
+use lib.ListN.{length, length-append, length-drop}
 use Rattle.plan_format.specs.Grammar.{Check, Grammar, field, seq, counted, nothing, bytes, numbers, count-check, most-bytes, most-numbers}
 use Rattle.plan_format.specs.Form.{Form, first-form, point, mark, part, operation, plan-grammar, scanned-by, spelled-by}
 use Rattle.plan_format.specs.Stored.{scanned, listed, spelled}

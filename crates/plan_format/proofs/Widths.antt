@@ -1,14 +1,14 @@
 -- Every number of a plan fits the widest field: so it fits 64 bits. Assumes nothing.
-use mathlib.Core.Path.{_≡_, refl, ap, _∙_, subst}
+use mathlib.Core.Path.{_≡_, refl}
 use mathlib.Core.Bool.{true}
 use mathlib.Core.List.{List, [], _∷_, _++_}
 use Prim.Native.Nat.{ℕ, zero, suc, _^_, _≤_, _<_, zero-le}
 use native.Mathlib.Nat.{pow-le-pow-right}
 use native.Mathlib.Omega.{arith}
-use lib.Dec.{lit<, lit≤}
+use lib.Dec.{lit<}
 use lib.ListN.{getD}
 use Rattle.plan_format.specs.Grammar.{Check, Grammar, field, seq, counted, nothing, count-check}
-use Rattle.plan_format.specs.Form.{Form, first-form, point, mark, part, operation, plan-grammar}
+use Rattle.plan_format.specs.Form.{first-form, point, mark, part, operation, plan-grammar}
 use Rattle.plan_format.specs.Stored.{all-bytes, scanned, listed}
 use Rattle.plan_format.proofs.Parses.{Takes, Exact, Many, Holds, Parses}
 use Rattle.plan_format.proofs.RoundTrip.{bytes-read, numbers-read}
