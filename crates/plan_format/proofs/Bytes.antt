@@ -16,7 +16,7 @@ use Rattle.plan_format.specs.Stored.{all-bytes}
 pub length-digits : (w v : ℕ) → length (digits w v) ≡ w
 unfolding digits
 length-digits zero v = refl
-length-digits (suc w) v = ap suc (length-digits w (v / 256))
+length-digits (suc w) v = ap suc (length-digits w _)
 
 pub value-digits : (w v : ℕ) (more : List ℕ) → v < 256 ^ w → value (take w (digits w v ++ more)) ≡ v
 unfolding value digits

@@ -111,5 +111,5 @@ module _ (xs : List ℕ) (e : listed xs .fault .number ≡ 0) where
   scanned-spelled = forth .result
 
 pub one-string : One-string
-unfolding One-string
-one-string bs cs b c e f g = sym (spelled-scanned bs b e) ∙ ap spelled g ∙ spelled-scanned cs c f
+unfolding One-string scanned first-form
+one-string bs cs b c e f g = one-string-by first-form bs cs b c refl refl e f g
