@@ -1,15 +1,15 @@
 -- How long a plan can be: at most so many bytes and so many numbers. Assumes nothing.
 use mathlib.Core.Path.{_≡_, refl, ap, _∙_}
 use mathlib.Core.List.{List, [], _∷_, _++_}
-use Prim.Native.Nat.{ℕ, zero, suc, _+_, _*_, _≤_}
-use native.Mathlib.Nat.{suc-mul, mul-le-mul-right}
+use Prim.Native.Nat.{ℕ, zero, suc, _+_, _*_, _≤_, zero-le}
+use native.Mathlib.Nat.{le-refl, suc-mul, mul-le-mul-right}
 use native.Mathlib.Omega.{arith}
 use lib.ListN.{length, length-append, length-drop}
 use Rattle.plan_format.specs.Grammar.{Check, Grammar, field, seq, counted, nothing, bytes, numbers, count-check, most-bytes, most-numbers}
 use Rattle.plan_format.specs.Form.{Form, first-form, point, mark, part, operation, plan-grammar, scanned-by, spelled-by}
 use Rattle.plan_format.specs.Stored.{scanned, listed, spelled}
 use Rattle.plan_format.proofs.Bytes.{length-digits}
-use Rattle.plan_format.proofs.Parses.{Takes, Spelt, Exact, Loose, Many, Holds, Parses}
+use Rattle.plan_format.proofs.Parses.{Takes, _⊆_, Spelt, Exact, Loose, Nothing, Then, Holds, Parses, then-first, parsed-give}
 use Rattle.plan_format.proofs.Fields.{count-limits}
 use Rattle.plan_format.proofs.Sources.{loose-bytes}
 use Rattle.plan_format.proofs.Whole.{whole-of}
@@ -39,31 +39,33 @@ record Measure (D : Spelt) (wide : ℕ → ℕ) : Type 0 where
   size-field : (w v : ℕ) (ds : List ℕ) → D w v ds → size (v ∷ []) ds ≡ wide w
 
 module _ (D : Spelt) (wide : ℕ → ℕ) (T : Most wide) (M : Measure D wide) where
-  holds-size : (w : ℕ) (c : Check) (v : ℕ) (got vs ds : List ℕ) → Holds D w c v got vs ds → M .size vs ds ≡ wide w
-  holds-size w c v got vs ds h = ap (λ z. M .size z ds) (h .numbers-are) ∙ M .size-field w v ds (h .spelt)
+  abbrev At-most : (n : ℕ) → Takes
+  At-most n got vs ds = M .size vs ds ≤ n
 
-  many-size : (P : Takes) (n : ℕ) → ((got vs ds : List ℕ) → P got vs ds → M .size vs ds ≤ n) → (k : ℕ) (got vs ds : List ℕ) → Many P k got vs ds → M .size vs ds ≤ k * n
-  many-size P n h zero got vs ds p = rw (p .numbers-are, p .bytes-are, M .size-none) (omega arith)
-  many-size P n h (suc k) got vs ds p =
-      rw (p .numbers-are, p .bytes-are, M .size-append (p .vs₁) (p .vs₂) (p .ds₁) (p .ds₂), suc-mul k n)
-      (omega (arith, h got (p .vs₁) (p .ds₁) (p .first), many-size P n h k (got ++ p .vs₁) (p .vs₂) (p .ds₂) (p .second)))
+  most-none : (n : ℕ) → Nothing ⊆ At-most n
+  most-none n got vs ds p = rw (p .numbers-are, p .bytes-are, M .size-none) zero-le
 
-  parsed-size : (g : Grammar) (got vs ds : List ℕ) → Parses D g got vs ds → M .size vs ds ≤ T .most g
-  parsed-size (field w c) got vs ds p = omega (arith, holds-size w c (p .number) got vs ds (p .holds), T .field-is w c)
-  parsed-size (seq g h) got vs ds p =
-      rw (p .numbers-are, p .bytes-are, M .size-append (p .vs₁) (p .vs₂) (p .ds₁) (p .ds₂), T .seq-is g h)
-      (omega (arith, parsed-size g got (p .vs₁) (p .ds₁) (p .first), parsed-size h (got ++ p .vs₁) (p .vs₂) (p .ds₂) (p .second)))
-  parsed-size (counted l m w g) got vs ds p =
-      let k = p .count in
-      let b = p .parts in
-      rw (b .numbers-are, b .bytes-are, M .size-append (b .vs₁) (b .vs₂) (b .ds₁) (b .ds₂), T .counted-is l m w g)
-      (omega (
-        arith,
-        holds-size w (λ _ v. count-check l m v) k got (b .vs₁) (b .ds₁) (b .first),
-        many-size (Parses D g) (T .most g) (parsed-size g) k (got ++ b .vs₁) (b .vs₂) (b .ds₂) (b .second),
-        mul-le-mul-right (T .most g) (count-limits l m k (b .first .passes) .1),
-      ))
-  parsed-size nothing got vs ds p = rw (p .numbers-are, p .bytes-are, M .size-none) (omega arith)
+  most-then : (a b n : ℕ) → a + b ≤ n → Then (At-most a) (At-most b) ⊆ At-most n
+  most-then a b n l got vs ds p = rw (p .numbers-are, p .bytes-are, M .size-append (p .vs₁) (p .vs₂) (p .ds₁) (p .ds₂)) (omega (arith, p .first, p .second))
+
+  most-field : (w : ℕ) (c : Check) (v : ℕ) → Holds D w c v ⊆ At-most (wide w)
+  most-field w c v got vs ds h = rw (h .numbers-are, M .size-field w v ds (h .spelt)) (le-refl (wide w))
+
+  most-counted : (l m w : ℕ) (g : Grammar) (k : ℕ) → Then (Holds D w (λ _ v. count-check l m v) k) (At-most (k * T .most g)) ⊆ At-most (T .most (counted l m w g))
+  most-counted l m w g k got vs ds p =
+      let c : Check = λ _ v. count-check l m v in
+      most-then (wide w) (k * T .most g) (T .most (counted l m w g)) (omega (arith, T .counted-is l m w g, mul-le-mul-right (T .most g) (count-limits l m k (p .first .passes) .1)))
+      got vs ds (then-first (Holds D w c k) (At-most (wide w)) (At-most (k * T .most g)) (most-field w c k) got vs ds p)
+
+  parsed-size : (g : Grammar) → Parses D g ⊆ At-most (T .most g)
+  parsed-size = parsed-give D (λ g. At-most (T .most g)) (λ g k. At-most (k * T .most g)) (record {
+    of-field = λ w c v. rw (T .field-is w c) (most-field w c v);
+    of-seq = λ g h. most-then (T .most g) (T .most h) (T .most (seq g h)) (omega (arith, T .seq-is g h));
+    of-counted = most-counted;
+    of-nothing = most-none (T .most nothing);
+    of-none = λ g. most-none (0 * T .most g);
+    of-more = λ g k. most-then (T .most g) (k * T .most g) (suc k * T .most g) (omega (arith, suc-mul k (T .most g)));
+  })
 
 -- ---- bytes and numbers
 number-measure : (D : Spelt) → Measure D (λ w. 1)

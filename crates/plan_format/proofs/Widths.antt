@@ -10,7 +10,7 @@ use lib.ListN.{getD}
 use Rattle.plan_format.specs.Grammar.{Check, Grammar, field, seq, counted, nothing, count-check}
 use Rattle.plan_format.specs.Form.{first-form, point, mark, part, operation, plan-grammar}
 use Rattle.plan_format.specs.Stored.{all-bytes, scanned, listed}
-use Rattle.plan_format.proofs.Parses.{Takes, Exact, Many, Holds, Parses}
+use Rattle.plan_format.proofs.Parses.{Takes, _⊆_, Exact, Nothing, Then, Holds, Parses, then-first, parsed-give}
 use Rattle.plan_format.proofs.RoundTrip.{bytes-read, numbers-read}
 
 -- no field is wider than n
@@ -20,37 +20,51 @@ Narrow n (seq g h) = Narrow n g × Narrow n h
 Narrow n (counted l m w g) = (w ≤ n) × Narrow n g
 Narrow n nothing = Unit {0}
 
-abbrev pub Small : (n : ℕ) → List ℕ → Type 0
-Small n vs = (i : ℕ) → getD vs i 0 < 256 ^ n
+-- every number is below 256 ^ n
+abbrev pub Small : (n : ℕ) → Takes
+Small n got vs ds = (i : ℕ) → getD vs i 0 < 256 ^ n
 
 module _ (n : ℕ) where
-  small-none : Small n []
-  small-none i = omega (arith, pow-le-pow-right {n = 256} (lit< tt) {i = 0} {j = n} zero-le)
+  small-none : Nothing ⊆ Small n
+  small-none got vs ds p = rw (p .numbers-are) (λ i. omega (arith, pow-le-pow-right {n = 256} (lit< tt) {i = 0} {j = n} zero-le))
 
-  small-cons : (v : ℕ) (vs : List ℕ) → v < 256 ^ n → Small n vs → Small n (v ∷ vs)
-  small-cons v vs l h zero = l
-  small-cons v vs l h (suc i) = h i
+  small-append : (vs vs′ : List ℕ) → ((i : ℕ) → getD vs i 0 < 256 ^ n) → ((i : ℕ) → getD vs′ i 0 < 256 ^ n) → (i : ℕ) → getD (vs ++ vs′) i 0 < 256 ^ n
+  small-append [] vs′ a b i = b i
+  small-append (v ∷ vs) vs′ a b zero = a 0
+  small-append (v ∷ vs) vs′ a b (suc i) = small-append vs vs′ (λ k. a (suc k)) b i
 
-  small-append : (vs vs′ : List ℕ) → Small n vs → Small n vs′ → Small n (vs ++ vs′)
-  small-append [] vs′ a b = b
-  small-append (v ∷ vs) vs′ a b = small-cons v (vs ++ vs′) (a 0) (small-append vs vs′ (λ i. a (suc i)) b)
+  small-field : (w : ℕ) (c : Check) (v : ℕ) → w ≤ n → Holds Exact w c v ⊆ Small n
+  small-field w c v l got vs ds h = rw (h .numbers-are) (λ i. small i)
+    where
+      small : (i : ℕ) → getD (v ∷ []) i 0 < 256 ^ n
+      small zero = omega (arith, h .spelt .fits, pow-le-pow-right {n = 256} (lit< tt) l)
+      small (suc i) = omega (arith, pow-le-pow-right {n = 256} (lit< tt) {i = 0} {j = n} zero-le)
 
-  holds-small : (w : ℕ) (c : Check) (v : ℕ) (got vs ds : List ℕ) → w ≤ n → Holds Exact w c v got vs ds → Small n vs
-  holds-small w c v got vs ds l h = rw (h .numbers-are) (small-cons v [] (omega (arith, h .spelt .fits, pow-le-pow-right {n = 256} (lit< tt) l)) small-none)
+  -- what a grammar with no wider field takes is small
+  abbrev If : Type 0 → Takes
+  If A got vs ds = A → Small n got vs ds
 
-  many-small : (P : Takes) → ((got vs ds : List ℕ) → P got vs ds → Small n vs) → (k : ℕ) (got vs ds : List ℕ) → Many P k got vs ds → Small n vs
-  many-small P h zero got vs ds p = rw (p .numbers-are) small-none
-  many-small P h (suc k) got vs ds p = rw (p .numbers-are) (small-append (p .vs₁) (p .vs₂) (h got (p .vs₁) (p .ds₁) (p .first)) (many-small P h k (got ++ p .vs₁) (p .vs₂) (p .ds₂) (p .second)))
+  small-then : (A B C : Type 0) → (C → A) → (C → B) → Then (If A) (If B) ⊆ If C
+  small-then A B C a b got vs ds p c = rw (p .numbers-are) (small-append (p .vs₁) (p .vs₂) (p .first (a c)) (p .second (b c)))
 
-  pub parsed-small : (g : Grammar) → Narrow n g → (got vs ds : List ℕ) → Parses Exact g got vs ds → Small n vs
-  parsed-small (field w c) l got vs ds p = holds-small w c (p .number) got vs ds l (p .holds)
-  parsed-small (seq g h) l got vs ds p =
-      rw (p .numbers-are) (small-append (p .vs₁) (p .vs₂) (parsed-small g (l .0) got (p .vs₁) (p .ds₁) (p .first)) (parsed-small h (l .1) (got ++ p .vs₁) (p .vs₂) (p .ds₂) (p .second)))
-  parsed-small (counted k m w g) l got vs ds p =
-      let b = p .parts in
-      rw (b .numbers-are) (small-append (b .vs₁) (b .vs₂) (holds-small w (λ _ v. count-check k m v) (p .count) got (b .vs₁) (b .ds₁) (l .0) (b .first))
-      (many-small (Parses Exact g) (parsed-small g (l .1)) (p .count) (got ++ b .vs₁) (b .vs₂) (b .ds₂) (b .second)))
-  parsed-small nothing l got vs ds p = rw (p .numbers-are) small-none
+  small-counted : (l m w : ℕ) (g : Grammar) (k : ℕ) → Then (Holds Exact w (λ _ v. count-check l m v) k) (If (Narrow n g)) ⊆ If (Narrow n (counted l m w g))
+  small-counted l m w g k got vs ds p =
+      let c : Check = λ _ v. count-check l m v in
+      small-then (w ≤ n) (Narrow n g) (Narrow n (counted l m w g)) (λ z. z .0) (λ z. z .1) got vs ds
+      (then-first (Holds Exact w c k) (If (w ≤ n)) (If (Narrow n g)) (λ got vs ds h z. small-field w c k z got vs ds h) got vs ds p)
+
+  small : (g : Grammar) → Parses Exact g ⊆ If (Narrow n g)
+  small = parsed-give Exact (λ g. If (Narrow n g)) (λ g k. If (Narrow n g)) (record {
+    of-field = λ w c v got vs ds h z. small-field w c v z got vs ds h;
+    of-seq = λ g h. small-then (Narrow n g) (Narrow n h) (Narrow n (seq g h)) (λ z. z .0) (λ z. z .1);
+    of-counted = small-counted;
+    of-nothing = λ got vs ds p z. small-none got vs ds p;
+    of-none = λ g got vs ds p z. small-none got vs ds p;
+    of-more = λ g k. small-then (Narrow n g) (Narrow n g) (Narrow n g) (λ z. z) (λ z. z);
+  })
+
+  pub parsed-small : (g : Grammar) → Narrow n g → Parses Exact g ⊆ Small n
+  parsed-small g z got vs ds p = small g got vs ds p z
 
 first-narrow : Narrow 8 (plan-grammar first-form)
 unfolding plan-grammar operation point mark part first-form
