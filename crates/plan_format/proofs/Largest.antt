@@ -35,14 +35,16 @@ a-field w c got v l e = record {
   long = length-digits w v;
 }
 
-after : (P Q : Takes) (n m : ℕ) (got vs vs′ : List ℕ) → Spells-in P n got vs → Spells-in Q m (got ++ vs) vs′ → Spells-in (Then P Q) (n + m) got (vs ++ vs′)
+after : (P Q : Takes) (n m : ℕ) (got vs vs′ : List ℕ) → Spells-in P n got vs → Spells-in Q m (got ++ vs) vs′ →
+    Spells-in (Then P Q) (n + m) got (vs ++ vs′)
 after P Q n m got vs vs′ a b = record {
   ds = a .ds ++ b .ds;
   parsed = record { vs₁ = vs; vs₂ = vs′; ds₁ = a .ds; ds₂ = b .ds; first = a .parsed; second = b .parsed; numbers-are = refl; bytes-are = refl };
   long = length-append (a .ds) (b .ds) ∙ ap₂ _+_ (a .long) (b .long);
 }
 
-a-list : (l m w : ℕ) (P : Takes) (n k : ℕ) (got vs : List ℕ) → l ≤ k → k ≤ m → k < 256 ^ w → Spells-in (Many P k) n (got ++ (k ∷ [])) vs → Spells-in (Counted Exact l m w P) (w + n) got (k ∷ vs)
+a-list : (l m w : ℕ) (P : Takes) (n k : ℕ) (got vs : List ℕ) → l ≤ k → k ≤ m → k < 256 ^ w → Spells-in (Many P k) n (got ++ (k ∷ [])) vs →
+    Spells-in (Counted Exact l m w P) (w + n) got (k ∷ vs)
 a-list l m w P n k got vs a b f e =
     let H : Takes = Holds Exact w (λ _ v. count-check l m v) k in
     let h : Spells-in H w got (k ∷ []) = record {
@@ -66,7 +68,8 @@ unfolding repeated
 repeated-long zero xs = omega arith
 repeated-long (suc k) xs = length-append xs (repeated k xs) ∙ omega (arith, repeated-long k xs, suc-mul k (length xs))
 
-module _ (G : List ℕ → Type 0) (stays : (got vs : List ℕ) → G got → G (got ++ vs)) (P : Takes) (n : ℕ) (vs : List ℕ) (entry : (got : List ℕ) → G got → Spells-in P n got vs) where
+module _ (G : List ℕ → Type 0) (stays : (got vs : List ℕ) → G got → G (got ++ vs)) (P : Takes) (n : ℕ) (vs : List ℕ)
+    (entry : (got : List ℕ) → G got → Spells-in P n got vs) where
   entries : (k : ℕ) (got : List ℕ) → G got → Spells-in (Many P k) (k * n) got (repeated k vs)
   unfolding repeated
   entries zero got g = subst (λ z. Spells-in (Many P 0) z got []) (let e : 0 ≡ 0 * n = omega arith in e) (no-more P got)
@@ -75,7 +78,8 @@ module _ (G : List ℕ → Type 0) (stays : (got vs : List ℕ) → G got → G 
       (after P (Many P k) n (k * n) got vs (repeated k vs) (entry got g) (entries k (got ++ vs) (stays got vs g)))
 
 -- fields in a row, each of which passes
-row-entries : (w : ℕ) (c : Check) (k : ℕ) (got vs : List ℕ) → Row c got k vs → ((i : ℕ) → i < k → getD vs i 0 < 256 ^ w) → Spells-in (Many (Field Exact w c) k) (k * w) got vs
+row-entries : (w : ℕ) (c : Check) (k : ℕ) (got vs : List ℕ) → Row c got k vs → ((i : ℕ) → i < k → getD vs i 0 < 256 ^ w) →
+    Spells-in (Many (Field Exact w c) k) (k * w) got vs
 row-entries w c zero got [] r f = subst (λ z. Spells-in Nothing z got []) (let e : 0 ≡ 0 * w = omega arith in e) (no-more (Field Exact w c) got)
 row-entries w c zero got (v ∷ vs) r f = absurd (omega (arith, r .long))
 row-entries w c (suc k) got [] r f = absurd (omega (arith, r .long))
@@ -87,7 +91,8 @@ row-entries w c (suc k) got (v ∷ vs) r f =
     let e : w + k * w ≡ suc k * w = omega (arith, suc-mul k w) in
     let here : c got v ≡ 0 = rw append-nil at (r .pass 0 (omega arith)) in
     subst (λ z. Spells-in (Many (Field Exact w c) (suc k)) z got (v ∷ vs)) e
-    (after (Field Exact w c) (Many (Field Exact w c) k) w (k * w) got (v ∷ []) vs (a-field w c got v (f 0 (omega arith)) here) (row-entries w c k (got ++ (v ∷ [])) vs rest (λ i l. f (suc i) (omega arith))))
+    (after (Field Exact w c) (Many (Field Exact w c) k) w (k * w) got (v ∷ []) vs (a-field w c got v (f 0 (omega arith)) here)
+    (row-entries w c k (got ++ (v ∷ [])) vs rest (λ i l. f (suc i) (omega arith))))
 
 -- ---- the largest plan
 axes : List ℕ
@@ -138,13 +143,15 @@ point-entry : (got : List ℕ) → K got → Spells-in (Parses Exact (point firs
 unfolding point first-form pair a-semaphore any-number
 point-entry got k =
     after (Field Exact 1 a-semaphore) (Field Exact 8 any-number) 1 8 got (0 ∷ []) (0 ∷ [])
-    (a-field 1 a-semaphore got 0 (lit< tt) (passes-below (semaphore-count got) 0 64 (kept-now 16 64 256 got k .semaphores) (lit< tt))) (a-field 8 any-number (got ++ (0 ∷ [])) 0 (lit< tt) refl)
+    (a-field 1 a-semaphore got 0 (lit< tt) (passes-below (semaphore-count got) 0 64 (kept-now 16 64 256 got k .semaphores) (lit< tt)))
+    (a-field 8 any-number (got ++ (0 ∷ [])) 0 (lit< tt) refl)
 
 mark-entry : (got : List ℕ) → K got → Spells-in (Parses Exact mark) 3 got pair
 unfolding mark pair a-buffer a-kind below
 mark-entry got k =
     after (Field Exact 2 a-buffer) (Field Exact 1 a-kind) 2 1 got (0 ∷ []) (0 ∷ [])
-    (a-field 2 a-buffer got 0 (lit< tt) (passes-below (buffer-count got) 0 256 (kept-now 16 64 256 got k .buffers) (lit< tt))) (a-field 1 a-kind (got ++ (0 ∷ [])) 0 (lit< tt) refl)
+    (a-field 2 a-buffer got 0 (lit< tt) (passes-below (buffer-count got) 0 256 (kept-now 16 64 256 got k .buffers) (lit< tt)))
+    (a-field 1 a-kind (got ++ (0 ∷ [])) 0 (lit< tt) refl)
 
 -- k points or marks after their count
 pairs-list : (g : Grammar) (n m : ℕ) → ((got : List ℕ) → K got → Spells-in (Parses Exact g) n got pair) → m < 256 ^ 1 → (got : List ℕ) → K got →
@@ -168,7 +175,8 @@ operation-entry got k =
     (a-field 1 a-queue got 0 (lit< tt) (passes-below (queue-count got) 0 16 (kept-now 16 64 256 got k .queues) (lit< tt)))
     (after Nothing (Then P (Then Q R)) 0 60 got₁ [] (filled 3 ++ (filled 2 ++ filled 4)) (no-more Nothing got₁)
     (after P (Then Q R) 28 32 (got₁ ++ []) (filled 3) (filled 2 ++ filled 4) (pairs-list (point first-form) 9 3 point-entry (lit< tt) (got₁ ++ []) k₁)
-    (after Q R 19 13 got₂ (filled 2) (filled 4) (pairs-list (point first-form) 9 2 point-entry (lit< tt) got₂ k₂) (pairs-list mark 3 4 mark-entry (lit< tt) (got₂ ++ filled 2) (kept-more 16 64 256 got₂ (filled 2) k₂)))))
+    (after Q R 19 13 got₂ (filled 2) (filled 4) (pairs-list (point first-form) 9 2 point-entry (lit< tt) got₂ k₂)
+    (pairs-list mark 3 4 mark-entry (lit< tt) (got₂ ++ filled 2) (kept-more 16 64 256 got₂ (filled 2) k₂)))))
 
 -- ---- the whole
 -- the queues are known from the first number on
@@ -180,21 +188,25 @@ unfolding a-queue
 owner-entry got k = a-field 1 a-queue got 0 (lit< tt) (passes-below (queue-count got) 0 16 (rw append-nil at (k [])) (lit< tt))
 
 axes-spell : Spells-in (Counted Exact 0 16 1 (Field Exact 8 new-axis)) 129 [] (16 ∷ axes)
-axes-spell = a-list 0 16 1 (Field Exact 8 new-axis) 128 16 [] axes (lit≤ tt) (lit≤ tt) (lit< tt) (row-entries 8 new-axis 16 (16 ∷ []) axes axes-row axes-small)
+axes-spell = a-list 0 16 1 (Field Exact 8 new-axis) 128 16 [] axes (lit≤ tt) (lit≤ tt) (lit< tt)
+    (row-entries 8 new-axis 16 (16 ∷ []) axes axes-row axes-small)
 
 owners-spell : Spells-in (Counted Exact 0 64 1 (Field Exact 1 a-queue)) 65 (16 ∷ axes) (64 ∷ owners)
 unfolding owners queue-count
 owners-spell =
     a-list 0 64 1 (Field Exact 1 a-queue) 64 64 (16 ∷ axes) owners (lit≤ tt) (lit≤ tt) (lit< tt)
-    (entries Sixteen (λ got vs k more. rw append-assoc (k (vs ++ more))) (Field Exact 1 a-queue) 1 (0 ∷ []) owner-entry 64 ((16 ∷ axes) ++ (64 ∷ [])) (λ more. refl))
+    (entries Sixteen (λ got vs k more. rw append-assoc (k (vs ++ more))) (Field Exact 1 a-queue) 1 (0 ∷ []) owner-entry 64 ((16 ∷ axes) ++ (64 ∷ []))
+    (λ more. refl))
 
 sizes-spell : (got : List ℕ) → Spells-in (Counted Exact 0 256 2 (Field Exact 4 any-number)) 1026 got (256 ∷ sizes)
 unfolding sizes any-number
 sizes-spell got =
     a-list 0 256 2 (Field Exact 4 any-number) 1024 256 got sizes (lit≤ tt) (lit≤ tt) (lit< tt)
-    (entries (λ _. Unit {0}) (λ _ _ _. tt) (Field Exact 4 any-number) 4 (0 ∷ []) (λ g _. a-field 4 any-number g 0 (lit< tt) refl) 256 (got ++ (256 ∷ [])) tt)
+    (entries (λ _. Unit {0}) (λ _ _ _. tt) (Field Exact 4 any-number) 4 (0 ∷ []) (λ g _. a-field 4 any-number g 0 (lit< tt) refl) 256
+    (got ++ (256 ∷ [])) tt)
 
-operations-spell : (got : List ℕ) → K (got ++ (1024 ∷ [])) → Spells-in (Counted Exact 0 1024 2 (Parses Exact (operation first-form))) 62466 got (1024 ∷ repeated 1024 largest-operation)
+operations-spell : (got : List ℕ) → K (got ++ (1024 ∷ [])) →
+    Spells-in (Counted Exact 0 1024 2 (Parses Exact (operation first-form))) 62466 got (1024 ∷ repeated 1024 largest-operation)
 operations-spell got k =
     a-list 0 1024 2 (Parses Exact (operation first-form)) 62464 1024 got (repeated 1024 largest-operation) (lit≤ tt) (lit≤ tt) (lit< tt)
     (entries K (kept-more 16 64 256) (Parses Exact (operation first-form)) 61 largest-operation operation-entry 1024 (got ++ (1024 ∷ [])) k)

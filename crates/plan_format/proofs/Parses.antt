@@ -92,13 +92,16 @@ then-first P P′ Q a = then-mono P Q P′ Q a (λ _ _ _ q. q)
 module _ (D : Spelt) (R : Grammar → Takes) (M : Grammar → (k : ℕ) → Takes) (I : Inductive D R M) where
   many-give : (g : Grammar) → Parses D g ⊆ R g → (k : ℕ) → Many (Parses D g) k ⊆ M g k
   many-give g h zero = I .of-none g
-  many-give g h (suc k) = λ got vs ds p. I .of-more g k got vs ds (then-mono (Parses D g) (Many (Parses D g) k) (R g) (M g k) h (many-give g h k) got vs ds p)
+  many-give g h (suc k) = λ got vs ds p. I .of-more g k got vs ds
+      (then-mono (Parses D g) (Many (Parses D g) k) (R g) (M g k) h (many-give g h k) got vs ds p)
 
   pub parsed-give : (g : Grammar) → Parses D g ⊆ R g
   parsed-give (field w c) = λ got vs ds p. I .of-field w c (p .number) got vs ds (p .holds)
-  parsed-give (seq g h) = λ got vs ds p. I .of-seq g h got vs ds (then-mono (Parses D g) (Parses D h) (R g) (R h) (parsed-give g) (parsed-give h) got vs ds p)
+  parsed-give (seq g h) = λ got vs ds p. I .of-seq g h got vs ds
+      (then-mono (Parses D g) (Parses D h) (R g) (R h) (parsed-give g) (parsed-give h) got vs ds p)
   parsed-give (counted l m w g) = λ got vs ds p.
       let k = p .count in
       let H : Takes = Holds D w (λ _ v. count-check l m v) k in
-      I .of-counted l m w g k got vs ds (then-mono H (Many (Parses D g) k) H (M g k) (λ _ _ _ q. q) (many-give g (parsed-give g) k) got vs ds (p .parts))
+      I .of-counted l m w g k got vs ds
+      (then-mono H (Many (Parses D g) k) H (M g k) (λ _ _ _ q. q) (many-give g (parsed-give g) k) got vs ds (p .parts))
   parsed-give nothing = I .of-nothing

@@ -41,23 +41,33 @@ within-times : (n : ℕ) (f : Scan → Scan) → Within n f → (k : ℕ) → Wi
 unfolding times
 within-times n f F zero = subst (λ z. Within z (λ s. s)) (let e : 0 ≡ 0 * n = omega arith in e) within-none
 within-times n f F (suc k) =
-    subst (λ z. Within z (λ s. times k f (f s))) (let e : n + k * n ≡ suc k * n = omega (arith, suc-mul k n) in e) (within-then n (k * n) f (λ s. times k f s) F (within-times n f F k))
+    subst (λ z. Within z (λ s. times k f (f s))) (let e : n + k * n ≡ suc k * n = omega (arith, suc-mul k n) in e)
+    (within-then n (k * n) f (λ s. times k f s) F (within-times n f F k))
 
 -- ---- as many steps as the number just got says
 times-last : (Scan → Scan) → Scan → Scan
 times-last f t = cond (given (t .fault)) t (times (last-got t) f t)
 
-last-same : (k : ℕ) (f : Scan → Scan) → Within k f → (b : List ℕ) (t : Scan) → (t .fault .number ≡ 0 → last-got t * k ≤ length (t .rest)) → times-last f (longer b t) ≡ longer b (times-last f t)
+last-same : (k : ℕ) (f : Scan → Scan) → Within k f → (b : List ℕ) (t : Scan) → (t .fault .number ≡ 0 → last-got t * k ≤ length (t .rest)) →
+    times-last f (longer b t) ≡ longer b (times-last f t)
 unfolding times-last longer scan last-got
 last-same k f F b t h =
     by-cases (given (t .fault)) (λ y. rw y) (λ n. rw n (within-times k f F (last-got t) .same b t (h (not-given-zero (t .fault) n))))
 
-within-counted : (n m k : ℕ) (h f : Scan → Scan) → Within n h → Within k f → ((s : Scan) → h s .fault .number ≡ 0 → last-got (h s) ≤ m) → Within (n + m * k) (λ s. times-last f (h s))
+within-counted : (n m k : ℕ) (h f : Scan → Scan) → Within n h → Within k f → ((s : Scan) → h s .fault .number ≡ 0 → last-got (h s) ≤ m) →
+    Within (n + m * k) (λ s. times-last f (h s))
 unfolding times-last
 within-counted n m k h f H F limit = record {
   left = λ s. by-cases (given (h s .fault)) (λ y. rw y (omega (arith, H .left s)))
-      (λ z. rw z (omega (arith, H .left s, within-times k f F (last-got (h s)) .left (h s), mul-le-mul-right k (limit s (not-given-zero (h s .fault) z)))));
-  same = λ b s l. ap (λ z. times-last f z) (H .same b s (omega arith)) ∙ last-same k f F b (h s) (λ e. omega (arith, H .left s, mul-le-mul-right k (limit s e)));
+      (λ z. rw z (omega (
+        arith,
+        H .left s,
+        within-times k f F (last-got (h s)) .left (h s),
+        mul-le-mul-right k
+            (limit s (not-given-zero (h s .fault) z)),
+      )));
+  same = λ b s l. ap (λ z. times-last f z) (H .same b s (omega arith))
+      ∙ last-same k f F b (h s) (λ e. omega (arith, H .left s, mul-le-mul-right k (limit s e)));
 }
 
 -- ---- a source whose fields are told by the places they take
@@ -69,29 +79,43 @@ module _ (S : Source) (front-is : Fronted S) (T : Most (S .wide)) where
   unfolding read-field refused scan
   field-left w c s =
       by-cases (given (s .fault)) (λ t. rw t (omega arith)) (λ f.
-      by-cases (eqb (field-number S w c (s .rest)) 0) (λ t. rw (f, t, length-drop (S .wide w) (s .rest)) (omega arith)) (λ g. rw (f, g) (omega arith)))
+      by-cases (eqb (field-number S w c (s .rest)) 0) (λ t. rw (f, t, length-drop (S .wide w) (s .rest)) (omega arith))
+      (λ g. rw (f, g) (omega arith)))
 
   number-same : (w : ℕ) (c : ℕ → ℕ) (a b : List ℕ) → S .wide w ≤ length a → field-number S w c (a ++ b) ≡ field-number S w c a
   unfolding field-number
-  number-same w c a b l = rw (le-ltb (length (a ++ b)) (S .wide w) (rw length-append (omega arith)), le-ltb (length a) (S .wide w) l, front-is w a b l)
+  number-same w c a b l = rw (
+    le-ltb (length (a ++ b)) (S .wide w) (rw length-append (omega arith)),
+    le-ltb (length a)
+        (S .wide w) l,
+    front-is w a b l,
+  )
 
-  field-same : (w : ℕ) (c : ℕ → ℕ) (b : List ℕ) (s : Scan) → S .wide w ≤ length (s .rest) → read-field S w c (longer b s) ≡ longer b (read-field S w c s)
+  field-same : (w : ℕ) (c : ℕ → ℕ) (b : List ℕ) (s : Scan) → S .wide w ≤ length (s .rest) →
+      read-field S w c (longer b s) ≡ longer b (read-field S w c s)
   unfolding read-field refused scan longer
   field-same w c b s l =
       let n = number-same w c (s .rest) b l in
       by-cases (given (s .fault)) (λ t. rw t) (λ f.
-      by-cases (eqb (field-number S w c (s .rest)) 0) (λ t. rw (f, n, t, front-is w (s .rest) b l, drop-append-le (S .wide w) (s .rest) b)) (λ g. rw (f, n, g)))
+      by-cases (eqb (field-number S w c (s .rest)) 0) (λ t. rw (f, n, t, front-is w (s .rest) b l, drop-append-le (S .wide w) (s .rest) b))
+      (λ g. rw (f, n, g)))
 
   within-field : (w : ℕ) (c : Check) → Within (S .wide w) (λ s. read-field S w (λ v. c (s .got) v) s)
   unfolding longer scan
   within-field w c = record { left = λ s. field-left w (λ v. c (s .got) v) s; same = λ b s l. field-same w (λ v. c (s .got) v) b s l }
 
   -- a count read without a fault is within its limit
-  last-most : (l m w : ℕ) (s : Scan) → read-field S w (λ v. count-check l m v) s .fault .number ≡ 0 → last-got (read-field S w (λ v. count-check l m v) s) ≤ m
+  last-most : (l m w : ℕ) (s : Scan) → read-field S w (λ v. count-check l m v) s .fault .number ≡ 0 →
+      last-got (read-field S w (λ v. count-check l m v) s) ≤ m
   last-most l m w s e =
       let d = field-done S w (λ v. count-check l m v) s e in
       let v = S .front w (s .rest) in
-      omega (arith, ap last-got (d .result) ∙ last-is (drop (S .wide w) (s .rest)) (s .got) (s .place + S .wide w) v (s .fault), count-limits l m v (d .passes) .1)
+      omega (
+        arith,
+        ap last-got (d .result)
+            ∙ last-is (drop (S .wide w) (s .rest)) (s .got) (s .place + S .wide w) v (s .fault),
+        count-limits l m v (d .passes) .1,
+      )
 
   pub within : (g : Grammar) → Within (T .most g) (λ s. read-by S g s)
   unfolding read-by times-last
@@ -99,16 +123,24 @@ module _ (S : Source) (front-is : Fronted S) (T : Most (S .wide)) where
   within (seq g h) = rw (T .seq-is g h) (within-then (T .most g) (T .most h) (λ s. read-by S g s) (λ s. read-by S h s) (within g) (within h))
   within (counted l m w g) =
       rw (T .counted-is l m w g)
-      (within-counted (S .wide w) m (T .most g) (λ s. read-field S w (λ v. count-check l m v) s) (λ s. read-by S g s) (within-field w (λ _ v. count-check l m v)) (within g) (last-most l m w))
+      (within-counted (S .wide w) m (T .most g) (λ s. read-field S w (λ v. count-check l m v) s) (λ s. read-by S g s)
+      (within-field w (λ _ v. count-check l m v)) (within g) (last-most l m w))
   within nothing = rw (T .nothing-is) within-none
 
   -- ---- a whole plan
   ended-fault : (b : List ℕ) (s : Scan) → 0 < length (s .rest) → ended (longer b s) .fault ≡ ended s .fault
   unfolding ended refused longer scan
   ended-fault b s l =
-      by-cases (given (s .fault)) (λ t. rw t) (λ f. rw (f, ne-eqb (length (s .rest ++ b)) 0 (λ e. omega (arith, length-append (s .rest) b)), ne-eqb (length (s .rest)) 0 (λ e. omega arith)))
+      by-cases (given (s .fault)) (λ t. rw t)
+      (λ f. rw (
+        f,
+        ne-eqb (length (s .rest ++ b)) 0 (λ e. omega (arith, length-append (s .rest) b)),
+        ne-eqb (length (s .rest)) 0
+            (λ e. omega arith),
+      ))
 
-  pub prefix-decides : (F : Form) (n : ℕ) (xs : List ℕ) → S .leads * length (F .lead) + T .most (plan-grammar F) < n → scanned-by S F xs .fault ≡ scanned-by S F (take n xs) .fault
+  pub prefix-decides : (F : Form) (n : ℕ) (xs : List ℕ) → S .leads * length (F .lead) + T .most (plan-grammar F) < n →
+      scanned-by S F xs .fault ≡ scanned-by S F (take n xs) .fault
   unfolding scanned-by longer scan
   prefix-decides F n xs h =
       by-cases (leb (length xs) n) (λ t. ap (λ z. scanned-by S F z .fault) (sym (take-all n xs (leb-true (length xs) n t)))) (λ f.
@@ -126,8 +158,10 @@ module _ (S : Source) (front-is : Fronted S) (T : Most (S .wide)) where
 -- ---- the first form: one byte, or one number, past the greatest size
 pub first-bytes-decide : (bs : List ℕ) → scanned bs .fault ≡ scanned (take 63687 bs) .fault
 unfolding scanned bytes bytes-most first-form
-first-bytes-decide bs = prefix-decides bytes (λ w a b l. ap value (take-append-le w a b l)) bytes-most first-form 63687 bs (omega (arith, longest-plan))
+first-bytes-decide bs = prefix-decides bytes (λ w a b l. ap value (take-append-le w a b l)) bytes-most first-form 63687 bs
+    (omega (arith, longest-plan))
 
 pub first-numbers-decide : (xs : List ℕ) → listed xs .fault ≡ listed (take 22869 xs) .fault
 unfolding listed numbers numbers-most first-form
-first-numbers-decide xs = prefix-decides numbers (λ w a b l. List·getD-append a b 0 0 l) numbers-most first-form 22869 xs (omega (arith, most-plan-numbers))
+first-numbers-decide xs = prefix-decides numbers (λ w a b l. List·getD-append a b 0 0 l) numbers-most first-form 22869 xs
+    (omega (arith, most-plan-numbers))

@@ -21,10 +21,12 @@ use Rattle.plan_format.proofs.Whole.{whole, whole-of}
 module _ (F : Form) where
   pub spelled-parsed : (vs ds : List ℕ) → Parses Exact (plan-grammar F) [] vs ds → spelled-by F vs ≡ F .lead ++ ds
   spelled-parsed vs ds p =
-      ap (λ z. F .lead ++ z) (ap (λ z. spell-by (plan-grammar F) (record { left = z; made = [] }) .made) (sym (append-nil vs)) ∙ ap (λ z. z .made) (spells (plan-grammar F) [] vs ds p [] []))
+      ap (λ z. F .lead ++ z) (ap (λ z. spell-by (plan-grammar F) (record { left = z; made = [] }) .made) (sym (append-nil vs))
+      ∙ ap (λ z. z .made) (spells (plan-grammar F) [] vs ds p [] []))
 
   -- a plan as bytes, and as numbers
-  pub bytes-whole : (vs ds : List ℕ) → Parses Exact (plan-grammar F) [] vs ds → scanned-by bytes F (F .lead ++ ds) ≡ scan [] (length (F .lead ++ ds)) vs none-given
+  pub bytes-whole : (vs ds : List ℕ) → Parses Exact (plan-grammar F) [] vs ds →
+      scanned-by bytes F (F .lead ++ ds) ≡ scan [] (length (F .lead ++ ds)) vs none-given
   unfolding exact-bytes bytes
   bytes-whole vs ds p =
       whole bytes Exact exact-bytes F (F .lead ++ ds) vs ds p (drop-at (F .lead) ds (1 * length (F .lead)) (omega arith))
@@ -33,7 +35,8 @@ module _ (F : Form) where
   pub numbers-whole : (vs ds : List ℕ) → Parses Exact (plan-grammar F) [] vs ds → scanned-by numbers F vs ≡ scan [] (length vs) vs none-given
   unfolding exact-numbers numbers
   numbers-whole vs ds p =
-      whole numbers Exact exact-numbers F vs vs ds p (drop-at [] vs (0 * length (F .lead)) (omega arith)) ∙ ap (λ n. scan [] n vs none-given) (omega arith)
+      whole numbers Exact exact-numbers F vs vs ds p (drop-at [] vs (0 * length (F .lead)) (omega arith))
+      ∙ ap (λ n. scan [] n vs none-given) (omega arith)
 
   -- the bytes of a form begin with its lead
   abbrev pub Led : List ℕ → Type 0
@@ -57,7 +60,8 @@ module _ (F : Form) where
 
   -- numbers that the writer takes as they are, and the bytes it writes
   pub record Written-back (bs : List ℕ) : Type 0 where
-    pub result : scanned-by numbers F (scanned-by bytes F bs .got) ≡ scan [] (length (scanned-by bytes F bs .got)) (scanned-by bytes F bs .got) none-given
+    pub result : scanned-by numbers F (scanned-by bytes F bs .got) ≡ scan [] (length (scanned-by bytes F bs .got))
+        (scanned-by bytes F bs .got) none-given
     pub bytes-are : spelled-by F (scanned-by bytes F bs .got) ≡ bs
 
   pub write-back : (bs : List ℕ) → all-bytes bs ≡ true → Led bs → scanned-by bytes F bs .fault .number ≡ 0 → Written-back bs
@@ -79,7 +83,8 @@ module _ (F : Form) where
         result = ap (λ z. scanned-by bytes F z) s ∙ bytes-whole xs ds p ∙ ap (λ z. scan [] (length z) xs none-given) (sym s);
       }
 
-  pub one-string-by : (bs cs : List ℕ) → all-bytes bs ≡ true → all-bytes cs ≡ true → Led bs → Led cs → scanned-by bytes F bs .fault .number ≡ 0 → scanned-by bytes F cs .fault .number ≡ 0 →
+  pub one-string-by : (bs cs : List ℕ) → all-bytes bs ≡ true → all-bytes cs ≡ true → Led bs → Led cs → scanned-by bytes F bs .fault .number ≡ 0 →
+      scanned-by bytes F cs .fault .number ≡ 0 →
       scanned-by bytes F bs .got ≡ scanned-by bytes F cs .got → bs ≡ cs
   one-string-by bs cs b c l m e f g = sym (write-back bs b l e .bytes-are) ∙ ap (λ z. spelled-by F z) g ∙ write-back cs c m f .bytes-are
 

@@ -46,7 +46,8 @@ distinct : (q k : ℕ) (axes : List ℕ) → Row new-axis (q ∷ []) k axes → 
 unfolding new-axis
 distinct q k axes r i j l h e =
     let there : member (getD axes j 0) (take j axes) ≡ true =
-    subst (λ z. member z (take j axes) ≡ true) (getD-take j axes i 0 l ∙ e) (member-getD (take j axes) i (rw (length-take-le j axes (omega (arith, r .long))) l)) in
+    subst (λ z. member z (take j axes) ≡ true) (getD-take j axes i 0 l ∙ e)
+    (member-getD (take j axes) i (rw (length-take-le j axes (omega (arith, r .long))) l)) in
     let z : _≡_ {A = ℕ} 5 0 = rw there at (r .pass j h) in
     omega arith
 
@@ -55,17 +56,20 @@ unfolding a-queue queue-count
 owned q s axes owners r i l = below-lt q (getD owners i 0) (r .pass i l)
 
 -- ---- operations
-semaphores-in : (s k : ℕ) (xs : List ℕ) → Points s k xs → (i : ℕ) → i < length (points-in k xs) → getD (points-in k xs) i (record { semaphore = 0; value = 0 }) .semaphore < s
+semaphores-in : (s k : ℕ) (xs : List ℕ) → Points s k xs → (i : ℕ) → i < length (points-in k xs) →
+    getD (points-in k xs) i (record { semaphore = 0; value = 0 }) .semaphore < s
 semaphores-in s k xs p i l =
     let h : i < k = omega (arith, points-long k xs) in
     subst (λ (z : Point). z .semaphore < s) (sym (points-at (record { semaphore = 0; value = 0 }) k xs i h)) (p .firsts i h)
 
-buffers-in : (b k : ℕ) (xs : List ℕ) → Marks b k xs → (i : ℕ) → i < length (marks-in k xs) → getD (marks-in k xs) i (record { buffer = 0; kind = 0 }) .buffer < b
+buffers-in : (b k : ℕ) (xs : List ℕ) → Marks b k xs → (i : ℕ) → i < length (marks-in k xs) →
+    getD (marks-in k xs) i (record { buffer = 0; kind = 0 }) .buffer < b
 buffers-in b k xs p i l =
     let h : i < k = omega (arith, marks-long k xs) in
     subst (λ (z : Mark). z .buffer < b) (sym (marks-at (record { buffer = 0; kind = 0 }) k xs i h)) (p .firsts i h)
 
-kinds-in : (b k : ℕ) (xs : List ℕ) → Marks b k xs → (i : ℕ) → i < length (marks-in k xs) → getD (marks-in k xs) i (record { buffer = 0; kind = 0 }) .kind < 2
+kinds-in : (b k : ℕ) (xs : List ℕ) → Marks b k xs → (i : ℕ) → i < length (marks-in k xs) →
+    getD (marks-in k xs) i (record { buffer = 0; kind = 0 }) .kind < 2
 kinds-in b k xs p i l =
     let h : i < k = omega (arith, marks-long k xs) in
     subst (λ (z : Mark). z .kind < 2) (sym (marks-at (record { buffer = 0; kind = 0 }) k xs i h)) (p .seconds i h)
@@ -78,7 +82,8 @@ module _ (F : Form) where
     marks = rw (marks-long (k .marks) (k .ms)) (k .few-marks);
   }
 
-  block-range : (p : Plan) (xs : List ℕ) (k : Block F (queues p) (length (p .owners)) (length (p .sizes)) xs) → In-range p (operation-of F (queues p) (length (p .owners)) (length (p .sizes)) xs k)
+  block-range : (p : Plan) (xs : List ℕ) (k : Block F (queues p) (length (p .owners)) (length (p .sizes)) xs) →
+      In-range p (operation-of F (queues p) (length (p .owners)) (length (p .sizes)) xs k)
   block-range p xs k = record {
     queue = k .queue-in;
     waits = semaphores-in (length (p .owners)) (k .waits) (k .ws) (k .waited);
@@ -90,9 +95,11 @@ module _ (F : Form) where
   each-operation : (q s b : ℕ) (P : Operation → Type 0) → ((xs : List ℕ) (k : Block F q s b xs) → P (operation-of F q s b xs k)) →
       (n : ℕ) (xs : List ℕ) → Blocks F q s b n xs → (i : ℕ) → i < n → P (getD (operations-in F n xs) i no-operation)
   each-operation q s b P h zero xs k i l = absurd (not-suc-le-zero l)
-  each-operation q s b P h (suc n) xs k zero l = subst (λ z. P (getD z 0 no-operation)) (sym (operations-cons F q s b n xs k)) (h (k .block) (k .first))
+  each-operation q s b P h (suc n) xs k zero l = subst (λ z. P (getD z 0 no-operation)) (sym (operations-cons F q s b n xs k))
+      (h (k .block) (k .first))
   each-operation q s b P h (suc n) xs k (suc i) l =
-      subst (λ z. P (getD z (suc i) no-operation)) (sym (operations-cons F q s b n xs k)) (each-operation q s b P h n (k .rest) (k .more) i (le-of-suc-le-suc l))
+      subst (λ z. P (getD z (suc i) no-operation)) (sym (operations-cons F q s b n xs k))
+      (each-operation q s b P h n (k .rest) (k .more) i (le-of-suc-le-suc l))
 
   abbrev told : (xs : List ℕ) → Sections F xs → Plan
   told xs c = record { axes = c .axes; owners = c .owners; sizes = c .sizes; operations = operations-in F (c .operations) (c .blocks) }

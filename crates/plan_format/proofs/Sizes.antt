@@ -46,15 +46,18 @@ module _ (D : Spelt) (wide : ℕ → ℕ) (T : Most wide) (M : Measure D wide) w
   most-none n got vs ds p = rw (p .numbers-are, p .bytes-are, M .size-none) zero-le
 
   most-then : (a b n : ℕ) → a + b ≤ n → Then (At-most a) (At-most b) ⊆ At-most n
-  most-then a b n l got vs ds p = rw (p .numbers-are, p .bytes-are, M .size-append (p .vs₁) (p .vs₂) (p .ds₁) (p .ds₂)) (omega (arith, p .first, p .second))
+  most-then a b n l got vs ds p = rw (p .numbers-are, p .bytes-are, M .size-append (p .vs₁) (p .vs₂) (p .ds₁) (p .ds₂))
+      (omega (arith, p .first, p .second))
 
   most-field : (w : ℕ) (c : Check) (v : ℕ) → Holds D w c v ⊆ At-most (wide w)
   most-field w c v got vs ds h = rw (h .numbers-are, M .size-field w v ds (h .spelt)) (le-refl (wide w))
 
-  most-counted : (l m w : ℕ) (g : Grammar) (k : ℕ) → Then (Holds D w (λ _ v. count-check l m v) k) (At-most (k * T .most g)) ⊆ At-most (T .most (counted l m w g))
+  most-counted : (l m w : ℕ) (g : Grammar) (k : ℕ) →
+      Then (Holds D w (λ _ v. count-check l m v) k) (At-most (k * T .most g)) ⊆ At-most (T .most (counted l m w g))
   most-counted l m w g k got vs ds p =
       let c : Check = λ _ v. count-check l m v in
-      most-then (wide w) (k * T .most g) (T .most (counted l m w g)) (omega (arith, T .counted-is l m w g, mul-le-mul-right (T .most g) (count-limits l m k (p .first .passes) .1)))
+      most-then (wide w) (k * T .most g) (T .most (counted l m w g))
+      (omega (arith, T .counted-is l m w g, mul-le-mul-right (T .most g) (count-limits l m k (p .first .passes) .1)))
       got vs ds (then-first (Holds D w c k) (At-most (wide w)) (At-most (k * T .most g)) (most-field w c k) got vs ds p)
 
   parsed-size : (g : Grammar) → Parses D g ⊆ At-most (T .most g)
@@ -93,11 +96,18 @@ module _ (F : Form) (bs : List ℕ) (e : scanned-by bytes F bs .fault .number �
   unfolding loose-bytes bytes
   read-bytes-most =
       let w = whole-of bytes Loose loose-bytes F bs tt e in
-      omega (arith, length-drop (1 * length (F .lead)) bs, ap length (w .shown), loose-long (plan-grammar F) [] (scanned-by bytes F bs .got) (w .ds) (w .parsed))
+      omega (
+        arith,
+        length-drop (1 * length (F .lead)) bs,
+        ap length (w .shown),
+        loose-long (plan-grammar F) [] (scanned-by bytes F bs .got) (w .ds)
+            (w .parsed),
+      )
 
   pub read-numbers-most : length (scanned-by bytes F bs .got) ≤ most-numbers (plan-grammar F)
   unfolding loose-bytes
-  read-numbers-most = let w = whole-of bytes Loose loose-bytes F bs tt e in parsed-numbers (plan-grammar F) [] (scanned-by bytes F bs .got) (w .ds) Loose (w .parsed)
+  read-numbers-most = let w = whole-of bytes Loose loose-bytes F bs tt e in parsed-numbers (plan-grammar F) [] (scanned-by bytes F bs .got)
+      (w .ds) Loose (w .parsed)
 
 module _ (F : Form) (xs : List ℕ) (e : scanned-by numbers F xs .fault .number ≡ 0) where
   pub taken-numbers-most : length xs ≤ most-numbers (plan-grammar F)
@@ -127,8 +137,16 @@ no-lead = refl
 
 pub scanned-sizes : (bs : List ℕ) → scanned bs .fault .number ≡ 0 → (length bs ≤ 63686) × (length (scanned bs .got) ≤ 22868)
 unfolding scanned
-scanned-sizes bs e = (omega (arith, no-lead, longest-plan, read-bytes-most first-form bs e), rw most-plan-numbers at (read-numbers-most first-form bs e))
+scanned-sizes bs e = (
+  omega (arith, no-lead, longest-plan, read-bytes-most first-form bs e),
+  rw most-plan-numbers at
+      (read-numbers-most first-form bs e),
+)
 
 pub listed-sizes : (xs : List ℕ) → listed xs .fault .number ≡ 0 → (length xs ≤ 22868) × (length (spelled xs) ≤ 63686)
 unfolding listed spelled
-listed-sizes xs e = (rw most-plan-numbers at (taken-numbers-most first-form xs e), omega (arith, no-lead, longest-plan, spelled-bytes-most first-form xs e))
+listed-sizes xs e = (
+  rw most-plan-numbers at (taken-numbers-most first-form xs e),
+  omega
+      (arith, no-lead, longest-plan, spelled-bytes-most first-form xs e),
+)

@@ -27,11 +27,13 @@ unfolding spell-field
 spells-field w c v got vs ds h = rw (h .numbers-are, h .spelt .bytes-are) (λ more made. refl)
 
 -- the number in front says how many follow
-spells-counted : (w : ℕ) (c : Check) (k : ℕ) (f : Spelling → Spelling) → Then (Holds Exact w c k) (Spells (λ s. times k f s)) ⊆ Spells (λ s. times (getD (s .left) 0 0) f (spell-field w s))
+spells-counted : (w : ℕ) (c : Check) (k : ℕ) (f : Spelling → Spelling) →
+    Then (Holds Exact w c k) (Spells (λ s. times k f s)) ⊆ Spells (λ s. times (getD (s .left) 0 0) f (spell-field w s))
 spells-counted w c k f got vs ds p more made =
     let front : getD (vs ++ more) 0 0 ≡ k = rw (p .numbers-are, p .first .numbers-are) in
     ap (λ n. times n f (spell-field w (record { left = vs ++ more; made = made }))) front
-    ∙ spells-then (λ s. spell-field w s) (λ s. times k f s) got vs ds (then-first (Holds Exact w c k) (Spells (λ s. spell-field w s)) (Spells (λ s. times k f s)) (spells-field w c k) got vs ds p) more made
+    ∙ spells-then (λ s. spell-field w s) (λ s. times k f s) got vs ds
+    (then-first (Holds Exact w c k) (Spells (λ s. spell-field w s)) (Spells (λ s. times k f s)) (spells-field w c k) got vs ds p) more made
 
 pub spells : (g : Grammar) → Parses Exact g ⊆ Spells (λ s. spell-by g s)
 unfolding spell-by times
@@ -62,7 +64,8 @@ pub parsed-bytes : (g : Grammar) → Parses Exact g ⊆ Bytes
 parsed-bytes = parsed-give Exact (λ _. Bytes) (λ _ _. Bytes) (record {
   of-field = field-bytes;
   of-seq = λ g h. then-bytes;
-  of-counted = λ l m w g k got vs ds p. then-bytes got vs ds (then-first (Holds Exact w (λ _ v. count-check l m v) k) Bytes Bytes (field-bytes w (λ _ v. count-check l m v) k) got vs ds p);
+  of-counted = λ l m w g k got vs ds p. then-bytes got vs ds
+      (then-first (Holds Exact w (λ _ v. count-check l m v) k) Bytes Bytes (field-bytes w (λ _ v. count-check l m v) k) got vs ds p);
   of-nothing = none-bytes;
   of-none = λ g. none-bytes;
   of-more = λ g k. then-bytes;

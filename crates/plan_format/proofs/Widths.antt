@@ -47,7 +47,8 @@ module _ (n : ℕ) where
   small-then : (A B C : Type 0) → (C → A) → (C → B) → Then (If A) (If B) ⊆ If C
   small-then A B C a b got vs ds p c = rw (p .numbers-are) (small-append (p .vs₁) (p .vs₂) (p .first (a c)) (p .second (b c)))
 
-  small-counted : (l m w : ℕ) (g : Grammar) (k : ℕ) → Then (Holds Exact w (λ _ v. count-check l m v) k) (If (Narrow n g)) ⊆ If (Narrow n (counted l m w g))
+  small-counted : (l m w : ℕ) (g : Grammar) (k : ℕ) →
+      Then (Holds Exact w (λ _ v. count-check l m v) k) (If (Narrow n g)) ⊆ If (Narrow n (counted l m w g))
   small-counted l m w g k got vs ds p =
       let c : Check = λ _ v. count-check l m v in
       small-then (w ≤ n) (Narrow n g) (Narrow n (counted l m w g)) (λ z. z .0) (λ z. z .1) got vs ds
@@ -72,7 +73,8 @@ first-narrow = omega arith
 
 pub scanned-small : (bs : List ℕ) → all-bytes bs ≡ true → scanned bs .fault .number ≡ 0 → (i : ℕ) → getD (scanned bs .got) i 0 < 2 ^ 64
 unfolding scanned first-form
-scanned-small bs b e = let (ds, p, is) = bytes-read first-form bs b refl e in parsed-small 8 (plan-grammar first-form) first-narrow [] (scanned bs .got) ds p
+scanned-small bs b e = let (ds, p, is) = bytes-read first-form bs b refl e in parsed-small 8 (plan-grammar first-form) first-narrow []
+    (scanned bs .got) ds p
 
 pub listed-small : (xs : List ℕ) → listed xs .fault .number ≡ 0 → (i : ℕ) → getD xs i 0 < 2 ^ 64
 unfolding listed
