@@ -56,8 +56,8 @@ module _ (S : Source) (D : Spelt) (L : Lawful S D) where
 
   -- a count, and then as much as it says
   accepts-counted : (w : ℕ) (c : ℕ → ℕ) (k : ℕ) (f : Scan → Scan) →
-      Then (Holds D w (λ _ x. c x) k) (Accepts (λ s. times k f s)) ⊆ Accepts
-      (λ s. let t = read-field S w c s in cond (given (t .fault)) t (times (last-got t) f t))
+      Then (Holds D w (λ _ x. c x) k) (Accepts (λ s. times k f s))
+      ⊆ Accepts (λ s. let t = read-field S w c s in cond (given (t .fault)) t (times (last-got t) f t))
   unfolding scan
   accepts-counted w c k f got vs ds p more at r e =
       let h : Scan → Scan = λ s. read-field S w c s in

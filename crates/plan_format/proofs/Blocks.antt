@@ -61,9 +61,9 @@ pub below-lt : (l v : ℕ) → below l v ≡ 0 → v < l
 unfolding below
 below-lt l v e = by-cases (ltb v l) (λ t. ltb-true v l t) (λ f. absurd (let z : 4 ≡ 0 = rw f at e in omega arith))
 
-glued : (pt : List ℕ) {vs v₁ v₂ v₃ v₄ v₅ v₆ v₇ ws ss ms : List ℕ} {q w s m : ℕ} → vs ≡ v₁ ++ v₂ → v₁ ≡ q ∷ [] → v₂ ≡ pt ++ v₃ → v₃ ≡ v₄ ++ v₅ →
-    v₄ ≡ w ∷ ws →
-    v₅ ≡ v₆ ++ v₇ → v₆ ≡ s ∷ ss → v₇ ≡ m ∷ ms → vs ≡ q ∷ (pt ++ (w ∷ (ws ++ (s ∷ (ss ++ (m ∷ ms))))))
+glued : (pt : List ℕ) {vs v₁ v₂ v₃ v₄ v₅ v₆ v₇ ws ss ms : List ℕ} {q w s m : ℕ} →
+    vs ≡ v₁ ++ v₂ → v₁ ≡ q ∷ [] → v₂ ≡ pt ++ v₃ → v₃ ≡ v₄ ++ v₅ → v₄ ≡ w ∷ ws → v₅ ≡ v₆ ++ v₇ → v₆ ≡ s ∷ ss → v₇ ≡ m ∷ ms →
+    vs ≡ q ∷ (pt ++ (w ∷ (ws ++ (s ∷ (ss ++ (m ∷ ms))))))
 glued pt a b c d e f g h = cc
 
 module _ (D : Spelt) where

@@ -82,14 +82,14 @@ module _ (F : Form) where
     marks = rw (marks-long (k .marks) (k .ms)) (k .few-marks);
   }
 
-  block-range : (p : Plan) (xs : List ℕ) (k : Block F (queues p) (length (p .owners)) (length (p .sizes)) xs) →
-      In-range p (operation-of F (queues p) (length (p .owners)) (length (p .sizes)) xs k)
-  block-range p xs k = record {
-    queue = k .queue-in;
-    waits = semaphores-in (length (p .owners)) (k .waits) (k .ws) (k .waited);
-    signals = semaphores-in (length (p .owners)) (k .signals) (k .ss) (k .signalled);
-    marks = buffers-in (length (p .sizes)) (k .marks) (k .ms) (k .marked);
-    kinds = kinds-in (length (p .sizes)) (k .marks) (k .ms) (k .marked);
+  block-range : (p : Plan) (q s b : ℕ) → queues p ≡ q → length (p .owners) ≡ s → length (p .sizes) ≡ b →
+      (xs : List ℕ) (k : Block F q s b xs) → In-range p (operation-of F q s b xs k)
+  block-range p q s b eq es eb xs k = record {
+    queue = rw eq (k .queue-in);
+    waits = rw es (semaphores-in s (k .waits) (k .ws) (k .waited));
+    signals = rw es (semaphores-in s (k .signals) (k .ss) (k .signalled));
+    marks = rw eb (buffers-in b (k .marks) (k .ms) (k .marked));
+    kinds = kinds-in b (k .marks) (k .ms) (k .marked);
   }
 
   each-operation : (q s b : ℕ) (P : Operation → Type 0) → ((xs : List ℕ) (k : Block F q s b xs) → P (operation-of F q s b xs k)) →
@@ -110,49 +110,29 @@ module _ (F : Form) where
     few-queues = omega (arith, la, c .few-queues);
     least-semaphores = omega (arith, lo, c .least-semaphores);
     few-semaphores = omega (arith, lo, c .few-semaphores);
-    few-buffers = omega (arith, lb, c .few-buffers);
+    few-buffers = omega (arith, c .sizes-long, c .few-buffers);
     few-operations = omega (arith, ln, c .few-operations);
-    axes-distinct = λ i k l h. distinct q q (c .axes) (c .axes-row) i k l (omega (arith, la));
-    owners-in = λ i l. rw la (owned q s (c .axes ++ (s ∷ [])) (c .owners) (c .owners-row) i (omega (arith, lo)));
-    in-range = λ i l. each-operation q′ s′ b′ (In-range (told xs c)) (block-range (told xs c)) n (c .blocks) blocks i (omega (arith, ln));
-    few = λ i l. each-operation q s b Few (block-few q s b) n (c .blocks) (c .blocks-are) i (omega (arith, ln));
+    axes-distinct = λ i k l h. distinct (c .queues) (c .queues) (c .axes) (c .axes-row) i k l (omega (arith, la));
+    owners-in = λ i l. rw la (owned (c .queues) (c .semaphores) (c .axes ++ (c .semaphores ∷ [])) (c .owners) (c .owners-row) i (omega (arith, lo)));
+    in-range = λ i l. each (In-range (told xs c)) (block-range (told xs c) (c .queues) (c .semaphores) (c .buffers) la lo (c .sizes-long)) i
+        (omega (arith, ln));
+    few = λ i l. each Few (block-few (c .queues) (c .semaphores) (c .buffers)) i (omega (arith, ln));
   }
     where
-      q : ℕ
-      q = c .queues
-
-      s : ℕ
-      s = c .semaphores
-
-      b : ℕ
-      b = c .buffers
-
-      n : ℕ
-      n = c .operations
-
-      q′ : ℕ
-      q′ = length (c .axes)
-
-      s′ : ℕ
-      s′ = length (c .owners)
-
-      b′ : ℕ
-      b′ = length (c .sizes)
-
-      la : q′ ≡ q
+      la : length (c .axes) ≡ c .queues
       la = c .axes-row .long
 
-      lo : s′ ≡ s
+      lo : length (c .owners) ≡ c .semaphores
       lo = c .owners-row .long
 
-      lb : b′ ≡ b
-      lb = c .sizes-long
+      ln : length (operations-in F (c .operations) (c .blocks)) ≡ c .operations
+      ln = operations-long F (c .operations) (c .blocks)
 
-      ln : length (operations-in F n (c .blocks)) ≡ n
-      ln = operations-long F n (c .blocks)
-
-      blocks : Blocks F q′ s′ b′ n (c .blocks)
-      blocks = rw (la, lo, lb) (c .blocks-are)
+      each : (P : Operation → Type 0) →
+          ((xs : List ℕ) (k : Block F (c .queues) (c .semaphores) (c .buffers) xs) →
+          P (operation-of F (c .queues) (c .semaphores) (c .buffers) xs k)) →
+          (i : ℕ) → i < c .operations → P (getD (operations-in F (c .operations) (c .blocks)) i no-operation)
+      each P h = each-operation (c .queues) (c .semaphores) (c .buffers) P h (c .operations) (c .blocks) (c .blocks-are)
 
   pub shape : (D : Spelt) (xs ds : List ℕ) → Parses D (plan-grammar F) [] xs ds → Shaped F (plan-of F xs)
   shape D xs ds p = let c = sections D F xs ds p in subst (Shaped F) (sym (plan-is F xs c)) (sections-shaped xs c)
