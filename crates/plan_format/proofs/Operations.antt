@@ -59,8 +59,7 @@ module _ (F : Form) (q : ℕ) (part : List ℕ) (w s m : ℕ) (ws ss ms : List �
         to-s,
         to-m,
         points-front w ws (s ∷ (ss ++ (m ∷ (ms ++ rest)))) lw,
-        points-front s ss
-            (m ∷ (ms ++ rest)) ls,
+        points-front s ss (m ∷ (ms ++ rest)) ls,
         marks-front m ms rest lm,
       )
     where

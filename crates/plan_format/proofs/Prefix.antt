@@ -58,14 +58,12 @@ within-counted : (n m k : ℕ) (h f : Scan → Scan) → Within n h → Within k
     Within (n + m * k) (λ s. times-last f (h s))
 unfolding times-last
 within-counted n m k h f H F limit = record {
-  left = λ s. by-cases (given (h s .fault)) (λ y. rw y (omega (arith, H .left s)))
-      (λ z. rw z (omega (
-        arith,
-        H .left s,
-        within-times k f F (last-got (h s)) .left (h s),
-        mul-le-mul-right k
-            (limit s (not-given-zero (h s .fault) z)),
-      )));
+  left = λ s. by-cases (given (h s .fault)) (λ y. rw y (omega (arith, H .left s))) (λ z. rw z (omega (
+    arith,
+    H .left s,
+    within-times k f F (last-got (h s)) .left (h s),
+    mul-le-mul-right k (limit s (not-given-zero (h s .fault) z)),
+  )));
   same = λ b s l. ap (λ z. times-last f z) (H .same b s (omega arith))
       ∙ last-same k f F b (h s) (λ e. omega (arith, H .left s, mul-le-mul-right k (limit s e)));
 }
@@ -86,8 +84,7 @@ module _ (S : Source) (front-is : Fronted S) (T : Most (S .wide)) where
   unfolding field-number
   number-same w c a b l = rw (
     le-ltb (length (a ++ b)) (S .wide w) (rw length-append (omega arith)),
-    le-ltb (length a)
-        (S .wide w) l,
+    le-ltb (length a) (S .wide w) l,
     front-is w a b l,
   )
 
@@ -112,8 +109,7 @@ module _ (S : Source) (front-is : Fronted S) (T : Most (S .wide)) where
       let v = S .front w (s .rest) in
       omega (
         arith,
-        ap last-got (d .result)
-            ∙ last-is (drop (S .wide w) (s .rest)) (s .got) (s .place + S .wide w) v (s .fault),
+        ap last-got (d .result) ∙ last-is (drop (S .wide w) (s .rest)) (s .got) (s .place + S .wide w) v (s .fault),
         count-limits l m v (d .passes) .1,
       )
 
@@ -135,8 +131,7 @@ module _ (S : Source) (front-is : Fronted S) (T : Most (S .wide)) where
       (λ f. rw (
         f,
         ne-eqb (length (s .rest ++ b)) 0 (λ e. omega (arith, length-append (s .rest) b)),
-        ne-eqb (length (s .rest)) 0
-            (λ e. omega arith),
+        ne-eqb (length (s .rest)) 0 (λ e. omega arith),
       ))
 
   pub prefix-decides : (F : Form) (n : ℕ) (xs : List ℕ) → S .leads * length (F .lead) + T .most (plan-grammar F) < n →

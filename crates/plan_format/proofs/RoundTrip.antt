@@ -58,10 +58,9 @@ module _ (F : Form) where
       let none : 0 * length (F .lead) ≡ 0 = omega arith in
       (w .ds, subst (λ z. Parses Exact (plan-grammar F) [] z (w .ds)) (sym (w .shown) ∙ ap (λ n. drop n xs) none) (w .parsed))
 
-  -- numbers that the writer takes as they are, and the bytes it writes
+  -- the writer takes the numbers read as they are, and writes the bytes read
   pub record Written-back (bs : List ℕ) : Type 0 where
-    pub result : scanned-by numbers F (scanned-by bytes F bs .got) ≡ scan [] (length (scanned-by bytes F bs .got))
-        (scanned-by bytes F bs .got) none-given
+    pub result : let xs = scanned-by bytes F bs .got in scanned-by numbers F xs ≡ scan [] (length xs) xs none-given
     pub bytes-are : spelled-by F (scanned-by bytes F bs .got) ≡ bs
 
   pub write-back : (bs : List ℕ) → all-bytes bs ≡ true → Led bs → scanned-by bytes F bs .fault .number ≡ 0 → Written-back bs
@@ -70,6 +69,7 @@ module _ (F : Form) where
       let xs = scanned-by bytes F bs .got in
       record { result = numbers-whole xs ds p; bytes-are = spelled-parsed xs ds p ∙ sym is }
 
+  -- the reader gets the numbers written
   pub record Read-back (xs : List ℕ) : Type 0 where
     pub are-bytes : all-bytes (spelled-by F xs) ≡ true
     pub result : scanned-by bytes F (spelled-by F xs) ≡ scan [] (length (spelled-by F xs)) xs none-given
@@ -83,9 +83,8 @@ module _ (F : Form) where
         result = ap (λ z. scanned-by bytes F z) s ∙ bytes-whole xs ds p ∙ ap (λ z. scan [] (length z) xs none-given) (sym s);
       }
 
-  pub one-string-by : (bs cs : List ℕ) → all-bytes bs ≡ true → all-bytes cs ≡ true → Led bs → Led cs → scanned-by bytes F bs .fault .number ≡ 0 →
-      scanned-by bytes F cs .fault .number ≡ 0 →
-      scanned-by bytes F bs .got ≡ scanned-by bytes F cs .got → bs ≡ cs
+  pub one-string-by : (bs cs : List ℕ) → all-bytes bs ≡ true → all-bytes cs ≡ true → Led bs → Led cs →
+      scanned-by bytes F bs .fault .number ≡ 0 → scanned-by bytes F cs .fault .number ≡ 0 → scanned-by bytes F bs .got ≡ scanned-by bytes F cs .got → bs ≡ cs
   one-string-by bs cs b c l m e f g = sym (write-back bs b l e .bytes-are) ∙ ap (λ z. spelled-by F z) g ∙ write-back cs c m f .bytes-are
 
 -- ---- the first form has no lead

@@ -100,8 +100,7 @@ module _ (F : Form) (bs : List ℕ) (e : scanned-by bytes F bs .fault .number �
         arith,
         length-drop (1 * length (F .lead)) bs,
         ap length (w .shown),
-        loose-long (plan-grammar F) [] (scanned-by bytes F bs .got) (w .ds)
-            (w .parsed),
+        loose-long (plan-grammar F) [] (scanned-by bytes F bs .got) (w .ds) (w .parsed),
       )
 
   pub read-numbers-most : length (scanned-by bytes F bs .got) ≤ most-numbers (plan-grammar F)
@@ -139,14 +138,12 @@ pub scanned-sizes : (bs : List ℕ) → scanned bs .fault .number ≡ 0 → (len
 unfolding scanned
 scanned-sizes bs e = (
   omega (arith, no-lead, longest-plan, read-bytes-most first-form bs e),
-  rw most-plan-numbers at
-      (read-numbers-most first-form bs e),
+  rw most-plan-numbers at (read-numbers-most first-form bs e),
 )
 
 pub listed-sizes : (xs : List ℕ) → listed xs .fault .number ≡ 0 → (length xs ≤ 22868) × (length (spelled xs) ≤ 63686)
 unfolding listed spelled
 listed-sizes xs e = (
   rw most-plan-numbers at (taken-numbers-most first-form xs e),
-  omega
-      (arith, no-lead, longest-plan, spelled-bytes-most first-form xs e),
+  omega (arith, no-lead, longest-plan, spelled-bytes-most first-form xs e),
 )
