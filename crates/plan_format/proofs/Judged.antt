@@ -6,7 +6,7 @@ use native.Mathlib.Omega.{arith}
 use lib.Dec.{eqb}
 use borrow.Author.Tests.{eqb-true, eqb-false, eq-eqb, ne-eqb}
 use Rattle.basics.proofs.Tests.{by-cases}
-use Rattle.plan_format.specs.Refusal.{Refusal, given, or-else}
+use Rattle.plan_format.specs.Refusal.{Refusal, refusal, given, or-else}
 
 pub zero-not-given : (f : Refusal) → f .number ≡ 0 → given f ≡ false
 unfolding given
@@ -36,3 +36,8 @@ module _ (a b : Refusal) where
       by-cases (given a) (λ t. let z : a .number ≡ 0 = rw (or-else-first t) at e in absurd
       (let y : _≡_ {A = ℕ} 0 1 = cc (zero-not-given a z) in omega arith))
       (λ f. let z = not-given-zero a f in (z, rw (or-else-second z) at e))
+
+-- a refusal by some number
+pub refusal-given : (n p : ℕ) → (n ≡ 0 → ⊥) → given (refusal n p) ≡ true
+unfolding refusal
+refusal-given n p h = other-given (refusal n p) h
