@@ -2,12 +2,12 @@
 use mathlib.Core.Path.{_≡_, ap, ap₂, _∙_}
 use mathlib.Core.Bool.{cond}
 use mathlib.Core.List.{List, [], _∷_, _++_, append-assoc, append-nil}
-use Prim.Native.Nat.{ℕ, zero, suc, _+_}
+use Prim.Native.Nat.{ℕ, _+_}
 use native.Mathlib.Omega.{arith}
 use lib.ListN.{length, length-append}
 use lib.Seq.{drop-at}
 use Rattle.plan_format.specs.Refusal.{Refusal, given}
-use Rattle.plan_format.specs.Grammar.{Check, Grammar, field, seq, counted, nothing, Source, Scan, scan, read-field, last-got, times, count-check, read-by}
+use Rattle.plan_format.specs.Grammar.{Check, Grammar, Source, Scan, scan, read-field, last-got, times, count-check, read-by}
 use Rattle.plan_format.proofs.Judged.{zero-not-given}
 use Rattle.plan_format.proofs.Parses.{Takes, _⊆_, Spelt, Nothing, Then, Holds, Parses, then-first, parsed-give}
 use Rattle.plan_format.proofs.Fields.{Lawful, field-reads}

@@ -1,9 +1,9 @@
 -- A largest plan: every list as long as its limit allows; so the greatest sizes are reached. Assumes nothing.
-use mathlib.Core.Path.{_≡_, refl, ap, ap₂, _∙_, subst}
+use mathlib.Core.Path.{_≡_, refl, ap, _∙_}
 use mathlib.Core.Bool.{Bool, true}
 use mathlib.Core.List.{List, [], _∷_, _++_, append-assoc, append-nil}
-use Prim.Native.Nat.{ℕ, zero, suc, _+_, _*_, _^_, _≤_, _<_}
-use native.Mathlib.Nat.{suc-mul, not-suc-le-zero}
+use Prim.Native.Nat.{ℕ, zero, suc, _+_, _*_, _^_, _<_}
+use native.Mathlib.Nat.{not-suc-le-zero}
 use native.Mathlib.Omega.{arith}
 use lib.Dec.{ltb, eqb, lit<, lit≤}
 use lib.ListN.{length, getD, take, length-append}
@@ -11,12 +11,10 @@ use borrow.Author.Tests.{ltb-true, lt-ltb, eqb-true, eqb-false}
 use Rattle.basics.specs.Lists.{member, all-below, tabulate-from}
 use Rattle.basics.proofs.Tests.{by-cases, and-left, and-right}
 use Rattle.plan_format.specs.Refusal.{none-given}
-use Rattle.plan_format.specs.Grammar.{Check, Grammar, counted, digits, scan, count-check}
+use Rattle.plan_format.specs.Grammar.{Grammar, counted, scan}
 use Rattle.plan_format.specs.Form.{first-form, queue-count, semaphore-count, buffer-count, any-number, below, new-axis, a-queue, a-semaphore, a-buffer, a-kind, point, mark, part, operation, plan-grammar}
 use Rattle.plan_format.specs.Stored.{listed, spelled}
-use Rattle.plan_format.proofs.Bytes.{length-digits}
-use Rattle.plan_format.proofs.Parses.{Takes, Exact, Nothing, Then, Many, Holds, Field, Counted, Parses}
-use Rattle.plan_format.proofs.Fields.{count-passes}
+use Rattle.plan_format.proofs.Parses.{Takes, Exact, Nothing, Then, Field, Counted, Parses}
 use Rattle.plan_format.proofs.Entries.{Row}
 use Rattle.plan_format.proofs.Making.{Spells-in, a-field, after, a-list, no-more, repeated, repeated-long, entries, row-entries}
 use Rattle.plan_format.proofs.Blocks.{Kept, kept-now, kept-more}

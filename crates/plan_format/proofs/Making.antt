@@ -1,26 +1,15 @@
 -- Parses made of given numbers, with the length of their bytes. Assumes nothing.
 use mathlib.Core.Path.{_≡_, refl, ap, ap₂, _∙_, subst}
-use mathlib.Core.Bool.{Bool, true}
 use mathlib.Core.List.{List, [], _∷_, _++_, append-assoc, append-nil}
 use Prim.Native.Nat.{ℕ, zero, suc, _+_, _*_, _^_, _≤_, _<_}
-use native.Mathlib.Nat.{suc-mul, not-suc-le-zero}
+use native.Mathlib.Nat.{suc-mul}
 use native.Mathlib.Omega.{arith}
-use lib.Dec.{ltb, eqb, lit<, lit≤}
 use lib.ListN.{length, getD, take, length-append}
-use borrow.Author.Tests.{ltb-true, lt-ltb, eqb-true, eqb-false}
-use Rattle.basics.specs.Lists.{member, all-below, tabulate-from}
-use Rattle.basics.proofs.Tests.{by-cases, and-left, and-right}
-use Rattle.plan_format.specs.Refusal.{none-given}
-use Rattle.plan_format.specs.Grammar.{Check, Grammar, counted, digits, scan, count-check}
-use Rattle.plan_format.specs.Form.{first-form, queue-count, semaphore-count, buffer-count, any-number, below, new-axis, a-queue, a-semaphore, a-buffer, a-kind, point, mark, part, operation, plan-grammar}
-use Rattle.plan_format.specs.Stored.{listed, spelled}
+use Rattle.plan_format.specs.Grammar.{Check, digits, count-check}
 use Rattle.plan_format.proofs.Bytes.{length-digits}
-use Rattle.plan_format.proofs.Parses.{Takes, Exact, Nothing, Then, Many, Holds, Field, Counted, Parses}
+use Rattle.plan_format.proofs.Parses.{Takes, Exact, Nothing, Then, Many, Holds, Field, Counted}
 use Rattle.plan_format.proofs.Fields.{count-passes}
 use Rattle.plan_format.proofs.Entries.{Row}
-use Rattle.plan_format.proofs.Blocks.{Kept, kept-now, kept-more}
-use Rattle.plan_format.proofs.Sections.{sections-kept}
-use Rattle.plan_format.proofs.RoundTrip.{spelled-parsed, numbers-whole}
 
 pub record Spells-in (P : Takes) (n : ℕ) (got vs : List ℕ) : Type 0 where
   pub ds : List ℕ

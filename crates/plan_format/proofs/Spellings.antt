@@ -1,11 +1,11 @@
 -- The spelling of what parses: the very bytes of the parse, all below 256. Assumes nothing.
 use mathlib.Core.Path.{_≡_, refl, ap, _∙_}
 use mathlib.Core.Bool.{true}
-use mathlib.Core.List.{List, [], _∷_, _++_, append-assoc, append-nil}
-use Prim.Native.Nat.{ℕ, zero, suc}
+use mathlib.Core.List.{List, _++_, append-assoc, append-nil}
+use Prim.Native.Nat.{ℕ}
 use lib.ListN.{getD}
 use Rattle.basics.specs.Lists.{all}
-use Rattle.plan_format.specs.Grammar.{Check, Grammar, field, seq, counted, nothing, times, count-check, Spelling, spell-field, spell-by}
+use Rattle.plan_format.specs.Grammar.{Check, Grammar, times, count-check, Spelling, spell-field, spell-by}
 use Rattle.plan_format.specs.Stored.{all-bytes}
 use Rattle.plan_format.proofs.Bytes.{digits-bytes, bytes-append}
 use Rattle.plan_format.proofs.Parses.{Takes, _⊆_, Exact, Nothing, Then, Holds, Parses, then-first, parsed-give}
