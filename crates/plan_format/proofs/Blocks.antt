@@ -1,19 +1,18 @@
 -- The numbers of an operation: its queue, then its waits, signals and marks, each after their count. Assumes nothing.
-use mathlib.Core.Path.{_≡_, refl, sym, ap, _∙_, subst}
+use mathlib.Core.Path.{_≡_, ap, subst}
 use mathlib.Core.Bool.{Bool, true, false, cond}
 use mathlib.Core.List.{List, [], _∷_, _++_, append-assoc, append-nil}
-use Prim.Native.Nat.{ℕ, zero, suc, _+_, _*_, _≤_, _<_}
+use Prim.Native.Nat.{ℕ, suc, _≤_, _<_}
 use native.Mathlib.Omega.{arith}
 use lib.Dec.{ltb}
-use lib.ListN.{length, getD, drop, length-append}
-use lib.Seq.{getD-at, drop-at}
+use lib.ListN.{length}
 use borrow.Author.Tests.{ltb-true}
 use Rattle.basics.proofs.Tests.{by-cases}
 use Rattle.plan_format.specs.Grammar.{field, nothing}
 use Rattle.plan_format.specs.Form.{Form, queue-count, semaphore-count, buffer-count, any-number, below, a-queue, a-semaphore, a-buffer, a-kind, point, mark, part, operation}
 use Rattle.plan_format.specs.Plan.{heading}
-use Rattle.plan_format.proofs.Parses.{Takes, Spelt, Then, Many, Field, Counted, Parses}
-use Rattle.plan_format.proofs.Entries.{Pairs, Listing, listing, many-pairs}
+use Rattle.plan_format.proofs.Parses.{Spelt, Many, Parses}
+use Rattle.plan_format.proofs.Entries.{Pairs, listing, many-pairs}
 
 -- points of semaphores below s; marks of buffers below b, each a use or a free
 abbrev pub Points : (s k : ℕ) → List ℕ → Type 0
@@ -62,8 +61,9 @@ pub below-lt : (l v : ℕ) → below l v ≡ 0 → v < l
 unfolding below
 below-lt l v e = by-cases (ltb v l) (λ t. ltb-true v l t) (λ f. absurd (let z : 4 ≡ 0 = rw f at e in omega arith))
 
-glued : (pt : List ℕ) {vs v₁ v₂ v₃ v₄ v₅ v₆ v₇ ws ss ms : List ℕ} {q w s m : ℕ} → vs ≡ v₁ ++ v₂ → v₁ ≡ q ∷ [] → v₂ ≡ pt ++ v₃ → v₃ ≡ v₄ ++ v₅ → v₄ ≡ w ∷ ws →
-    v₅ ≡ v₆ ++ v₇ → v₆ ≡ s ∷ ss → v₇ ≡ m ∷ ms → vs ≡ q ∷ (pt ++ (w ∷ (ws ++ (s ∷ (ss ++ (m ∷ ms))))))
+glued : (pt : List ℕ) {vs v₁ v₂ v₃ v₄ v₅ v₆ v₇ ws ss ms : List ℕ} {q w s m : ℕ} →
+    vs ≡ v₁ ++ v₂ → v₁ ≡ q ∷ [] → v₂ ≡ pt ++ v₃ → v₃ ≡ v₄ ++ v₅ → v₄ ≡ w ∷ ws → v₅ ≡ v₆ ++ v₇ → v₆ ≡ s ∷ ss → v₇ ≡ m ∷ ms →
+    vs ≡ q ∷ (pt ++ (w ∷ (ws ++ (s ∷ (ss ++ (m ∷ ms))))))
 glued pt a b c d e f g h = cc
 
 module _ (D : Spelt) where
@@ -94,7 +94,8 @@ module _ (D : Spelt) where
 
     are-points : (k : ℕ) (got vs ds : List ℕ) → Kept q s b got → Many (Parses D (point F)) k got vs ds → Points s k vs
     unfolding point
-    are-points = many-pairs D (Kept q s b) (kept-more q s b) (λ v. v < s) (λ _. Unit {0}) (F .semaphore-width) 8 a-semaphore any-number is-semaphore (λ _ _ _ _. tt)
+    are-points = many-pairs D (Kept q s b) (kept-more q s b) (λ v. v < s) (λ _. Unit {0}) (F .semaphore-width) 8 a-semaphore any-number is-semaphore
+        (λ _ _ _ _. tt)
 
     are-marks : (k : ℕ) (got vs ds : List ℕ) → Kept q s b got → Many (Parses D mark) k got vs ds → Marks b k vs
     unfolding mark
@@ -132,8 +133,12 @@ module _ (D : Spelt) where
           few-waits = cw .most;
           few-signals = cs .most;
           few-marks = cm .most;
-          waited = are-points (cw .count) (got₂ ++ (cw .count ∷ [])) (cw .entries) (cw .spelling) (kept-more q s b got₂ (cw .count ∷ []) g₂) (cw .many);
-          signalled = are-points (cs .count) (got₃ ++ (cs .count ∷ [])) (cs .entries) (cs .spelling) (kept-more q s b got₃ (cs .count ∷ []) g₃) (cs .many);
-          marked = are-marks (cm .count) (got₄ ++ (cm .count ∷ [])) (cm .entries) (cm .spelling) (kept-more q s b got₄ (cm .count ∷ []) g₄) (cm .many);
-          numbers-are = glued (p₁ .vs₁) (p .numbers-are) (o .holds .numbers-are) (p₁ .numbers-are) (p₂ .numbers-are) (cw .numbers-are) (p₃ .numbers-are) (cs .numbers-are) (cm .numbers-are);
+          waited = are-points (cw .count) (got₂ ++ (cw .count ∷ [])) (cw .entries) (cw .spelling) (kept-more q s b got₂ (cw .count ∷ []) g₂)
+              (cw .many);
+          signalled = are-points (cs .count) (got₃ ++ (cs .count ∷ [])) (cs .entries) (cs .spelling) (kept-more q s b got₃ (cs .count ∷ []) g₃)
+              (cs .many);
+          marked = are-marks (cm .count) (got₄ ++ (cm .count ∷ [])) (cm .entries) (cm .spelling) (kept-more q s b got₄ (cm .count ∷ []) g₄)
+              (cm .many);
+          numbers-are = glued (p₁ .vs₁) (p .numbers-are) (o .holds .numbers-are) (p₁ .numbers-are) (p₂ .numbers-are) (cw .numbers-are)
+              (p₃ .numbers-are) (cs .numbers-are) (cm .numbers-are);
         }

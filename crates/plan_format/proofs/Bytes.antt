@@ -1,6 +1,6 @@
 -- Numbers as little-endian bytes and back. Assumes nothing.
-use mathlib.Core.Path.{_≡_, refl, sym, ap, _∙_}
-use mathlib.Core.Bool.{Bool, true, false, _&&_}
+use mathlib.Core.Path.{_≡_, refl, ap}
+use mathlib.Core.Bool.{true}
 use mathlib.Core.List.{List, [], _∷_, _++_}
 use Prim.Native.Nat.{ℕ, zero, suc, _+_, _*_, _/_, _%_, _^_, _≤_, _<_, zero-le}
 use native.Mathlib.Nat.{pow-suc, pow-le-pow-right, not-suc-le-zero}
@@ -16,7 +16,7 @@ use Rattle.plan_format.specs.Stored.{all-bytes}
 pub length-digits : (w v : ℕ) → length (digits w v) ≡ w
 unfolding digits
 length-digits zero v = refl
-length-digits (suc w) v = ap suc (length-digits w (v / 256))
+length-digits (suc w) v = ap suc (length-digits w _)
 
 pub value-digits : (w v : ℕ) (more : List ℕ) → v < 256 ^ w → value (take w (digits w v ++ more)) ≡ v
 unfolding value digits
@@ -29,7 +29,8 @@ value-digits (suc w) v more h =
 pub digits-bytes : (w v : ℕ) → all-bytes (digits w v) ≡ true
 unfolding all-bytes all digits
 digits-bytes zero v = refl
-digits-bytes (suc w) v = and-both (ltb (v % 256) 256) (all (λ b. ltb b 256) (digits w (v / 256))) (lt-ltb (v % 256) 256 (omega arith)) (digits-bytes w (v / 256))
+digits-bytes (suc w) v = and-both (ltb (v % 256) 256) (all (λ b. ltb b 256) (digits w (v / 256))) (lt-ltb (v % 256) 256 (omega arith))
+    (digits-bytes w (v / 256))
 
 module _ (x : ℕ) (xs : List ℕ) (h : all-bytes (x ∷ xs) ≡ true) where
   bytes-head : x < 256
@@ -49,7 +50,8 @@ pub bytes-append : (xs ys : List ℕ) → all-bytes xs ≡ true → all-bytes ys
 unfolding all-bytes all
 bytes-append [] ys a b = b
 bytes-append (x ∷ xs) ys a b =
-    and-both (ltb x 256) (all (λ z. ltb z 256) (xs ++ ys)) (and-left (ltb x 256) (all (λ z. ltb z 256) xs) a) (bytes-append xs ys (bytes-tail x xs a) b)
+    and-both (ltb x 256) (all (λ z. ltb z 256) (xs ++ ys)) (and-left (ltb x 256) (all (λ z. ltb z 256) xs) a)
+    (bytes-append xs ys (bytes-tail x xs a) b)
 
 pub value-below : (w : ℕ) (xs : List ℕ) → all-bytes xs ≡ true → value (take w xs) < 256 ^ w
 unfolding value

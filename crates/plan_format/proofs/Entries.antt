@@ -1,5 +1,5 @@
 -- Entries of one field each, and of two fields each: as many numbers as there are fields, each passing its check. Assumes nothing.
-use mathlib.Core.Path.{_≡_, refl, sym, ap, _∙_, subst}
+use mathlib.Core.Path.{_≡_, sym, ap, _∙_, subst}
 use mathlib.Core.List.{List, [], _∷_, _++_, append-assoc, append-nil}
 use Prim.Native.Nat.{ℕ, zero, suc, _+_, _*_, _≤_, _<_}
 use native.Mathlib.Nat.{not-suc-le-zero, le-of-suc-le-suc}
@@ -32,11 +32,13 @@ pairs-cons P Q k a b vs p q r = record { long = omega (arith, r .long); firsts =
   where
     firsts : (i : ℕ) → i < suc k → P (getD (a ∷ b ∷ vs) (2 * i) 0)
     firsts zero l = p
-    firsts (suc i) l = subst (λ z. P (getD (a ∷ b ∷ vs) z 0)) (let e : suc (suc (2 * i)) ≡ 2 * suc i = omega arith in e) (r .firsts i (le-of-suc-le-suc l))
+    firsts (suc i) l = subst (λ z. P (getD (a ∷ b ∷ vs) z 0)) (let e : suc (suc (2 * i)) ≡ 2 * suc i = omega arith in e)
+        (r .firsts i (le-of-suc-le-suc l))
 
     seconds : (i : ℕ) → i < suc k → Q (getD (a ∷ b ∷ vs) (2 * i + 1) 0)
     seconds zero l = q
-    seconds (suc i) l = subst (λ z. Q (getD (a ∷ b ∷ vs) z 0)) (let e : suc (suc (2 * i + 1)) ≡ 2 * suc i + 1 = omega arith in e) (r .seconds i (le-of-suc-le-suc l))
+    seconds (suc i) l = subst (λ z. Q (getD (a ∷ b ∷ vs) z 0)) (let e : suc (suc (2 * i + 1)) ≡ 2 * suc i + 1 = omega arith in e)
+        (r .seconds i (le-of-suc-le-suc l))
 
 -- a count within its limits, and as many entries
 pub record Listing (l m : ℕ) (P : Takes) (got vs : List ℕ) : Type 0 where
@@ -68,7 +70,9 @@ module _ (D : Spelt) where
   many-fields w c (suc k) got vs ds p =
       let f = p .first .holds in
       rw (p .numbers-are, f .numbers-are)
-      (row-cons c got k (p .first .number) (p .vs₂) (f .passes) (many-fields w c k (got ++ (p .first .number ∷ [])) (p .vs₂) (p .ds₂) (subst (λ z. Many (Field D w c) k (got ++ z) (p .vs₂) (p .ds₂)) (f .numbers-are) (p .second))))
+      (row-cons c got k (p .first .number) (p .vs₂) (f .passes)
+      (many-fields w c k (got ++ (p .first .number ∷ [])) (p .vs₂) (p .ds₂)
+      (subst (λ z. Many (Field D w c) k (got ++ z) (p .vs₂) (p .ds₂)) (f .numbers-are) (p .second))))
 
   -- a check says P or Q wherever G holds of the numbers read before, and G stays
   module _ (G : List ℕ → Type 0) (stays : (got vs : List ℕ) → G got → G (got ++ vs)) (P Q : ℕ → Type 0) (w₁ w₂ : ℕ) (c₁ c₂ : Check)
@@ -80,5 +84,6 @@ module _ (D : Spelt) where
         let x = p .first .first in
         let y = p .first .second in
         rw (p .numbers-are, p .first .numbers-are, x .holds .numbers-are, y .holds .numbers-are)
-        (pairs-cons P Q k (x .number) (y .number) (p .vs₂) (is-P got (x .number) g (x .holds .passes)) (is-Q (got ++ p .first .vs₁) (y .number) (stays got (p .first .vs₁) g) (y .holds .passes))
+        (pairs-cons P Q k (x .number) (y .number) (p .vs₂) (is-P got (x .number) g (x .holds .passes))
+        (is-Q (got ++ p .first .vs₁) (y .number) (stays got (p .first .vs₁) g) (y .holds .passes))
         (many-pairs k (got ++ p .vs₁) (p .vs₂) (p .ds₂) (stays got (p .vs₁) g) (p .second)))

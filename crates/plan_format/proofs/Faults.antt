@@ -1,6 +1,6 @@
 -- After a fault nothing is read: a reading that ends without a fault began without one. Assumes nothing.
 use mathlib.Core.Path.{_≡_, refl, sym, ap, _∙_}
-use mathlib.Core.Bool.{Bool, true, false, _||_, cond}
+use mathlib.Core.Bool.{true}
 use Prim.Native.Nat.{ℕ, zero, suc}
 use Rattle.basics.proofs.Tests.{by-cases, clash}
 use Rattle.plan_format.specs.Refusal.{given}

@@ -1,6 +1,6 @@
 -- One field, read without a fault; what a count's check asks; the sources whose fields are read as they are shown. Assumes nothing.
 use mathlib.Core.Path.{_≡_, refl}
-use mathlib.Core.Bool.{Bool, true, false, _||_, cond}
+use mathlib.Core.Bool.{Bool, true, false, cond}
 use mathlib.Core.List.{List, [], _∷_, _++_}
 use Prim.Native.Nat.{ℕ, _+_, _≤_}
 use native.Mathlib.Omega.{arith}
@@ -45,7 +45,8 @@ module _ (S : Source) (w : ℕ) (c : ℕ → ℕ) where
   unfolding field-number
   field-zero r l p f = rw (le-ltb (length r) (S .wide w) l, eq-eqb (c (S .front w r)) 0 p, f)
 
-  pub field-reads : (s : Scan) → s .fault .number ≡ 0 → S .wide w ≤ length (s .rest) → c (S .front w (s .rest)) ≡ 0 → S .fits w (S .front w (s .rest)) ≡ true →
+  pub field-reads : (s : Scan) → s .fault .number ≡ 0 → S .wide w ≤ length (s .rest) → c (S .front w (s .rest)) ≡ 0 →
+      S .fits w (S .front w (s .rest)) ≡ true →
       read-field S w c s ≡ scan (drop (S .wide w) (s .rest)) (s .place + S .wide w) (s .got ++ (S .front w (s .rest) ∷ [])) (s .fault)
   unfolding read-field
   field-reads s e l p f = rw (zero-not-given (s .fault) e, eq-eqb (field-number S w c (s .rest)) 0 (field-zero (s .rest) l p f))

@@ -1,6 +1,6 @@
 -- Refusals: given or not, and the first of two. Assumes nothing.
-use mathlib.Core.Path.{_≡_, refl}
-use mathlib.Core.Bool.{Bool, true, false}
+use mathlib.Core.Path.{_≡_}
+use mathlib.Core.Bool.{true, false}
 use Prim.Native.Nat.{ℕ}
 use native.Mathlib.Omega.{arith}
 use lib.Dec.{eqb}
@@ -33,7 +33,8 @@ module _ (a b : Refusal) where
 
   pub or-else-none : or-else a b .number ≡ 0 → (a .number ≡ 0) × (b .number ≡ 0)
   or-else-none e =
-      by-cases (given a) (λ t. let z : a .number ≡ 0 = rw (or-else-first t) at e in absurd (let y : _≡_ {A = ℕ} 0 1 = cc (zero-not-given a z) in omega arith))
+      by-cases (given a) (λ t. let z : a .number ≡ 0 = rw (or-else-first t) at e in absurd
+      (let y : _≡_ {A = ℕ} 0 1 = cc (zero-not-given a z) in omega arith))
       (λ f. let z = not-given-zero a f in (z, rw (or-else-second z) at e))
 
 -- a refusal by some number

@@ -1,9 +1,9 @@
 -- A largest plan: every list as long as its limit allows; so the greatest sizes are reached. Assumes nothing.
-use mathlib.Core.Path.{_≡_, refl, sym, ap, ap₂, _∙_, subst}
-use mathlib.Core.Bool.{Bool, true, false, _&&_}
+use mathlib.Core.Path.{_≡_, refl, ap, _∙_}
+use mathlib.Core.Bool.{Bool, true}
 use mathlib.Core.List.{List, [], _∷_, _++_, append-assoc, append-nil}
-use Prim.Native.Nat.{ℕ, zero, suc, _+_, _*_, _^_, _≤_, _<_}
-use native.Mathlib.Nat.{suc-mul, not-suc-le-zero}
+use Prim.Native.Nat.{ℕ, zero, suc, _+_, _*_, _^_, _<_}
+use native.Mathlib.Nat.{not-suc-le-zero}
 use native.Mathlib.Omega.{arith}
 use lib.Dec.{ltb, eqb, lit<, lit≤}
 use lib.ListN.{length, getD, take, length-append}
@@ -11,83 +11,15 @@ use borrow.Author.Tests.{ltb-true, lt-ltb, eqb-true, eqb-false}
 use Rattle.basics.specs.Lists.{member, all-below, tabulate-from}
 use Rattle.basics.proofs.Tests.{by-cases, and-left, and-right}
 use Rattle.plan_format.specs.Refusal.{none-given}
-use Rattle.plan_format.specs.Grammar.{Check, Grammar, counted, digits, scan, count-check}
+use Rattle.plan_format.specs.Grammar.{Grammar, counted, scan}
 use Rattle.plan_format.specs.Form.{first-form, queue-count, semaphore-count, buffer-count, any-number, below, new-axis, a-queue, a-semaphore, a-buffer, a-kind, point, mark, part, operation, plan-grammar}
 use Rattle.plan_format.specs.Stored.{listed, spelled}
-use Rattle.plan_format.proofs.Bytes.{length-digits}
-use Rattle.plan_format.proofs.Parses.{Takes, Exact, Nothing, Then, Many, Holds, Field, Counted, Parses}
-use Rattle.plan_format.proofs.Fields.{count-passes}
+use Rattle.plan_format.proofs.Parses.{Takes, Exact, Nothing, Then, Field, Counted, Parses}
 use Rattle.plan_format.proofs.Entries.{Row}
-use Rattle.plan_format.proofs.Blocks.{Counts, Kept, kept-now, kept-more}
+use Rattle.plan_format.proofs.Making.{Spells-in, a-field, after, a-list, no-more, repeated, repeated-long, entries, row-entries}
+use Rattle.plan_format.proofs.Blocks.{Kept, kept-now, kept-more}
 use Rattle.plan_format.proofs.Sections.{sections-kept}
 use Rattle.plan_format.proofs.RoundTrip.{spelled-parsed, numbers-whole}
-
--- ---- parses of given numbers, with the length of their bytes
-record Spells-in (P : Takes) (n : ℕ) (got vs : List ℕ) : Type 0 where
-  ds : List ℕ
-  parsed : P got vs ds
-  long : length ds ≡ n
-
-a-field : (w : ℕ) (c : Check) (got : List ℕ) (v : ℕ) → v < 256 ^ w → c got v ≡ 0 → Spells-in (Field Exact w c) w got (v ∷ [])
-a-field w c got v l e = record {
-  ds = digits w v;
-  parsed = record { number = v; holds = record { passes = e; spelt = record { fits = l; bytes-are = refl }; numbers-are = refl } };
-  long = length-digits w v;
-}
-
-after : (P Q : Takes) (n m : ℕ) (got vs vs′ : List ℕ) → Spells-in P n got vs → Spells-in Q m (got ++ vs) vs′ → Spells-in (Then P Q) (n + m) got (vs ++ vs′)
-after P Q n m got vs vs′ a b = record {
-  ds = a .ds ++ b .ds;
-  parsed = record { vs₁ = vs; vs₂ = vs′; ds₁ = a .ds; ds₂ = b .ds; first = a .parsed; second = b .parsed; numbers-are = refl; bytes-are = refl };
-  long = length-append (a .ds) (b .ds) ∙ ap₂ _+_ (a .long) (b .long);
-}
-
-a-list : (l m w : ℕ) (P : Takes) (n k : ℕ) (got vs : List ℕ) → l ≤ k → k ≤ m → k < 256 ^ w → Spells-in (Many P k) n (got ++ (k ∷ [])) vs → Spells-in (Counted Exact l m w P) (w + n) got (k ∷ vs)
-a-list l m w P n k got vs a b f e =
-    let H : Takes = Holds Exact w (λ _ v. count-check l m v) k in
-    let h : Spells-in H w got (k ∷ []) = record {
-      ds = digits w k;
-      parsed = record { passes = count-passes l m k a b; spelt = record { fits = f; bytes-are = refl }; numbers-are = refl };
-      long = length-digits w k;
-    } in
-    let both = after H (Many P k) w n got (k ∷ []) vs h e in
-    record { ds = both .ds; parsed = record { count = k; parts = both .parsed }; long = both .long }
-
-no-more : (P : Takes) (got : List ℕ) → Spells-in (Many P 0) 0 got []
-no-more P got = record { ds = []; parsed = record { numbers-are = refl; bytes-are = refl }; long = refl }
-
--- the same entry over and over, where it parses after all that begins in one way
-repeated : (k : ℕ) → List ℕ → List ℕ
-repeated zero xs = []
-repeated (suc k) xs = xs ++ repeated k xs
-
-repeated-long : (k : ℕ) (xs : List ℕ) → length (repeated k xs) ≡ k * length xs
-unfolding repeated
-repeated-long zero xs = omega arith
-repeated-long (suc k) xs = length-append xs (repeated k xs) ∙ omega (arith, repeated-long k xs, suc-mul k (length xs))
-
-module _ (G : List ℕ → Type 0) (stays : (got vs : List ℕ) → G got → G (got ++ vs)) (P : Takes) (n : ℕ) (vs : List ℕ) (entry : (got : List ℕ) → G got → Spells-in P n got vs) where
-  entries : (k : ℕ) (got : List ℕ) → G got → Spells-in (Many P k) (k * n) got (repeated k vs)
-  unfolding repeated
-  entries zero got g = subst (λ z. Spells-in (Many P 0) z got []) (let e : 0 ≡ 0 * n = omega arith in e) (no-more P got)
-  entries (suc k) got g =
-      subst (λ z. Spells-in (Many P (suc k)) z got (repeated (suc k) vs)) (let e : n + k * n ≡ suc k * n = omega (arith, suc-mul k n) in e)
-      (after P (Many P k) n (k * n) got vs (repeated k vs) (entry got g) (entries k (got ++ vs) (stays got vs g)))
-
--- fields in a row, each of which passes
-row-entries : (w : ℕ) (c : Check) (k : ℕ) (got vs : List ℕ) → Row c got k vs → ((i : ℕ) → i < k → getD vs i 0 < 256 ^ w) → Spells-in (Many (Field Exact w c) k) (k * w) got vs
-row-entries w c zero got [] r f = subst (λ z. Spells-in Nothing z got []) (let e : 0 ≡ 0 * w = omega arith in e) (no-more (Field Exact w c) got)
-row-entries w c zero got (v ∷ vs) r f = absurd (omega (arith, r .long))
-row-entries w c (suc k) got [] r f = absurd (omega (arith, r .long))
-row-entries w c (suc k) got (v ∷ vs) r f =
-    let rest : Row c (got ++ (v ∷ [])) k vs = record {
-      long = omega (arith, r .long);
-      pass = λ i l. ap (λ z. c z (getD vs i 0)) (append-assoc got (v ∷ []) (take i vs)) ∙ r .pass (suc i) (omega arith);
-    } in
-    let e : w + k * w ≡ suc k * w = omega (arith, suc-mul k w) in
-    let here : c got v ≡ 0 = rw append-nil at (r .pass 0 (omega arith)) in
-    subst (λ z. Spells-in (Many (Field Exact w c) (suc k)) z got (v ∷ vs)) e
-    (after (Field Exact w c) (Many (Field Exact w c) k) w (k * w) got (v ∷ []) vs (a-field w c got v (f 0 (omega arith)) here) (row-entries w c k (got ++ (v ∷ [])) vs rest (λ i l. f (suc i) (omega arith))))
 
 -- ---- the largest plan
 axes : List ℕ
@@ -138,13 +70,15 @@ point-entry : (got : List ℕ) → K got → Spells-in (Parses Exact (point firs
 unfolding point first-form pair a-semaphore any-number
 point-entry got k =
     after (Field Exact 1 a-semaphore) (Field Exact 8 any-number) 1 8 got (0 ∷ []) (0 ∷ [])
-    (a-field 1 a-semaphore got 0 (lit< tt) (passes-below (semaphore-count got) 0 64 (kept-now 16 64 256 got k .semaphores) (lit< tt))) (a-field 8 any-number (got ++ (0 ∷ [])) 0 (lit< tt) refl)
+    (a-field 1 a-semaphore got 0 (lit< tt) (passes-below (semaphore-count got) 0 64 (kept-now 16 64 256 got k .semaphores) (lit< tt)))
+    (a-field 8 any-number (got ++ (0 ∷ [])) 0 (lit< tt) refl)
 
 mark-entry : (got : List ℕ) → K got → Spells-in (Parses Exact mark) 3 got pair
 unfolding mark pair a-buffer a-kind below
 mark-entry got k =
     after (Field Exact 2 a-buffer) (Field Exact 1 a-kind) 2 1 got (0 ∷ []) (0 ∷ [])
-    (a-field 2 a-buffer got 0 (lit< tt) (passes-below (buffer-count got) 0 256 (kept-now 16 64 256 got k .buffers) (lit< tt))) (a-field 1 a-kind (got ++ (0 ∷ [])) 0 (lit< tt) refl)
+    (a-field 2 a-buffer got 0 (lit< tt) (passes-below (buffer-count got) 0 256 (kept-now 16 64 256 got k .buffers) (lit< tt)))
+    (a-field 1 a-kind (got ++ (0 ∷ [])) 0 (lit< tt) refl)
 
 -- k points or marks after their count
 pairs-list : (g : Grammar) (n m : ℕ) → ((got : List ℕ) → K got → Spells-in (Parses Exact g) n got pair) → m < 256 ^ 1 → (got : List ℕ) → K got →
@@ -168,7 +102,8 @@ operation-entry got k =
     (a-field 1 a-queue got 0 (lit< tt) (passes-below (queue-count got) 0 16 (kept-now 16 64 256 got k .queues) (lit< tt)))
     (after Nothing (Then P (Then Q R)) 0 60 got₁ [] (filled 3 ++ (filled 2 ++ filled 4)) (no-more Nothing got₁)
     (after P (Then Q R) 28 32 (got₁ ++ []) (filled 3) (filled 2 ++ filled 4) (pairs-list (point first-form) 9 3 point-entry (lit< tt) (got₁ ++ []) k₁)
-    (after Q R 19 13 got₂ (filled 2) (filled 4) (pairs-list (point first-form) 9 2 point-entry (lit< tt) got₂ k₂) (pairs-list mark 3 4 mark-entry (lit< tt) (got₂ ++ filled 2) (kept-more 16 64 256 got₂ (filled 2) k₂)))))
+    (after Q R 19 13 got₂ (filled 2) (filled 4) (pairs-list (point first-form) 9 2 point-entry (lit< tt) got₂ k₂)
+    (pairs-list mark 3 4 mark-entry (lit< tt) (got₂ ++ filled 2) (kept-more 16 64 256 got₂ (filled 2) k₂)))))
 
 -- ---- the whole
 -- the queues are known from the first number on
@@ -180,21 +115,25 @@ unfolding a-queue
 owner-entry got k = a-field 1 a-queue got 0 (lit< tt) (passes-below (queue-count got) 0 16 (rw append-nil at (k [])) (lit< tt))
 
 axes-spell : Spells-in (Counted Exact 0 16 1 (Field Exact 8 new-axis)) 129 [] (16 ∷ axes)
-axes-spell = a-list 0 16 1 (Field Exact 8 new-axis) 128 16 [] axes (lit≤ tt) (lit≤ tt) (lit< tt) (row-entries 8 new-axis 16 (16 ∷ []) axes axes-row axes-small)
+axes-spell = a-list 0 16 1 (Field Exact 8 new-axis) 128 16 [] axes (lit≤ tt) (lit≤ tt) (lit< tt)
+    (row-entries 8 new-axis 16 (16 ∷ []) axes axes-row axes-small)
 
 owners-spell : Spells-in (Counted Exact 0 64 1 (Field Exact 1 a-queue)) 65 (16 ∷ axes) (64 ∷ owners)
 unfolding owners queue-count
 owners-spell =
     a-list 0 64 1 (Field Exact 1 a-queue) 64 64 (16 ∷ axes) owners (lit≤ tt) (lit≤ tt) (lit< tt)
-    (entries Sixteen (λ got vs k more. rw append-assoc (k (vs ++ more))) (Field Exact 1 a-queue) 1 (0 ∷ []) owner-entry 64 ((16 ∷ axes) ++ (64 ∷ [])) (λ more. refl))
+    (entries Sixteen (λ got vs k more. rw append-assoc (k (vs ++ more))) (Field Exact 1 a-queue) 1 (0 ∷ []) owner-entry 64 ((16 ∷ axes) ++ (64 ∷ []))
+    (λ more. refl))
 
 sizes-spell : (got : List ℕ) → Spells-in (Counted Exact 0 256 2 (Field Exact 4 any-number)) 1026 got (256 ∷ sizes)
 unfolding sizes any-number
 sizes-spell got =
     a-list 0 256 2 (Field Exact 4 any-number) 1024 256 got sizes (lit≤ tt) (lit≤ tt) (lit< tt)
-    (entries (λ _. Unit {0}) (λ _ _ _. tt) (Field Exact 4 any-number) 4 (0 ∷ []) (λ g _. a-field 4 any-number g 0 (lit< tt) refl) 256 (got ++ (256 ∷ [])) tt)
+    (entries (λ _. Unit {0}) (λ _ _ _. tt) (Field Exact 4 any-number) 4 (0 ∷ []) (λ g _. a-field 4 any-number g 0 (lit< tt) refl) 256
+    (got ++ (256 ∷ [])) tt)
 
-operations-spell : (got : List ℕ) → K (got ++ (1024 ∷ [])) → Spells-in (Counted Exact 0 1024 2 (Parses Exact (operation first-form))) 62466 got (1024 ∷ repeated 1024 largest-operation)
+operations-spell : (got : List ℕ) → K (got ++ (1024 ∷ [])) →
+    Spells-in (Counted Exact 0 1024 2 (Parses Exact (operation first-form))) 62466 got (1024 ∷ repeated 1024 largest-operation)
 operations-spell got k =
     a-list 0 1024 2 (Parses Exact (operation first-form)) 62464 1024 got (repeated 1024 largest-operation) (lit≤ tt) (lit≤ tt) (lit< tt)
     (entries K (kept-more 16 64 256) (Parses Exact (operation first-form)) 61 largest-operation operation-entry 1024 (got ++ (1024 ∷ [])) k)

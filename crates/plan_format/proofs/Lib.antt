@@ -18,4 +18,7 @@ pub mod Sections
 pub mod Shape
 pub mod Plans
 pub mod Sizes
+pub mod Making
 pub mod Largest
+pub mod Prefix
+pub mod Widths

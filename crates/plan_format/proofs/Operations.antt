@@ -12,7 +12,8 @@ use Rattle.plan_format.proofs.Seams.{at-seam, after-seam}
 use Rattle.plan_format.proofs.Blocks.{Block}
 
 -- ---- one operation
-module _ (F : Form) (q : ℕ) (part : List ℕ) (w s m : ℕ) (ws ss ms : List ℕ) (lp : suc (length part) ≡ heading F) (lw : length ws ≡ 2 * w) (ls : length ss ≡ 2 * s)
+module _ (F : Form) (q : ℕ) (part : List ℕ) (w s m : ℕ) (ws ss ms : List ℕ) (lp : suc (length part) ≡ heading F) (lw : length ws ≡ 2 * w)
+    (ls : length ss ≡ 2 * s)
     (lm : length ms ≡ 2 * m) (rest : List ℕ) where
   block : List ℕ
   block = q ∷ (part ++ (w ∷ (ws ++ (s ∷ (ss ++ (m ∷ ms))))))
@@ -39,7 +40,8 @@ module _ (F : Form) (q : ℕ) (part : List ℕ) (w s m : ℕ) (ws ss ms : List �
   at-s = at-seam whole (q ∷ (part ++ (w ∷ ws))) (ss ++ (m ∷ (ms ++ rest))) s (heading F + 1 + 2 * w) split-s (simp length-append (omega arith))
 
   at-m : getD whole (heading F + 2 + 2 * w + 2 * s) 0 ≡ m
-  at-m = at-seam whole (q ∷ (part ++ (w ∷ (ws ++ (s ∷ ss))))) (ms ++ rest) m (heading F + 2 + 2 * w + 2 * s) split-m (simp length-append (omega arith))
+  at-m = at-seam whole (q ∷ (part ++ (w ∷ (ws ++ (s ∷ ss))))) (ms ++ rest) m (heading F + 2 + 2 * w + 2 * s) split-m
+      (simp length-append (omega arith))
 
   long-is : operation-long F whole ≡ length block
   unfolding operation-long block
@@ -48,7 +50,18 @@ module _ (F : Form) (q : ℕ) (part : List ℕ) (w s m : ℕ) (ws ss ms : List �
   operation-is : operation-in F whole ≡ record { queue = q; waits = points-in w ws; signals = points-in s ss; marks = marks-in m ms }
   unfolding operation-in
   operation-is =
-      rw (at-q, at-w, at-s, at-m, to-w, to-s, to-m, points-front w ws (s ∷ (ss ++ (m ∷ (ms ++ rest)))) lw, points-front s ss (m ∷ (ms ++ rest)) ls, marks-front m ms rest lm)
+      rw (
+        at-q,
+        at-w,
+        at-s,
+        at-m,
+        to-w,
+        to-s,
+        to-m,
+        points-front w ws (s ∷ (ss ++ (m ∷ (ms ++ rest)))) lw,
+        points-front s ss (m ∷ (ms ++ rest)) ls,
+        marks-front m ms rest lm,
+      )
     where
       at-q : getD whole 0 0 ≡ q
       at-q = ap (λ z. getD z 0 0) split-w
@@ -60,22 +73,31 @@ module _ (F : Form) (q : ℕ) (part : List ℕ) (w s m : ℕ) (ws ss ms : List �
       to-s = after-seam whole (q ∷ (part ++ (w ∷ ws))) (ss ++ (m ∷ (ms ++ rest))) s (heading F + 2 + 2 * w) split-s (simp length-append (omega arith))
 
       to-m : drop (heading F + 3 + 2 * w + 2 * s) whole ≡ ms ++ rest
-      to-m = after-seam whole (q ∷ (part ++ (w ∷ (ws ++ (s ∷ ss))))) (ms ++ rest) m (heading F + 3 + 2 * w + 2 * s) split-m (simp length-append (omega arith))
+      to-m = after-seam whole (q ∷ (part ++ (w ∷ (ws ++ (s ∷ ss))))) (ms ++ rest) m (heading F + 3 + 2 * w + 2 * s) split-m
+          (simp length-append (omega arith))
 
 module _ (F : Form) (q s b : ℕ) where
   abbrev pub operation-of : (xs : List ℕ) → Block F q s b xs → Operation
-  operation-of xs k = record { queue = k .queue; waits = points-in (k .waits) (k .ws); signals = points-in (k .signals) (k .ss); marks = marks-in (k .marks) (k .ms) }
+  operation-of xs k = record {
+    queue = k .queue;
+    waits = points-in (k .waits) (k .ws);
+    signals = points-in (k .signals) (k .ss);
+    marks = marks-in
+        (k .marks) (k .ms);
+  }
 
   pub block-long : (xs rest : List ℕ) → Block F q s b xs → operation-long F (xs ++ rest) ≡ length xs
   unfolding whole block
   block-long xs rest k =
-      rw (k .numbers-are) (long-is F (k .queue) (k .part) (k .waits) (k .signals) (k .marks) (k .ws) (k .ss) (k .ms) (k .part-long) (k .waited .long) (k .signalled .long) (k .marked .long) rest)
+      rw (k .numbers-are) (long-is F (k .queue) (k .part) (k .waits) (k .signals) (k .marks) (k .ws) (k .ss) (k .ms) (k .part-long) (k .waited .long)
+      (k .signalled .long) (k .marked .long) rest)
 
   pub block-operation : (xs rest : List ℕ) (k : Block F q s b xs) → operation-in F (xs ++ rest) ≡ operation-of xs k
   unfolding whole block
   block-operation xs rest k =
       ap (λ z. operation-in F (z ++ rest)) (k .numbers-are)
-      ∙ operation-is F (k .queue) (k .part) (k .waits) (k .signals) (k .marks) (k .ws) (k .ss) (k .ms) (k .part-long) (k .waited .long) (k .signalled .long) (k .marked .long) rest
+      ∙ operation-is F (k .queue) (k .part) (k .waits) (k .signals) (k .marks) (k .ws) (k .ss) (k .ms) (k .part-long) (k .waited .long)
+      (k .signalled .long) (k .marked .long) rest
 
   -- ---- blocks in a row
   pub record Block-then (More : List ℕ → Type 0) (xs : List ℕ) : Type 0 where
@@ -89,12 +111,15 @@ module _ (F : Form) (q s b : ℕ) where
   Blocks zero xs = xs ≡ []
   Blocks (suc n) xs = Block-then (Blocks n) xs
 
-  pub operations-cons : (n : ℕ) (xs : List ℕ) (k : Blocks (suc n) xs) → operations-in F (suc n) xs ≡ operation-of (k .block) (k .first) ∷ operations-in F n (k .rest)
+  pub operations-cons : (n : ℕ) (xs : List ℕ) (k : Blocks (suc n) xs) →
+      operations-in F (suc n) xs ≡ operation-of (k .block) (k .first) ∷ operations-in F n (k .rest)
   unfolding operations-in
   operations-cons n xs k =
       let e = k .numbers-are in
-      let long : drop (operation-long F (k .block ++ k .rest)) (k .block ++ k .rest) ≡ k .rest = drop-at (k .block) (k .rest) (operation-long F (k .block ++ k .rest)) (sym (block-long (k .block) (k .rest) (k .first))) in
-      ap₂ {C = List Operation} (λ x y. x ∷ operations-in F n y) (ap (λ z. operation-in F z) e ∙ block-operation (k .block) (k .rest) (k .first)) (ap (λ z. drop (operation-long F z) z) e ∙ long)
+      let long : drop (operation-long F (k .block ++ k .rest)) (k .block ++ k .rest) ≡ k .rest = drop-at (k .block) (k .rest)
+      (operation-long F (k .block ++ k .rest)) (sym (block-long (k .block) (k .rest) (k .first))) in
+      ap₂ {C = List Operation} (λ x y. x ∷ operations-in F n y) (ap (λ z. operation-in F z) e ∙ block-operation (k .block) (k .rest) (k .first))
+      (ap (λ z. drop (operation-long F z) z) e ∙ long)
 
 pub operations-long : (F : Form) (n : ℕ) (xs : List ℕ) → length (operations-in F n xs) ≡ n
 unfolding operations-in

@@ -17,7 +17,8 @@ unfolding pairs-in
 pairs-long f zero xs = refl
 pairs-long f (suc k) xs = ap suc (pairs-long f k (drop 2 xs))
 
-pairs-at : {A : Type 0} (f : ℕ → ℕ → A) (d : A) (k : ℕ) (xs : List ℕ) (i : ℕ) → i < k → getD (pairs-in f k xs) i d ≡ f (getD xs (2 * i) 0) (getD xs (2 * i + 1) 0)
+pairs-at : {A : Type 0} (f : ℕ → ℕ → A) (d : A) (k : ℕ) (xs : List ℕ) (i : ℕ) → i < k →
+    getD (pairs-in f k xs) i d ≡ f (getD xs (2 * i) 0) (getD xs (2 * i + 1) 0)
 unfolding pairs-in
 pairs-at f d zero xs i l = absurd (not-suc-le-zero l)
 pairs-at f d (suc k) xs zero l = refl
@@ -54,11 +55,13 @@ points-long k xs = ap length (points-pairs k xs) ∙ pairs-long a-point k xs
 pub marks-long : (k : ℕ) (xs : List ℕ) → length (marks-in k xs) ≡ k
 marks-long k xs = ap length (marks-pairs k xs) ∙ pairs-long a-mark k xs
 
-pub points-at : (d : Point) (k : ℕ) (xs : List ℕ) (i : ℕ) → i < k → getD (points-in k xs) i d ≡ record { semaphore = getD xs (2 * i) 0; value = getD xs (2 * i + 1) 0 }
+pub points-at : (d : Point) (k : ℕ) (xs : List ℕ) (i : ℕ) → i < k →
+    getD (points-in k xs) i d ≡ record { semaphore = getD xs (2 * i) 0; value = getD xs (2 * i + 1) 0 }
 unfolding a-point
 points-at d k xs i l = ap (λ z. getD z i d) (points-pairs k xs) ∙ pairs-at a-point d k xs i l
 
-pub marks-at : (d : Mark) (k : ℕ) (xs : List ℕ) (i : ℕ) → i < k → getD (marks-in k xs) i d ≡ record { buffer = getD xs (2 * i) 0; kind = getD xs (2 * i + 1) 0 }
+pub marks-at : (d : Mark) (k : ℕ) (xs : List ℕ) (i : ℕ) → i < k →
+    getD (marks-in k xs) i d ≡ record { buffer = getD xs (2 * i) 0; kind = getD xs (2 * i + 1) 0 }
 unfolding a-mark
 marks-at d k xs i l = ap (λ z. getD z i d) (marks-pairs k xs) ∙ pairs-at a-mark d k xs i l
 

@@ -4,7 +4,7 @@ use mathlib.Core.List.{List}
 use Prim.Native.Nat.{ℕ}
 use Rattle.plan_format.specs.Grammar.{bytes, numbers}
 use Rattle.plan_format.specs.Form.{Form, first-form, scanned-by}
-use Rattle.plan_format.specs.Plan.{plan-of}
+use Rattle.plan_format.specs.Plan.{Plan, plan-of}
 use Rattle.plan_format.specs.Sound.{Sound, rules-refusal}
 use Rattle.plan_format.specs.Stored.{scanned, listed, plan-in, plan-refusal}
 use Rattle.plan_format.proofs.Judged.{or-else-none}
@@ -44,9 +44,13 @@ pub listed-shape : (xs : List ℕ) → listed xs .fault .number ≡ 0 → Shaped
 unfolding listed
 listed-shape xs e = numbers-shape first-form xs e
 
+-- ---- soundness: what refusals 6 to 8 leave of a plan of the right shape
+pub shaped-sound : (F : Form) (p : Plan) → Shaped F p → rules-refusal p .number ≡ 0 → Sound p
+shaped-sound F p s e =
+    record { few-queues = s .few-queues; few-operations = s .few-operations; axes-distinct = s .axes-distinct; in-range = s .in-range; rules = e }
+
 pub sound-in : (bs : List ℕ) → plan-refusal bs .number ≡ 0 → Sound (plan-in bs)
 unfolding plan-refusal
 sound-in bs e =
-    let z = or-else-none (scanned bs .fault) (rules-refusal (plan-in bs)) e in
-    let s = scanned-shape bs (z .0) in
-    record { few-queues = s .few-queues; few-operations = s .few-operations; axes-distinct = s .axes-distinct; in-range = s .in-range; rules = z .1 }
+    let (a, b) = or-else-none (scanned bs .fault) (rules-refusal (plan-in bs)) e in
+    shaped-sound first-form (plan-in bs) (scanned-shape bs a) b

@@ -4,7 +4,7 @@ use mathlib.Core.Bool.{cond}
 use mathlib.Core.List.{List, [], _∷_, _++_, append-assoc, append-nil}
 use Prim.Native.Nat.{ℕ, zero, suc, _+_, _-_}
 use native.Mathlib.Omega.{arith}
-use lib.ListN.{length, getD, drop, length-append, take-append-drop}
+use lib.ListN.{length, drop, length-append, take-append-drop}
 use lib.Seq.{getD-at, drop-append-seam}
 use Rattle.basics.proofs.Tests.{by-cases, clash}
 use Rattle.plan_format.specs.Refusal.{Refusal, given}
@@ -55,7 +55,8 @@ module _ (S : Source) (D : Spelt) (L : Lawful S D) where
   places p vs vs′ ds ds′ = rw (L .view-append vs vs′ ds ds′, length-append) (omega arith)
 
   joined : (t : Scan) (more more′ got vs vs′ ds ds′ : List ℕ) (p : ℕ) (f : Refusal) → t ≡ scan more (p + length (L .view vs ds)) (got ++ vs) f →
-      scan more′ (t .place + length (L .view vs′ ds′)) (t .got ++ vs′) (t .fault) ≡ scan more′ (p + length (L .view (vs ++ vs′) (ds ++ ds′))) (got ++ (vs ++ vs′)) f
+      scan more′ (t .place + length (L .view vs′ ds′)) (t .got ++ vs′) (t .fault) ≡ scan more′ (p + length (L .view (vs ++ vs′) (ds ++ ds′)))
+      (got ++ (vs ++ vs′)) f
   unfolding scan
   joined t more more′ got vs vs′ ds ds′ p f e =
       ap (λ z. scan more′ (z .place + length (L .view vs′ ds′)) (z .got ++ vs′) (z .fault)) e
@@ -83,7 +84,8 @@ module _ (S : Source) (D : Spelt) (L : Lawful S D) where
           numbers-are = refl;
           bytes-are = refl;
         };
-        rest-is = a .rest-is ∙ ap (λ z. x ++ z) (sym rest ∙ b .rest-is) ∙ sym (append-assoc x y (b .more)) ∙ ap (λ z. z ++ b .more) (sym (L .view-append (a .vs) (b .vs) (a .ds) (b .ds)));
+        rest-is = a .rest-is ∙ ap (λ z. x ++ z) (sym rest ∙ b .rest-is) ∙ sym (append-assoc x y (b .more))
+            ∙ ap (λ z. z ++ b .more) (sym (L .view-append (a .vs) (b .vs) (a .ds) (b .ds)));
         result = b .result ∙ joined t (a .more) (b .more) (s .got) (a .vs) (b .vs) (a .ds) (b .ds) (s .place) (s .fault) (a .result);
       }
 
@@ -96,7 +98,8 @@ module _ (S : Source) (D : Spelt) (L : Lawful S D) where
       (subst (L .Clean) (ap (λ z. drop (length x) z) (a .rest-is) ∙ drop-append-seam x (a .more)) (L .clean-drop (length x) (s .rest) c))
 
   -- ---- fields
-  took-field : (w : ℕ) (c : ℕ → ℕ) (s : Scan) → L .Clean (s .rest) → read-field S w c s .fault .number ≡ 0 → Took (Holds D w (λ _ v. c v) (S .front w (s .rest))) s (read-field S w c s)
+  took-field : (w : ℕ) (c : ℕ → ℕ) (s : Scan) → L .Clean (s .rest) → read-field S w c s .fault .number ≡ 0 →
+      Took (Holds D w (λ _ v. c v) (S .front w (s .rest))) s (read-field S w c s)
   took-field w c s k e =
       let d = field-done S w c s e in
       let v = S .front w (s .rest) in
@@ -108,7 +111,8 @@ module _ (S : Source) (D : Spelt) (L : Lawful S D) where
         begun = d .begun;
         parsed = record { passes = d .passes; spelt = t .1; numbers-are = refl };
         rest-is = sym (take-append-drop (S .wide w) (s .rest)) ∙ ap (λ z. z ++ drop (S .wide w) (s .rest)) (t .2);
-        result = d .result ∙ ap (λ n. scan (drop (S .wide w) (s .rest)) (s .place + n) (s .got ++ (v ∷ [])) (s .fault)) (sym (L .wide-is w v (t .0) (t .1)));
+        result = d .result ∙ ap (λ n. scan (drop (S .wide w) (s .rest)) (s .place + n) (s .got ++ (v ∷ [])) (s .fault))
+            (sym (L .wide-is w v (t .0) (t .1)));
       }
 
   -- the count just read is the last number got
@@ -116,13 +120,15 @@ module _ (S : Source) (D : Spelt) (L : Lawful S D) where
   unfolding scan
   took-last w c v s t a =
       sym (last-is (t .rest) (s .got) (t .place) v (t .fault))
-      ∙ ap (λ z. last-got (scan (t .rest) (t .place) z (t .fault))) (sym (ap (λ z. z .got) (a .result) ∙ ap (λ z. s .got ++ z) (a .parsed .numbers-are)))
+      ∙ ap (λ z. last-got (scan (t .rest) (t .place) z (t .fault)))
+      (sym (ap (λ z. z .got) (a .result) ∙ ap (λ z. s .got ++ z) (a .parsed .numbers-are)))
 
   -- ---- every grammar
   abbrev Sound-step : (f : Scan → Scan) → Takes → Type 0
   Sound-step f P = (s : Scan) → L .Clean (s .rest) → f s .fault .number ≡ 0 → Took P s (f s)
 
-  took-times : (g : Grammar) → Sound-step (λ s. read-by S g s) (Parses D g) → (k : ℕ) → Sound-step (λ s. times k (λ t. read-by S g t) s) (Many (Parses D g) k)
+  took-times : (g : Grammar) → Sound-step (λ s. read-by S g s) (Parses D g) → (k : ℕ) →
+      Sound-step (λ s. times k (λ t. read-by S g t) s) (Many (Parses D g) k)
   unfolding times
   took-times g h zero s c e = took-none s e
   took-times g h (suc k) s c e =

@@ -1,8 +1,8 @@
 -- Writing what was read gives the same bytes, reading what was written gives the same numbers, and one plan has one string of bytes. Assumes nothing.
 use mathlib.Core.Path.{_≡_, refl, sym, ap, ap₂, _∙_, subst}
 use mathlib.Core.Bool.{true}
-use mathlib.Core.List.{List, [], _∷_, _++_, append-nil}
-use Prim.Native.Nat.{ℕ, zero, suc, _+_, _*_}
+use mathlib.Core.List.{List, [], _++_, append-nil}
+use Prim.Native.Nat.{ℕ, _*_}
 use native.Mathlib.Omega.{arith}
 use lib.ListN.{length, take, drop, length-append, take-append-drop}
 use lib.Seq.{drop-at}
@@ -21,10 +21,12 @@ use Rattle.plan_format.proofs.Whole.{whole, whole-of}
 module _ (F : Form) where
   pub spelled-parsed : (vs ds : List ℕ) → Parses Exact (plan-grammar F) [] vs ds → spelled-by F vs ≡ F .lead ++ ds
   spelled-parsed vs ds p =
-      ap (λ z. F .lead ++ z) (ap (λ z. spell-by (plan-grammar F) (record { left = z; made = [] }) .made) (sym (append-nil vs)) ∙ ap (λ z. z .made) (spells (plan-grammar F) [] vs ds p [] []))
+      ap (λ z. F .lead ++ z) (ap (λ z. spell-by (plan-grammar F) (record { left = z; made = [] }) .made) (sym (append-nil vs))
+      ∙ ap (λ z. z .made) (spells (plan-grammar F) [] vs ds p [] []))
 
   -- a plan as bytes, and as numbers
-  pub bytes-whole : (vs ds : List ℕ) → Parses Exact (plan-grammar F) [] vs ds → scanned-by bytes F (F .lead ++ ds) ≡ scan [] (length (F .lead ++ ds)) vs none-given
+  pub bytes-whole : (vs ds : List ℕ) → Parses Exact (plan-grammar F) [] vs ds →
+      scanned-by bytes F (F .lead ++ ds) ≡ scan [] (length (F .lead ++ ds)) vs none-given
   unfolding exact-bytes bytes
   bytes-whole vs ds p =
       whole bytes Exact exact-bytes F (F .lead ++ ds) vs ds p (drop-at (F .lead) ds (1 * length (F .lead)) (omega arith))
@@ -33,7 +35,8 @@ module _ (F : Form) where
   pub numbers-whole : (vs ds : List ℕ) → Parses Exact (plan-grammar F) [] vs ds → scanned-by numbers F vs ≡ scan [] (length vs) vs none-given
   unfolding exact-numbers numbers
   numbers-whole vs ds p =
-      whole numbers Exact exact-numbers F vs vs ds p (drop-at [] vs (0 * length (F .lead)) (omega arith)) ∙ ap (λ n. scan [] n vs none-given) (omega arith)
+      whole numbers Exact exact-numbers F vs vs ds p (drop-at [] vs (0 * length (F .lead)) (omega arith))
+      ∙ ap (λ n. scan [] n vs none-given) (omega arith)
 
   -- the bytes of a form begin with its lead
   abbrev pub Led : List ℕ → Type 0
@@ -55,9 +58,9 @@ module _ (F : Form) where
       let none : 0 * length (F .lead) ≡ 0 = omega arith in
       (w .ds, subst (λ z. Parses Exact (plan-grammar F) [] z (w .ds)) (sym (w .shown) ∙ ap (λ n. drop n xs) none) (w .parsed))
 
-  -- numbers that the writer takes as they are, and the bytes it writes
+  -- the writer takes the numbers read as they are, and writes the bytes read
   pub record Written-back (bs : List ℕ) : Type 0 where
-    pub result : scanned-by numbers F (scanned-by bytes F bs .got) ≡ scan [] (length (scanned-by bytes F bs .got)) (scanned-by bytes F bs .got) none-given
+    pub result : let xs = scanned-by bytes F bs .got in scanned-by numbers F xs ≡ scan [] (length xs) xs none-given
     pub bytes-are : spelled-by F (scanned-by bytes F bs .got) ≡ bs
 
   pub write-back : (bs : List ℕ) → all-bytes bs ≡ true → Led bs → scanned-by bytes F bs .fault .number ≡ 0 → Written-back bs
@@ -66,6 +69,7 @@ module _ (F : Form) where
       let xs = scanned-by bytes F bs .got in
       record { result = numbers-whole xs ds p; bytes-are = spelled-parsed xs ds p ∙ sym is }
 
+  -- the reader gets the numbers written
   pub record Read-back (xs : List ℕ) : Type 0 where
     pub are-bytes : all-bytes (spelled-by F xs) ≡ true
     pub result : scanned-by bytes F (spelled-by F xs) ≡ scan [] (length (spelled-by F xs)) xs none-given
@@ -79,8 +83,8 @@ module _ (F : Form) where
         result = ap (λ z. scanned-by bytes F z) s ∙ bytes-whole xs ds p ∙ ap (λ z. scan [] (length z) xs none-given) (sym s);
       }
 
-  pub one-string-by : (bs cs : List ℕ) → all-bytes bs ≡ true → all-bytes cs ≡ true → Led bs → Led cs → scanned-by bytes F bs .fault .number ≡ 0 → scanned-by bytes F cs .fault .number ≡ 0 →
-      scanned-by bytes F bs .got ≡ scanned-by bytes F cs .got → bs ≡ cs
+  pub one-string-by : (bs cs : List ℕ) → all-bytes bs ≡ true → all-bytes cs ≡ true → Led bs → Led cs →
+      scanned-by bytes F bs .fault .number ≡ 0 → scanned-by bytes F cs .fault .number ≡ 0 → scanned-by bytes F bs .got ≡ scanned-by bytes F cs .got → bs ≡ cs
   one-string-by bs cs b c l m e f g = sym (write-back bs b l e .bytes-are) ∙ ap (λ z. spelled-by F z) g ∙ write-back cs c m f .bytes-are
 
 -- ---- the first form has no lead
@@ -111,5 +115,5 @@ module _ (xs : List ℕ) (e : listed xs .fault .number ≡ 0) where
   scanned-spelled = forth .result
 
 pub one-string : One-string
-unfolding One-string
-one-string bs cs b c e f g = sym (spelled-scanned bs b e) ∙ ap spelled g ∙ spelled-scanned cs c f
+unfolding One-string scanned first-form
+one-string bs cs b c e f g = one-string-by first-form bs cs b c refl refl e f g

@@ -10,4 +10,5 @@ pub at-seam : (xs front back : List ℕ) (y n : ℕ) → xs ≡ front ++ (y ∷ 
 at-seam xs front back y n e l = ap (λ z. getD z n 0) e ∙ getD-at front y back 0 n l
 
 pub after-seam : (xs front back : List ℕ) (y n : ℕ) → xs ≡ front ++ (y ∷ back) → suc (length front) ≡ n → drop n xs ≡ back
-after-seam xs front back y n e l = ap (λ z. drop n z) (e ∙ sym (append-snoc front y back)) ∙ drop-at (front ++ (y ∷ [])) back n (rw length-append (omega arith))
+after-seam xs front back y n e l = ap (λ z. drop n z) (e ∙ sym (append-snoc front y back))
+    ∙ drop-at (front ++ (y ∷ [])) back n (rw length-append (omega arith))

@@ -1,19 +1,17 @@
 -- The numbers of a whole plan: four sections, each after its count, and the plan that they tell. Assumes nothing.
-use mathlib.Core.Path.{_≡_, refl, sym, ap, ap₂, _∙_, subst}
-use mathlib.Core.Bool.{Bool, true, false}
-use mathlib.Core.List.{List, [], _∷_, _++_, append-assoc, append-nil}
-use Prim.Native.Nat.{ℕ, zero, suc, _+_, _≤_, _<_}
+use mathlib.Core.Path.{_≡_, refl, sym, ap, _∙_, subst}
+use mathlib.Core.List.{List, [], _∷_, _++_, append-assoc}
+use Prim.Native.Nat.{ℕ, zero, suc, _+_, _≤_}
 use native.Mathlib.Omega.{arith}
 use lib.ListN.{length, getD, take, drop, length-append}
 use lib.Seq.{take-at}
 use Rattle.plan_format.specs.Form.{Form, queue-count, semaphore-count, buffer-count, any-number, new-axis, a-queue, operation, plan-grammar}
-use Rattle.plan_format.specs.Grammar.{field}
-use Rattle.plan_format.specs.Plan.{Plan, operations-in, plan-of}
+use Rattle.plan_format.specs.Plan.{operations-in, plan-of}
 use Rattle.plan_format.proofs.Parses.{Spelt, Many, Field, Parses}
 use Rattle.plan_format.proofs.Entries.{Row, listing, many-fields}
 use Rattle.plan_format.proofs.Seams.{at-seam, after-seam}
 use Rattle.plan_format.proofs.Blocks.{Counts, Kept, kept-more, operation-block}
-use Rattle.plan_format.proofs.Operations.{Block-then, Blocks}
+use Rattle.plan_format.proofs.Operations.{Blocks}
 
 pub record Sections (F : Form) (xs : List ℕ) : Type 0 where
   pub queues : ℕ
@@ -36,7 +34,8 @@ pub record Sections (F : Form) (xs : List ℕ) : Type 0 where
   pub numbers-are : xs ≡ queues ∷ (axes ++ (semaphores ∷ (owners ++ (buffers ∷ (sizes ++ (operations ∷ blocks))))))
 
 -- ---- from a parse
-many-blocks : (D : Spelt) (F : Form) (q s b n : ℕ) (got vs ds : List ℕ) → Kept q s b got → Many (Parses D (operation F)) n got vs ds → Blocks F q s b n vs
+many-blocks : (D : Spelt) (F : Form) (q s b n : ℕ) (got vs ds : List ℕ) → Kept q s b got → Many (Parses D (operation F)) n got vs ds →
+    Blocks F q s b n vs
 many-blocks D F q s b zero got vs ds k p = p .numbers-are
 many-blocks D F q s b (suc n) got vs ds k p = record {
   block = p .vs₁;
@@ -79,7 +78,8 @@ module _ (D : Spelt) (F : Form) where
       let got₂ = p .vs₁ ++ p₁ .vs₁ in
       let got₃ = got₂ ++ p₂ .vs₁ in
       let c₁ = listing D 0 16 1 (Field D 8 new-axis) [] (p .vs₁) (p .ds₁) (p .first) in
-      let c₂ = listing D (F .semaphores-least) (F .semaphores-most) (F .semaphore-width) (Field D 1 a-queue) (p .vs₁) (p₁ .vs₁) (p₁ .ds₁) (p₁ .first) in
+      let c₂ = listing D (F .semaphores-least) (F .semaphores-most) (F .semaphore-width) (Field D 1 a-queue) (p .vs₁) (p₁ .vs₁) (p₁ .ds₁)
+      (p₁ .first) in
       let c₃ = listing D 0 256 2 (Field D 4 any-number) got₂ (p₂ .vs₁) (p₂ .ds₁) (p₂ .first) in
       let c₄ = listing D 0 1024 2 (Parses D (operation F)) got₃ (p₂ .vs₂) (p₂ .ds₂) (p₂ .second) in
       let q = c₁ .count in
@@ -107,7 +107,8 @@ module _ (D : Spelt) (F : Form) where
         owners-row = subst (λ z. Row a-queue (z ++ (s ∷ [])) s (c₂ .entries)) (c₁ .numbers-are) r₂;
         sizes-long = r₃ .long;
         blocks-are = many-blocks D F q s b n (got₃ ++ (n ∷ [])) (c₄ .entries) (c₄ .spelling)
-            (sections-kept q s b (c₁ .entries) (c₂ .entries) (c₃ .entries) (r₁ .long) (r₂ .long) (r₃ .long) (p .vs₁) (p₁ .vs₁) (p₂ .vs₁) n (c₁ .numbers-are) (c₂ .numbers-are) (c₃ .numbers-are)) (c₄ .many);
+            (sections-kept q s b (c₁ .entries) (c₂ .entries) (c₃ .entries) (r₁ .long) (r₂ .long) (r₃ .long) (p .vs₁) (p₁ .vs₁) (p₂ .vs₁) n
+            (c₁ .numbers-are) (c₂ .numbers-are) (c₃ .numbers-are)) (c₄ .many);
         numbers-are = cc;
       }
 
@@ -148,16 +149,20 @@ module _ (F : Form) (q s b n : ℕ) (axes owners sizes blocks : List ℕ) (la : 
       to-axes = ap (λ z. take q (drop 1 z)) seam-s ∙ take-at axes (s ∷ (owners ++ (b ∷ (sizes ++ (n ∷ blocks))))) q la
 
       to-owners : take s (drop (2 + q) whole) ≡ owners
-      to-owners = ap (λ z. take s z) (after-seam whole (q ∷ axes) (owners ++ (b ∷ (sizes ++ (n ∷ blocks)))) s (2 + q) seam-s (omega arith)) ∙ take-at owners (b ∷ (sizes ++ (n ∷ blocks))) s lo
+      to-owners = ap (λ z. take s z) (after-seam whole (q ∷ axes) (owners ++ (b ∷ (sizes ++ (n ∷ blocks)))) s (2 + q) seam-s (omega arith))
+          ∙ take-at owners (b ∷ (sizes ++ (n ∷ blocks))) s lo
 
       to-sizes : take b (drop (3 + q + s) whole) ≡ sizes
-      to-sizes = ap (λ z. take b z) (after-seam whole (q ∷ (axes ++ (s ∷ owners))) (sizes ++ (n ∷ blocks)) b (3 + q + s) seam-b (simp length-append (omega arith))) ∙ take-at sizes (n ∷ blocks) b lb
+      to-sizes = ap (λ z. take b z) (after-seam whole (q ∷ (axes ++ (s ∷ owners))) (sizes ++ (n ∷ blocks)) b (3 + q + s) seam-b
+          (simp length-append (omega arith))) ∙ take-at sizes (n ∷ blocks) b lb
 
       to-blocks : drop (4 + q + s + b) whole ≡ blocks
       to-blocks = after-seam whole (q ∷ (axes ++ (s ∷ (owners ++ (b ∷ sizes))))) blocks n (4 + q + s + b) seam-n (simp length-append (omega arith))
 
-pub plan-is : (F : Form) (xs : List ℕ) (c : Sections F xs) → plan-of F xs ≡ record { axes = c .axes; owners = c .owners; sizes = c .sizes; operations = operations-in F (c .operations) (c .blocks) }
+pub plan-is : (F : Form) (xs : List ℕ) (c : Sections F xs) →
+    plan-of F xs ≡ record { axes = c .axes; owners = c .owners; sizes = c .sizes; operations = operations-in F (c .operations) (c .blocks) }
 unfolding whole
 plan-is F xs c =
     ap (λ z. plan-of F z) (c .numbers-are)
-    ∙ plan-at F (c .queues) (c .semaphores) (c .buffers) (c .operations) (c .axes) (c .owners) (c .sizes) (c .blocks) (c .axes-row .long) (c .owners-row .long) (c .sizes-long)
+    ∙ plan-at F (c .queues) (c .semaphores) (c .buffers) (c .operations) (c .axes) (c .owners) (c .sizes) (c .blocks) (c .axes-row .long)
+    (c .owners-row .long) (c .sizes-long)

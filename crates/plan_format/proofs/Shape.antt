@@ -1,14 +1,13 @@
 -- What the numbers of a read plan obey: the limits, distinct axes, every position in its list; so a plan that is not refused is sound. Assumes nothing.
-use mathlib.Core.Path.{_≡_, refl, sym, ap, _∙_, subst}
-use mathlib.Core.Bool.{Bool, true, false}
+use mathlib.Core.Path.{_≡_, sym, _∙_, subst}
+use mathlib.Core.Bool.{true}
 use mathlib.Core.List.{List, [], _∷_, _++_}
-use Prim.Native.Nat.{ℕ, zero, suc, _+_, _≤_, _<_}
+use Prim.Native.Nat.{ℕ, zero, suc, _≤_, _<_}
 use native.Mathlib.Nat.{not-suc-le-zero, le-of-suc-le-suc}
 use native.Mathlib.Omega.{arith}
 use lib.ListN.{length, getD, take}
 use lib.Seq.{getD-take, length-take-le}
 use Rattle.basics.specs.Lists.{member}
-use Rattle.basics.proofs.Tests.{is-false}
 use Rattle.basics.proofs.Members.{member-here, member-there}
 use Rattle.plan_format.specs.Form.{Form, queue-count, new-axis, a-queue, plan-grammar}
 use Rattle.plan_format.specs.Plan.{Point, Mark, Operation, Plan, no-operation, count, op, queues, points-in, marks-in, operations-in, plan-of}
@@ -47,7 +46,8 @@ distinct : (q k : ℕ) (axes : List ℕ) → Row new-axis (q ∷ []) k axes → 
 unfolding new-axis
 distinct q k axes r i j l h e =
     let there : member (getD axes j 0) (take j axes) ≡ true =
-    subst (λ z. member z (take j axes) ≡ true) (getD-take j axes i 0 l ∙ e) (member-getD (take j axes) i (rw (length-take-le j axes (omega (arith, r .long))) l)) in
+    subst (λ z. member z (take j axes) ≡ true) (getD-take j axes i 0 l ∙ e)
+    (member-getD (take j axes) i (rw (length-take-le j axes (omega (arith, r .long))) l)) in
     let z : _≡_ {A = ℕ} 5 0 = rw there at (r .pass j h) in
     omega arith
 
@@ -56,17 +56,20 @@ unfolding a-queue queue-count
 owned q s axes owners r i l = below-lt q (getD owners i 0) (r .pass i l)
 
 -- ---- operations
-semaphores-in : (s k : ℕ) (xs : List ℕ) → Points s k xs → (i : ℕ) → i < length (points-in k xs) → getD (points-in k xs) i (record { semaphore = 0; value = 0 }) .semaphore < s
+semaphores-in : (s k : ℕ) (xs : List ℕ) → Points s k xs → (i : ℕ) → i < length (points-in k xs) →
+    getD (points-in k xs) i (record { semaphore = 0; value = 0 }) .semaphore < s
 semaphores-in s k xs p i l =
     let h : i < k = omega (arith, points-long k xs) in
     subst (λ (z : Point). z .semaphore < s) (sym (points-at (record { semaphore = 0; value = 0 }) k xs i h)) (p .firsts i h)
 
-buffers-in : (b k : ℕ) (xs : List ℕ) → Marks b k xs → (i : ℕ) → i < length (marks-in k xs) → getD (marks-in k xs) i (record { buffer = 0; kind = 0 }) .buffer < b
+buffers-in : (b k : ℕ) (xs : List ℕ) → Marks b k xs → (i : ℕ) → i < length (marks-in k xs) →
+    getD (marks-in k xs) i (record { buffer = 0; kind = 0 }) .buffer < b
 buffers-in b k xs p i l =
     let h : i < k = omega (arith, marks-long k xs) in
     subst (λ (z : Mark). z .buffer < b) (sym (marks-at (record { buffer = 0; kind = 0 }) k xs i h)) (p .firsts i h)
 
-kinds-in : (b k : ℕ) (xs : List ℕ) → Marks b k xs → (i : ℕ) → i < length (marks-in k xs) → getD (marks-in k xs) i (record { buffer = 0; kind = 0 }) .kind < 2
+kinds-in : (b k : ℕ) (xs : List ℕ) → Marks b k xs → (i : ℕ) → i < length (marks-in k xs) →
+    getD (marks-in k xs) i (record { buffer = 0; kind = 0 }) .kind < 2
 kinds-in b k xs p i l =
     let h : i < k = omega (arith, marks-long k xs) in
     subst (λ (z : Mark). z .kind < 2) (sym (marks-at (record { buffer = 0; kind = 0 }) k xs i h)) (p .seconds i h)
@@ -79,21 +82,24 @@ module _ (F : Form) where
     marks = rw (marks-long (k .marks) (k .ms)) (k .few-marks);
   }
 
-  block-range : (p : Plan) (xs : List ℕ) (k : Block F (queues p) (length (p .owners)) (length (p .sizes)) xs) → In-range p (operation-of F (queues p) (length (p .owners)) (length (p .sizes)) xs k)
-  block-range p xs k = record {
-    queue = k .queue-in;
-    waits = semaphores-in (length (p .owners)) (k .waits) (k .ws) (k .waited);
-    signals = semaphores-in (length (p .owners)) (k .signals) (k .ss) (k .signalled);
-    marks = buffers-in (length (p .sizes)) (k .marks) (k .ms) (k .marked);
-    kinds = kinds-in (length (p .sizes)) (k .marks) (k .ms) (k .marked);
+  block-range : (p : Plan) (q s b : ℕ) → queues p ≡ q → length (p .owners) ≡ s → length (p .sizes) ≡ b →
+      (xs : List ℕ) (k : Block F q s b xs) → In-range p (operation-of F q s b xs k)
+  block-range p q s b eq es eb xs k = record {
+    queue = rw eq (k .queue-in);
+    waits = rw es (semaphores-in s (k .waits) (k .ws) (k .waited));
+    signals = rw es (semaphores-in s (k .signals) (k .ss) (k .signalled));
+    marks = rw eb (buffers-in b (k .marks) (k .ms) (k .marked));
+    kinds = kinds-in b (k .marks) (k .ms) (k .marked);
   }
 
   each-operation : (q s b : ℕ) (P : Operation → Type 0) → ((xs : List ℕ) (k : Block F q s b xs) → P (operation-of F q s b xs k)) →
       (n : ℕ) (xs : List ℕ) → Blocks F q s b n xs → (i : ℕ) → i < n → P (getD (operations-in F n xs) i no-operation)
   each-operation q s b P h zero xs k i l = absurd (not-suc-le-zero l)
-  each-operation q s b P h (suc n) xs k zero l = subst (λ z. P (getD z 0 no-operation)) (sym (operations-cons F q s b n xs k)) (h (k .block) (k .first))
+  each-operation q s b P h (suc n) xs k zero l = subst (λ z. P (getD z 0 no-operation)) (sym (operations-cons F q s b n xs k))
+      (h (k .block) (k .first))
   each-operation q s b P h (suc n) xs k (suc i) l =
-      subst (λ z. P (getD z (suc i) no-operation)) (sym (operations-cons F q s b n xs k)) (each-operation q s b P h n (k .rest) (k .more) i (le-of-suc-le-suc l))
+      subst (λ z. P (getD z (suc i) no-operation)) (sym (operations-cons F q s b n xs k))
+      (each-operation q s b P h n (k .rest) (k .more) i (le-of-suc-le-suc l))
 
   abbrev told : (xs : List ℕ) → Sections F xs → Plan
   told xs c = record { axes = c .axes; owners = c .owners; sizes = c .sizes; operations = operations-in F (c .operations) (c .blocks) }
@@ -104,49 +110,29 @@ module _ (F : Form) where
     few-queues = omega (arith, la, c .few-queues);
     least-semaphores = omega (arith, lo, c .least-semaphores);
     few-semaphores = omega (arith, lo, c .few-semaphores);
-    few-buffers = omega (arith, lb, c .few-buffers);
+    few-buffers = omega (arith, c .sizes-long, c .few-buffers);
     few-operations = omega (arith, ln, c .few-operations);
-    axes-distinct = λ i k l h. distinct q q (c .axes) (c .axes-row) i k l (omega (arith, la));
-    owners-in = λ i l. rw la (owned q s (c .axes ++ (s ∷ [])) (c .owners) (c .owners-row) i (omega (arith, lo)));
-    in-range = λ i l. each-operation q′ s′ b′ (In-range (told xs c)) (block-range (told xs c)) n (c .blocks) blocks i (omega (arith, ln));
-    few = λ i l. each-operation q s b Few (block-few q s b) n (c .blocks) (c .blocks-are) i (omega (arith, ln));
+    axes-distinct = λ i k l h. distinct (c .queues) (c .queues) (c .axes) (c .axes-row) i k l (omega (arith, la));
+    owners-in = λ i l. rw la (owned (c .queues) (c .semaphores) (c .axes ++ (c .semaphores ∷ [])) (c .owners) (c .owners-row) i (omega (arith, lo)));
+    in-range = λ i l. each (In-range (told xs c)) (block-range (told xs c) (c .queues) (c .semaphores) (c .buffers) la lo (c .sizes-long)) i
+        (omega (arith, ln));
+    few = λ i l. each Few (block-few (c .queues) (c .semaphores) (c .buffers)) i (omega (arith, ln));
   }
     where
-      q : ℕ
-      q = c .queues
-
-      s : ℕ
-      s = c .semaphores
-
-      b : ℕ
-      b = c .buffers
-
-      n : ℕ
-      n = c .operations
-
-      q′ : ℕ
-      q′ = length (c .axes)
-
-      s′ : ℕ
-      s′ = length (c .owners)
-
-      b′ : ℕ
-      b′ = length (c .sizes)
-
-      la : q′ ≡ q
+      la : length (c .axes) ≡ c .queues
       la = c .axes-row .long
 
-      lo : s′ ≡ s
+      lo : length (c .owners) ≡ c .semaphores
       lo = c .owners-row .long
 
-      lb : b′ ≡ b
-      lb = c .sizes-long
+      ln : length (operations-in F (c .operations) (c .blocks)) ≡ c .operations
+      ln = operations-long F (c .operations) (c .blocks)
 
-      ln : length (operations-in F n (c .blocks)) ≡ n
-      ln = operations-long F n (c .blocks)
-
-      blocks : Blocks F q′ s′ b′ n (c .blocks)
-      blocks = rw (la, lo, lb) (c .blocks-are)
+      each : (P : Operation → Type 0) →
+          ((xs : List ℕ) (k : Block F (c .queues) (c .semaphores) (c .buffers) xs) →
+          P (operation-of F (c .queues) (c .semaphores) (c .buffers) xs k)) →
+          (i : ℕ) → i < c .operations → P (getD (operations-in F (c .operations) (c .blocks)) i no-operation)
+      each P h = each-operation (c .queues) (c .semaphores) (c .buffers) P h (c .operations) (c .blocks) (c .blocks-are)
 
   pub shape : (D : Spelt) (xs ds : List ℕ) → Parses D (plan-grammar F) [] xs ds → Shaped F (plan-of F xs)
   shape D xs ds p = let c = sections D F xs ds p in subst (Shaped F) (sym (plan-is F xs c)) (sections-shaped xs c)

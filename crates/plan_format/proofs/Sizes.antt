@@ -1,100 +1,94 @@
 -- How long a plan can be: at most so many bytes and so many numbers. Assumes nothing.
-use mathlib.Core.Path.{_≡_, refl, sym, ap, _∙_}
+use mathlib.Core.Path.{_≡_, refl, ap, _∙_}
 use mathlib.Core.List.{List, [], _∷_, _++_}
-use Prim.Native.Nat.{ℕ, zero, suc, _+_, _*_, _≤_}
-use native.Mathlib.Nat.{suc-mul, mul-le-mul-right}
+use Prim.Native.Nat.{ℕ, suc, _+_, _*_, _≤_, zero-le}
+use native.Mathlib.Nat.{le-refl, suc-mul, mul-le-mul-right}
 use native.Mathlib.Omega.{arith}
-use lib.ListN.{length, drop, length-append, length-drop}
+use lib.ListN.{length, length-append, length-drop}
 use Rattle.plan_format.specs.Grammar.{Check, Grammar, field, seq, counted, nothing, bytes, numbers, count-check, most-bytes, most-numbers}
 use Rattle.plan_format.specs.Form.{Form, first-form, point, mark, part, operation, plan-grammar, scanned-by, spelled-by}
 use Rattle.plan_format.specs.Stored.{scanned, listed, spelled}
 use Rattle.plan_format.proofs.Bytes.{length-digits}
-use Rattle.plan_format.proofs.Parses.{Takes, Spelt, Exact, Loose, Many, Holds, Parses}
+use Rattle.plan_format.proofs.Parses.{Takes, _⊆_, Spelt, Exact, Loose, Nothing, Then, Holds, Parses, then-first, parsed-give}
 use Rattle.plan_format.proofs.Fields.{count-limits}
 use Rattle.plan_format.proofs.Sources.{loose-bytes}
 use Rattle.plan_format.proofs.Whole.{whole-of}
 use Rattle.plan_format.proofs.RoundTrip.{spelled-parsed, numbers-read}
 
--- a measure of numbers and their bytes that adds up, and the most that a grammar takes of it
-record Measure (D : Spelt) : Type 0 where
+-- the most places that a grammar takes, where a field of a width takes so many
+pub record Most (wide : ℕ → ℕ) : Type 0 where
+  pub most : Grammar → ℕ
+  pub field-is : (w : ℕ) (c : Check) → most (field w c) ≡ wide w
+  pub seq-is : (g h : Grammar) → most (seq g h) ≡ most g + most h
+  pub counted-is : (l m w : ℕ) (g : Grammar) → most (counted l m w g) ≡ wide w + m * most g
+  pub nothing-is : most nothing ≡ 0
+
+unfoldable pub bytes-most : Most (λ w. w)
+unfolding most-bytes
+bytes-most = record { most = most-bytes; field-is = λ w c. refl; seq-is = λ g h. refl; counted-is = λ l m w g. refl; nothing-is = refl }
+
+unfoldable pub numbers-most : Most (λ w. 1)
+unfolding most-numbers
+numbers-most = record { most = most-numbers; field-is = λ w c. refl; seq-is = λ g h. refl; counted-is = λ l m w g. refl; nothing-is = refl }
+
+-- the places that numbers and their bytes take
+record Measure (D : Spelt) (wide : ℕ → ℕ) : Type 0 where
   size : (vs ds : List ℕ) → ℕ
   size-none : size [] [] ≡ 0
   size-append : (vs vs′ ds ds′ : List ℕ) → size (vs ++ vs′) (ds ++ ds′) ≡ size vs ds + size vs′ ds′
-  most-field : (w : ℕ) → ℕ
-  size-field : (w v : ℕ) (ds : List ℕ) → D w v ds → size (v ∷ []) ds ≡ most-field w
-  most : Grammar → ℕ
-  field-is : (w : ℕ) (c : Check) → most (field w c) ≡ most-field w
-  seq-is : (g h : Grammar) → most (seq g h) ≡ most g + most h
-  counted-is : (l m w : ℕ) (g : Grammar) → most (counted l m w g) ≡ most-field w + m * most g
+  size-field : (w v : ℕ) (ds : List ℕ) → D w v ds → size (v ∷ []) ds ≡ wide w
 
-module _ (D : Spelt) (M : Measure D) where
-  holds-size : (w : ℕ) (c : Check) (v : ℕ) (got vs ds : List ℕ) → Holds D w c v got vs ds → M .size vs ds ≡ M .most-field w
-  holds-size w c v got vs ds h = ap (λ z. M .size z ds) (h .numbers-are) ∙ M .size-field w v ds (h .spelt)
+module _ (D : Spelt) (wide : ℕ → ℕ) (T : Most wide) (M : Measure D wide) where
+  abbrev At-most : (n : ℕ) → Takes
+  At-most n got vs ds = M .size vs ds ≤ n
 
-  many-size : (P : Takes) (n : ℕ) → ((got vs ds : List ℕ) → P got vs ds → M .size vs ds ≤ n) → (k : ℕ) (got vs ds : List ℕ) → Many P k got vs ds → M .size vs ds ≤ k * n
-  many-size P n h zero got vs ds p = rw (p .numbers-are, p .bytes-are, M .size-none) (omega arith)
-  many-size P n h (suc k) got vs ds p =
-      rw (p .numbers-are, p .bytes-are, M .size-append (p .vs₁) (p .vs₂) (p .ds₁) (p .ds₂), suc-mul k n)
-      (omega (arith, h got (p .vs₁) (p .ds₁) (p .first), many-size P n h k (got ++ p .vs₁) (p .vs₂) (p .ds₂) (p .second)))
+  most-none : (n : ℕ) → Nothing ⊆ At-most n
+  most-none n got vs ds p = rw (p .numbers-are, p .bytes-are, M .size-none) zero-le
 
-  parsed-size : (g : Grammar) (got vs ds : List ℕ) → Parses D g got vs ds → M .size vs ds ≤ M .most g
-  parsed-size (field w c) got vs ds p = omega (arith, holds-size w c (p .number) got vs ds (p .holds), M .field-is w c)
-  parsed-size (seq g h) got vs ds p =
-      rw (p .numbers-are, p .bytes-are, M .size-append (p .vs₁) (p .vs₂) (p .ds₁) (p .ds₂), M .seq-is g h)
-      (omega (arith, parsed-size g got (p .vs₁) (p .ds₁) (p .first), parsed-size h (got ++ p .vs₁) (p .vs₂) (p .ds₂) (p .second)))
-  parsed-size (counted l m w g) got vs ds p =
-      let k = p .count in
-      let b = p .parts in
-      rw (b .numbers-are, b .bytes-are, M .size-append (b .vs₁) (b .vs₂) (b .ds₁) (b .ds₂), M .counted-is l m w g)
-      (omega (
-        arith,
-        holds-size w (λ _ v. count-check l m v) k got (b .vs₁) (b .ds₁) (b .first),
-        many-size (Parses D g) (M .most g) (parsed-size g) k (got ++ b .vs₁) (b .vs₂) (b .ds₂) (b .second),
-        mul-le-mul-right (M .most g) (count-limits l m k (b .first .passes) .1),
-      ))
-  parsed-size nothing got vs ds p = rw (p .numbers-are, p .bytes-are, M .size-none) (omega arith)
+  most-then : (a b n : ℕ) → a + b ≤ n → Then (At-most a) (At-most b) ⊆ At-most n
+  most-then a b n l got vs ds p = rw (p .numbers-are, p .bytes-are, M .size-append (p .vs₁) (p .vs₂) (p .ds₁) (p .ds₂))
+      (omega (arith, p .first, p .second))
+
+  most-field : (w : ℕ) (c : Check) (v : ℕ) → Holds D w c v ⊆ At-most (wide w)
+  most-field w c v got vs ds h = rw (h .numbers-are, M .size-field w v ds (h .spelt)) (le-refl (wide w))
+
+  most-counted : (l m w : ℕ) (g : Grammar) (k : ℕ) →
+      Then (Holds D w (λ _ v. count-check l m v) k) (At-most (k * T .most g)) ⊆ At-most (T .most (counted l m w g))
+  most-counted l m w g k got vs ds p =
+      let c : Check = λ _ v. count-check l m v in
+      most-then (wide w) (k * T .most g) (T .most (counted l m w g))
+      (omega (arith, T .counted-is l m w g, mul-le-mul-right (T .most g) (count-limits l m k (p .first .passes) .1)))
+      got vs ds (then-first (Holds D w c k) (At-most (wide w)) (At-most (k * T .most g)) (most-field w c k) got vs ds p)
+
+  parsed-size : (g : Grammar) → Parses D g ⊆ At-most (T .most g)
+  parsed-size = parsed-give D (λ g. At-most (T .most g)) (λ g k. At-most (k * T .most g)) (record {
+    of-field = λ w c v. rw (T .field-is w c) (most-field w c v);
+    of-seq = λ g h. most-then (T .most g) (T .most h) (T .most (seq g h)) (omega (arith, T .seq-is g h));
+    of-counted = most-counted;
+    of-nothing = most-none (T .most nothing);
+    of-none = λ g. most-none (0 * T .most g);
+    of-more = λ g k. most-then (T .most g) (k * T .most g) (suc k * T .most g) (omega (arith, suc-mul k (T .most g)));
+  })
 
 -- ---- bytes and numbers
-number-measure : (D : Spelt) → Measure D
-unfolding most-numbers
-number-measure D = record {
-  size = λ vs ds. length vs;
-  size-none = refl;
-  size-append = λ vs vs′ ds ds′. length-append vs vs′;
-  most-field = λ w. 1;
-  size-field = λ w v ds d. refl;
-  most = most-numbers;
-  field-is = λ w c. refl;
-  seq-is = λ g h. refl;
-  counted-is = λ l m w g. refl;
-}
+number-measure : (D : Spelt) → Measure D (λ w. 1)
+number-measure D = record { size = λ vs ds. length vs; size-none = refl; size-append = λ vs vs′ ds ds′. length-append vs vs′; size-field = λ w v ds d. refl }
 
-byte-measure : (D : Spelt) → ((w v : ℕ) (ds : List ℕ) → D w v ds → length ds ≡ w) → Measure D
-unfolding most-bytes
-byte-measure D long = record {
-  size = λ vs ds. length ds;
-  size-none = refl;
-  size-append = λ vs vs′ ds ds′. length-append ds ds′;
-  most-field = λ w. w;
-  size-field = long;
-  most = most-bytes;
-  field-is = λ w c. refl;
-  seq-is = λ g h. refl;
-  counted-is = λ l m w g. refl;
-}
+byte-measure : (D : Spelt) → ((w v : ℕ) (ds : List ℕ) → D w v ds → length ds ≡ w) → Measure D (λ w. w)
+byte-measure D long = record { size = λ vs ds. length ds; size-none = refl; size-append = λ vs vs′ ds ds′. length-append ds ds′; size-field = long }
 
 module _ (g : Grammar) (got vs ds : List ℕ) where
   pub parsed-numbers : (D : Spelt) → Parses D g got vs ds → length vs ≤ most-numbers g
-  unfolding number-measure
-  parsed-numbers D p = parsed-size D (number-measure D) g got vs ds p
+  unfolding number-measure numbers-most
+  parsed-numbers D p = parsed-size D (λ w. 1) numbers-most (number-measure D) g got vs ds p
 
   pub exact-long : Parses Exact g got vs ds → length ds ≤ most-bytes g
-  unfolding byte-measure
-  exact-long p = parsed-size Exact (byte-measure Exact (λ w v ds d. ap length (d .bytes-are) ∙ length-digits w v)) g got vs ds p
+  unfolding byte-measure bytes-most
+  exact-long p = parsed-size Exact (λ w. w) bytes-most (byte-measure Exact (λ w v ds d. ap length (d .bytes-are) ∙ length-digits w v)) g got vs ds p
 
   pub loose-long : Parses Loose g got vs ds → length ds ≤ most-bytes g
-  unfolding byte-measure
-  loose-long p = parsed-size Loose (byte-measure Loose (λ w v ds d. d .long)) g got vs ds p
+  unfolding byte-measure bytes-most
+  loose-long p = parsed-size Loose (λ w. w) bytes-most (byte-measure Loose (λ w v ds d. d .long)) g got vs ds p
 
 -- ---- whole plans
 module _ (F : Form) (bs : List ℕ) (e : scanned-by bytes F bs .fault .number ≡ 0) where
@@ -102,11 +96,17 @@ module _ (F : Form) (bs : List ℕ) (e : scanned-by bytes F bs .fault .number �
   unfolding loose-bytes bytes
   read-bytes-most =
       let w = whole-of bytes Loose loose-bytes F bs tt e in
-      omega (arith, length-drop (1 * length (F .lead)) bs, ap length (w .shown), loose-long (plan-grammar F) [] (scanned-by bytes F bs .got) (w .ds) (w .parsed))
+      omega (
+        arith,
+        length-drop (1 * length (F .lead)) bs,
+        ap length (w .shown),
+        loose-long (plan-grammar F) [] (scanned-by bytes F bs .got) (w .ds) (w .parsed),
+      )
 
   pub read-numbers-most : length (scanned-by bytes F bs .got) ≤ most-numbers (plan-grammar F)
   unfolding loose-bytes
-  read-numbers-most = let w = whole-of bytes Loose loose-bytes F bs tt e in parsed-numbers (plan-grammar F) [] (scanned-by bytes F bs .got) (w .ds) Loose (w .parsed)
+  read-numbers-most = let w = whole-of bytes Loose loose-bytes F bs tt e in parsed-numbers (plan-grammar F) [] (scanned-by bytes F bs .got)
+      (w .ds) Loose (w .parsed)
 
 module _ (F : Form) (xs : List ℕ) (e : scanned-by numbers F xs .fault .number ≡ 0) where
   pub taken-numbers-most : length xs ≤ most-numbers (plan-grammar F)
@@ -136,8 +136,14 @@ no-lead = refl
 
 pub scanned-sizes : (bs : List ℕ) → scanned bs .fault .number ≡ 0 → (length bs ≤ 63686) × (length (scanned bs .got) ≤ 22868)
 unfolding scanned
-scanned-sizes bs e = (omega (arith, no-lead, longest-plan, read-bytes-most first-form bs e), rw most-plan-numbers at (read-numbers-most first-form bs e))
+scanned-sizes bs e = (
+  omega (arith, no-lead, longest-plan, read-bytes-most first-form bs e),
+  rw most-plan-numbers at (read-numbers-most first-form bs e),
+)
 
 pub listed-sizes : (xs : List ℕ) → listed xs .fault .number ≡ 0 → (length xs ≤ 22868) × (length (spelled xs) ≤ 63686)
 unfolding listed spelled
-listed-sizes xs e = (rw most-plan-numbers at (taken-numbers-most first-form xs e), omega (arith, no-lead, longest-plan, spelled-bytes-most first-form xs e))
+listed-sizes xs e = (
+  rw most-plan-numbers at (taken-numbers-most first-form xs e),
+  omega (arith, no-lead, longest-plan, spelled-bytes-most first-form xs e),
+)

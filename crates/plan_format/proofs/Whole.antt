@@ -1,8 +1,8 @@
 -- A whole plan, from behind its lead to its end: read without a fault exactly where it parses. Assumes nothing.
 use mathlib.Core.Path.{_≡_, refl, sym, ap, _∙_, subst}
-use mathlib.Core.Bool.{Bool, true, false, _||_, cond}
+use mathlib.Core.Bool.{cond}
 use mathlib.Core.List.{List, [], _∷_, _++_, append-nil}
-use Prim.Native.Nat.{ℕ, zero, suc, _+_, _*_}
+use Prim.Native.Nat.{ℕ, _+_, _*_}
 use native.Mathlib.Omega.{arith}
 use lib.Dec.{eqb}
 use lib.ListN.{length, drop}
@@ -38,13 +38,15 @@ module _ (S : Source) (D : Spelt) (L : Lawful S D) (F : Form) (xs : List ℕ) wh
   abbrev pub lead-long : ℕ
   lead-long = S .leads * length (F .lead)
 
-  pub whole : (vs ds : List ℕ) → Parses D (plan-grammar F) [] vs ds → drop lead-long xs ≡ L .view vs ds → scanned-by S F xs ≡ scan [] (lead-long + length (L .view vs ds)) vs none-given
+  pub whole : (vs ds : List ℕ) → Parses D (plan-grammar F) [] vs ds → drop lead-long xs ≡ L .view vs ds →
+      scanned-by S F xs ≡ scan [] (lead-long + length (L .view vs ds)) vs none-given
   unfolding scanned-by scan none-given
   whole vs ds p e =
       let s = scan (drop lead-long xs) lead-long [] none-given in
       let t = scan [] (lead-long + length (L .view vs ds)) vs none-given in
       let is : read-by S (plan-grammar F) s ≡ t =
-      ap (λ z. read-by S (plan-grammar F) (scan z lead-long [] none-given)) (e ∙ sym (append-nil (L .view vs ds))) ∙ accepts S D L (plan-grammar F) [] vs ds p [] lead-long none-given refl in
+      ap (λ z. read-by S (plan-grammar F) (scan z lead-long [] none-given)) (e ∙ sym (append-nil (L .view vs ds)))
+      ∙ accepts S D L (plan-grammar F) [] vs ds p [] lead-long none-given refl in
       ap ended is ∙ ended-same t refl
 
   -- the numbers got parse, and they are all that there is
@@ -60,7 +62,8 @@ module _ (S : Source) (D : Spelt) (L : Lawful S D) (F : Form) (xs : List ℕ) wh
       let t = read-by S (plan-grammar F) s in
       let a = sound S D L (plan-grammar F) s c (ended-began t e) in
       let more : a .more ≡ [] = sym (ap (λ z. z .rest) (a .result)) ∙ ended-empty t e in
-      let shown : drop lead-long xs ≡ L .view (a .vs) (a .ds) = a .rest-is ∙ ap (λ z. L .view (a .vs) (a .ds) ++ z) more ∙ append-nil (L .view (a .vs) (a .ds)) in
+      let shown : drop lead-long xs ≡ L .view (a .vs) (a .ds) = a .rest-is ∙ ap (λ z. L .view (a .vs) (a .ds) ++ z) more
+      ∙ append-nil (L .view (a .vs) (a .ds)) in
       let got : a .vs ≡ scanned-by S F xs .got = sym (ap (λ z. z .got) (whole (a .vs) (a .ds) (a .parsed) shown)) in
       record {
         ds = a .ds;

@@ -87,6 +87,6 @@ unfoldable pub scanned-by : Source → Form → List ℕ → Scan
 scanned-by S F xs =
     let k = S .leads * length (F .lead) in ended (read-by S (plan-grammar F) (scan (drop k xs) k [] none-given))
 
--- the stored bytes of a list of numbers
+-- writing a whole plan: the lead, then the bytes of each number
 abbrev pub spelled-by : Form → List ℕ → List ℕ
 spelled-by F xs = F .lead ++ spell-by (plan-grammar F) (record { left = xs; made = [] }) .made

@@ -1,0 +1,162 @@
+-- A grammar reads no further than its greatest size, so a plan's first bytes decide. Assumes nothing.
+use mathlib.Core.Path.{_≡_, refl, sym, ap, _∙_, subst}
+use mathlib.Core.Bool.{cond}
+use mathlib.Core.List.{List, [], _++_}
+use Prim.Native.Nat.{ℕ, zero, suc, _+_, _*_, _-_, _≤_, _<_}
+use native.Mathlib.Nat.{suc-mul, mul-le-mul-right}
+use native.Mathlib.Omega.{arith}
+use lib.Dec.{leb, eqb}
+use lib.ListN.{length, take, drop, length-append, length-drop, take-append-drop, List·getD-append}
+use lib.Seq.{take-append-le, drop-append-le, length-take-le, take-all}
+use borrow.Author.Tests.{le-ltb, leb-true, leb-false, ne-eqb}
+use Rattle.basics.proofs.Tests.{by-cases}
+use Rattle.plan_format.specs.Refusal.{none-given, given}
+use Rattle.plan_format.specs.Grammar.{Check, Grammar, field, seq, counted, nothing, Source, bytes, numbers, Scan, scan, refused, field-number, read-field, last-got, times, count-check, read-by, ended, value}
+use Rattle.plan_format.specs.Form.{Form, first-form, plan-grammar, scanned-by}
+use Rattle.plan_format.specs.Stored.{scanned, listed}
+use Rattle.plan_format.proofs.Judged.{not-given-zero}
+use Rattle.plan_format.proofs.Fields.{field-done, count-limits}
+use Rattle.plan_format.proofs.Reading.{last-is}
+use Rattle.plan_format.proofs.Sizes.{Most, bytes-most, numbers-most, longest-plan, most-plan-numbers}
+
+-- a reading with more behind what is left
+unfoldable pub longer : List ℕ → Scan → Scan
+longer b s = scan (s .rest ++ b) (s .place) (s .got) (s .fault)
+
+-- a step that takes n places at most, and looks no further
+pub record Within (n : ℕ) (f : Scan → Scan) : Type 0 where
+  pub left : (s : Scan) → length (s .rest) ≤ length (f s .rest) + n
+  pub same : (b : List ℕ) (s : Scan) → n ≤ length (s .rest) → f (longer b s) ≡ longer b (f s)
+
+within-none : Within 0 (λ s. s)
+within-none = record { left = λ s. omega arith; same = λ b s l. refl }
+
+within-then : (n m : ℕ) (f g : Scan → Scan) → Within n f → Within m g → Within (n + m) (λ s. g (f s))
+within-then n m f g F G = record {
+  left = λ s. omega (arith, F .left s, G .left (f s));
+  same = λ b s l. ap g (F .same b s (omega arith)) ∙ G .same b (f s) (omega (arith, F .left s));
+}
+
+within-times : (n : ℕ) (f : Scan → Scan) → Within n f → (k : ℕ) → Within (k * n) (λ s. times k f s)
+unfolding times
+within-times n f F zero = subst (λ z. Within z (λ s. s)) (let e : 0 ≡ 0 * n = omega arith in e) within-none
+within-times n f F (suc k) =
+    subst (λ z. Within z (λ s. times k f (f s))) (let e : n + k * n ≡ suc k * n = omega (arith, suc-mul k n) in e)
+    (within-then n (k * n) f (λ s. times k f s) F (within-times n f F k))
+
+-- ---- as many steps as the number just got says
+times-last : (Scan → Scan) → Scan → Scan
+times-last f t = cond (given (t .fault)) t (times (last-got t) f t)
+
+last-same : (k : ℕ) (f : Scan → Scan) → Within k f → (b : List ℕ) (t : Scan) → (t .fault .number ≡ 0 → last-got t * k ≤ length (t .rest)) →
+    times-last f (longer b t) ≡ longer b (times-last f t)
+unfolding times-last longer scan last-got
+last-same k f F b t h =
+    by-cases (given (t .fault)) (λ y. rw y) (λ n. rw n (within-times k f F (last-got t) .same b t (h (not-given-zero (t .fault) n))))
+
+within-counted : (n m k : ℕ) (h f : Scan → Scan) → Within n h → Within k f → ((s : Scan) → h s .fault .number ≡ 0 → last-got (h s) ≤ m) →
+    Within (n + m * k) (λ s. times-last f (h s))
+unfolding times-last
+within-counted n m k h f H F limit = record {
+  left = λ s. by-cases (given (h s .fault)) (λ y. rw y (omega (arith, H .left s))) (λ z. rw z (omega (
+    arith,
+    H .left s,
+    within-times k f F (last-got (h s)) .left (h s),
+    mul-le-mul-right k (limit s (not-given-zero (h s .fault) z)),
+  )));
+  same = λ b s l. ap (λ z. times-last f z) (H .same b s (omega arith))
+      ∙ last-same k f F b (h s) (λ e. omega (arith, H .left s, mul-le-mul-right k (limit s e)));
+}
+
+-- ---- a source whose fields are told by the places they take
+abbrev pub Fronted : Source → Type 0
+Fronted S = (w : ℕ) (a b : List ℕ) → S .wide w ≤ length a → S .front w (a ++ b) ≡ S .front w a
+
+module _ (S : Source) (front-is : Fronted S) (T : Most (S .wide)) where
+  field-left : (w : ℕ) (c : ℕ → ℕ) (s : Scan) → length (s .rest) ≤ length (read-field S w c s .rest) + S .wide w
+  unfolding read-field refused scan
+  field-left w c s =
+      by-cases (given (s .fault)) (λ t. rw t (omega arith)) (λ f.
+      by-cases (eqb (field-number S w c (s .rest)) 0) (λ t. rw (f, t, length-drop (S .wide w) (s .rest)) (omega arith))
+      (λ g. rw (f, g) (omega arith)))
+
+  number-same : (w : ℕ) (c : ℕ → ℕ) (a b : List ℕ) → S .wide w ≤ length a → field-number S w c (a ++ b) ≡ field-number S w c a
+  unfolding field-number
+  number-same w c a b l = rw (
+    le-ltb (length (a ++ b)) (S .wide w) (rw length-append (omega arith)),
+    le-ltb (length a) (S .wide w) l,
+    front-is w a b l,
+  )
+
+  field-same : (w : ℕ) (c : ℕ → ℕ) (b : List ℕ) (s : Scan) → S .wide w ≤ length (s .rest) →
+      read-field S w c (longer b s) ≡ longer b (read-field S w c s)
+  unfolding read-field refused scan longer
+  field-same w c b s l =
+      let n = number-same w c (s .rest) b l in
+      by-cases (given (s .fault)) (λ t. rw t) (λ f.
+      by-cases (eqb (field-number S w c (s .rest)) 0) (λ t. rw (f, n, t, front-is w (s .rest) b l, drop-append-le (S .wide w) (s .rest) b))
+      (λ g. rw (f, n, g)))
+
+  within-field : (w : ℕ) (c : Check) → Within (S .wide w) (λ s. read-field S w (λ v. c (s .got) v) s)
+  unfolding longer scan
+  within-field w c = record { left = λ s. field-left w (λ v. c (s .got) v) s; same = λ b s l. field-same w (λ v. c (s .got) v) b s l }
+
+  -- a count read without a fault is within its limit
+  last-most : (l m w : ℕ) (s : Scan) → read-field S w (λ v. count-check l m v) s .fault .number ≡ 0 →
+      last-got (read-field S w (λ v. count-check l m v) s) ≤ m
+  last-most l m w s e =
+      let d = field-done S w (λ v. count-check l m v) s e in
+      let v = S .front w (s .rest) in
+      omega (
+        arith,
+        ap last-got (d .result) ∙ last-is (drop (S .wide w) (s .rest)) (s .got) (s .place + S .wide w) v (s .fault),
+        count-limits l m v (d .passes) .1,
+      )
+
+  pub within : (g : Grammar) → Within (T .most g) (λ s. read-by S g s)
+  unfolding read-by times-last
+  within (field w c) = rw (T .field-is w c) (within-field w c)
+  within (seq g h) = rw (T .seq-is g h) (within-then (T .most g) (T .most h) (λ s. read-by S g s) (λ s. read-by S h s) (within g) (within h))
+  within (counted l m w g) =
+      rw (T .counted-is l m w g)
+      (within-counted (S .wide w) m (T .most g) (λ s. read-field S w (λ v. count-check l m v) s) (λ s. read-by S g s)
+      (within-field w (λ _ v. count-check l m v)) (within g) (last-most l m w))
+  within nothing = rw (T .nothing-is) within-none
+
+  -- ---- a whole plan
+  ended-fault : (b : List ℕ) (s : Scan) → 0 < length (s .rest) → ended (longer b s) .fault ≡ ended s .fault
+  unfolding ended refused longer scan
+  ended-fault b s l =
+      by-cases (given (s .fault)) (λ t. rw t)
+      (λ f. rw (
+        f,
+        ne-eqb (length (s .rest ++ b)) 0 (λ e. omega (arith, length-append (s .rest) b)),
+        ne-eqb (length (s .rest)) 0 (λ e. omega arith),
+      ))
+
+  pub prefix-decides : (F : Form) (n : ℕ) (xs : List ℕ) → S .leads * length (F .lead) + T .most (plan-grammar F) < n →
+      scanned-by S F xs .fault ≡ scanned-by S F (take n xs) .fault
+  unfolding scanned-by longer scan
+  prefix-decides F n xs h =
+      by-cases (leb (length xs) n) (λ t. ap (λ z. scanned-by S F z .fault) (sym (take-all n xs (leb-true (length xs) n t)))) (λ f.
+      let k = S .leads * length (F .lead) in
+      let a = take n xs in
+      let b = drop n xs in
+      let long : length a ≡ n = length-take-le n xs (omega (arith, leb-false (length xs) n f)) in
+      let s = scan (drop k a) k [] none-given in
+      let W = within (plan-grammar F) in
+      let rest : length (drop k a) ≡ length a - k = length-drop k a in
+      ap (λ z. scanned-by S F z .fault) (sym (take-append-drop n xs))
+      ∙ ap (λ z. ended (read-by S (plan-grammar F) (scan z k [] none-given)) .fault) (drop-append-le k a b (omega arith))
+      ∙ ap (λ z. ended z .fault) (W .same b s (omega arith)) ∙ ended-fault b (read-by S (plan-grammar F) s) (omega (arith, W .left s)))
+
+-- ---- the first form: one byte, or one number, past the greatest size
+pub first-bytes-decide : (bs : List ℕ) → scanned bs .fault ≡ scanned (take 63687 bs) .fault
+unfolding scanned bytes bytes-most first-form
+first-bytes-decide bs = prefix-decides bytes (λ w a b l. ap value (take-append-le w a b l)) bytes-most first-form 63687 bs
+    (omega (arith, longest-plan))
+
+pub first-numbers-decide : (xs : List ℕ) → listed xs .fault ≡ listed (take 22869 xs) .fault
+unfolding listed numbers numbers-most first-form
+first-numbers-decide xs = prefix-decides numbers (λ w a b l. List·getD-append a b 0 0 l) numbers-most first-form 22869 xs
+    (omega (arith, most-plan-numbers))
