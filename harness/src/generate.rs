@@ -26,7 +26,7 @@ impl Rng {
         }
     }
 
-    pub fn next(&mut self) -> u64 {
+    pub fn word(&mut self) -> u64 {
         let s = &mut self.state;
         let result = s[1].wrapping_mul(5).rotate_left(7).wrapping_mul(9);
         let t = s[1] << 17;
@@ -41,7 +41,7 @@ impl Rng {
 
     /// From 0 to `limit` - 1.
     pub fn below(&mut self, limit: usize) -> usize {
-        ((u128::from(self.next()) * limit as u128) >> 64) as usize
+        ((u128::from(self.word()) * limit as u128) >> 64) as usize
     }
 
     /// Both ends included.
@@ -173,6 +173,8 @@ fn add_kept_marks(
     if buffers == 0 {
         return;
     }
+    // Uses one after the other leave room for a free; uses side by side do not.
+    let side_by_side = rng.percent(30);
     let known = Known::of(plan, run);
     let mut holdings = vec![Holding::default(); buffers];
     for (j, operation) in plan.operations.iter_mut().enumerate() {
@@ -187,11 +189,14 @@ fn add_kept_marks(
             };
             let buffer = rng.below(most);
             let holding = &mut holdings[buffer];
-            let free = buffer >= never_freed
-                && rng.percent(60)
-                && !holding.uses.is_empty()
-                && holding.free_is_kept(&known, j);
-            if free || holding.use_is_kept(&known, j) {
+            let may_free = buffer >= never_freed && holding.free_is_kept(&known, j);
+            let free = may_free && rng.percent(40);
+            let may_use = if side_by_side || buffer < never_freed {
+                holding.use_is_kept(&known, j)
+            } else {
+                may_free
+            };
+            if free || may_use {
                 holding.add(j, free);
                 let buffer = buffer as u16;
                 operation.marks.push(Mark { buffer, free });
@@ -222,7 +227,7 @@ fn axes(rng: &mut Rng, count: usize) -> Vec<u64> {
     let mut axes = Vec::with_capacity(count);
     while axes.len() < count {
         let axis = match rng.below(8) {
-            0 => rng.next(),
+            0 => rng.word(),
             1 => u64::MAX - rng.below(4) as u64,
             2 => 1 << rng.below(64),
             _ => rng.below(40) as u64,
@@ -254,7 +259,7 @@ struct Dials {
 impl Dials {
     fn random(rng: &mut Rng) -> Dials {
         Dials {
-            wild_waits: *rng.pick(&[0, 0, 0, 0, 5, 30]),
+            wild_waits: *rng.pick(&[0, 0, 0, 10, 30, 80]),
             wild_marks: *rng.pick(&[0, 0, 0, 10, 30, 100]),
             waits: *rng.pick(&[10, 40, 70]),
             signals: *rng.pick(&[30, 60, 90]),
@@ -286,7 +291,7 @@ pub fn random_plan(rng: &mut Rng, most_operations: usize) -> Plan {
     let mut plan = Plan {
         axes: axes(rng, queues),
         owners: (0..semaphores).map(|_| rng.below(queues) as u8).collect(),
-        sizes: (0..buffers).map(|_| rng.next() as u32).collect(),
+        sizes: (0..buffers).map(|_| rng.word() as u32).collect(),
         operations: (0..operations)
             .map(|_| Operation {
                 queue: rng.below(queues) as u8,
@@ -321,7 +326,7 @@ fn add_signals(rng: &mut Rng, plan: &mut Plan, chance: usize) {
         while operation.signals.len() < 2 && rng.percent(chance) {
             let semaphore = *rng.pick(&owned);
             let step = match rng.below(20) {
-                0 => rng.next() >> rng.below(64),
+                0 => rng.word() >> rng.below(64),
                 1 => u64::MAX - last[semaphore],
                 _ => rng.between(1, 3) as u64,
             };
@@ -382,7 +387,7 @@ fn below_signal(rng: &mut Rng, signallers: &[Vec<(u64, usize)>], signal: Point) 
     let lower = lower.map_or(0, |s| s.0);
     let value = match rng.below(3) {
         0 => lower + 1,
-        1 => lower + 1 + rng.next() % (signal.value - lower),
+        1 => lower + 1 + rng.word() % (signal.value - lower),
         _ => signal.value,
     };
     Point { value, ..signal }
@@ -650,7 +655,7 @@ fn full_lists(
     let mut plan = Plan {
         axes: axes(rng, 16),
         owners: (0..64).map(|semaphore| semaphore % 16).collect(),
-        sizes: (0..256).map(|_| rng.next() as u32).collect(),
+        sizes: (0..256).map(|_| rng.word() as u32).collect(),
         operations: Vec::new(),
     };
     let queues: Vec<u8> = (0..operations).map(|_| rng.below(16) as u8).collect();
@@ -830,7 +835,7 @@ pub fn other_byte(rng: &mut Rng, byte: u8) -> u8 {
         2 => 0,
         3 => 255,
         4 => byte ^ (1 << rng.below(8)),
-        _ => rng.next() as u8,
+        _ => rng.word() as u8,
     };
     if other == byte {
         byte ^ 1
@@ -840,9 +845,14 @@ pub fn other_byte(rng: &mut Rng, byte: u8) -> u8 {
 }
 
 /// One to three random damages: a byte changed, the end cut off, bytes put in,
-/// taken out, or appended.
+/// taken out, or appended, an axis written over another.
 pub fn damaged(rng: &mut Rng, bytes: &[u8]) -> Vec<u8> {
     let mut bytes = bytes.to_vec();
+    if bytes[0] >= 2 && rng.percent(10) {
+        let from = 1 + 8 * rng.below(bytes[0].into());
+        let to = 1 + 8 * rng.below(bytes[0].into());
+        bytes.copy_within(from..from + 8, to);
+    }
     for _ in 0..rng.between(1, 3) {
         let at = rng.below(bytes.len() + 1);
         match rng.below(8) {
@@ -851,7 +861,7 @@ pub fn damaged(rng: &mut Rng, bytes: &[u8]) -> Vec<u8> {
             2 if at < bytes.len() => {
                 bytes.remove(at);
             }
-            3 => bytes.extend((0..rng.between(1, 9)).map(|_| rng.next() as u8)),
+            3 => bytes.extend((0..rng.between(1, 9)).map(|_| rng.word() as u8)),
             _ if at < bytes.len() => bytes[at] = other_byte(rng, bytes[at]),
             _ => {}
         }
@@ -868,7 +878,7 @@ pub fn random_bytes(rng: &mut Rng) -> Vec<u8> {
             if small {
                 rng.below(3) as u8
             } else {
-                rng.next() as u8
+                rng.word() as u8
             }
         })
         .collect()
@@ -885,7 +895,7 @@ pub fn damaged_numbers(rng: &mut Rng, numbers: &[u64]) -> Vec<u64> {
             2 if at < numbers.len() => {
                 numbers.remove(at);
             }
-            3 => numbers.push(rng.next()),
+            3 => numbers.push(rng.word()),
             _ if at < numbers.len() => numbers[at] = other_number(rng, numbers[at]),
             _ => {}
         }
@@ -918,7 +928,7 @@ pub fn frontier(rng: &mut Rng, most: usize) -> Raw {
     while axes.len() < length {
         let axis = match rng.below(24) {
             0 => u64::MAX - rng.below(2) as u64,
-            1 => rng.next(),
+            1 => rng.word(),
             _ => rng.below(range) as u64,
         };
         if !axes.contains(&axis) {
@@ -931,7 +941,7 @@ pub fn frontier(rng: &mut Rng, most: usize) -> Raw {
         frontier[slot] = axis;
         frontier[EPOCHS + slot] = match rng.below(24) {
             0 => u64::MAX,
-            1 => 1 + (rng.next() >> 1),
+            1 => 1 + (rng.word() >> 1),
             _ => rng.between(1, 9) as u64,
         };
     }
