@@ -282,10 +282,10 @@ pub fn random_plan(rng: &mut Rng, most_operations: usize) -> Plan {
     } else {
         *rng.pick(&[0, 1, 2, 3, 4, 5, 6, 8, 64])
     };
-    let operations = if queues == 0 {
+    let operations = if queues == 0 || rng.percent(4) {
         0
     } else {
-        rng.between(0, most_operations)
+        rng.between(1, most_operations)
     };
     let buffers = *rng.pick(&[0, 1, 1, 1, 2, 2, 3, 5]);
     let mut plan = Plan {
@@ -344,32 +344,38 @@ fn add_signals(rng: &mut Rng, plan: &mut Plan, chance: usize) {
 /// Waits on what comes earlier in the run, or on anything if the dial says so.
 fn add_waits(rng: &mut Rng, plan: &mut Plan, run: &[usize], dials: &Dials) {
     let signallers = signallers(plan);
-    let mut earlier: Vec<Point> = Vec::new();
-    let mut all: Vec<Point> = Vec::new();
-    for (semaphore, signals) in signallers.iter().enumerate() {
-        let points = signals.iter().map(|&(value, _)| Point {
-            semaphore: semaphore as u8,
-            value,
-        });
-        all.extend(points);
-    }
+    let all: Vec<Point> = run
+        .iter()
+        .flat_map(|&j| plan.operations[j].signals.clone())
+        .collect();
+    let mut earlier = 0;
     for &j in run {
+        let queue = plan.operations[j].queue;
         while plan.operations[j].waits.len() < 3 && rng.percent(dials.waits) {
             let wild = rng.percent(dials.wild_waits);
-            let signals = if wild { &all } else { &earlier };
+            let signals = if wild { &all } else { &all[..earlier] };
             let wait = if signals.is_empty() || rng.percent(5) {
                 wait_for_zero(rng, plan)
             } else {
-                // A recent one more often than not.
-                let from = rng.below(signals.len());
-                let from = from.max(rng.below(signals.len()));
-                Some(below_signal(rng, &signallers, signals[from]))
+                let signal = recent_signal(rng, &plan.owners, queue, signals);
+                Some(below_signal(rng, &signallers, signal))
             };
             let Some(wait) = wait else { break };
             plan.operations[j].waits.push(wait);
         }
-        earlier.extend(&plan.operations[j].signals);
+        earlier += plan.operations[j].signals.len();
     }
+}
+
+/// A recent signal, and one of another queue, more often than not.
+fn recent_signal(rng: &mut Rng, owners: &[u8], queue: u8, signals: &[Point]) -> Point {
+    let mut recent = || {
+        let first = rng.below(signals.len());
+        signals[first.max(rng.below(signals.len()))]
+    };
+    let foreign = |signal: &Point| owners[usize::from(signal.semaphore)] != queue;
+    let tries = [recent(), recent(), recent()];
+    *tries.iter().find(|s| foreign(s)).unwrap_or(&tries[0])
 }
 
 fn wait_for_zero(rng: &mut Rng, plan: &Plan) -> Option<Point> {

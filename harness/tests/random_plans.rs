@@ -33,6 +33,7 @@ fn agree(plan: &Plan) -> u64 {
                 }
             }
             agree_on_reuse(plan, &rows, queues);
+            agree_on_frontiers(plan, &rows);
             Told::PASSED
         }
     };
@@ -52,6 +53,33 @@ fn agree_on_reuse(plan: &Plan, rows: &[Vec<usize>], queues: usize) {
             let told = reference::reuse(&plan.bytes(), q, b, &mut table, &mut list);
             let verdict = brute::reuse(plan, rows, queue, buffer);
             assert_eq!(told, Told::answered(verdict), "{plan}");
+        }
+    }
+}
+
+fn agree_on_frontiers(plan: &Plan, rows: &[Vec<usize>]) {
+    let operations = plan.operations.len();
+    let mut table = vec![9; 16 * operations];
+    let mut list = vec![9; 2 * operations];
+    for (operation, row) in rows.iter().enumerate() {
+        let entries = plan.axes.iter().zip(row).filter(|(_, &epoch)| epoch > 0);
+        let entries: Vec<_> = entries
+            .map(|(&axis, &epoch)| (axis, epoch as u64))
+            .collect();
+        for capacity in 1..=4 {
+            let wanted = brute::keep_largest(entries.clone(), capacity);
+            let mut out = [7; 34];
+            let told = reference::frontier_of(
+                &plan.bytes(),
+                operation as u32,
+                capacity as u32,
+                &mut table,
+                &mut list,
+                &mut out,
+            );
+            assert_eq!(told, Told::PASSED, "{plan}");
+            assert!(reference::well_formed(&out));
+            assert_eq!(plain(&out), wanted, "{plan}");
         }
     }
 }

@@ -1,21 +1,34 @@
-//! T1 to T13 of paper 01 against the reference, and the small plans against
-//! brute force too.
+//! T1 to T13 of paper 01 against the reference and, if it is linked, the C
+//! library; the small plans against brute force too.
 
 use harness::brute::{self, Judgement};
+use harness::c_api;
 use harness::plan::{Mark, Operation, Plan, Point};
-use harness::reference;
-use harness::side::{Raw, Told, EMPTY, EPOCHS, LENGTH, TAINT};
+use harness::reference::{self, Reference};
+use harness::side::{Raw, Side, Told, EMPTY, EPOCHS, LENGTH, TAINT};
 
 const PATTERN: u32 = 0xA5A5_A5A5;
 
 /// Told, the rows' first columns, the run, the ready numbers.
 type Checked = (Told, Vec<Vec<u32>>, Vec<u32>, Vec<u32>);
 
+/// Makes the same call on every side; all must hand back the same.
+fn all_sides<T: PartialEq + std::fmt::Debug>(call: impl Fn(&dyn Side) -> T) -> T {
+    let told = call(&Reference);
+    if let Some(library) = c_api::library() {
+        assert_eq!(call(library.as_ref()), told);
+    }
+    told
+}
+
 /// Checks stored bytes, with some numbers too many lent, which stay untouched.
 fn check_bytes(bytes: &[u8], operations: usize, queues: usize) -> Checked {
-    let mut table = vec![PATTERN; 16 * operations + 3];
-    let mut list = vec![PATTERN; 2 * operations + 3];
-    let told = reference::check(bytes, &mut table, &mut list);
+    let (told, table, list) = all_sides(|side| {
+        let mut table = vec![PATTERN; 16 * operations + 3];
+        let mut list = vec![PATTERN; 2 * operations + 3];
+        let told = side.check(bytes, &mut table, &mut list);
+        (told, table, list)
+    });
     assert_eq!(table[16 * operations..], [PATTERN; 3]);
     assert_eq!(list[2 * operations..], [PATTERN; 3]);
     let rows = table.chunks_exact(16).map(|row| row[..queues].to_vec());
@@ -217,19 +230,27 @@ fn t12_merge_with_eviction() {
         frontier(&[(A, 5), (B, 3)], false),
         frontier(&[(B, 7), (C, 4)], false),
     );
-    let merged = frontier(&[(A, 5), (B, 7)], true);
-    assert_eq!(reference::merge(&left, &right, 2), (Told::PASSED, merged));
+    let merged = all_sides(|side| {
+        let mut merged = [7; 34];
+        (side.merge(&left, &right, 2, &mut merged), merged)
+    });
+    let wanted = frontier(&[(A, 5), (B, 7)], true);
+    assert_eq!(merged, (Told::PASSED, wanted));
 }
 
 #[test]
 fn t13_dominance() {
     let right = frontier(&[(A, 3), (C, 4)], false);
-    let over = |tainted| reference::dominates(&frontier(&[(A, 5), (B, 7)], tainted), &right);
+    let over = |tainted| {
+        let left = frontier(&[(A, 5), (B, 7)], tainted);
+        all_sides(|side| side.dominates(&left, &right))
+    };
     assert_eq!(over(false), Told::answered(0));
     assert_eq!(over(true), Told::answered(2));
     let tainted = frontier(&[(A, 3)], true);
     let left = frontier(&[(A, 5)], false);
-    assert_eq!(reference::dominates(&left, &tainted), Told::answered(2));
+    let told = all_sides(|side| side.dominates(&left, &tainted));
+    assert_eq!(told, Told::answered(2));
 }
 
 #[test]
@@ -247,11 +268,13 @@ fn the_greatest_signal() {
 fn lent_lengths() {
     let bytes = t3().bytes();
     let check = |table_len, list_len| {
-        let (mut table, mut list) = (vec![PATTERN; table_len], vec![PATTERN; list_len]);
-        let told = reference::check(&bytes, &mut table, &mut list);
-        let untouched = table.iter().chain(&list).all(|&number| number == PATTERN);
-        assert_eq!(untouched, told.number != 0);
-        told
+        all_sides(|side| {
+            let (mut table, mut list) = (vec![PATTERN; table_len], vec![PATTERN; list_len]);
+            let told = side.check(&bytes, &mut table, &mut list);
+            let untouched = table.iter().chain(&list).all(|&number| number == PATTERN);
+            assert_eq!(untouched, told.number != 0);
+            told
+        })
     };
     assert_eq!(check(47, 5), refused(9, 48));
     assert_eq!(check(48, 5), refused(9, 6));
@@ -262,8 +285,10 @@ fn lent_lengths() {
 fn reuse_verdicts() {
     let ask = |plan: &Plan, queue, buffer| {
         let operations = plan.operations.len();
-        let (mut table, mut list) = (vec![0; 16 * operations], vec![0; 2 * operations]);
-        reference::reuse(&plan.bytes(), queue, buffer, &mut table, &mut list)
+        all_sides(|side| {
+            let (mut table, mut list) = (vec![0; 16 * operations], vec![0; 2 * operations]);
+            side.reuse(&plan.bytes(), queue, buffer, &mut table, &mut list)
+        })
     };
     let operations = vec![
         operation(0, &[], &[(0, 1)], &[("use", 0), ("use", 1)]),
@@ -284,11 +309,11 @@ fn reuse_verdicts() {
 fn frontier_sent_out() {
     let bytes = t3().bytes();
     let ask = |operation, capacity| {
-        let (mut table, mut list) = (vec![0; 48], vec![0; 6]);
-        let mut out = [7; 34];
-        let lent = (&mut table, &mut list);
-        let told = reference::frontier_of(&bytes, operation, capacity, lent.0, lent.1, &mut out);
-        (told, out)
+        all_sides(|side| {
+            let (mut table, mut list, mut out) = ([0; 48], [0; 6], [7; 34]);
+            let told = side.frontier(&bytes, operation, capacity, &mut table, &mut list, &mut out);
+            (told, out)
+        })
     };
     // The axes are 100, 99, 98; of equal epochs the larger axis stays.
     let whole = frontier(&[(98, 1), (99, 1), (100, 1)], false);

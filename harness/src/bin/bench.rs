@@ -12,7 +12,7 @@ use std::time::{Duration, Instant};
 
 const SIZES: [usize; 5] = [64, 128, 256, 512, 1024];
 /// Pairs of measurements of which the median is taken.
-const PAIRS: usize = 51;
+const PAIRS: usize = 101;
 /// One measurement repeats a call until it takes about this long.
 const BATCH: Duration = Duration::from_micros(400);
 
