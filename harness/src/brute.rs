@@ -40,13 +40,16 @@ pub fn judge(plan: &Plan) -> Judgement {
     if let Some(operation) = wait_fault(plan) {
         return refused(8, operation);
     }
+    // Demand 3: passed exactly if some full run exists and every full run keeps
+    // every buffer.
     let runs = Runs::of(plan);
     if runs.full.is_empty() {
         return refused(10, runs.lowest_in_none(plan));
     }
     assert!(!runs.some_stuck, "a full run exists, and some run is stuck");
-    if let Some(operation) = lowest_broken(plan, &runs.full) {
-        return refused(11, operation);
+    let asked = asked_of_marks(plan);
+    if !runs.full.iter().all(|steps| keeps(&asked, steps)) {
+        return refused(11, lowest_broken(&asked, &runs.full));
     }
     let (run, ready) = standard_run(plan);
     Judgement::Passed {
@@ -138,10 +141,12 @@ fn last_step_raises_in_order(plan: &Plan, run: &[Position]) -> bool {
     })
 }
 
+/// A full run: for each operation its step.
+type Steps = [u8; MOST_OPERATIONS];
+
 /// Every run of a plan.
 struct Runs {
-    /// The full ones: for each operation its step.
-    full: Vec<[u8; MOST_OPERATIONS]>,
+    full: Vec<Steps>,
     /// For each operation, whether some run has it.
     reached: [bool; MOST_OPERATIONS],
     /// Whether some run is not full, and no operation is ready after it.
@@ -190,7 +195,7 @@ impl Runs {
 }
 
 /// For each operation of a full run its step.
-fn steps(run: &[Position]) -> [u8; MOST_OPERATIONS] {
+fn steps(run: &[Position]) -> Steps {
     let mut steps = [0; MOST_OPERATIONS];
     for (step, &operation) in run.iter().enumerate() {
         steps[operation] = step as u8;
@@ -215,7 +220,7 @@ fn standard_run(plan: &Plan) -> (Vec<Position>, Vec<usize>) {
 
 /// Column q of row j counts the operations on q that are j, or come earlier
 /// than j in every full run: exactly these are before j.
-fn rows(plan: &Plan, full: &[[u8; MOST_OPERATIONS]]) -> Vec<Vec<usize>> {
+fn rows(plan: &Plan, full: &[Steps]) -> Vec<Vec<usize>> {
     let positions = 0..plan.operations.len();
     let counted = |i: Position, j: Position| full.iter().all(|steps| steps[i] <= steps[j]);
     let column = |j, queue| {
@@ -277,17 +282,26 @@ fn marks_on(plan: &Plan, buffer: usize) -> Vec<(Position, bool)> {
     marks
 }
 
+/// Does the full run do what keeping asks of this mark?
+fn done_as_asked((operation, asked): (Position, Asked), steps: &Steps) -> bool {
+    match asked {
+        Asked::NoLaterThan(free) => steps[operation] <= steps[free],
+        Asked::LaterThan(free) => steps[operation] > steps[free],
+    }
+}
+
+/// Does the full run keep every buffer?
+fn keeps(asked: &[(Position, Asked)], steps: &Steps) -> bool {
+    asked.iter().all(|&mark| done_as_asked(mark, steps))
+}
+
 /// The lowest operation with a mark for which some full run breaks what keeping
 /// asks of it.
-fn lowest_broken(plan: &Plan, full: &[[u8; MOST_OPERATIONS]]) -> Option<Position> {
-    let asked = asked_of_marks(plan);
-    let broken = asked.into_iter().filter(|&(operation, asked)| {
-        full.iter().any(|steps| match asked {
-            Asked::NoLaterThan(free) => steps[operation] > steps[free],
-            Asked::LaterThan(free) => steps[operation] <= steps[free],
-        })
-    });
-    broken.map(|(operation, _)| operation).min()
+fn lowest_broken(asked: &[(Position, Asked)], full: &[Steps]) -> Position {
+    let marks = asked.iter().copied();
+    let broken = marks.filter(|&mark| !full.iter().all(|steps| done_as_asked(mark, steps)));
+    let operations = broken.map(|(operation, _)| operation);
+    operations.min().expect("some full run breaks some mark")
 }
 
 /// The verdict table of the reuse question, for a passed plan: "before" is read

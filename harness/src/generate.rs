@@ -308,8 +308,12 @@ pub fn random_plan(rng: &mut Rng, most_operations: usize) -> Plan {
     add_signals(rng, &mut plan, dials.signals);
     add_waits(rng, &mut plan, &run, &dials);
     add_marks(rng, &mut plan, &run, &dials);
-    if rng.percent(20) {
-        spoil(rng, &mut plan);
+    // Near misses: a plan that passes but for one thing.
+    match rng.below(10) {
+        0 | 1 => spoil(rng, &mut plan),
+        2 => plan = without_one_wait(rng, &plan),
+        3 => add_stray_use(rng, &mut plan),
+        _ => {}
     }
     plan
 }
@@ -413,6 +417,32 @@ fn add_marks(rng: &mut Rng, plan: &mut Plan, run: &[usize], dials: &Dials) {
             };
             operation.marks.insert(at, mark);
         }
+    }
+}
+
+/// One more use of a buffer that some operation marks already, in the same
+/// operation or a later one.
+fn add_stray_use(rng: &mut Rng, plan: &mut Plan) {
+    let operations = plan.operations.len();
+    let marked: Vec<usize> = (0..operations)
+        .filter(|&i| !plan.operations[i].marks.is_empty())
+        .collect();
+    if marked.is_empty() {
+        return;
+    }
+    let from = *rng.pick(&marked);
+    let buffer = rng.pick(&plan.operations[from].marks).buffer;
+    let to = rng.between(from, operations - 1);
+    let marks = &mut plan.operations[to].marks;
+    if marks.len() < 4 {
+        let at = rng.between(0, marks.len());
+        marks.insert(
+            at,
+            Mark {
+                buffer,
+                free: false,
+            },
+        );
     }
 }
 

@@ -477,10 +477,15 @@ impl Differ {
         }
     }
 
+    /// Each truncation of a plan, and of its list of numbers for the writer.
     fn every_truncation(&mut self, rng: &mut Rng) -> Compared<()> {
-        let bytes = base_plan(rng).bytes();
+        let plan = base_plan(rng);
+        let (bytes, numbers) = (plan.bytes(), plan.numbers());
         for length in 0..=bytes.len() {
             self.plan(rng, &bytes[..length])?;
+        }
+        for length in 0..=numbers.len() {
+            self.writer(rng, &numbers[..length])?;
         }
         Ok(())
     }
