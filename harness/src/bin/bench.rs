@@ -32,21 +32,28 @@ impl Sides {
     /// Measures the same call on both sides, turn by turn.
     fn measure(&self, mut call: impl FnMut(&dyn Side)) -> Measured {
         let repeats = repeats(|| call(&Reference));
-        let mut times = [Vec::new(), Vec::new()];
-        let mut ratios = Vec::new();
-        for _ in 0..PAIRS {
-            let reference = time(repeats, || call(&Reference));
-            times[0].push(reference);
-            if let Some(library) = &self.library {
-                let library = time(repeats, || call(library.as_ref()));
-                times[1].push(library);
-                ratios.push(library / reference);
-            }
+        let mut timed = |side: &dyn Side| time(repeats, || call(side));
+        let (mut references, mut libraries, mut ratios) = (Vec::new(), Vec::new(), Vec::new());
+        for pair in 0..PAIRS {
+            let Some(library) = self.library.as_deref() else {
+                references.push(timed(&Reference));
+                continue;
+            };
+            // Each side goes first in every other pair.
+            let (of_reference, of_library) = if pair % 2 == 0 {
+                let of_reference = timed(&Reference);
+                (of_reference, timed(library))
+            } else {
+                let of_library = timed(library);
+                (timed(&Reference), of_library)
+            };
+            references.push(of_reference);
+            libraries.push(of_library);
+            ratios.push(of_library / of_reference);
         }
-        let [reference, library] = times;
         Measured {
-            library: median(library),
-            reference: median(reference).unwrap_or(0.0),
+            library: median(libraries),
+            reference: median(references).unwrap_or(0.0),
             ratio: median(ratios),
         }
     }

@@ -117,59 +117,76 @@ struct Lengths {
     list: usize,
 }
 
-/// Lent slices, filled with a pattern beforehand and compared whole afterwards.
-#[derive(PartialEq)]
+/// Numbers on either side of a lent slice, to see writes outside it.
+const GUARD: usize = 8;
+
+/// A lent slice between guards, filled with a pattern beforehand and compared
+/// whole afterwards.
+#[derive(Default, PartialEq)]
+struct Room<T>(Vec<T>);
+
+impl<T: Clone + PartialEq + std::fmt::Debug> Room<T> {
+    fn fill(&mut self, length: usize, pattern: T) {
+        self.0.clear();
+        self.0.resize(GUARD + length + GUARD, pattern);
+    }
+
+    fn lend(&mut self) -> &mut [T] {
+        let end = self.0.len() - GUARD;
+        &mut self.0[GUARD..end]
+    }
+
+    fn print_difference(&self, other: &Room<T>, name: &str) {
+        let first = self.0.iter().zip(&other.0).position(|(a, b)| a != b);
+        if let Some(at) = first {
+            let end = self.0.len().min(at + 16);
+            let length = self.0.len() - 2 * GUARD;
+            let place = at as isize - GUARD as isize;
+            println!("{name} of {length} from {place} on:");
+            println!("  reference  {:?}", &self.0[at..end]);
+            println!("  other side {:?}", &other.0[at..end]);
+        }
+    }
+}
+
+impl Room<u64> {
+    fn lend_frontier(&mut self) -> &mut Raw {
+        let frontier = self.lend().first_chunk_mut();
+        frontier.expect("a whole frontier is lent")
+    }
+}
+
+/// Everything that may be lent to a call.
+#[derive(Default, PartialEq)]
 struct Lent {
-    numbers: Vec<u64>,
-    bytes: Vec<u8>,
-    table: Vec<u32>,
-    list: Vec<u32>,
-    frontier: Raw,
+    numbers: Room<u64>,
+    bytes: Room<u8>,
+    table: Room<u32>,
+    list: Room<u32>,
+    frontier: Room<u64>,
 }
 
 impl Lent {
-    fn new() -> Lent {
-        Lent {
-            numbers: Vec::new(),
-            bytes: Vec::new(),
-            table: Vec::new(),
-            list: Vec::new(),
-            frontier: [0; 34],
-        }
-    }
-
     fn fill(&mut self, lengths: Lengths, pattern: u64) {
-        refill(&mut self.numbers, lengths.numbers, pattern);
-        refill(&mut self.bytes, lengths.bytes, pattern as u8);
-        refill(&mut self.table, lengths.table, pattern as u32);
-        refill(&mut self.list, lengths.list, pattern as u32);
-        self.frontier = [pattern; 34];
+        self.numbers.fill(lengths.numbers, pattern);
+        self.bytes.fill(lengths.bytes, pattern as u8);
+        self.table.fill(lengths.table, pattern as u32);
+        self.list.fill(lengths.list, pattern as u32);
+        self.frontier.fill(FRONTIER, pattern);
     }
 
     /// Prints where two differ.
     fn print_difference(&self, other: &Lent) {
-        print_first("numbers", &self.numbers, &other.numbers);
-        print_first("bytes", &self.bytes, &other.bytes);
-        print_first("table", &self.table, &other.table);
-        print_first("list", &self.list, &other.list);
-        print_first("frontier", &self.frontier, &other.frontier);
+        self.numbers.print_difference(&other.numbers, "numbers");
+        self.bytes.print_difference(&other.bytes, "bytes");
+        self.table.print_difference(&other.table, "table");
+        self.list.print_difference(&other.list, "list");
+        self.frontier.print_difference(&other.frontier, "frontier");
     }
 }
 
-fn refill<T: Clone>(slice: &mut Vec<T>, length: usize, pattern: T) {
-    slice.clear();
-    slice.resize(length, pattern);
-}
-
-fn print_first<T: PartialEq + std::fmt::Debug>(name: &str, ours: &[T], theirs: &[T]) {
-    let first = ours.iter().zip(theirs).position(|(a, b)| a != b);
-    if let Some(at) = first {
-        let end = ours.len().min(at + 16);
-        println!("{name} of {} from {at} on:", ours.len());
-        println!("  reference  {:?}", &ours[at..end]);
-        println!("  other side {:?}", &theirs[at..end]);
-    }
-}
+/// Numbers in a lent frontier.
+const FRONTIER: usize = 34;
 
 // ---------------------------------------------------------------------------
 // The comparison.
@@ -255,11 +272,11 @@ impl Differ {
             rng,
             Function::Read,
             lengths,
-            |side, lent| side.read(bytes, &mut lent.numbers),
+            |side, lent| side.read(bytes, lent.numbers.lend()),
             || print_plan(bytes),
         )?;
         Ok(match told.number {
-            0 => self.ours.numbers[..told.answer as usize].to_vec(),
+            0 => self.ours.numbers.lend()[..told.answer as usize].to_vec(),
             _ => Vec::new(),
         })
     }
@@ -279,7 +296,7 @@ impl Differ {
             rng,
             Function::Write,
             lengths,
-            |side, lent| side.write(numbers, &mut lent.bytes),
+            |side, lent| side.write(numbers, lent.bytes.lend()),
             || println!("numbers {numbers:?}"),
         )?;
         Ok(())
@@ -291,7 +308,7 @@ impl Differ {
             rng,
             Function::Check,
             lengths,
-            |side, lent| side.check(bytes, &mut lent.table, &mut lent.list),
+            |side, lent| side.check(bytes, lent.table.lend(), lent.list.lend()),
             || print_plan(bytes),
         )?;
         Ok(())
@@ -311,7 +328,7 @@ impl Differ {
             rng,
             Function::Reuse,
             lengths,
-            |side, lent| side.reuse(bytes, queue, buffer, &mut lent.table, &mut lent.list),
+            |side, lent| side.reuse(bytes, queue, buffer, lent.table.lend(), lent.list.lend()),
             || {
                 println!("queue {queue}, buffer {buffer}");
                 print_plan(bytes);
@@ -329,8 +346,8 @@ impl Differ {
             Function::Frontier,
             lengths,
             |side, lent| {
-                let (table, list) = (&mut lent.table, &mut lent.list);
-                let frontier = &mut lent.frontier;
+                let (table, list) = (lent.table.lend(), lent.list.lend());
+                let frontier = lent.frontier.lend_frontier();
                 side.frontier(bytes, operation, capacity, table, list, frontier)
             },
             || {
@@ -415,14 +432,14 @@ impl Differ {
             rng,
             Function::Merge,
             none,
-            |side, lent| side.merge(&left, &right, capacity, &mut lent.frontier),
+            |side, lent| side.merge(&left, &right, capacity, lent.frontier.lend_frontier()),
             print,
         )?;
         self.compare(
             rng,
             Function::Raise,
             none,
-            |side, lent| side.raise(&left, axis, epoch, capacity, &mut lent.frontier),
+            |side, lent| side.raise(&left, axis, epoch, capacity, lent.frontier.lend_frontier()),
             print,
         )?;
         self.compare(
@@ -699,8 +716,8 @@ fn run(options: &Options) -> Compared<Tally> {
     let mut differ = Differ {
         other,
         tally: Tally::default(),
-        ours: Lent::new(),
-        theirs: Lent::new(),
+        ours: Lent::default(),
+        theirs: Lent::default(),
         trace: options.trace,
     };
     let mut seed = options.seed;
