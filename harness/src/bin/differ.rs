@@ -243,42 +243,28 @@ impl Differ {
             let damaged = generate::damaged_numbers(rng, &numbers);
             self.writer(rng, &damaged)?;
         }
-        let needed = reference::check(bytes, &mut [], &mut []);
-        let operations = match needed.number {
-            9 => needed.place as usize / 16,
-            _ => 0,
-        };
-        self.check(rng, bytes, operations)?;
-        if operations <= brute::MOST_OPERATIONS {
-            self.brute_force(rng, bytes)?;
-        }
-        self.reuse(rng, bytes, operations, &numbers)?;
-        self.sent_out(rng, bytes, operations)
+        let counts = Counts::of(rng, &numbers);
+        self.check(rng, bytes, counts)?;
+        self.brute_force(rng, bytes)?;
+        self.reuse(rng, bytes, counts)?;
+        self.sent_out(rng, bytes, counts)
     }
 
-    /// Hands back the numbers that were read, none if the plan is unreadable.
+    /// Hands back the plan's numbers, none if it is unreadable.
     fn reader(&mut self, rng: &mut Rng, bytes: &[u8]) -> Compared<Vec<u64>> {
-        let needed = match reference::read(bytes, &mut []) {
-            Told {
-                number: 9, place, ..
-            } => place as usize,
-            _ => 0,
-        };
+        let numbers = faults::parse(bytes).map_or(Vec::new(), |plan| plan.numbers());
         let lengths = Lengths {
-            numbers: some_length(rng, needed),
+            numbers: some_length(rng, numbers.len()),
             ..Lengths::default()
         };
-        let told = self.compare(
+        self.compare(
             rng,
             Function::Read,
             lengths,
             |side, lent| side.read(bytes, lent.numbers.lend()),
             || print_plan(bytes),
         )?;
-        Ok(match told.number {
-            0 => self.ours.numbers.lend()[..told.answer as usize].to_vec(),
-            _ => Vec::new(),
-        })
+        Ok(numbers)
     }
 
     fn writer(&mut self, rng: &mut Rng, numbers: &[u64]) -> Compared<()> {
@@ -302,8 +288,8 @@ impl Differ {
         Ok(())
     }
 
-    fn check(&mut self, rng: &mut Rng, bytes: &[u8], operations: usize) -> Compared<()> {
-        let lengths = lent_to_check(rng, operations);
+    fn check(&mut self, rng: &mut Rng, bytes: &[u8], counts: Counts) -> Compared<()> {
+        let lengths = lent_to_check(rng, counts);
         self.compare(
             rng,
             Function::Check,
@@ -314,16 +300,10 @@ impl Differ {
         Ok(())
     }
 
-    fn reuse(
-        &mut self,
-        rng: &mut Rng,
-        bytes: &[u8],
-        operations: usize,
-        numbers: &[u64],
-    ) -> Compared<()> {
-        let lengths = lent_to_check(rng, operations);
-        let (queues, buffers) = counts(numbers);
-        let (queue, buffer) = (some_position(rng, queues), some_position(rng, buffers));
+    fn reuse(&mut self, rng: &mut Rng, bytes: &[u8], counts: Counts) -> Compared<()> {
+        let lengths = lent_to_check(rng, counts);
+        let queue = some_position(rng, counts.queues);
+        let buffer = some_position(rng, counts.buffers);
         self.compare(
             rng,
             Function::Reuse,
@@ -337,9 +317,9 @@ impl Differ {
         Ok(())
     }
 
-    fn sent_out(&mut self, rng: &mut Rng, bytes: &[u8], operations: usize) -> Compared<()> {
-        let lengths = lent_to_check(rng, operations);
-        let operation = some_position(rng, operations);
+    fn sent_out(&mut self, rng: &mut Rng, bytes: &[u8], counts: Counts) -> Compared<()> {
+        let lengths = lent_to_check(rng, counts);
+        let operation = some_position(rng, counts.operations);
         let capacity = some_capacity(rng);
         self.compare(
             rng,
@@ -577,6 +557,35 @@ fn told_by_brute_force(plan: &Plan, judgement: &Judgement) -> (Told, Vec<u32>, V
 // ---------------------------------------------------------------------------
 // What is given to a call.
 
+/// How much a plan lists.
+#[derive(Clone, Copy)]
+struct Counts {
+    queues: usize,
+    buffers: usize,
+    operations: usize,
+}
+
+impl Counts {
+    /// An unreadable plan has no numbers: then any small counts.
+    fn of(rng: &mut Rng, numbers: &[u64]) -> Counts {
+        let Some(&queues) = numbers.first() else {
+            return Counts {
+                queues: 1,
+                buffers: 1,
+                operations: rng.below(8),
+            };
+        };
+        let queues = queues as usize;
+        let semaphores = numbers[queues + 1] as usize;
+        let buffers = numbers[queues + semaphores + 2] as usize;
+        Counts {
+            queues,
+            buffers,
+            operations: numbers[queues + semaphores + buffers + 3] as usize,
+        }
+    }
+}
+
 /// A length for a lent slice: enough more often than not.
 fn some_length(rng: &mut Rng, needed: usize) -> usize {
     match rng.below(16) {
@@ -587,22 +596,12 @@ fn some_length(rng: &mut Rng, needed: usize) -> usize {
     }
 }
 
-fn lent_to_check(rng: &mut Rng, operations: usize) -> Lengths {
+fn lent_to_check(rng: &mut Rng, counts: Counts) -> Lengths {
     Lengths {
-        table: some_length(rng, 16 * operations),
-        list: some_length(rng, 2 * operations),
+        table: some_length(rng, 16 * counts.operations),
+        list: some_length(rng, 2 * counts.operations),
         ..Lengths::default()
     }
-}
-
-/// How many queues and buffers a read plan has.
-fn counts(numbers: &[u64]) -> (usize, usize) {
-    let Some(&queues) = numbers.first() else {
-        return (1, 1);
-    };
-    let semaphores = numbers[queues as usize + 1];
-    let buffers = numbers[(queues + semaphores) as usize + 2];
-    (queues as usize, buffers as usize)
 }
 
 /// A position in a list of about this length, sometimes far outside.
