@@ -1,0 +1,428 @@
+//! The benchmark: the C library's check beside the reference's, on each family
+//! of plans and each size, then the other functions. Prints a table, and draws
+//! time over size as an SVG if a path is given.
+
+use harness::generate::{self, Family, Rng};
+use harness::reference::Reference;
+use harness::side::{Raw, Side, EMPTY};
+use std::fmt::Write as _;
+use std::hint::black_box;
+use std::process::ExitCode;
+use std::time::{Duration, Instant};
+
+const SIZES: [usize; 5] = [64, 128, 256, 512, 1024];
+/// Pairs of measurements of which the median is taken.
+const PAIRS: usize = 101;
+/// One measurement repeats a call until it takes about this long.
+const BATCH: Duration = Duration::from_micros(400);
+
+/// The C library if this build links it, then the reference.
+struct Sides {
+    library: Option<Box<dyn Side>>,
+}
+
+/// Median times of one call in nanoseconds, and the median ratio of pairs.
+struct Measured {
+    library: Option<f64>,
+    reference: f64,
+    ratio: Option<f64>,
+}
+
+impl Sides {
+    /// Measures the same call on both sides, turn by turn.
+    fn measure(&self, mut call: impl FnMut(&dyn Side)) -> Measured {
+        let repeats = repeats(|| call(&Reference));
+        let mut timed = |side: &dyn Side| time(repeats, || call(side));
+        let (mut references, mut libraries, mut ratios) = (Vec::new(), Vec::new(), Vec::new());
+        for pair in 0..PAIRS {
+            let Some(library) = self.library.as_deref() else {
+                references.push(timed(&Reference));
+                continue;
+            };
+            // Each side goes first in every other pair.
+            let (of_reference, of_library) = if pair % 2 == 0 {
+                let of_reference = timed(&Reference);
+                (of_reference, timed(library))
+            } else {
+                let of_library = timed(library);
+                (timed(&Reference), of_library)
+            };
+            references.push(of_reference);
+            libraries.push(of_library);
+            ratios.push(of_library / of_reference);
+        }
+        Measured {
+            library: median(libraries),
+            reference: median(references).unwrap_or(0.0),
+            ratio: median(ratios),
+        }
+    }
+}
+
+/// How often a call is repeated in one measurement.
+fn repeats(mut call: impl FnMut()) -> u32 {
+    let mut repeats = 1;
+    loop {
+        let start = Instant::now();
+        (0..repeats).for_each(|_| call());
+        if start.elapsed() >= BATCH || repeats >= 1 << 20 {
+            return repeats;
+        }
+        repeats *= 2;
+    }
+}
+
+/// Nanoseconds of one call.
+fn time(repeats: u32, mut call: impl FnMut()) -> f64 {
+    let start = Instant::now();
+    (0..repeats).for_each(|_| call());
+    start.elapsed().as_nanos() as f64 / f64::from(repeats)
+}
+
+fn median(mut values: Vec<f64>) -> Option<f64> {
+    values.sort_unstable_by(f64::total_cmp);
+    values.get(values.len() / 2).copied()
+}
+
+// ---------------------------------------------------------------------------
+// Tables.
+
+/// One family's measurements, size by size.
+type Series = (Family, Vec<Measured>);
+
+fn measure_families(sides: &Sides) -> Vec<Series> {
+    println!("check, microseconds for one call");
+    println!(
+        "{:<30}{:>6}{:>8}{:>12}{:>12}{:>8}",
+        "family", "size", "bytes", "C library", "reference", "ratio"
+    );
+    Family::ALL
+        .map(|family| {
+            let measured = SIZES.map(|size| measure_check(sides, family, size));
+            (family, measured.into())
+        })
+        .into()
+}
+
+fn measure_check(sides: &Sides, family: Family, size: usize) -> Measured {
+    let bytes = family.plan(&mut Rng::new(size as u64), size).bytes();
+    let (mut table, mut list) = (vec![0; 16 * size], vec![0; 2 * size]);
+    let measured = sides.measure(|side| {
+        let told = side.check(black_box(&bytes), &mut table, &mut list);
+        assert_eq!(told.number, 0, "a family's plans pass");
+    });
+    println!(
+        "{:<30}{size:>6}{:>8}{:>12}{:>12.2}{:>8}",
+        family.name(),
+        bytes.len(),
+        optional(measured.library.map(|time| time / 1e3)),
+        measured.reference / 1e3,
+        optional(measured.ratio),
+    );
+    measured
+}
+
+/// Two places after the point, or a dash.
+fn optional(value: Option<f64>) -> String {
+    value.map_or("-".to_string(), |value| format!("{value:.2}"))
+}
+
+/// Time for each operation at 1,024 operations over that at 256.
+fn print_growth(series: &[Series]) {
+    let (small, large) = (2, 4);
+    println!("\ngrowth: time for each operation at 1024 over that at 256");
+    println!("{:<30}{:>12}{:>12}", "family", "C library", "reference");
+    for (family, measured) in series {
+        let growth = |at_small: f64, at_large: f64| {
+            (at_large / SIZES[large] as f64) / (at_small / SIZES[small] as f64)
+        };
+        let library = measured[small].library.zip(measured[large].library);
+        let library = library.map(|(small, large)| growth(small, large));
+        let reference = growth(measured[small].reference, measured[large].reference);
+        println!(
+            "{:<30}{:>12}{reference:>12.2}",
+            family.name(),
+            optional(library)
+        );
+    }
+}
+
+fn measure_others(sides: &Sides) {
+    println!("\nother functions, nanoseconds for one call");
+    println!(
+        "{:<44}{:>12}{:>12}{:>8}",
+        "call", "C library", "reference", "ratio"
+    );
+    let plan = generate::greatest(&mut Rng::new(1), 1024);
+    let (bytes, numbers) = (plan.bytes(), plan.numbers());
+    let mut read_room = vec![0; numbers.len()];
+    let mut write_room = vec![0; bytes.len()];
+    let (mut table, mut list) = (vec![0; 16 * 1024], vec![0; 2 * 1024]);
+    let print = |name: &str, measured: Measured| {
+        println!(
+            "{name:<44}{:>12}{:>12.0}{:>8}",
+            measured
+                .library
+                .map_or("-".to_string(), |time| format!("{time:.0}")),
+            measured.reference,
+            optional(measured.ratio)
+        );
+    };
+    let measured = sides.measure(|side| {
+        side.read(black_box(&bytes), &mut read_room);
+    });
+    print("read, greatest plan", measured);
+    let measured = sides.measure(|side| {
+        side.write(black_box(&numbers), &mut write_room);
+    });
+    print("write, greatest plan", measured);
+    let measured = sides.measure(|side| {
+        side.reuse(black_box(&bytes), 3, 200, &mut table, &mut list);
+    });
+    print("reuse, greatest plan", measured);
+    let mut out = EMPTY;
+    let measured = sides.measure(|side| {
+        side.frontier(black_box(&bytes), 1023, 8, &mut table, &mut list, &mut out);
+    });
+    print("frontier sent out, greatest plan", measured);
+    for (name, [left, right]) in frontier_pairs() {
+        let measured = sides.measure(|side| {
+            side.merge(black_box(&left), black_box(&right), 16, &mut out);
+        });
+        print(&format!("merge, {name}"), measured);
+        let measured = sides.measure(|side| {
+            side.dominates(black_box(&left), black_box(&right));
+        });
+        print(&format!("dominates, {name}"), measured);
+    }
+    let [left, _] = frontier_pairs()[0].1;
+    for (name, axis) in [("a listed axis", 14), ("an axis not listed", 15)] {
+        let measured = sides.measure(|side| {
+            side.raise(black_box(&left), black_box(axis), 99, 16, &mut out);
+        });
+        print(&format!("raise, 16 entries, {name}"), measured);
+    }
+}
+
+/// Two frontiers of sixteen entries each: the left has even axes.
+fn frontier_pairs() -> [(&'static str, [Raw; 2]); 2] {
+    let full = |offset: u64, epoch: u64| {
+        let mut frontier = EMPTY;
+        for slot in 0..16 {
+            frontier[slot] = 2 * slot as u64 + offset;
+            frontier[16 + slot] = epoch + (slot as u64 * 7) % 16;
+        }
+        frontier[32] = 16;
+        frontier
+    };
+    [
+        ("16 and 16 on the same axes", [full(0, 20), full(0, 1)]),
+        ("16 and 16 on other axes, cut", [full(0, 20), full(1, 15)]),
+    ]
+}
+
+// ---------------------------------------------------------------------------
+// The plot: one panel for each family, both axes logarithmic.
+
+const PANEL_WIDTH: f64 = 260.0;
+const PANEL_HEIGHT: f64 = 200.0;
+const GAP_X: f64 = 70.0;
+const GAP_Y: f64 = 80.0;
+const LIBRARY_COLOUR: &str = "#1f4e9c";
+const REFERENCE_COLOUR: &str = "#c8641e";
+
+/// Where microseconds and sizes lie in a panel.
+struct Scale {
+    left: f64,
+    top: f64,
+    lowest_decade: i32,
+    decades: i32,
+}
+
+impl Scale {
+    fn x(&self, size: f64) -> f64 {
+        let (first, last) = (SIZES[0] as f64, SIZES[SIZES.len() - 1] as f64);
+        self.left + PANEL_WIDTH * (size / first).log2() / (last / first).log2()
+    }
+
+    fn y(&self, nanoseconds: f64) -> f64 {
+        let decade = (nanoseconds / 1e3).log10() - f64::from(self.lowest_decade);
+        self.top + PANEL_HEIGHT * (1.0 - decade / f64::from(self.decades))
+    }
+}
+
+fn plot(series: &[Series]) -> String {
+    let times = series.iter().flat_map(|(_, measured)| measured);
+    let times = times.flat_map(|m| m.library.into_iter().chain([m.reference]));
+    let (low, high) = times.fold((f64::MAX, 0.0_f64), |(low, high), time| {
+        (low.min(time), high.max(time))
+    });
+    let lowest_decade = (low / 1e3).log10().floor() as i32;
+    let decades = ((high / 1e3).log10().ceil() as i32 - lowest_decade).max(1);
+    let width = 3.0 * (PANEL_WIDTH + GAP_X) + 30.0;
+    let height = 2.0 * (PANEL_HEIGHT + GAP_Y) + 50.0;
+    let mut svg = String::new();
+    let _ = writeln!(
+        svg,
+        r#"<svg xmlns="http://www.w3.org/2000/svg" viewBox="0 0 {width} {height}" width="{width}" height="{height}" font-family="sans-serif" font-size="11">"#
+    );
+    let _ = writeln!(
+        svg,
+        r##"<rect width="100%" height="100%" fill="#ffffff"/>"##
+    );
+    text(
+        &mut svg,
+        20.0,
+        28.0,
+        "start",
+        16,
+        "Check of a plan: time over size",
+    );
+    for (place, (family, measured)) in series.iter().enumerate() {
+        let scale = Scale {
+            left: 60.0 + (place % 3) as f64 * (PANEL_WIDTH + GAP_X),
+            top: 80.0 + (place / 3) as f64 * (PANEL_HEIGHT + GAP_Y),
+            lowest_decade,
+            decades,
+        };
+        panel(&mut svg, &scale, family.name());
+        curves(&mut svg, &scale, measured);
+    }
+    let left = 60.0 + 2.0 * (PANEL_WIDTH + GAP_X);
+    legend(&mut svg, left, 110.0 + PANEL_HEIGHT + GAP_Y, series);
+    svg.push_str("</svg>\n");
+    svg
+}
+
+fn text(svg: &mut String, x: f64, y: f64, anchor: &str, size: u32, words: &str) {
+    let _ = writeln!(
+        svg,
+        r##"<text x="{x:.1}" y="{y:.1}" text-anchor="{anchor}" font-size="{size}" fill="#222222">{words}</text>"##
+    );
+}
+
+fn line(svg: &mut String, points: &[(f64, f64)], style: &str) {
+    let mut list = String::new();
+    for (x, y) in points {
+        let _ = write!(list, "{x:.1},{y:.1} ");
+    }
+    let _ = writeln!(
+        svg,
+        r#"<polyline points="{}" fill="none" {style}/>"#,
+        list.trim_end()
+    );
+}
+
+/// Frame, grid, labels and title of one panel.
+fn panel(svg: &mut String, scale: &Scale, title: &str) {
+    let (left, top) = (scale.left, scale.top);
+    let (right, bottom) = (left + PANEL_WIDTH, top + PANEL_HEIGHT);
+    let grid = r##"stroke="#dddddd" stroke-width="1""##;
+    text(svg, left, top - 10.0, "start", 13, title);
+    for size in SIZES {
+        let x = scale.x(size as f64);
+        line(svg, &[(x, top), (x, bottom)], grid);
+        text(svg, x, bottom + 15.0, "middle", 11, &size.to_string());
+    }
+    for decade in 0..=scale.decades {
+        let microseconds = 10_f64.powi(scale.lowest_decade + decade);
+        let y = scale.y(microseconds * 1e3);
+        line(svg, &[(left, y), (right, y)], grid);
+        let label = format!("{microseconds} µs");
+        text(svg, left - 6.0, y + 4.0, "end", 11, &label);
+    }
+    let frame = [
+        (left, top),
+        (left, bottom),
+        (right, bottom),
+        (right, top),
+        (left, top),
+    ];
+    line(svg, &frame, r##"stroke="#888888" stroke-width="1""##);
+    text(
+        svg,
+        left + PANEL_WIDTH / 2.0,
+        bottom + 31.0,
+        "middle",
+        11,
+        "operations",
+    );
+}
+
+fn curves(svg: &mut String, scale: &Scale, measured: &[Measured]) {
+    let sizes = SIZES.map(|size| size as f64);
+    // A line of slope one through the reference's first point.
+    let linear = sizes.map(|size| {
+        let time = measured[0].reference * size / sizes[0];
+        (scale.x(size), scale.y(time))
+    });
+    line(svg, &linear, LINEAR_STYLE);
+    let point = |size: f64, time: f64| (scale.x(size), scale.y(time));
+    let library: Vec<_> = sizes
+        .iter()
+        .zip(measured)
+        .filter_map(|(&size, m)| m.library.map(|time| point(size, time)))
+        .collect();
+    let reference: Vec<_> = sizes
+        .iter()
+        .zip(measured)
+        .map(|(&size, m)| point(size, m.reference))
+        .collect();
+    curve(svg, &reference, REFERENCE_COLOUR);
+    curve(svg, &library, LIBRARY_COLOUR);
+}
+
+const LINEAR_STYLE: &str = r##"stroke="#999999" stroke-width="1" stroke-dasharray="3 4""##;
+
+fn curve(svg: &mut String, points: &[(f64, f64)], colour: &str) {
+    let style = format!(r#"stroke="{colour}" stroke-width="2""#);
+    line(svg, points, &style);
+    for (x, y) in points {
+        let _ = writeln!(
+            svg,
+            r#"<circle cx="{x:.1}" cy="{y:.1}" r="3" fill="{colour}"/>"#
+        );
+    }
+}
+
+fn legend(svg: &mut String, left: f64, top: f64, series: &[Series]) {
+    let has_library = series[0].1[0].library.is_some();
+    let mut y = top;
+    let mut entry = |svg: &mut String, colour: Option<&str>, words: &str| {
+        let points = [(left, y), (left + 40.0, y)];
+        match colour {
+            Some(colour) => curve(svg, &points, colour),
+            None => line(svg, &points, LINEAR_STYLE),
+        }
+        text(svg, left + 52.0, y + 4.0, "start", 13, words);
+        y += 26.0;
+    };
+    if has_library {
+        entry(svg, Some(LIBRARY_COLOUR), "C library");
+    }
+    entry(svg, Some(REFERENCE_COLOUR), "reference");
+    entry(svg, None, "linear, from the first point");
+}
+
+// ---------------------------------------------------------------------------
+
+fn main() -> ExitCode {
+    let path = std::env::args().nth(1);
+    let sides = Sides {
+        library: harness::c_api::library(),
+    };
+    if sides.library.is_none() {
+        println!("no C library is linked: the reference alone is measured");
+    }
+    let series = measure_families(&sides);
+    print_growth(&series);
+    measure_others(&sides);
+    if let Some(path) = path {
+        if let Err(error) = std::fs::write(&path, plot(&series)) {
+            eprintln!("{path}: {error}");
+            return ExitCode::FAILURE;
+        }
+        println!("\nplot written to {path}");
+    }
+    ExitCode::SUCCESS
+}

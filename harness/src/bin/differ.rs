@@ -1,0 +1,769 @@
+//! The differential test: the reference and the other side judge the same
+//! plans and frontiers, and everything handed back or left in lent slices must
+//! be equal. Plans of up to seven operations are judged by brute force too.
+
+use harness::brute::{self, Judgement};
+use harness::faults::{self, Fault, Faulty};
+use harness::generate::{self, Family, Rng};
+use harness::plan::Plan;
+use harness::reference::{self, Reference};
+use harness::side::{Raw, Side, Told, LENGTH};
+use std::process::ExitCode;
+use std::sync::atomic::{AtomicU64, Ordering};
+use std::time::{Instant, SystemTime, UNIX_EPOCH};
+
+const USAGE: &str = "\
+differ [--seed N] [--count N] [--fault N] [--trace]
+  --seed N    the seed of the first case; the case after it has seed N + 1
+  --count N   stop after this many plans (200000)
+  --fault N   compare with the reference under seeded fault 1 to 6 instead of
+              with the C library
+  --trace     print each case's seed before it is judged";
+
+/// With fewer plans than this, not every number need occur.
+const ENOUGH_PLANS: u64 = 20_000;
+
+// ---------------------------------------------------------------------------
+// The functions compared, and how often each number occurred.
+
+#[derive(Clone, Copy)]
+enum Function {
+    Read,
+    Write,
+    Check,
+    Reuse,
+    Frontier,
+    Merge,
+    Raise,
+    Dominates,
+}
+
+/// Names, and the numbers that each function must have given.
+const FUNCTIONS: [(&str, &[usize]); 8] = [
+    ("read", &[0, 1, 2, 3, 4, 5, 9]),
+    ("write", &[0, 1, 2, 3, 4, 5, 9]),
+    ("check", &[0, 1, 2, 3, 4, 5, 6, 7, 8, 9, 10, 11]),
+    ("reuse", &[0, 1, 2, 3, 4, 5, 6, 7, 8, 9, 10, 11, 12, 13]),
+    ("frontier", &[0, 1, 2, 3, 4, 5, 6, 7, 8, 9, 10, 11, 15, 21]),
+    ("merge", &[0, 14, 15]),
+    ("raise", &[0, 14, 15]),
+    ("dominates", &[0, 14]),
+];
+
+#[derive(Default)]
+struct Tally {
+    plans: u64,
+    by_brute_force: u64,
+    numbers: [[u64; 22]; FUNCTIONS.len()],
+    verdicts: [u64; 5],
+    dominance: [u64; 3],
+}
+
+impl Tally {
+    fn add(&mut self, function: Function, told: Told) {
+        self.numbers[function as usize][told.number as usize] += 1;
+        match (function, told.number) {
+            (Function::Reuse, 0) => self.verdicts[told.answer as usize] += 1,
+            (Function::Dominates, 0) => self.dominance[told.answer as usize] += 1,
+            _ => {}
+        }
+    }
+
+    fn print(&self) {
+        print!("number");
+        for (name, _) in FUNCTIONS {
+            print!("{name:>10}");
+        }
+        println!();
+        for number in 0..22 {
+            if self.numbers.iter().all(|counts| counts[number] == 0) {
+                continue;
+            }
+            print!("{number:>6}");
+            for counts in &self.numbers {
+                print!("{:>10}", counts[number]);
+            }
+            println!();
+        }
+        println!("reuse verdicts 0 to 4: {:?}", self.verdicts);
+        println!("dominance no, yes, unknown: {:?}", self.dominance);
+    }
+
+    /// The first function and number that never occurred.
+    fn missing(&self) -> Option<String> {
+        for ((name, wanted), counts) in FUNCTIONS.iter().zip(&self.numbers) {
+            if let Some(number) = wanted.iter().find(|&&number| counts[number] == 0) {
+                return Some(format!("{name} never gave {number}"));
+            }
+        }
+        // Verdict 4 is not asked for: the marks of a passed plan are all before
+        // the last free, or in it.
+        if self.verdicts[..4].contains(&0) || self.dominance.contains(&0) {
+            return Some("an answer never occurred".to_string());
+        }
+        None
+    }
+}
+
+// ---------------------------------------------------------------------------
+// What is lent to a call.
+
+/// Lengths of the lent slices of one call.
+#[derive(Clone, Copy, Default)]
+struct Lengths {
+    numbers: usize,
+    bytes: usize,
+    table: usize,
+    list: usize,
+}
+
+/// Numbers on either side of a lent slice, to see writes outside it.
+const GUARD: usize = 8;
+
+/// A lent slice between guards, filled with a pattern beforehand and compared
+/// whole afterwards.
+#[derive(Default, PartialEq)]
+struct Room<T>(Vec<T>);
+
+impl<T: Clone + PartialEq + std::fmt::Debug> Room<T> {
+    fn fill(&mut self, length: usize, pattern: T) {
+        self.0.clear();
+        self.0.resize(GUARD + length + GUARD, pattern);
+    }
+
+    fn lend(&mut self) -> &mut [T] {
+        let end = self.0.len() - GUARD;
+        &mut self.0[GUARD..end]
+    }
+
+    fn print_difference(&self, other: &Room<T>, name: &str) {
+        let first = self.0.iter().zip(&other.0).position(|(a, b)| a != b);
+        if let Some(at) = first {
+            let end = self.0.len().min(at + 16);
+            let length = self.0.len() - 2 * GUARD;
+            let place = at as isize - GUARD as isize;
+            println!("{name} of {length} from {place} on:");
+            println!("  reference  {:?}", &self.0[at..end]);
+            println!("  other side {:?}", &other.0[at..end]);
+        }
+    }
+}
+
+impl Room<u64> {
+    fn lend_frontier(&mut self) -> &mut Raw {
+        let frontier = self.lend().first_chunk_mut();
+        frontier.expect("a whole frontier is lent")
+    }
+}
+
+/// Everything that may be lent to a call.
+#[derive(Default, PartialEq)]
+struct Lent {
+    numbers: Room<u64>,
+    bytes: Room<u8>,
+    table: Room<u32>,
+    list: Room<u32>,
+    frontier: Room<u64>,
+}
+
+impl Lent {
+    fn fill(&mut self, lengths: Lengths, pattern: u64) {
+        self.numbers.fill(lengths.numbers, pattern);
+        self.bytes.fill(lengths.bytes, pattern as u8);
+        self.table.fill(lengths.table, pattern as u32);
+        self.list.fill(lengths.list, pattern as u32);
+        self.frontier.fill(FRONTIER, pattern);
+    }
+
+    /// Prints where two differ.
+    fn print_difference(&self, other: &Lent) {
+        self.numbers.print_difference(&other.numbers, "numbers");
+        self.bytes.print_difference(&other.bytes, "bytes");
+        self.table.print_difference(&other.table, "table");
+        self.list.print_difference(&other.list, "list");
+        self.frontier.print_difference(&other.frontier, "frontier");
+    }
+}
+
+/// Numbers in a lent frontier.
+const FRONTIER: usize = 34;
+
+// ---------------------------------------------------------------------------
+// The comparison.
+
+/// A difference ends the run; what it is has been printed.
+struct Different;
+
+type Compared<T> = Result<T, Different>;
+
+struct Differ {
+    other: Box<dyn Side>,
+    tally: Tally,
+    ours: Lent,
+    theirs: Lent,
+    trace: bool,
+}
+
+/// The seed of the case being judged, for the message of a panic.
+static SEED: AtomicU64 = AtomicU64::new(0);
+
+impl Differ {
+    /// Makes the same call on both sides and compares all it hands back.
+    fn compare(
+        &mut self,
+        rng: &mut Rng,
+        function: Function,
+        lengths: Lengths,
+        call: impl Fn(&dyn Side, &mut Lent) -> Told,
+        print_input: impl Fn(),
+    ) -> Compared<Told> {
+        let pattern = rng.word();
+        self.ours.fill(lengths, pattern);
+        self.theirs.fill(lengths, pattern);
+        let ours = call(&Reference, &mut self.ours);
+        let theirs = call(self.other.as_ref(), &mut self.theirs);
+        if ours == theirs && self.ours == self.theirs {
+            self.tally.add(function, ours);
+            return Ok(ours);
+        }
+        println!("DIFFERENCE in {}", FUNCTIONS[function as usize].0);
+        println!("reference:  {ours:?}");
+        println!("other side: {theirs:?} ({})", self.other.name());
+        self.ours.print_difference(&self.theirs);
+        print_input();
+        Err(Different)
+    }
+
+    /// Every function that takes a plan.
+    fn plan(&mut self, rng: &mut Rng, bytes: &[u8]) -> Compared<()> {
+        self.tally.plans += 1;
+        let numbers = self.reader(rng, bytes)?;
+        self.writer(rng, &numbers)?;
+        if rng.percent(40) {
+            let damaged = generate::damaged_numbers(rng, &numbers);
+            self.writer(rng, &damaged)?;
+        }
+        let counts = Counts::of(rng, &numbers);
+        self.check(rng, bytes, counts)?;
+        self.brute_force(rng, bytes)?;
+        self.reuse(rng, bytes, counts)?;
+        self.sent_out(rng, bytes, counts)
+    }
+
+    /// Hands back the plan's numbers, none if it is unreadable.
+    fn reader(&mut self, rng: &mut Rng, bytes: &[u8]) -> Compared<Vec<u64>> {
+        let numbers = faults::parse(bytes).map_or(Vec::new(), |plan| plan.numbers());
+        let lengths = Lengths {
+            numbers: some_length(rng, numbers.len()),
+            ..Lengths::default()
+        };
+        self.compare(
+            rng,
+            Function::Read,
+            lengths,
+            |side, lent| side.read(bytes, lent.numbers.lend()),
+            || print_plan(bytes),
+        )?;
+        Ok(numbers)
+    }
+
+    fn writer(&mut self, rng: &mut Rng, numbers: &[u64]) -> Compared<()> {
+        let needed = match reference::write(numbers, &mut []) {
+            Told {
+                number: 9, place, ..
+            } => place as usize,
+            _ => 0,
+        };
+        let lengths = Lengths {
+            bytes: some_length(rng, needed),
+            ..Lengths::default()
+        };
+        self.compare(
+            rng,
+            Function::Write,
+            lengths,
+            |side, lent| side.write(numbers, lent.bytes.lend()),
+            || println!("numbers {numbers:?}"),
+        )?;
+        Ok(())
+    }
+
+    fn check(&mut self, rng: &mut Rng, bytes: &[u8], counts: Counts) -> Compared<()> {
+        let lengths = lent_to_check(rng, counts);
+        self.compare(
+            rng,
+            Function::Check,
+            lengths,
+            |side, lent| side.check(bytes, lent.table.lend(), lent.list.lend()),
+            || print_plan(bytes),
+        )?;
+        Ok(())
+    }
+
+    fn reuse(&mut self, rng: &mut Rng, bytes: &[u8], counts: Counts) -> Compared<()> {
+        let lengths = lent_to_check(rng, counts);
+        let queue = some_position(rng, counts.queues);
+        let buffer = some_position(rng, counts.buffers);
+        self.compare(
+            rng,
+            Function::Reuse,
+            lengths,
+            |side, lent| side.reuse(bytes, queue, buffer, lent.table.lend(), lent.list.lend()),
+            || {
+                println!("queue {queue}, buffer {buffer}");
+                print_plan(bytes);
+            },
+        )?;
+        Ok(())
+    }
+
+    fn sent_out(&mut self, rng: &mut Rng, bytes: &[u8], counts: Counts) -> Compared<()> {
+        let lengths = lent_to_check(rng, counts);
+        let operation = some_position(rng, counts.operations);
+        let capacity = some_capacity(rng);
+        self.compare(
+            rng,
+            Function::Frontier,
+            lengths,
+            |side, lent| {
+                let (table, list) = (lent.table.lend(), lent.list.lend());
+                let frontier = lent.frontier.lend_frontier();
+                side.frontier(bytes, operation, capacity, table, list, frontier)
+            },
+            || {
+                println!("operation {operation}, capacity {capacity}");
+                print_plan(bytes);
+            },
+        )?;
+        Ok(())
+    }
+
+    /// The reference against every run of the plan.
+    fn brute_force(&mut self, rng: &mut Rng, bytes: &[u8]) -> Compared<()> {
+        let plan = match faults::parse(bytes) {
+            Some(plan) if plan.operations.len() <= brute::MOST_OPERATIONS => plan,
+            _ => return Ok(()),
+        };
+        self.tally.by_brute_force += 1;
+        let judgement = brute::judge(&plan);
+        let mut question = None;
+        if let (Judgement::Passed { rows, .. }, 1.., 1..) =
+            (&judgement, plan.axes.len(), plan.sizes.len())
+        {
+            let queue = rng.below(plan.axes.len());
+            let buffer = rng.below(plan.sizes.len());
+            let verdict = brute::reuse(&plan, rows, queue, buffer);
+            question = Some((queue as u32, buffer as u32, verdict));
+        }
+        let wanted = told_by_brute_force(&plan, &judgement);
+        let operations = plan.operations.len();
+        let (mut table, mut list) = (vec![!0; 16 * operations], vec![!0; 2 * operations]);
+        let told = reference::check(bytes, &mut table, &mut list);
+        if (told, &table, &list) != (wanted.0, &wanted.1, &wanted.2) {
+            println!("DIFFERENCE between the reference and brute force");
+            println!("reference:   {told:?} {table:?} {list:?}");
+            println!("brute force: {judgement:?}");
+            print_plan(bytes);
+            return Err(Different);
+        }
+        if let Some((queue, buffer, verdict)) = question {
+            let told = reference::reuse(bytes, queue, buffer, &mut table, &mut list);
+            if told != Told::answered(verdict) {
+                println!("DIFFERENCE between the reference and brute force");
+                println!("queue {queue}, buffer {buffer}: {told:?}, {verdict}");
+                print_plan(bytes);
+                return Err(Different);
+            }
+        }
+        Ok(())
+    }
+
+    fn frontiers(&mut self, rng: &mut Rng) -> Compared<()> {
+        let most = *rng.pick(&[2, 4, 16]);
+        let mut left = generate::frontier(rng, most);
+        let mut right = match rng.below(3) {
+            0 => generate::frontier_below(rng, &left),
+            _ => generate::frontier(rng, most),
+        };
+        if rng.percent(10) {
+            left = generate::spoiled_frontier(rng, &left);
+        }
+        if rng.percent(10) {
+            right = generate::spoiled_frontier(rng, &right);
+        }
+        let capacity = some_capacity(rng);
+        let listed = left[LENGTH].clamp(1, 16) as usize;
+        let axis = match rng.below(3) {
+            0 => rng.word(),
+            1 => left[rng.below(listed)],
+            _ => rng.below(24) as u64,
+        };
+        let epoch = match rng.below(6) {
+            0 => 0,
+            1 => rng.word(),
+            _ => rng.below(10) as u64,
+        };
+        let none = Lengths::default();
+        let print = || {
+            println!("left {left:?}\nright {right:?}");
+            println!("capacity {capacity}, axis {axis}, epoch {epoch}");
+        };
+        self.compare(
+            rng,
+            Function::Merge,
+            none,
+            |side, lent| side.merge(&left, &right, capacity, lent.frontier.lend_frontier()),
+            print,
+        )?;
+        self.compare(
+            rng,
+            Function::Raise,
+            none,
+            |side, lent| side.raise(&left, axis, epoch, capacity, lent.frontier.lend_frontier()),
+            print,
+        )?;
+        self.compare(
+            rng,
+            Function::Dominates,
+            none,
+            |side, _| side.dominates(&left, &right),
+            print,
+        )?;
+        Ok(())
+    }
+
+    /// One case: a plan, or every damage of some kind to one.
+    fn case(&mut self, seed: u64) -> Compared<()> {
+        SEED.store(seed, Ordering::Relaxed);
+        if self.trace {
+            eprintln!("seed {seed}");
+        }
+        let rng = &mut Rng::new(seed);
+        self.frontiers(rng)?;
+        match rng.below(10_000) {
+            0..3 => self.every_truncation(rng),
+            3 => self.every_byte_changed(rng),
+            4..24 => self.greatest(rng),
+            24..54 => {
+                let family = *rng.pick(&Family::ALL);
+                let operations = rng.between(64, 1024);
+                let plan = family.plan(rng, operations);
+                self.plan(rng, &plan.bytes())
+            }
+            54..600 => {
+                let bytes = generate::random_bytes(rng);
+                self.plan(rng, &bytes)
+            }
+            600..2000 => {
+                let plan = small_plan(rng);
+                let damaged = generate::damaged(rng, &plan.bytes());
+                self.plan(rng, &damaged)
+            }
+            2000..2600 => {
+                let plan = pipeline(rng);
+                self.plan(rng, &plan.bytes())
+            }
+            2600..3600 => {
+                let plan = generate::random_plan(rng, 40);
+                self.plan(rng, &plan.bytes())
+            }
+            _ => {
+                let plan = small_plan(rng);
+                self.plan(rng, &plan.bytes())
+            }
+        }
+    }
+
+    /// Each truncation of a plan, and of its list of numbers for the writer.
+    fn every_truncation(&mut self, rng: &mut Rng) -> Compared<()> {
+        let plan = base_plan(rng);
+        let (bytes, numbers) = (plan.bytes(), plan.numbers());
+        for length in 0..=bytes.len() {
+            self.plan(rng, &bytes[..length])?;
+        }
+        for length in 0..=numbers.len() {
+            self.writer(rng, &numbers[..length])?;
+        }
+        Ok(())
+    }
+
+    /// Each byte changed: to every other value in a short plan, to a few in a
+    /// longer one.
+    fn every_byte_changed(&mut self, rng: &mut Rng) -> Compared<()> {
+        let mut bytes = base_plan(rng).bytes();
+        for at in 0..bytes.len() {
+            let byte = bytes[at];
+            if bytes.len() <= 50 {
+                for other in (0..=255).filter(|&other| other != byte) {
+                    bytes[at] = other;
+                    self.plan(rng, &bytes)?;
+                }
+            } else {
+                for _ in 0..3 {
+                    bytes[at] = generate::other_byte(rng, byte);
+                    self.plan(rng, &bytes)?;
+                }
+            }
+            bytes[at] = byte;
+        }
+        Ok(())
+    }
+
+    /// A plan with every list at its limit: as it is, changed, cut, too long.
+    fn greatest(&mut self, rng: &mut Rng) -> Compared<()> {
+        let bytes = generate::greatest(rng, 1024).bytes();
+        assert_eq!(bytes.len(), 63_686);
+        self.plan(rng, &bytes)?;
+        let mut changed = bytes.clone();
+        let at = rng.below(bytes.len());
+        changed[at] = generate::other_byte(rng, bytes[at]);
+        self.plan(rng, &changed)?;
+        let shorter = rng.below(bytes.len());
+        self.plan(rng, &bytes[..shorter])?;
+        let mut longer = bytes;
+        let more = rng.between(1, 3000);
+        longer.extend((0..more).map(|_| rng.word() as u8));
+        self.plan(rng, &longer)
+    }
+}
+
+/// What brute force expects to be told and left in table and list that were
+/// filled with ones.
+fn told_by_brute_force(plan: &Plan, judgement: &Judgement) -> (Told, Vec<u32>, Vec<u32>) {
+    let operations = plan.operations.len();
+    let (mut table, mut list) = (vec![0; 16 * operations], vec![0; 2 * operations]);
+    match judgement {
+        Judgement::Refused { number, place } => {
+            if *number <= 9 {
+                table.fill(!0);
+                list.fill(!0);
+            }
+            (Told::refused(*number, *place), table, list)
+        }
+        Judgement::Passed { run, ready, rows } => {
+            for (to, from) in list.iter_mut().zip(run.iter().chain(ready)) {
+                *to = *from as u32;
+            }
+            for (to, from) in table.chunks_exact_mut(16).zip(rows) {
+                for (to, from) in to.iter_mut().zip(from) {
+                    *to = *from as u32;
+                }
+            }
+            (Told::PASSED, table, list)
+        }
+    }
+}
+
+// ---------------------------------------------------------------------------
+// What is given to a call.
+
+/// How much a plan lists.
+#[derive(Clone, Copy)]
+struct Counts {
+    queues: usize,
+    buffers: usize,
+    operations: usize,
+}
+
+impl Counts {
+    /// An unreadable plan has no numbers: then any small counts.
+    fn of(rng: &mut Rng, numbers: &[u64]) -> Counts {
+        let Some(&queues) = numbers.first() else {
+            return Counts {
+                queues: 1,
+                buffers: 1,
+                operations: rng.below(8),
+            };
+        };
+        let queues = queues as usize;
+        let semaphores = numbers[queues + 1] as usize;
+        let buffers = numbers[queues + semaphores + 2] as usize;
+        Counts {
+            queues,
+            buffers,
+            operations: numbers[queues + semaphores + buffers + 3] as usize,
+        }
+    }
+}
+
+/// A length for a lent slice: enough more often than not.
+fn some_length(rng: &mut Rng, needed: usize) -> usize {
+    match rng.below(16) {
+        0 => rng.below(needed + 1),
+        1 => needed.saturating_sub(1),
+        2..8 => needed,
+        _ => needed + rng.between(1, 40),
+    }
+}
+
+fn lent_to_check(rng: &mut Rng, counts: Counts) -> Lengths {
+    Lengths {
+        table: some_length(rng, 16 * counts.operations),
+        list: some_length(rng, 2 * counts.operations),
+        ..Lengths::default()
+    }
+}
+
+/// A position in a list of about this length, sometimes far outside.
+fn some_position(rng: &mut Rng, length: usize) -> u32 {
+    match rng.below(20) {
+        0 => rng.word() as u32,
+        1 => length as u32,
+        2 => rng.below(256) as u32,
+        _ => rng.below(length.max(1)) as u32,
+    }
+}
+
+fn some_capacity(rng: &mut Rng) -> u32 {
+    match rng.below(20) {
+        0 => 0,
+        1 => 17,
+        2 => rng.word() as u32,
+        _ => rng.between(1, 16) as u32,
+    }
+}
+
+fn small_plan(rng: &mut Rng) -> Plan {
+    generate::random_plan(rng, brute::MOST_OPERATIONS)
+}
+
+/// Cameras to host: as it should be, with a wait missing, with a deadlock, or
+/// with the operations in another order.
+fn pipeline(rng: &mut Rng) -> Plan {
+    let (cameras, frames) = (rng.between(1, 4), rng.between(1, 10));
+    let plan = generate::camera_pipeline(rng, cameras, frames);
+    match rng.below(4) {
+        0 => plan,
+        1 => generate::without_one_wait(rng, &plan),
+        2 => generate::with_deadlock(rng, &plan),
+        _ => generate::reordered(rng, &plan),
+    }
+}
+
+/// A plan to be damaged in each place.
+fn base_plan(rng: &mut Rng) -> Plan {
+    match rng.below(3) {
+        0 => generate::camera_pipeline(rng, 2, 3),
+        1 => generate::random_plan(rng, 2),
+        _ => small_plan(rng),
+    }
+}
+
+fn print_plan(bytes: &[u8]) {
+    print!("plan of {} bytes:", bytes.len());
+    for byte in bytes {
+        print!(" {byte:02x}");
+    }
+    println!();
+    match faults::parse(bytes) {
+        Some(plan) => print!("{plan}"),
+        None => println!("unreadable: {:?}", reference::read(bytes, &mut [])),
+    }
+}
+
+// ---------------------------------------------------------------------------
+
+struct Options {
+    seed: u64,
+    count: u64,
+    fault: Option<Fault>,
+    trace: bool,
+}
+
+impl Options {
+    fn parse(mut arguments: impl Iterator<Item = String>) -> Option<Options> {
+        let now = SystemTime::now().duration_since(UNIX_EPOCH);
+        let mut options = Options {
+            seed: now.map_or(1, |now| now.as_micros() as u64),
+            count: 200_000,
+            fault: None,
+            trace: false,
+        };
+        while let Some(argument) = arguments.next() {
+            if argument == "--trace" {
+                options.trace = true;
+                continue;
+            }
+            let value: u64 = arguments.next()?.parse().ok()?;
+            match argument.as_str() {
+                "--seed" => options.seed = value,
+                "--count" => options.count = value,
+                "--fault" => {
+                    let position = usize::try_from(value).ok()?.checked_sub(1)?;
+                    options.fault = Some(*Fault::ALL.get(position)?);
+                }
+                _ => return None,
+            }
+        }
+        Some(options)
+    }
+
+    fn other_side(&self) -> Box<dyn Side> {
+        if let Some(fault) = self.fault {
+            return Box::new(Faulty(fault));
+        }
+        harness::c_api::library().unwrap_or_else(|| {
+            println!("no C library is linked: only reference and brute force are compared");
+            Box::new(Reference)
+        })
+    }
+}
+
+fn run(options: &Options) -> Compared<Tally> {
+    let other = options.other_side();
+    println!("first seed {}, against {}", options.seed, other.name());
+    let mut differ = Differ {
+        other,
+        tally: Tally::default(),
+        ours: Lent::default(),
+        theirs: Lent::default(),
+        trace: options.trace,
+    };
+    let mut seed = options.seed;
+    while differ.tally.plans < options.count {
+        if let Err(Different) = differ.case(seed) {
+            println!("after {} plans", differ.tally.plans);
+            println!("repeat with --seed {seed} --count 1");
+            return Err(Different);
+        }
+        seed = seed.wrapping_add(1);
+    }
+    println!("last seed {}", seed.wrapping_sub(1));
+    Ok(differ.tally)
+}
+
+fn main() -> ExitCode {
+    let Some(options) = Options::parse(std::env::args().skip(1)) else {
+        eprintln!("{USAGE}");
+        return ExitCode::from(2);
+    };
+    let start = Instant::now();
+    // A panic, such as a broken claim in brute force, is a failure with a seed.
+    let outcome = std::panic::catch_unwind(|| run(&options));
+    let Ok(outcome) = outcome else {
+        let seed = SEED.load(Ordering::Relaxed);
+        println!("repeat with --seed {seed} --count 1");
+        return ExitCode::FAILURE;
+    };
+    let Ok(tally) = outcome else {
+        return ExitCode::FAILURE;
+    };
+    tally.print();
+    println!(
+        "{} plans, {} of them by brute force too, in {:.1} s: no difference",
+        tally.plans,
+        tally.by_brute_force,
+        start.elapsed().as_secs_f64()
+    );
+    match tally.missing() {
+        Some(missing) if options.count >= ENOUGH_PLANS => {
+            println!("FAILED: {missing}");
+            ExitCode::FAILURE
+        }
+        Some(missing) => {
+            println!("too few plans to judge that {missing}");
+            ExitCode::SUCCESS
+        }
+        None => ExitCode::SUCCESS,
+    }
+}

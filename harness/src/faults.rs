@@ -1,0 +1,210 @@
+//! The reference with a seeded fault, to see that the comparison finds it. The
+//! reference itself stays as it is: a fault changes the plan it is given, or
+//! what it hands back.
+
+use crate::plan::{Mark, Plan};
+use crate::reference::{self, Reference};
+use crate::side::{Raw, Side, Told, EMPTY, EPOCHS, LENGTH, TAINT};
+
+/// The mistakes that paper 01 says were paid for, and a row's own column.
+#[derive(Clone, Copy, PartialEq, Eq, Debug)]
+pub enum Fault {
+    /// A wait imports the newest signal instead of the one it needed.
+    NewestSignal,
+    /// Of a holding after a free only the first use is tested.
+    FirstUseOnly,
+    /// A row does not count its own operation.
+    OwnColumnMissing,
+    /// A missing axis is read as no objection.
+    AbsentIsMet,
+    /// A frontier that lost an entry is found dominated.
+    TaintForgotten,
+    /// Plan order is handed back as the run.
+    PlanOrder,
+}
+
+impl Fault {
+    /// Fault 1 is the first.
+    pub const ALL: [Fault; 6] = [
+        Fault::NewestSignal,
+        Fault::FirstUseOnly,
+        Fault::OwnColumnMissing,
+        Fault::AbsentIsMet,
+        Fault::TaintForgotten,
+        Fault::PlanOrder,
+    ];
+
+    /// The plan the reference is given instead.
+    fn rewrite(self, plan: &mut Plan) {
+        match self {
+            Fault::NewestSignal => wait_for_newest(plan),
+            Fault::FirstUseOnly => keep_first_uses(plan),
+            _ => {}
+        }
+    }
+}
+
+/// Each wait above 0 that something meets waits for the highest signal.
+fn wait_for_newest(plan: &mut Plan) {
+    let mut highest = vec![0; plan.owners.len()];
+    for signal in plan.operations.iter().flat_map(|o| &o.signals) {
+        let semaphore = usize::from(signal.semaphore);
+        highest[semaphore] = signal.value.max(highest[semaphore]);
+    }
+    for wait in plan.operations.iter_mut().flat_map(|o| &mut o.waits) {
+        if wait.value > 0 {
+            wait.value = wait.value.max(highest[usize::from(wait.semaphore)]);
+        }
+    }
+}
+
+/// After a free of a buffer, the first use stays and the others up to the next
+/// free go.
+fn keep_first_uses(plan: &mut Plan) {
+    #[derive(Clone, Copy, PartialEq)]
+    enum Seen {
+        NoFree,
+        Free,
+        FirstUse,
+    }
+    let mut seen = vec![Seen::NoFree; plan.sizes.len()];
+    let mut keep = |mark: &Mark| {
+        let seen = &mut seen[usize::from(mark.buffer)];
+        match (mark.free, *seen) {
+            (true, _) => *seen = Seen::Free,
+            (false, Seen::NoFree) => {}
+            (false, Seen::Free) => *seen = Seen::FirstUse,
+            (false, Seen::FirstUse) => return false,
+        }
+        true
+    };
+    for operation in &mut plan.operations {
+        operation.marks.retain(&mut keep);
+    }
+}
+
+/// A readable plan as a tree.
+pub fn parse(bytes: &[u8]) -> Option<Plan> {
+    let needed = reference::read(bytes, &mut []).place;
+    let mut numbers = vec![0; usize::try_from(needed).ok()?];
+    let told = reference::read(bytes, &mut numbers);
+    (told.number == 0).then(|| Plan::from_numbers(&numbers))
+}
+
+/// The reference with a fault, as one side of a comparison.
+pub struct Faulty(pub Fault);
+
+impl Faulty {
+    fn rewritten(&self, plan: &[u8]) -> Vec<u8> {
+        match parse(plan) {
+            None => plan.to_vec(),
+            Some(mut tree) => {
+                self.0.rewrite(&mut tree);
+                tree.bytes()
+            }
+        }
+    }
+
+    /// Spoils what a passed check or an answered question leaves.
+    fn spoil(&self, told: Told, plan: &[u8], table: &mut [u32], list: &mut [u32]) {
+        let rows_are_there = matches!(told.number, 0 | 12 | 13 | 15 | 21);
+        let Some(plan) = parse(plan).filter(|_| rows_are_there) else {
+            return;
+        };
+        for (position, operation) in plan.operations.iter().enumerate() {
+            match self.0 {
+                Fault::OwnColumnMissing => table[16 * position + usize::from(operation.queue)] = 0,
+                Fault::PlanOrder => list[position] = position as u32,
+                _ => {}
+            }
+        }
+    }
+}
+
+impl Side for Faulty {
+    fn name(&self) -> String {
+        format!("reference with fault {:?}", self.0)
+    }
+
+    fn read(&self, plan: &[u8], room: &mut [u64]) -> Told {
+        reference::read(plan, room)
+    }
+
+    fn write(&self, numbers: &[u64], room: &mut [u8]) -> Told {
+        reference::write(numbers, room)
+    }
+
+    fn check(&self, plan: &[u8], table: &mut [u32], list: &mut [u32]) -> Told {
+        let told = reference::check(&self.rewritten(plan), table, list);
+        self.spoil(told, plan, table, list);
+        told
+    }
+
+    fn reuse(
+        &self,
+        plan: &[u8],
+        queue: u32,
+        buffer: u32,
+        table: &mut [u32],
+        list: &mut [u32],
+    ) -> Told {
+        let told = reference::reuse(&self.rewritten(plan), queue, buffer, table, list);
+        self.spoil(told, plan, table, list);
+        told
+    }
+
+    fn frontier(
+        &self,
+        plan: &[u8],
+        operation: u32,
+        capacity: u32,
+        table: &mut [u32],
+        list: &mut [u32],
+        frontier: &mut Raw,
+    ) -> Told {
+        let rewritten = self.rewritten(plan);
+        let told = Reference.frontier(&rewritten, operation, capacity, table, list, frontier);
+        self.spoil(told, plan, table, list);
+        told
+    }
+
+    fn merge(&self, left: &Raw, right: &Raw, capacity: u32, merged: &mut Raw) -> Told {
+        Reference.merge(left, right, capacity, merged)
+    }
+
+    fn raise(&self, old: &Raw, axis: u64, epoch: u64, capacity: u32, raised: &mut Raw) -> Told {
+        Reference.raise(old, axis, epoch, capacity, raised)
+    }
+
+    fn dominates(&self, left: &Raw, right: &Raw) -> Told {
+        let well_formed = reference::well_formed(left) && reference::well_formed(right);
+        match self.0 {
+            Fault::AbsentIsMet if well_formed => {
+                reference::dominates(left, &only_listed(left, right))
+            }
+            Fault::TaintForgotten if well_formed => {
+                let mut right = *right;
+                right[TAINT] = 0;
+                reference::dominates(left, &right)
+            }
+            _ => reference::dominates(left, right),
+        }
+    }
+}
+
+/// The right frontier's entries whose axes the left lists.
+fn only_listed(left: &Raw, right: &Raw) -> Raw {
+    let left_axes = &left[..left[LENGTH] as usize];
+    let mut listed = EMPTY;
+    let mut length = 0;
+    for slot in 0..right[LENGTH] as usize {
+        if left_axes.contains(&right[slot]) {
+            listed[length] = right[slot];
+            listed[EPOCHS + length] = right[EPOCHS + slot];
+            length += 1;
+        }
+    }
+    listed[LENGTH] = length as u64;
+    listed[TAINT] = right[TAINT];
+    listed
+}

@@ -1,0 +1,1033 @@
+//! Plans and frontiers made from a seed.
+
+use crate::plan::{Mark, Operation, Plan, Point};
+use crate::side::{Raw, EMPTY, EPOCHS, LENGTH, TAINT};
+
+// ---------------------------------------------------------------------------
+// Random numbers.
+
+/// xoshiro256**, seeded by splitmix64.
+pub struct Rng {
+    state: [u64; 4],
+}
+
+impl Rng {
+    pub fn new(seed: u64) -> Rng {
+        let mut x = seed;
+        let mut splitmix = || {
+            x = x.wrapping_add(0x9E37_79B9_7F4A_7C15);
+            let mut z = x;
+            z = (z ^ (z >> 30)).wrapping_mul(0xBF58_476D_1CE4_E5B9);
+            z = (z ^ (z >> 27)).wrapping_mul(0x94D0_49BB_1331_11EB);
+            z ^ (z >> 31)
+        };
+        Rng {
+            state: [splitmix(), splitmix(), splitmix(), splitmix()],
+        }
+    }
+
+    pub fn word(&mut self) -> u64 {
+        let s = &mut self.state;
+        let result = s[1].wrapping_mul(5).rotate_left(7).wrapping_mul(9);
+        let t = s[1] << 17;
+        s[2] ^= s[0];
+        s[3] ^= s[1];
+        s[1] ^= s[2];
+        s[0] ^= s[3];
+        s[2] ^= t;
+        s[3] = s[3].rotate_left(45);
+        result
+    }
+
+    /// From 0 to `limit` - 1.
+    pub fn below(&mut self, limit: usize) -> usize {
+        ((u128::from(self.word()) * limit as u128) >> 64) as usize
+    }
+
+    /// Both ends included.
+    pub fn between(&mut self, low: usize, high: usize) -> usize {
+        low + self.below(high - low + 1)
+    }
+
+    pub fn percent(&mut self, chance: usize) -> bool {
+        self.below(100) < chance
+    }
+
+    pub fn pick<'a, T>(&mut self, items: &'a [T]) -> &'a T {
+        &items[self.below(items.len())]
+    }
+
+    pub fn shuffle<T>(&mut self, items: &mut [T]) {
+        for i in (1..items.len()).rev() {
+            items.swap(i, self.below(i + 1));
+        }
+    }
+}
+
+// ---------------------------------------------------------------------------
+// Order known to the generator, so that it can make plans that pass.
+
+type Row = [u32; 16];
+
+/// The rows of a plan with a known full run, to place marks in order. This is
+/// the plain quadratic way: it need not be fast.
+struct Known {
+    queues: Vec<usize>,
+    epochs: Vec<u32>,
+    rows: Vec<Row>,
+}
+
+impl Known {
+    fn of(plan: &Plan, run: &[usize]) -> Known {
+        let queues: Vec<usize> = plan.operations.iter().map(|o| o.queue.into()).collect();
+        let mut lengths = [0; 16];
+        let epochs = queues.iter().map(|&queue| {
+            lengths[queue] += 1;
+            lengths[queue]
+        });
+        let mut known = Known {
+            epochs: epochs.collect(),
+            rows: vec![[0; 16]; queues.len()],
+            queues,
+        };
+        let signallers = signallers(plan);
+        let mut newest = [[0; 16]; 16];
+        for &j in run {
+            let queue = known.queues[j];
+            let mut row: Row = newest[queue];
+            for wait in plan.operations[j].waits.iter().filter(|w| w.value > 0) {
+                let signals = &signallers[usize::from(wait.semaphore)];
+                if let Some(signal) = signals.iter().find(|s| s.0 >= wait.value) {
+                    raise(&mut row, &known.rows[signal.1]);
+                }
+            }
+            row[queue] = known.epochs[j];
+            newest[queue] = row;
+            known.rows[j] = row;
+        }
+        known
+    }
+
+    fn at_or_before(&self, i: usize, j: usize) -> bool {
+        self.rows[j][self.queues[i]] >= self.epochs[i]
+    }
+}
+
+fn raise(row: &mut Row, other: &Row) {
+    for (a, b) in row.iter_mut().zip(other) {
+        *a = (*a).max(*b);
+    }
+}
+
+/// For each semaphore its signals in plan order: value and operation.
+fn signallers(plan: &Plan) -> Vec<Vec<(u64, usize)>> {
+    let mut signallers = vec![Vec::new(); plan.owners.len()];
+    for (position, operation) in plan.operations.iter().enumerate() {
+        for signal in &operation.signals {
+            signallers[usize::from(signal.semaphore)].push((signal.value, position));
+        }
+    }
+    signallers
+}
+
+/// The holding of one buffer so far, as marks are added in plan order.
+#[derive(Clone, Default)]
+struct Holding {
+    free_before: Option<usize>,
+    uses: Vec<usize>,
+}
+
+impl Holding {
+    fn use_is_kept(&self, known: &Known, j: usize) -> bool {
+        let free_before = self.free_before;
+        free_before.is_none_or(|free| free != j && known.at_or_before(free, j))
+    }
+
+    fn free_is_kept(&self, known: &Known, j: usize) -> bool {
+        let mut uses = self.uses.iter();
+        self.use_is_kept(known, j) && uses.all(|&i| known.at_or_before(i, j))
+    }
+
+    fn add(&mut self, j: usize, free: bool) {
+        if free {
+            *self = Holding {
+                free_before: Some(j),
+                uses: Vec::new(),
+            };
+        } else {
+            self.uses.push(j);
+        }
+    }
+}
+
+/// Adds up to `counts[j]` marks to each operation, all kept by every full run.
+/// Buffers below `never_freed` are only used.
+fn add_kept_marks(
+    rng: &mut Rng,
+    plan: &mut Plan,
+    run: &[usize],
+    counts: &[usize],
+    never_freed: usize,
+) {
+    let buffers = plan.sizes.len();
+    if buffers == 0 {
+        return;
+    }
+    // Uses one after the other leave room for a free; uses side by side do not.
+    let side_by_side = rng.percent(30);
+    let known = Known::of(plan, run);
+    let mut holdings = vec![Holding::default(); buffers];
+    for (j, operation) in plan.operations.iter_mut().enumerate() {
+        let mut tries = 4 * counts[j];
+        while operation.marks.len() < counts[j] && tries > 0 {
+            tries -= 1;
+            // The last tries go to buffers that are never freed.
+            let most = if tries < counts[j] && never_freed > 0 {
+                never_freed
+            } else {
+                buffers
+            };
+            let buffer = rng.below(most);
+            let holding = &mut holdings[buffer];
+            let may_free = buffer >= never_freed && holding.free_is_kept(&known, j);
+            let free = may_free && rng.percent(40);
+            let may_use = if side_by_side || buffer < never_freed {
+                holding.use_is_kept(&known, j)
+            } else {
+                may_free
+            };
+            if free || may_use {
+                holding.add(j, free);
+                let buffer = buffer as u16;
+                operation.marks.push(Mark { buffer, free });
+            }
+        }
+    }
+}
+
+/// A random order of all operations that keeps the order on each queue.
+fn random_run(rng: &mut Rng, queues: &[u8]) -> Vec<usize> {
+    let mut turns = queues.to_vec();
+    rng.shuffle(&mut turns);
+    let mut next = [0; 256];
+    let mut run = Vec::with_capacity(queues.len());
+    for queue in turns {
+        let from = &mut next[usize::from(queue)];
+        while queues[*from] != queue {
+            *from += 1;
+        }
+        run.push(*from);
+        *from += 1;
+    }
+    run
+}
+
+/// Distinct axes in no order, sometimes at the ends of the range.
+fn axes(rng: &mut Rng, count: usize) -> Vec<u64> {
+    let mut axes = Vec::with_capacity(count);
+    while axes.len() < count {
+        let axis = match rng.below(8) {
+            0 => rng.word(),
+            1 => u64::MAX - rng.below(4) as u64,
+            2 => 1 << rng.below(64),
+            _ => rng.below(40) as u64,
+        };
+        if !axes.contains(&axis) {
+            axes.push(axis);
+        }
+    }
+    axes
+}
+
+// ---------------------------------------------------------------------------
+// Random plans of every verdict.
+
+/// How wild a random plan is. Chances are in percent.
+struct Dials {
+    /// A wait on any signal at all: gives 10.
+    wild_waits: usize,
+    /// A mark wherever it falls: gives 11.
+    wild_marks: usize,
+    /// Waits come often.
+    waits: usize,
+    signals: usize,
+    marks: usize,
+    /// Operations in the plan stand in another order than in a run.
+    plan_order_differs: bool,
+}
+
+impl Dials {
+    fn random(rng: &mut Rng) -> Dials {
+        Dials {
+            wild_waits: *rng.pick(&[0, 0, 0, 10, 30, 80]),
+            wild_marks: *rng.pick(&[0, 0, 0, 10, 30, 100]),
+            waits: *rng.pick(&[10, 40, 70]),
+            signals: *rng.pick(&[30, 60, 90]),
+            marks: *rng.pick(&[20, 50, 80]),
+            plan_order_differs: rng.percent(70),
+        }
+    }
+}
+
+/// A random plan with every field in range. All of 0, 6, 7, 8, 10 and 11 occur.
+pub fn random_plan(rng: &mut Rng, most_operations: usize) -> Plan {
+    let dials = Dials::random(rng);
+    let queues = match rng.below(12) {
+        0 => rng.between(0, 1),
+        1 => rng.between(4, 16),
+        _ => rng.between(2, 4),
+    };
+    let semaphores = if queues == 0 {
+        0
+    } else {
+        *rng.pick(&[0, 1, 2, 3, 4, 5, 6, 8, 64])
+    };
+    let operations = if queues == 0 || rng.percent(4) {
+        0
+    } else {
+        rng.between(1, most_operations)
+    };
+    let buffers = *rng.pick(&[0, 1, 1, 1, 2, 2, 3, 5]);
+    let mut plan = Plan {
+        axes: axes(rng, queues),
+        owners: (0..semaphores).map(|_| rng.below(queues) as u8).collect(),
+        sizes: (0..buffers).map(|_| rng.word() as u32).collect(),
+        operations: (0..operations)
+            .map(|_| Operation {
+                queue: rng.below(queues) as u8,
+                ..Operation::default()
+            })
+            .collect(),
+    };
+    let queues: Vec<u8> = plan.operations.iter().map(|o| o.queue).collect();
+    let run = if dials.plan_order_differs {
+        random_run(rng, &queues)
+    } else {
+        (0..operations).collect()
+    };
+    add_signals(rng, &mut plan, dials.signals);
+    add_waits(rng, &mut plan, &run, &dials);
+    add_marks(rng, &mut plan, &run, &dials);
+    // Near misses: a plan that passes but for one thing.
+    match rng.below(10) {
+        0 | 1 => spoil(rng, &mut plan),
+        2 => plan = without_one_wait(rng, &plan),
+        3 => add_stray_use(rng, &mut plan),
+        _ => {}
+    }
+    plan
+}
+
+fn add_signals(rng: &mut Rng, plan: &mut Plan, chance: usize) {
+    let mut last = vec![0u64; plan.owners.len()];
+    for operation in &mut plan.operations {
+        let owned: Vec<usize> = (0..plan.owners.len())
+            .filter(|&s| plan.owners[s] == operation.queue)
+            .collect();
+        if owned.is_empty() {
+            continue;
+        }
+        while operation.signals.len() < 2 && rng.percent(chance) {
+            let semaphore = *rng.pick(&owned);
+            let step = match rng.below(20) {
+                0 => rng.word() >> rng.below(64),
+                1 => u64::MAX - last[semaphore],
+                _ => rng.between(1, 3) as u64,
+            };
+            let value = last[semaphore].saturating_add(step.max(1));
+            if value == last[semaphore] {
+                break; // At the end of the range: nothing is higher.
+            }
+            last[semaphore] = value;
+            let semaphore = semaphore as u8;
+            operation.signals.push(Point { semaphore, value });
+        }
+    }
+}
+
+/// Waits on what comes earlier in the run, or on anything if the dial says so.
+fn add_waits(rng: &mut Rng, plan: &mut Plan, run: &[usize], dials: &Dials) {
+    let signallers = signallers(plan);
+    let all: Vec<Point> = run
+        .iter()
+        .flat_map(|&j| plan.operations[j].signals.clone())
+        .collect();
+    let mut earlier = 0;
+    for &j in run {
+        let queue = plan.operations[j].queue;
+        while plan.operations[j].waits.len() < 3 && rng.percent(dials.waits) {
+            let wild = rng.percent(dials.wild_waits);
+            let signals = if wild { &all } else { &all[..earlier] };
+            let wait = if signals.is_empty() || rng.percent(5) {
+                wait_for_zero(rng, plan)
+            } else {
+                let signal = recent_signal(rng, &plan.owners, queue, signals);
+                Some(below_signal(rng, &signallers, signal))
+            };
+            let Some(wait) = wait else { break };
+            plan.operations[j].waits.push(wait);
+        }
+        earlier += plan.operations[j].signals.len();
+    }
+}
+
+/// A recent signal, and one of another queue, more often than not.
+fn recent_signal(rng: &mut Rng, owners: &[u8], queue: u8, signals: &[Point]) -> Point {
+    let mut recent = || {
+        let first = rng.below(signals.len());
+        signals[first.max(rng.below(signals.len()))]
+    };
+    let foreign = |signal: &Point| owners[usize::from(signal.semaphore)] != queue;
+    let tries = [recent(), recent(), recent()];
+    *tries.iter().find(|s| foreign(s)).unwrap_or(&tries[0])
+}
+
+fn wait_for_zero(rng: &mut Rng, plan: &Plan) -> Option<Point> {
+    (!plan.owners.is_empty()).then(|| Point {
+        semaphore: rng.below(plan.owners.len()) as u8,
+        value: 0,
+    })
+}
+
+/// A wait that resolves to this signal: for its value, or for one below it that
+/// is above the signal before.
+fn below_signal(rng: &mut Rng, signallers: &[Vec<(u64, usize)>], signal: Point) -> Point {
+    let signals = &signallers[usize::from(signal.semaphore)];
+    let lower = signals.iter().rev().find(|s| s.0 < signal.value);
+    let lower = lower.map_or(0, |s| s.0);
+    let value = match rng.below(3) {
+        0 => lower + 1,
+        1 => lower + 1 + rng.word() % (signal.value - lower),
+        _ => signal.value,
+    };
+    Point { value, ..signal }
+}
+
+fn add_marks(rng: &mut Rng, plan: &mut Plan, run: &[usize], dials: &Dials) {
+    let count = |_| (0..4).filter(|_| rng.percent(dials.marks)).count();
+    let counts: Vec<usize> = (0..plan.operations.len()).map(count).collect();
+    add_kept_marks(rng, plan, run, &counts, 0);
+    let buffers = plan.sizes.len();
+    for operation in &mut plan.operations {
+        if buffers > 0 && rng.percent(dials.wild_marks) && operation.marks.len() < 4 {
+            let at = rng.between(0, operation.marks.len());
+            let mark = Mark {
+                buffer: rng.below(buffers) as u16,
+                free: rng.percent(40),
+            };
+            operation.marks.insert(at, mark);
+        }
+    }
+}
+
+/// One more use of a buffer that some operation marks already, in the same
+/// operation or a later one.
+fn add_stray_use(rng: &mut Rng, plan: &mut Plan) {
+    let operations = plan.operations.len();
+    let marked: Vec<usize> = (0..operations)
+        .filter(|&i| !plan.operations[i].marks.is_empty())
+        .collect();
+    if marked.is_empty() {
+        return;
+    }
+    let from = *rng.pick(&marked);
+    let buffer = rng.pick(&plan.operations[from].marks).buffer;
+    let to = rng.between(from, operations - 1);
+    let marks = &mut plan.operations[to].marks;
+    if marks.len() < 4 {
+        let at = rng.between(0, marks.len());
+        marks.insert(
+            at,
+            Mark {
+                buffer,
+                free: false,
+            },
+        );
+    }
+}
+
+/// Puts one fault of 6, 7 or 8 into a plan, where there is room for one.
+fn spoil(rng: &mut Rng, plan: &mut Plan) {
+    let (operations, semaphores) = (plan.operations.len(), plan.owners.len());
+    if operations == 0 || semaphores == 0 {
+        return;
+    }
+    let highest: Vec<u64> = signallers(plan)
+        .iter()
+        .map(|signals| signals.last().map_or(0, |s| s.0))
+        .collect();
+    let semaphore = rng.below(semaphores);
+    let point = Point {
+        semaphore: semaphore as u8,
+        value: match rng.below(3) {
+            0 => highest[semaphore].saturating_add(1),
+            1 => rng.below(4) as u64,
+            _ => highest[semaphore],
+        },
+    };
+    let owner = plan.owners[semaphore];
+    let operation = match rng.below(3) {
+        // Mostly by an owner, so that 7 is met as often as 6.
+        0 | 1 => {
+            let by_owner = |i: &usize| plan.operations[*i].queue == owner;
+            let owned: Vec<usize> = (0..operations).filter(by_owner).collect();
+            if owned.is_empty() {
+                rng.below(operations)
+            } else {
+                *rng.pick(&owned)
+            }
+        }
+        _ => rng.below(operations),
+    };
+    let operation = &mut plan.operations[operation];
+    if rng.percent(35) {
+        let value = highest[semaphore].saturating_add(rng.between(1, 2) as u64);
+        add_or_replace(rng, &mut operation.waits, 3, Point { value, ..point });
+    } else {
+        add_or_replace(rng, &mut operation.signals, 2, point);
+    }
+}
+
+fn add_or_replace(rng: &mut Rng, points: &mut Vec<Point>, most: usize, point: Point) {
+    if points.len() < most {
+        let at = rng.between(0, points.len());
+        points.insert(at, point);
+    } else {
+        let at = rng.below(points.len());
+        points[at] = point;
+    }
+}
+
+// ---------------------------------------------------------------------------
+// Realistic pipelines.
+
+/// Cameras fill buffers, a copy engine moves each picture to the accelerator,
+/// which leaves a result for the host. Each stage has a ring of buffers, freed
+/// by the stage after it. Passes.
+pub fn camera_pipeline(rng: &mut Rng, cameras: usize, frames: usize) -> Plan {
+    let rings = [(); 3].map(|_| rng.between(1, 4));
+    camera_pipeline_with(rng, cameras, frames, rings)
+}
+
+fn camera_pipeline_with(rng: &mut Rng, cameras: usize, frames: usize, rings: [usize; 3]) -> Plan {
+    // Queues: the cameras, then copy, accelerate, host. One semaphore for each.
+    let stages = [cameras, cameras + 1, cameras + 2];
+    let queues = cameras + 3;
+    let slots: usize = rings.iter().sum();
+    let mut plan = Plan {
+        axes: axes(rng, queues),
+        owners: (0..queues as u8).collect(),
+        sizes: vec![1 << 21; cameras * slots],
+        operations: Vec::new(),
+    };
+    for frame in 0..frames {
+        for camera in 0..cameras {
+            // The value a later stage's semaphore has after this picture.
+            let value = |frame: usize| (frame * cameras + camera + 1) as u64;
+            let slot = |ring: usize| {
+                let first = camera * slots + rings[..ring].iter().sum::<usize>();
+                (first + frame % rings[ring]) as u16
+            };
+            // Until a ring's slot was freed by the stage after.
+            let slot_free = |ring: usize| {
+                frame.checked_sub(rings[ring]).map(|earlier| Point {
+                    semaphore: stages[ring] as u8,
+                    value: value(earlier),
+                })
+            };
+            for stage in 0..4 {
+                let mut operation = Operation::default();
+                let queue = if stage == 0 {
+                    camera
+                } else {
+                    stages[stage - 1]
+                };
+                operation.queue = queue as u8;
+                if stage > 0 {
+                    let before = if stage == 1 {
+                        camera
+                    } else {
+                        stages[stage - 2]
+                    };
+                    operation.waits.push(Point {
+                        semaphore: before as u8,
+                        value: if stage == 1 {
+                            frame as u64 + 1
+                        } else {
+                            value(frame)
+                        },
+                    });
+                    let buffer = slot(stage - 1);
+                    operation.marks.push(Mark {
+                        buffer,
+                        free: false,
+                    });
+                    operation.marks.push(Mark { buffer, free: true });
+                }
+                if stage < 3 {
+                    operation.waits.extend(slot_free(stage));
+                    let buffer = slot(stage);
+                    operation.marks.push(Mark {
+                        buffer,
+                        free: false,
+                    });
+                }
+                operation.signals.push(Point {
+                    semaphore: queue as u8,
+                    value: if stage == 0 {
+                        frame as u64 + 1
+                    } else {
+                        value(frame)
+                    },
+                });
+                plan.operations.push(operation);
+            }
+        }
+    }
+    plan
+}
+
+/// The same plan with its operations in another order, each queue's kept.
+pub fn reordered(rng: &mut Rng, plan: &Plan) -> Plan {
+    let queues: Vec<u8> = plan.operations.iter().map(|o| o.queue).collect();
+    let run = random_run(rng, &queues);
+    Plan {
+        operations: run.iter().map(|&i| plan.operations[i].clone()).collect(),
+        ..plan.clone()
+    }
+}
+
+/// The same plan with one wait missing.
+pub fn without_one_wait(rng: &mut Rng, plan: &Plan) -> Plan {
+    let mut plan = plan.clone();
+    let waiting: Vec<usize> = (0..plan.operations.len())
+        .filter(|&i| !plan.operations[i].waits.is_empty())
+        .collect();
+    if !waiting.is_empty() {
+        let waits = &mut plan.operations[*rng.pick(&waiting)].waits;
+        waits.remove(rng.below(waits.len()));
+    }
+    plan
+}
+
+/// The same plan with a wait for something that comes later: mostly a deadlock.
+pub fn with_deadlock(rng: &mut Rng, plan: &Plan) -> Plan {
+    let mut plan = plan.clone();
+    let operations = plan.operations.len();
+    let late: Vec<usize> = (0..operations)
+        .filter(|&i| !plan.operations[i].signals.is_empty())
+        .collect();
+    if !late.is_empty() {
+        let from = *rng.pick(&late);
+        let point = *rng.pick(&plan.operations[from].signals);
+        let to = rng.between(0, from);
+        add_or_replace(rng, &mut plan.operations[to].waits, 3, point);
+    }
+    plan
+}
+
+// ---------------------------------------------------------------------------
+// Families for the benchmark. All pass.
+
+/// A family of plans of any size up to 1,024 operations.
+#[derive(Clone, Copy, PartialEq, Eq, Debug)]
+pub enum Family {
+    Greatest,
+    OneSemaphore,
+    AgainstPlanOrder,
+    WokenAtOnce,
+    RandomCounts,
+}
+
+impl Family {
+    pub const ALL: [Family; 5] = [
+        Family::Greatest,
+        Family::OneSemaphore,
+        Family::AgainstPlanOrder,
+        Family::WokenAtOnce,
+        Family::RandomCounts,
+    ];
+
+    pub fn name(self) -> &'static str {
+        match self {
+            Family::Greatest => "greatest",
+            Family::OneSemaphore => "one semaphore",
+            Family::AgainstPlanOrder => "plan order against run order",
+            Family::WokenAtOnce => "many queues woken at once",
+            Family::RandomCounts => "random counts",
+        }
+    }
+
+    pub fn plan(self, rng: &mut Rng, operations: usize) -> Plan {
+        match self {
+            Family::Greatest => greatest(rng, operations),
+            Family::OneSemaphore => one_semaphore(rng, operations),
+            Family::AgainstPlanOrder => against_plan_order(rng, operations),
+            Family::WokenAtOnce => woken_at_once(rng, operations),
+            Family::RandomCounts => random_counts(rng, operations),
+        }
+    }
+}
+
+/// Every list at its limit. With 1,024 operations it has 63,686 bytes.
+pub fn greatest(rng: &mut Rng, operations: usize) -> Plan {
+    full_lists(rng, operations, |_| [3, 2, 4])
+}
+
+/// As many waits, signals and marks in each operation as the die says.
+fn random_counts(rng: &mut Rng, operations: usize) -> Plan {
+    full_lists(rng, operations, |rng| {
+        [rng.between(0, 3), rng.between(0, 2), rng.between(0, 4)]
+    })
+}
+
+/// Sixteen queues with four semaphores each, all buffers, and operations in a
+/// random order with the given numbers of waits, signals and marks.
+fn full_lists(
+    rng: &mut Rng,
+    operations: usize,
+    mut counts: impl FnMut(&mut Rng) -> [usize; 3],
+) -> Plan {
+    let mut plan = Plan {
+        axes: axes(rng, 16),
+        owners: (0..64).map(|semaphore| semaphore % 16).collect(),
+        sizes: (0..256).map(|_| rng.word() as u32).collect(),
+        operations: Vec::new(),
+    };
+    let queues: Vec<u8> = (0..operations).map(|_| rng.below(16) as u8).collect();
+    let run = random_run(rng, &queues);
+    let counts: Vec<[usize; 3]> = queues.iter().map(|_| counts(rng)).collect();
+    let mut last = [0u64; 64];
+    for (&queue, &[_, signals, _]) in queues.iter().zip(&counts) {
+        let mut operation = Operation {
+            queue,
+            ..Operation::default()
+        };
+        for _ in 0..signals {
+            let semaphore = queue + 16 * rng.below(4) as u8;
+            let value = &mut last[usize::from(semaphore)];
+            *value += rng.between(1, 1000) as u64;
+            let value = *value;
+            operation.signals.push(Point { semaphore, value });
+        }
+        plan.operations.push(operation);
+    }
+    let mut earlier: Vec<Point> = Vec::new();
+    for &j in &run {
+        for _ in 0..counts[j][0] {
+            // The operation that runs first can wait for 0 only.
+            let zero = Point {
+                semaphore: rng.below(64) as u8,
+                value: 0,
+            };
+            let wait = match earlier.len() {
+                0 => zero,
+                // One of the last signals: pipelines wait for recent work.
+                many => earlier[many - 1 - rng.below(many.min(64))],
+            };
+            plan.operations[j].waits.push(wait);
+        }
+        earlier.extend(&plan.operations[j].signals);
+    }
+    let marks: Vec<usize> = counts.iter().map(|count| count[2]).collect();
+    add_kept_marks(rng, &mut plan, &run, &marks, 32);
+    plan
+}
+
+/// All signals and waits are on one semaphore: queue 0 signals it twice in each
+/// operation, fifteen queues wait for any of its values.
+fn one_semaphore(rng: &mut Rng, operations: usize) -> Plan {
+    let mut plan = Plan {
+        axes: axes(rng, 16),
+        owners: vec![0],
+        sizes: vec![4096; 16],
+        operations: Vec::new(),
+    };
+    let mut value = 0;
+    for position in 0..operations {
+        let mut operation = Operation::default();
+        if position % 2 == 0 {
+            for _ in 0..2 {
+                value += rng.between(1, 5) as u64;
+                operation.signals.push(Point {
+                    semaphore: 0,
+                    value,
+                });
+            }
+        } else {
+            operation.queue = rng.between(1, 15) as u8;
+        }
+        let buffer = u16::from(operation.queue);
+        operation.marks.push(Mark {
+            buffer,
+            free: position % 3 == 0,
+        });
+        plan.operations.push(operation);
+    }
+    for operation in plan.operations.iter_mut().filter(|o| o.queue > 0) {
+        for _ in 0..3 {
+            let value = rng.between(1, value as usize) as u64;
+            operation.waits.push(Point {
+                semaphore: 0,
+                value,
+            });
+        }
+    }
+    plan
+}
+
+/// Sixteen stages, each waiting for the one after it in the plan: the plan
+/// lists the last stage first, so that nothing is ready until the plan's end.
+fn against_plan_order(rng: &mut Rng, operations: usize) -> Plan {
+    let mut plan = Plan {
+        axes: axes(rng, 16),
+        owners: (0..16).collect(),
+        sizes: vec![4096; 16],
+        operations: Vec::new(),
+    };
+    let length = |stage: usize| (operations + stage) / 16;
+    for queue in 0..16 {
+        // Queue 15 runs first and is the longest.
+        for step in 1..=length(queue) as u64 {
+            let mut operation = Operation {
+                queue: queue as u8,
+                ..Operation::default()
+            };
+            let signal = Point {
+                semaphore: queue as u8,
+                value: step,
+            };
+            operation.signals.push(signal);
+            if queue < 15 {
+                let semaphore = queue as u8 + 1;
+                operation.waits.push(Point {
+                    semaphore,
+                    value: step,
+                });
+            }
+            let buffer = queue as u16;
+            operation.marks.push(Mark {
+                buffer,
+                free: false,
+            });
+            operation.marks.push(Mark { buffer, free: true });
+            plan.operations.push(operation);
+        }
+    }
+    plan
+}
+
+/// The last queue signals three semaphores in turn; at each signal all other
+/// queues wake, run one operation, and sleep again.
+fn woken_at_once(rng: &mut Rng, operations: usize) -> Plan {
+    let mut plan = Plan {
+        axes: axes(rng, 16),
+        owners: vec![15, 15, 15],
+        sizes: vec![4096; 15],
+        operations: Vec::new(),
+    };
+    for position in 0..operations {
+        let round = (position / 16) as u64;
+        let mut operation = Operation::default();
+        if position % 16 == 0 {
+            operation.queue = 15;
+            let semaphore = (round % 3) as u8;
+            operation.signals.push(Point {
+                semaphore,
+                value: round + 1,
+            });
+        } else {
+            operation.queue = (position % 16 - 1) as u8;
+            // This round's signal last: the waits before it are met already.
+            for back in [2, 1, 0] {
+                let Some(earlier) = round.checked_sub(back) else {
+                    continue;
+                };
+                let semaphore = (earlier % 3) as u8;
+                operation.waits.push(Point {
+                    semaphore,
+                    value: earlier + 1,
+                });
+            }
+            let buffer = u16::from(operation.queue);
+            operation.marks.push(Mark {
+                buffer,
+                free: round % 2 == 1,
+            });
+        }
+        plan.operations.push(operation);
+    }
+    plan
+}
+
+// ---------------------------------------------------------------------------
+// Damage.
+
+/// Another value for one byte: near by, at an end, or any.
+pub fn other_byte(rng: &mut Rng, byte: u8) -> u8 {
+    let other = match rng.below(6) {
+        0 => byte.wrapping_add(1),
+        1 => byte.wrapping_sub(1),
+        2 => 0,
+        3 => 255,
+        4 => byte ^ (1 << rng.below(8)),
+        _ => rng.word() as u8,
+    };
+    if other == byte {
+        byte ^ 1
+    } else {
+        other
+    }
+}
+
+/// One to three random damages: a byte changed, the end cut off, bytes put in,
+/// taken out, or appended, an axis written over another.
+pub fn damaged(rng: &mut Rng, bytes: &[u8]) -> Vec<u8> {
+    let mut bytes = bytes.to_vec();
+    if bytes[0] >= 2 && rng.percent(10) {
+        let from = 1 + 8 * rng.below(bytes[0].into());
+        let to = 1 + 8 * rng.below(bytes[0].into());
+        bytes.copy_within(from..from + 8, to);
+    }
+    for _ in 0..rng.between(1, 3) {
+        let at = rng.below(bytes.len() + 1);
+        match rng.below(8) {
+            0 => bytes.truncate(at),
+            1 => bytes.insert(at, rng.below(4) as u8),
+            2 if at < bytes.len() => {
+                bytes.remove(at);
+            }
+            3 => bytes.extend((0..rng.between(1, 9)).map(|_| rng.word() as u8)),
+            _ if at < bytes.len() => bytes[at] = other_byte(rng, bytes[at]),
+            _ => {}
+        }
+    }
+    bytes
+}
+
+/// Bytes with no plan behind them, small ones more often than not.
+pub fn random_bytes(rng: &mut Rng) -> Vec<u8> {
+    let length = rng.between(0, 80);
+    let small = rng.percent(80);
+    (0..length)
+        .map(|_| {
+            if small {
+                rng.below(3) as u8
+            } else {
+                rng.word() as u8
+            }
+        })
+        .collect()
+}
+
+/// A list of numbers for the writer, damaged: also by what fits no byte.
+pub fn damaged_numbers(rng: &mut Rng, numbers: &[u64]) -> Vec<u64> {
+    let mut numbers = numbers.to_vec();
+    for _ in 0..rng.between(1, 2) {
+        let at = rng.below(numbers.len() + 1);
+        match rng.below(8) {
+            0 => numbers.truncate(at),
+            1 => numbers.insert(at, rng.below(4) as u64),
+            2 if at < numbers.len() => {
+                numbers.remove(at);
+            }
+            3 => numbers.push(rng.word()),
+            _ if at < numbers.len() => numbers[at] = other_number(rng, numbers[at]),
+            _ => {}
+        }
+    }
+    numbers
+}
+
+fn other_number(rng: &mut Rng, number: u64) -> u64 {
+    let wide = 1 << *rng.pick(&[8, 16, 32, 63]);
+    match rng.below(7) {
+        0 => number.wrapping_add(1),
+        1 => number.wrapping_sub(1),
+        2 => number.wrapping_add(wide),
+        3 => wide - 1,
+        4 => wide,
+        5 => u64::MAX,
+        _ => rng.below(300) as u64,
+    }
+}
+
+// ---------------------------------------------------------------------------
+// Frontiers.
+
+/// A well-formed frontier of at most `most` entries. Few axes and few epochs,
+/// so that two frontiers share axes and epochs tie.
+pub fn frontier(rng: &mut Rng, most: usize) -> Raw {
+    let length = rng.between(0, most);
+    let range = *rng.pick(&[most + 4, 2 * most + 4, 64]);
+    let mut axes: Vec<u64> = Vec::new();
+    while axes.len() < length {
+        let axis = match rng.below(24) {
+            0 => u64::MAX - rng.below(2) as u64,
+            1 => rng.word(),
+            _ => rng.below(range) as u64,
+        };
+        if !axes.contains(&axis) {
+            axes.push(axis);
+        }
+    }
+    axes.sort_unstable();
+    let mut frontier = EMPTY;
+    for (slot, axis) in axes.into_iter().enumerate() {
+        frontier[slot] = axis;
+        frontier[EPOCHS + slot] = match rng.below(24) {
+            0 => u64::MAX,
+            1 => 1 + (rng.word() >> 1),
+            _ => rng.between(1, 9) as u64,
+        };
+    }
+    frontier[LENGTH] = length as u64;
+    frontier[TAINT] = u64::from(rng.percent(30));
+    frontier
+}
+
+/// A frontier that the first one mostly reaches: entries left out or lowered.
+pub fn frontier_below(rng: &mut Rng, frontier: &Raw) -> Raw {
+    let mut below = EMPTY;
+    let mut length = 0;
+    for slot in 0..frontier[LENGTH] as usize {
+        if rng.percent(30) {
+            continue;
+        }
+        below[length] = frontier[slot];
+        let epoch = frontier[EPOCHS + slot];
+        below[EPOCHS + length] = match rng.below(12) {
+            0 => epoch.saturating_add(1),
+            1..=4 => epoch.saturating_sub(1).max(1),
+            _ => epoch,
+        };
+        length += 1;
+    }
+    below[LENGTH] = length as u64;
+    below[TAINT] = u64::from(rng.percent(30));
+    below
+}
+
+/// A frontier with one number changed: mostly badly formed.
+pub fn spoiled_frontier(rng: &mut Rng, frontier: &Raw) -> Raw {
+    let mut spoiled = *frontier;
+    let length = frontier[LENGTH] as usize;
+    let inside = rng.below(length.max(1));
+    match rng.below(8) {
+        0 => spoiled[LENGTH] = rng.below(20) as u64,
+        1 => spoiled[LENGTH] = *rng.pick(&[17, 1 << 32, u64::MAX]),
+        2 => spoiled[TAINT] = *rng.pick(&[2, 256, 1 << 32, u64::MAX]),
+        3 => spoiled[EPOCHS + inside] = 0,
+        4 if length >= 2 => {
+            let slot = rng.below(length - 1);
+            spoiled[slot] = spoiled[slot + 1];
+        }
+        5 if length >= 2 => {
+            let slot = rng.below(length - 1);
+            spoiled.swap(slot, slot + 1);
+        }
+        6 => spoiled[rng.below(16)] = rng.below(3) as u64,
+        _ => spoiled[EPOCHS + rng.below(16)] = rng.below(3) as u64,
+    }
+    spoiled
+}

@@ -1,0 +1,81 @@
+//! What every implementation under comparison offers: the functions of the C
+//! interface, as safe Rust.
+
+/// A frontier as the C interface lends it: 16 axes, 16 epochs, length, taint.
+pub type Raw = [u64; 34];
+
+/// Where the epochs begin in a `Raw`.
+pub const EPOCHS: usize = 16;
+/// Where the length stands in a `Raw`.
+pub const LENGTH: usize = 32;
+/// Where the taint stands in a `Raw`.
+pub const TAINT: usize = 33;
+
+/// The empty untainted frontier.
+pub const EMPTY: Raw = [0; 34];
+
+/// What a call hands back: number, place, answer. A refusal's answer is 0, and
+/// so is that of a call with nothing to answer.
+#[derive(Clone, Copy, PartialEq, Eq, Debug, Default)]
+pub struct Told {
+    pub number: u64,
+    pub place: u64,
+    pub answer: u64,
+}
+
+impl Told {
+    pub const PASSED: Told = Told::answered(0);
+
+    pub const fn answered(answer: u64) -> Told {
+        Told {
+            number: 0,
+            place: 0,
+            answer,
+        }
+    }
+
+    pub const fn refused(number: u64, place: u64) -> Told {
+        Told {
+            number,
+            place,
+            answer: 0,
+        }
+    }
+}
+
+/// One implementation of the interface.
+pub trait Side {
+    fn name(&self) -> String;
+
+    fn read(&self, plan: &[u8], room: &mut [u64]) -> Told;
+
+    fn write(&self, numbers: &[u64], room: &mut [u8]) -> Told;
+
+    fn check(&self, plan: &[u8], table: &mut [u32], list: &mut [u32]) -> Told;
+
+    fn reuse(
+        &self,
+        plan: &[u8],
+        queue: u32,
+        buffer: u32,
+        table: &mut [u32],
+        list: &mut [u32],
+    ) -> Told;
+
+    fn frontier(
+        &self,
+        plan: &[u8],
+        operation: u32,
+        capacity: u32,
+        table: &mut [u32],
+        list: &mut [u32],
+        frontier: &mut Raw,
+    ) -> Told;
+
+    fn merge(&self, left: &Raw, right: &Raw, capacity: u32, merged: &mut Raw) -> Told;
+
+    fn raise(&self, old: &Raw, axis: u64, epoch: u64, capacity: u32, raised: &mut Raw) -> Told;
+
+    /// Answer: 0 no, 1 yes, 2 unknown.
+    fn dominates(&self, left: &Raw, right: &Raw) -> Told;
+}
