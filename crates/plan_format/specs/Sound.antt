@@ -65,7 +65,7 @@ pub record In-range (p : Plan) (o : Operation) : Type 0 where
   pub marks : (k : ℕ) → k < length (o .marks) → getD (o .marks) k (record { buffer = 0; kind = 0 }) .buffer < length (p .sizes)
   pub kinds : (k : ℕ) → k < length (o .marks) → getD (o .marks) k (record { buffer = 0; kind = 0 }) .kind < 2
 
--- what refusals 1 to 8 leave of a plan
+-- what the theorems on plans need of one that gets none of refusals 1 to 8
 pub record Sound (p : Plan) : Type 0 where
   pub few-queues : queues p ≤ 16
   pub few-operations : count p ≤ 1024

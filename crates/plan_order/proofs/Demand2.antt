@@ -51,17 +51,17 @@ module _ (p : Plan) where
   pub unused-columns : ((i : ℕ) → i < count p → op p i .queue < queues p) → (j q : ℕ) → q < 16 → queues p ≤ q → getD (row p j) q 0 ≡ 0
   unused-columns in-range j q b l = row-at p j q b ∙ unused-zero p in-range j q l
 
-  module _ (sound : Sound p) (f : List ℕ) (full : is-full p f ≡ true) where
-    pub before-forces : Before-forces p
-    unfolding Before-forces
-    before-forces i j a b = (
-      (λ c r h. before-steps p (rules-good p sound .0) r h i j (chain-before p i j c)),
-      (λ h. before-chain p i j (is-true (before p i j) (λ n.
-          by-cases (eqb i j)
-          (λ t. absurd (let z = h f full in omega (arith, ap (λ (x : ℕ). step-of 0 f x) (eqb-true i j t))))
-          (λ ne. let w = unordered p (rules-good p sound .0) (rules-good p sound .1) f full i j b (eqb-false i j ne) n in
-          absurd (let z = h (w .0) (w .1) in omega (arith, w .2)))))),
-    )
+  pub before-forces : Before-forces p
+  unfolding Before-forces
+  before-forces sound f full i j a b =
+      let good = rules-good p sound in (
+        (λ c r h. before-steps p (good .0) r h i j (chain-before p i j c)),
+        (λ h. before-chain p i j (is-true (before p i j) (λ n.
+            by-cases (eqb i j)
+            (λ t. absurd (let z = h f full in omega (arith, ap (λ (x : ℕ). step-of 0 f x) (eqb-true i j t))))
+            (λ ne. let w = unordered p (good .0) (good .1) f full i j b (eqb-false i j ne) n in
+            absurd (let z = h (w .0) (w .1) in omega (arith, w .2)))))),
+      )
 
   pub standard-right : Sound p → Standard-right p
   standard-right sound =

@@ -1,11 +1,13 @@
 -- The statements over stored plans, each under its own name. Assumes nothing.
 use mathlib.Core.Path.{_≡_, sym, subst}
 use mathlib.Core.Bool.{true, false, true≢false}
+use mathlib.Core.Logic.{_↔_}
 use mathlib.Core.List.{List}
-use Prim.Native.Nat.{ℕ}
+use Prim.Native.Nat.{ℕ, _<_}
 use lib.Dec.{eqb}
 use borrow.Author.Tests.{eqb-true}
 use Rattle.basics.proofs.Tests.{by-cases, and-left, and-right}
+use Rattle.order.specs.Runs.{step-of}
 use Rattle.order.proofs.Turns.{run-last}
 use Rattle.plan_format.specs.Plan.{count}
 use Rattle.plan_format.specs.Refusal.{Refusal, none-given, given}
@@ -13,8 +15,10 @@ use Rattle.plan_format.specs.Sound.{Sound}
 use Rattle.plan_format.specs.Stored.{all-bytes, plan-in, plan-refusal}
 use Rattle.plan_format.proofs.Plans.{sound-in}
 use Rattle.plan_order.specs.Check.{room-refusal, order-refusal, zeros, rows-and-run, outcome, or-then, check-outcome}
-use Rattle.plan_order.specs.Promise.{Safe, Demand-3, unrefused, Demand-3-stored, Before-right, good, passed, Passed-keeps, Passed-runs, Never-stuck, Raises, Stuck-truly, Broken-truly, None-itself}
-use Rattle.plan_order.specs.Runs.{enabled, ready, is-run}
+use Rattle.plan_order.specs.Promise.{Safe, Demand-3, unrefused, Demand-3-stored, Before-right, Before-forces, Standard-right, good, passed, Passed-keeps, Passed-runs, Never-stuck, Raises, Stuck-truly, Broken-truly, None-itself}
+use Rattle.plan_order.specs.Precedence.{Before}
+use Rattle.plan_order.specs.Runs.{enabled, ready, is-run, is-full}
+use Rattle.plan_order.proofs.Demand2.{before-forces, standard-right}
 use Rattle.plan_order.proofs.Demand3.{rules-good, demand-3}
 use Rattle.plan_order.proofs.Precedence.{before-chain, chain-before, not-itself}
 
@@ -74,6 +78,16 @@ none-itself-stored bs j h =
     let g = passed-good bs h in
     let s = safe-passed bs h .0 in
     not-itself (plan-in bs) (rules-good (plan-in bs) (good-sound bs (g .0)) .0) (s .0) (s .1) j
+
+pub before-forces-stored : (bs : List ℕ) → passed bs ≡ true → (i j : ℕ) → i < count (plan-in bs) → j < count (plan-in bs) →
+    Before (plan-in bs) i j ↔ ((r : List ℕ) → is-full (plan-in bs) r ≡ true → step-of 0 r i < step-of 0 r j)
+unfolding Before-forces
+before-forces-stored bs h =
+    let s = safe-passed bs h .0 in
+    before-forces (plan-in bs) (good-sound bs (passed-good bs h .0)) (s .0) (s .1)
+
+pub standard-right-stored : (bs : List ℕ) → good bs ≡ true → Standard-right (plan-in bs)
+standard-right-stored bs g = standard-right (plan-in bs) (good-sound bs g)
 
 -- ---- demand 3 of what the check hands back
 pub demand-3-stored : (bs : List ℕ) (t l : ℕ) →

@@ -44,7 +44,7 @@ outcome f l = record { refusal = f; leaves = l }
 unfoldable pub or-then : Outcome → Outcome → Outcome
 or-then a b = cond (given (a .refusal)) a b
 
--- 01: "Refusals 1 to 9 leave table and list untouched. 10 and 11 leave zeros .. A pass, any answer, and 12, 13, 15 and 21 leave the rows
+-- 01: "then 9, table before list; then 10; then 11", "No number is given on other grounds."; "Refusals 1 to 9 leave table and list untouched. 10 and 11 leave zeros .. A pass, any answer, and 12, 13, 15 and 21 leave the rows
 -- and the run there"
 unfoldable pub check-outcome : (bytes : List ℕ) → (table list : ℕ) → Outcome
 check-outcome bs t l =

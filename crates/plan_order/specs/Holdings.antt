@@ -71,6 +71,7 @@ asks p b = asks-from none (buffer-marks p b)
 unfoldable pub asked-of : Ask → ℕ
 asked-of a = cond (a .same-allowed) (a .first) (a .then)
 
+-- 01: "a use in the very operation that frees its own holding counts as no later than that operation"
 unfoldable pub met : (comes-first : ℕ → ℕ → Bool) → Ask → Bool
 met f a = (a .same-allowed && eqb (a .first) (a .then)) || f (a .first) (a .then)
 

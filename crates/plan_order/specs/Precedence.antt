@@ -64,14 +64,15 @@ unfoldable pub any-rests-on : Plan → (i : ℕ) → (waits : List Point) → Bo
 any-rests-on p i [] = false
 any-rests-on p i (w ∷ ws) = rests-on (resolve p w) i || any-rests-on p i ws
 
--- 01: "i is before j when i is earlier on the same queue, or j has a wait resolved to i, or by a chain of these."
 unfoldable pub same-queue : Plan → (i j : ℕ) → Bool
 same-queue p i j = eqb (op p i .queue) (op p j .queue)
 
+-- 01: "i is before j when i is earlier on the same queue, or j has a wait resolved to i"
 unfoldable pub direct : Plan → (i j : ℕ) → Bool
 direct p i j =
     (ltb i (count p) && ltb j (count p)) && ((ltb i j && same-queue p i j) || any-rests-on p i (op p j .waits))
 
+-- 01: "or by a chain of these"
 abbrev pub Before : Plan → (i j : ℕ) → Type 0
 Before p i j = Chain (λ i j. direct p i j) i j
 

@@ -1,7 +1,7 @@
 -- What is promised of plans: demands 2 and 3, for any sound plan and for stored plans. Each statement is proved in proofs/.
 -- Assumes nothing: these are definitions.
 use mathlib.Core.Path.{_≡_}
-use mathlib.Core.Bool.{Bool, true, false, _&&_, not}
+use mathlib.Core.Bool.{Bool, true, false, _&&_, not, cond}
 use mathlib.Core.Logic.{_⊎_, _↔_}
 use mathlib.Core.List.{List, [], _∷_, _++_, List·Memᴰ}
 use mathlib.Core.Option.{some}
@@ -13,6 +13,7 @@ use Rattle.basics.specs.Places.{Counts}
 use Rattle.order.specs.Runs.{step-of}
 use Rattle.plan_format.specs.Refusal.{given}
 use Rattle.plan_format.specs.Plan.{Plan, count, op}
+use Rattle.plan_format.specs.Sound.{Sound}
 use Rattle.plan_format.specs.Stored.{all-bytes, plan-in, plan-refusal}
 use Rattle.plan_order.specs.Precedence.{direct, Before, before, at-or-before}
 use Rattle.plan_order.specs.Rows.{epoch, row}
@@ -46,7 +47,7 @@ pub record Broken-at (p : Plan) (i : ℕ) : Type 0 where
   pub lower :
       (b : ℕ) (a : Ask) → List·Memᴰ a (asks p b) → asked-of a < i → (r : List ℕ) → is-full p r ≡ true → met (λ i j. ahead r i j) a ≡ true
 
--- "passed exactly when some full run exists and every full run keeps every buffer"
+-- demand 3: some full run exists and every full run keeps every buffer
 abbrev pub Safe : Plan → Type 0
 Safe p = ((r : List ℕ) × (is-full p r ≡ true)) × ((r : List ℕ) (b : ℕ) → is-full p r ≡ true → keeps p r b ≡ true)
 
@@ -77,10 +78,10 @@ Demand-2 p t = (j q : ℕ) → j < count p → q < 16 → Counts (In-column p j 
 unfoldable pub Before-right : Type 0
 Before-right = (bs : List ℕ) (i j : ℕ) → (before (plan-in bs) i j ≡ true) ↔ Before (plan-in bs) i j
 
--- in a plan with a full run, i is before j exactly if every full run has i at an earlier step
+-- in a sound plan with a full run, i is before j exactly if every full run has i at an earlier step
 unfoldable pub Before-forces : Plan → Type 0
 Before-forces p =
-    (i j : ℕ) → i < count p → j < count p →
+    Sound p → (f : List ℕ) → is-full p f ≡ true → (i j : ℕ) → i < count p → j < count p →
     Before p i j ↔ ((r : List ℕ) → is-full p r ≡ true → step-of 0 r i < step-of 0 r j)
 
 -- a row's entry reaches an operation's epoch exactly if that operation is it or before it
@@ -99,10 +100,10 @@ unfoldable pub Row-step : Plan → Type 0
 Row-step p =
     (j : ℕ) (ks : List ℕ) → j < count p → ((k : ℕ) → member k ks ≡ true → direct p k j ≡ true) →
     ((i : ℕ) → direct p i j ≡ true → (k : ℕ) × (member k ks ≡ true) × (at-or-before p i k ≡ true)) → (q : ℕ) → q < 16 →
-    getD (row p j) q 0 ≡ max (mathlib.Core.Bool.cond (eqb (op p j .queue) q) (epoch p j) 0) (most-of p q ks)
+    getD (row p j) q 0 ≡ max (cond (eqb (op p j .queue) q) (epoch p j) 0) (most-of p q ks)
 
 -- ---- THE STANDARD RUN
--- it is a run, has every operation that is in any run, and takes the lowest ready queue at each step
+-- of a sound plan: it is a run, has every operation that is in any run, and takes the lowest ready queue at each step
 pub record Standard-right (p : Plan) : Type 0 where
   pub a-run : is-run p (standard p) ≡ true
   pub has-all : (r : List ℕ) (j : ℕ) → is-run p r ≡ true → member j r ≡ true → member j (standard p) ≡ true

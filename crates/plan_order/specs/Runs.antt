@@ -28,10 +28,12 @@ earlier-run p r j = all-below j (λ i. not (same-queue p i j) || member i r)
 unfoldable pub enabled : Plan → (run : List ℕ) → (j : ℕ) → Bool
 enabled p r j = earlier-run p r j && all (λ w. wait-met p r w) (op p j .waits)
 
--- 01: "A run is a list of distinct operations."
+-- what may come next: an operation of the plan that has not run and is enabled
 unfoldable pub ready : Plan → (run : List ℕ) → (j : ℕ) → Bool
 ready p r j = can (count p) (λ r j. enabled p r j) r j
 
+-- 01: "A run is a list of distinct operations. Each, at its turn, has .."; "A wait holds its queue": what is behind a wait that is not
+-- met does not run, and a wait for a later signal of its own queue is never met
 unfoldable pub is-run : Plan → List ℕ → Bool
 is-run p r = runs (count p) (λ r j. enabled p r j) [] r
 
@@ -56,7 +58,8 @@ run-points p (j ∷ js) = op p j .signals ++ run-points p js
 unfoldable pub raises-in-order : Plan → (run : List ℕ) → Bool
 raises-in-order p r = points-rise [] (run-points p r)
 
--- 01: "An operation, and so its queue, is ready after a run if adding the operation at the end gives a run."
+-- the ready operation of a queue, if it has one; 01: "An operation, and so its queue, is ready after a run if adding the operation at the
+-- end gives a run."
 unfoldable pub ready-on : Plan → (run : List ℕ) → (q : ℕ) → Option ℕ
 ready-on p r q = lowest-below (count p) (λ j. eqb (op p j .queue) q && ready p r j)
 

@@ -28,8 +28,8 @@ unfoldable pub operation : (queue : ℕ) → (waits signals marks : List (List �
 operation q ws ss ms = q ∷ section 1 ws ++ section 1 ss ++ section 1 ms
 
 unfoldable pub plan : (axes owners sizes : List ℕ) → (operations : List (List ℕ)) → List ℕ
-plan as-read os bs ops =
-    section 1 (map (λ a. digits 8 a) as-read) ++ section 1 (map (λ o. o ∷ []) os) ++ section 2 (map (λ b. digits 4 b) bs) ++ section 2 ops
+plan axes owners sizes operations =
+    section 1 (map (λ a. digits 8 a) axes) ++ section 1 (map (λ o. o ∷ []) owners) ++ section 2 (map (λ b. digits 4 b) sizes) ++ section 2 operations
 
 -- ---- answers
 pub data Answer : Type 0 where
