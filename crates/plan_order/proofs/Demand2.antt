@@ -1,6 +1,5 @@
 -- Demand 2 for any plan: rows count what is at or before, tell it by epochs, and merge; before is what every full run forces. Assumes nothing.
 use mathlib.Core.Path.{_≡_, refl, sym, ap, ap₂, _∙_}
-use mathlib.Core.Bool.{true}
 use mathlib.Core.List.{List, [], _∷_}
 use Prim.Native.Nat.{ℕ, _+_, _*_, _≤_, _<_, max}
 use native.Mathlib.Omega.{arith}
@@ -15,7 +14,7 @@ use Rattle.plan_format.specs.Sound.{Sound}
 use Rattle.plan_order.specs.Precedence.{before}
 use Rattle.plan_order.specs.Promise.{Demand-2, Before-forces, Row-epoch, most-of, Row-step, Standard-right}
 use Rattle.plan_order.specs.Rows.{row, rows}
-use Rattle.plan_order.specs.Runs.{is-full, standard}
+use Rattle.plan_order.specs.Runs.{standard}
 use Rattle.plan_order.proofs.Demand3.{rules-good}
 use Rattle.plan_order.proofs.Precedence.{before-chain, chain-before, at-or-means, before-steps, unordered}
 use Rattle.plan_order.proofs.RowsMeaning.{rows-means}

@@ -20,3 +20,4 @@ pub mod VerdictMeaning
 pub mod ReadyMeaning
 pub mod StandardMeaning
 pub mod RowsMeaning
+pub mod RunListed
