@@ -1,15 +1,15 @@
 -- Refusals 6 and 7 over all signals of a plan in one list, by a table of last values: where none is given the last value of a semaphore
 -- is its highest. Assumes nothing.
-use mathlib.Core.Path.{_≡_, refl, sym, _∙_, subst}
+use mathlib.Core.Path.{_≡_, refl, sym, ap, _∙_, subst}
 use mathlib.Core.Bool.{false, cond}
-use mathlib.Core.List.{List, [], _∷_, _++_}
+use mathlib.Core.List.{List, [], _∷_, _++_, List·Memᴰ, List·Memᴰ·not-nil, List·Memᴰ·cases-cons, List·Memᴰ·append-cases}
 use Prim.Native.Nat.{ℕ, suc, _+_, _≤_, _<_, max}
 use native.Mathlib.Omega.{arith}
 use lib.Dec.{leb, eqb}
 use lib.ListN.{length, getD, set, length-set, replicate, getD-replicate}
 use lib.Seq.{getD-set-same, getD-set-other}
 use borrow.Author.Tests.{leb-false, eqb-true, eqb-false}
-use Rattle.basics.proofs.Tests.{by-cases}
+use Rattle.basics.proofs.Tests.{by-cases, either}
 use Rattle.plan_format.specs.Refusal.{Refusal, refusal, none-given}
 use Rattle.plan_format.specs.Plan.{Point, Operation, Plan, no-operation, count, op}
 use Rattle.plan_format.specs.Sound.{highest-in, highest, owns, signals-number, signals-refusal, In-range}
@@ -149,6 +149,30 @@ module _ (p : Plan) where
       (refusal-holds (suc i) (after t (signals-of i 0 (o .signals))) (bs ++ (o ∷ [])) os (stepped i t bs o on names h (eqb-true n 0 e)) (tail-more ok) (rw e at z))))
       (λ e. absurd (eqb-false n 0 e (rw e at z)))
 
+-- ---- what a plan's signals name
+pub record Inside (p : Plan) (y : Signal) : Type 0 where
+  pub semaphore : y .semaphore < length (p .owners)
+  pub operation : y .operation < count p
+
+of-inside : (p : Plan) (i k : ℕ) (xs : List Point) → i < count p → Named p xs → (y : Signal) → List·Memᴰ y (signals-of i k xs) → Inside p y
+unfolding signals-of
+of-inside p i k [] l ok y m = absurd (List·Memᴰ·not-nil m)
+of-inside p i k (x ∷ xs) l ok y m =
+    either (List·Memᴰ·cases-cons m)
+    (λ e. record {
+      semaphore = subst (λ (n : ℕ). n < length (p .owners)) (sym (ap (λ (z : Signal). z .semaphore) e)) (ok 0 (omega arith));
+      operation = subst (λ (n : ℕ). n < count p) (sym (ap (λ (z : Signal). z .operation) e)) l;
+    })
+    (λ t. of-inside p i (suc k) xs l (λ j b. ok (suc j) (omega arith)) y t)
+
+from-inside : (p : Plan) (i : ℕ) (os : List Operation) → i + length os ≤ count p → ((k : ℕ) → k < length os → Named p (getD os k no-operation .signals)) → (y : Signal) → List·Memᴰ y (signals-from i os) → Inside p y
+unfolding signals-from
+from-inside p i [] l ok y m = absurd (List·Memᴰ·not-nil m)
+from-inside p i (o ∷ os) l ok y m =
+    either (List·Memᴰ·append-cases (signals-of i 0 (o .signals)) m)
+    (λ t. of-inside p i 0 (o .signals) (omega arith) (ok 0 (omega arith)) y t)
+    (λ t. from-inside p (suc i) os (omega arith) (λ k b. ok (suc k) (omega arith)) y t)
+
 -- ---- a whole plan, from a table of zeros
 abbrev pub zeros : List ℕ
 zeros = replicate 64 0
@@ -171,3 +195,7 @@ module _ (p : Plan) (few : length (p .owners) ≤ 64) (in-range : (i : ℕ) → 
   plan-holds z =
       holds-same (λ s. max 0 (highest s (p .operations))) (λ s. highest s (p .operations)) (λ s. omega arith)
       (refusal-holds p 0 zeros [] (p .operations) start tail z)
+
+  pub plan-inside : (y : Signal) → List·Memᴰ y (plan-signals p) → Inside p y
+  unfolding plan-signals op count
+  plan-inside = from-inside p 0 (p .operations) (omega arith) (λ k l. in-range k l .signals)
