@@ -8,3 +8,5 @@ pub mod Tables
 pub mod Fronts
 pub mod Places
 pub mod Pairwise
+pub mod Counts
+pub mod Ranks

@@ -149,7 +149,7 @@ nearest-some w (y ∷ ys) x e =
       least = λ z m r. either (List·Memᴰ·cases-cons m) (λ q. clash (reaches w z) r (ap (λ (u : Signal). reaches w u) q ∙ f)) (λ m′. ih .least z m′ r);
     })
 
-reaches-by : (w : Point) (y : Signal) → y .semaphore ≡ w .semaphore → w .value ≤ y .value → reaches w y ≡ true
+pub reaches-by : (w : Point) (y : Signal) → y .semaphore ≡ w .semaphore → w .value ≤ y .value → reaches w y ≡ true
 unfolding reaches
 reaches-by w y a b = and-both (eqb (y .semaphore) (w .semaphore)) (leb (w .value) (y .value)) (eq-eqb (y .semaphore) (w .semaphore) a) (le-leb (w .value) (y .value) b)
 

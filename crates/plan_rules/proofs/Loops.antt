@@ -1,0 +1,79 @@
+-- What is left of a walk over the columns: each turn of a loop takes one step of it. Assumes nothing.
+use mathlib.Core.Path.{_≡_, refl, sym, _∙_}
+use mathlib.Core.List.{List}
+use Prim.Native.Nat.{ℕ, suc, _+_, _-_, _/_, _≤_, _<_}
+use native.Mathlib.Omega.{arith}
+use lib.ListN.{getD, set}
+use borrow.Author.Tests.{lt-ltb, le-ltb, le-leb, lt-leb, eq-eqb, ne-eqb}
+use Rattle.plan_format.specs.Refusal.{refusal, none-given}
+use Rattle.plan_rules.specs.Walks.{signals-walk, lasts, waits-walk}
+
+-- ---- signals
+-- from k on, with this table, the walk finds and leaves what the whole does
+pub record Signals-left (owner queue ssem sval sop : List ℕ) (m : ℕ) (first : List ℕ) (k : ℕ) (last : List ℕ) : Type 0 where
+  pub found : signals-walk owner queue ssem sval sop (m - k) k last ≡ signals-walk owner queue ssem sval sop m 0 first
+  pub table : lasts ssem sval (m - k) k last ≡ lasts ssem sval m 0 first
+
+module _ {owner queue ssem sval sop : List ℕ} {m : ℕ} {first : List ℕ} where
+  pub signals-none : Signals-left owner queue ssem sval sop m first 0 first
+  signals-none = let e : m - 0 ≡ m = omega arith in record { found = rw e; table = rw e }
+
+  module _ {k x i v : ℕ} {last : List ℕ} (left : Signals-left owner queue ssem sval sop m first k last) (inside : k < m) (ex : x ≡ getD ssem k 0) (ei : i ≡ getD sop k 0) (ev : v ≡ getD sval k 0) where
+    one : m - k ≡ suc (m - suc k)
+    one = omega arith
+
+    pub signals-six : {o q : ℕ} → o ≡ getD owner x 0 → q ≡ getD queue i 0 → (o ≡ q → ⊥) → refusal 6 i ≡ signals-walk owner queue ssem sval sop m 0 first
+    unfolding signals-walk
+    signals-six {o} {q} eo eq h = sym (rw (one, ← ex, ← ei, ← eo, ← eq, ne-eqb o q h)) ∙ left .found
+
+    module _ {o q l : ℕ} (eo : o ≡ getD owner x 0) (eq : q ≡ getD queue i 0) (owned : o ≡ q) (el : l ≡ getD last x 0) where
+      pub signals-seven : v ≤ l → refusal 7 i ≡ signals-walk owner queue ssem sval sop m 0 first
+      unfolding signals-walk
+      signals-seven h = sym (rw (one, ← ex, ← ei, ← ev, ← eo, ← eq, eq-eqb o q owned, ← el, le-leb v l h)) ∙ left .found
+
+      pub signals-more : l < v → {new : List ℕ} → new ≡ set last x v → Signals-left owner queue ssem sval sop m first (k + 1) new
+      unfolding signals-walk lasts
+      signals-more h et =
+          let here : k + 1 ≡ suc k = omega arith in
+          record {
+            found = rw (here, et) (sym (rw (one, ← ex, ← ei, ← ev, ← eo, ← eq, eq-eqb o q owned, ← el, lt-leb v l h)) ∙ left .found);
+            table = rw (here, et, ex, ev) (sym (rw one refl) ∙ left .table);
+          }
+
+  module _ {k : ℕ} {last : List ℕ} (left : Signals-left owner queue ssem sval sop m first k last) (out : m ≤ k) where
+    past : m - k ≡ 0
+    past = omega arith
+
+    pub signals-end : none-given ≡ signals-walk owner queue ssem sval sop m 0 first
+    unfolding signals-walk
+    signals-end = sym (rw past) ∙ left .found
+
+    pub table-end : last ≡ lasts ssem sval m 0 first
+    unfolding lasts
+    table-end = sym (rw past) ∙ left .table
+
+-- ---- waits
+pub record Waits-left (wsem wval last : List ℕ) (m k : ℕ) : Type 0 where
+  pub found : waits-walk wsem wval last (m - k) k ≡ waits-walk wsem wval last m 0
+
+module _ {wsem wval last : List ℕ} {m : ℕ} where
+  pub waits-none : Waits-left wsem wval last m 0
+  waits-none = let e : m - 0 ≡ m = omega arith in record { found = rw e }
+
+  module _ {k x v l : ℕ} (left : Waits-left wsem wval last m k) (inside : k < m) (ex : x ≡ getD wsem k 0) (ev : v ≡ getD wval k 0) (el : l ≡ getD last x 0) where
+    one-wait : m - k ≡ suc (m - suc k)
+    one-wait = omega arith
+
+    pub waits-eight : l < v → refusal 8 (k / 3) ≡ waits-walk wsem wval last m 0
+    unfolding waits-walk
+    waits-eight h = sym (rw (one-wait, ← ex, ← ev, ← el, lt-ltb l v h)) ∙ left .found
+
+    pub waits-more : v ≤ l → Waits-left wsem wval last m (k + 1)
+    unfolding waits-walk
+    waits-more h =
+        let here : k + 1 ≡ suc k = omega arith in
+        record { found = rw here (sym (rw (one-wait, ← ex, ← ev, ← el, le-ltb l v h)) ∙ left .found) }
+
+  pub waits-end : {k : ℕ} → Waits-left wsem wval last m k → m ≤ k → none-given ≡ waits-walk wsem wval last m 0
+  unfolding waits-walk
+  waits-end {k} left out = sym (let e : m - k ≡ 0 = omega arith in rw e) ∙ left .found

@@ -1,0 +1,96 @@
+-- `plan_rules::rising` walks the signals: the invariant is what is left of the walk. Assumes nothing.
+use Prim.Native.Nat.{_-_}
+use native.Mathlib.Omega.{arith}
+use borrow.Author.Needs.{needs}
+use Rattle.plan_format.specs.Refusal.{refusal, none-given}
+use Rattle.plan_rules.proofs.Loops.{Signals-left, signals-none, signals-six, signals-seven, signals-more, signals-end, table-end}
+use Rattle.plan_rules.proofs.rising.Statement.{statement}
+use Rattle.plan_rules.proofs.rising.Tie as tie
+
+abbrev Inv-loop : tie.InvT-loop
+Inv-loop signals owner queue ssem sval sop last₀ k₀ last k = Signals-left owner queue ssem sval sop signals last₀ k last
+
+abbrev μ-loop : tie.MeasureT-loop
+μ-loop signals owner queue ssem sval sop last₀ k₀ last k = signals - k
+
+loop-holds : tie.Need-loop-holds Inv-loop μ-loop
+loop-holds c = signals-none
+
+get16-requires : tie.Need-get16-requires Inv-loop μ-loop
+get16-requires c κs = search needs
+
+get16-requires-2 : tie.Need-get16-requires-2 Inv-loop μ-loop
+get16-requires-2 c κs = search needs
+
+get64-requires : tie.Need-get64-requires Inv-loop μ-loop
+get64-requires c κs = search needs
+
+get16-requires-3 : tie.Need-get16-requires-3 Inv-loop μ-loop
+get16-requires-3 c κs = search needs
+
+get16-requires-4 : tie.Need-get16-requires-4 Inv-loop μ-loop
+get16-requires-4 c κs = search needs
+
+returns : tie.Need-returns Inv-loop μ-loop
+unfolding refusal
+returns c =
+    let read = c .before in
+    let first = read .before .before .before .before .before .before .before .before in (
+      signals-six (first .before .before .before .loop .inv) (first .before .before .loop-test .taken) (first .get16 .ensures) (read .before .before .before .before .before .before .get162 .ensures) (read .before .before .before .before .get64 .ensures)
+          (read .before .before .get163 .ensures) (read .get164 .ensures) (c .if1 .taken),
+      λ z. absurd (omega arith),
+    )
+
+get64-requires-2 : tie.Need-get64-requires-2 Inv-loop μ-loop
+get64-requires-2 c κs = search needs
+
+returns-2 : tie.Need-returns-2 Inv-loop μ-loop
+unfolding refusal
+returns-2 c =
+    let read = c .before .before .before .before .before in
+    let first = read .before .before .before .before .before .before .before .before in (
+      signals-seven (first .before .before .before .loop .inv) (first .before .before .loop-test .taken) (first .get16 .ensures) (read .before .before .before .before .before .before .get162 .ensures) (read .before .before .before .before .get64 .ensures)
+          (read .before .before .get163 .ensures) (read .get164 .ensures) (c .before .before .before .before .if1 .left) (c .before .get642 .ensures) (c .if2 .taken),
+      λ z. absurd (omega arith),
+    )
+
+put64-requires : tie.Need-put64-requires Inv-loop μ-loop
+put64-requires c κs = search needs
+
+add-k : tie.Need-add-k Inv-loop μ-loop
+add-k c = search needs
+
+loop-less : tie.Need-loop-less Inv-loop μ-loop
+loop-less c = search needs
+
+loop-again : tie.Need-loop-again Inv-loop μ-loop
+loop-again c =
+    let read = c .before .before .before .before .before .before .before in
+    let first = read .before .before .before .before .before .before .before .before in
+    signals-more (first .before .before .before .loop .inv) (first .before .before .loop-test .taken) (first .get16 .ensures) (read .before .before .before .before .before .before .get162 .ensures) (read .before .before .before .before .get64 .ensures)
+    (read .before .before .get163 .ensures) (read .get164 .ensures) (c .before .before .before .before .before .before .if1 .left) (c .before .before .before .get642 .ensures) (c .before .before .if2 .left) (c .put64 .ensures)
+
+returns-3 : tie.Need-returns-3 Inv-loop μ-loop
+unfolding none-given
+returns-3 c = (signals-end (c .before .loop .inv) (c .loop-test .left), λ z. table-end (c .before .loop .inv) (c .loop-test .left))
+
+pub rising-spec : {M : Type 1} → statement M
+rising-spec =
+    tie.close
+    (tie.spec
+    Inv-loop
+    μ-loop
+    loop-holds
+    get16-requires
+    get16-requires-2
+    get64-requires
+    get16-requires-3
+    get16-requires-4
+    returns
+    get64-requires-2
+    returns-2
+    put64-requires
+    add-k
+    loop-less
+    loop-again
+    returns-3)
