@@ -17,8 +17,8 @@ use Rattle.plan_order.specs.Precedence.{before, at-or-before}
 use Rattle.plan_order.specs.Runs.{is-full}
 use Rattle.plan_order.specs.Holdings.{is-free, freed-by, free-after, Ask, use-asks, later-asks, asked-of, met, all-asks, broken}
 use Rattle.plan_order.proofs.Keeping.{asked-marks, all-asks-has, broken-some, broken-none}
-use Rattle.plan_columns.specs.Columns.{Queue-column, Marked, plan-marks, Mark-columns, Row-columns}
-use Rattle.plan_marks.specs.Passes.{place-or, shown-from, noted, no-frees, next-frees, late, early, first-late, first-early}
+use Rattle.plan_columns.specs.Columns.{Queue-column, Marked, plan-marks, Row-columns}
+use Rattle.plan_marks.specs.Passes.{place-or, Shown, shown-from, noted, no-frees, next-frees, late, early, first-late, first-early}
 use Rattle.plan_marks.proofs.Marks.{Each, Known, marks-known, Rising, marks-rising, marks-shown}
 use Rattle.plan_marks.proofs.Order.{late-right, late-itself, late-nothing, early-nothing, early-right}
 use Rattle.plan_marks.proofs.Asks.{place, of-buffer, after, of-uses, of-reuses, none-yet, all-asks-split, uses-all, reuses-all, uses-rising, reuses-rising}
@@ -206,14 +206,14 @@ module _ (p : Plan) (sound : Sound p) (few : length (p .sizes) ≤ 256) (f : Lis
       (λ m. omega (arith, b .asked, unmet-least forced 0 (count p) us a (uses-rising (plan-marks p) 0 (marks-rising p)) m (b .unforced)))
       (λ m. omega (arith, b .asked, unmet-least forced 0 (count p) rs a (reuses-rising (plan-marks p) none-yet 0 (marks-rising p)) m (b .unforced)))))
 
-  pub broken-found : (n many : ℕ) (mark operation : List ℕ) → count p ≡ n → Mark-columns p many mark operation →
-      min (first-late queue rows n (shown-from mark operation many 0)) (first-early queue rows n no-frees (shown-from mark operation many 0)) ≡ place-or n (broken p)
-  broken-found n many mark operation same c =
-      let known = marks-known p sound in
-      rw (
-        ← same,
-        marks-shown p many mark operation sound c,
-        uses-found (count p) (plan-marks p) known,
-        reuses-found (count p) (plan-marks p) no-frees none-yet shows-none (λ b. tt) known,
-      )
-      lowest-found
+pub broken-found : (p : Plan) (n many : ℕ) (queue mark operation rows : List ℕ) → Shown p n many queue mark operation rows →
+    min (first-late queue rows n (shown-from mark operation many 0)) (first-early queue rows n no-frees (shown-from mark operation many 0)) ≡ place-or n (broken p)
+broken-found p n many queue mark operation rows c =
+    let known = marks-known p (c .sound) in
+    rw (
+      ← c .many,
+      marks-shown p many mark operation (c .sound) (c .marks-shown),
+      uses-found p (c .sound) (c .few-buffers) (c .run) (c .full) queue rows (c .queues-shown) (c .rows-shown) (count p) (plan-marks p) known,
+      reuses-found p (c .sound) (c .few-buffers) (c .run) (c .full) queue rows (c .queues-shown) (c .rows-shown) (count p) (plan-marks p) no-frees none-yet shows-none (λ b. tt) known,
+    )
+    (lowest-found p (c .sound) (c .few-buffers) (c .run) (c .full) queue rows (c .queues-shown) (c .rows-shown))

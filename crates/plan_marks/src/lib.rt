@@ -1,16 +1,11 @@
 // Broken marks, refusal 11: marks of which keeping asks what "before" does not force. Two passes over the marks, each with a table of
 // frees: a use against the next free of its buffer, a mark against the last free before it. In a table 1,024 stands for no free.
 ghost use mathlib.Core.Path.{_≡_};
-ghost use mathlib.Core.Bool.{true};
-ghost use mathlib.Core.List.{List};
-ghost use Prim.Native.Nat.{ℕ, _<_, _≤_, min};
-ghost use lib.ListN.{length, getD};
-ghost use Rattle.plan_format.specs.Plan.{Plan, count};
-ghost use Rattle.plan_format.specs.Sound.{Sound};
-ghost use Rattle.plan_order.specs.Runs.{is-full};
+ghost use Prim.Native.Nat.{_<_, min};
+ghost use lib.ListN.{getD};
+ghost use Rattle.plan_format.specs.Plan.{Plan};
 ghost use Rattle.plan_order.specs.Holdings.{broken as broken-mark};
-ghost use Rattle.plan_columns.specs.Columns.{Queue-column, Mark-columns, Row-columns};
-ghost use Rattle.plan_marks.specs.Passes.{place-or, mark-of, shown-from, noted, no-frees, ordered as is-ordered, late as is-late, early as is-early, first-late, first-early};
+ghost use Rattle.plan_marks.specs.Passes.{place-or, Shown, mark-of, shown-from, noted, no-frees, ordered as is-ordered, late as is-late, early as is-early, first-late, first-early};
 
 // The lowest operation with a broken mark; n where there is none.
 pub fn broken(
@@ -21,7 +16,7 @@ pub fn broken(
     mop: &[u16; 4096],
     rows: &[u16; 16416],
 ) -> usize
-    ensures { λ r. ⌜ ((p : Plan) (f : List ℕ) → Sound p → count p ≡ n → length (p .sizes) ≤ 256 → Queue-column p (now (queue .entry)) → Mark-columns p marks (now (mark .entry)) (now (mop .entry)) → is-full p f ≡ true → Row-columns p (λ j. j < count p) (now (rows .entry)) → r ≡ place-or n (broken-mark p)) ⌝ }
+    ensures { λ r. ⌜ ((p : Plan) → Shown p n marks (now (queue .entry)) (now (mark .entry)) (now (mop .entry)) (now (rows .entry)) → r ≡ place-or n (broken-mark p)) ⌝ }
 {
     let none = n as usize;
     let a = uses(none, marks, queue, mark, mop, rows);

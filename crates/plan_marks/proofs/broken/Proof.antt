@@ -17,10 +17,10 @@ lower-requires c κs = search needs
 
 returns : tie.Need-returns
 returns c =
-    λ p f sound same few queues marks full rows.
+    λ p shown.
     c .lower .ensures
     ∙ ap₂ (λ (a b : ℕ). min a b) (c .before .before .uses .ensures) (c .before .reuses .ensures)
-    ∙ broken-found p sound few f full _ _ queues rows _ _ _ _ same marks
+    ∙ broken-found p _ _ _ _ _ _ shown
 
 pub broken-spec : {M : Type 1} → statement M
 broken-spec = tie.close (tie.spec uses-requires reuses-requires lower-requires returns)
