@@ -10,3 +10,4 @@ pub mod Places
 pub mod Pairwise
 pub mod Counts
 pub mod Ranks
+pub mod Stores

@@ -1,0 +1,6 @@
+pub mod Putting
+pub mod Parts
+pub mod Operations
+pub mod Ownership
+pub mod Lists
+pub mod Plans

@@ -1,0 +1,141 @@
+-- Columns filled from the numbers of a plan: what stands where among the numbers, and what each operation adds to each column.
+-- Counts and positions are cut to a few bits, which changes none in range. Assumes nothing: these are definitions.
+use mathlib.Core.Path.{_≡_}
+use mathlib.Core.Bool.{cond}
+use mathlib.Core.List.{List, [], _∷_, _++_}
+use Prim.Native.Nat.{ℕ, zero, suc, _+_, _*_, _%_, _≤_, _<_}
+use lib.Dec.{ltb}
+use lib.ListN.{length, getD}
+use lib.Seq.{sets}
+use Rattle.basics.specs.Lists.{tabulate-from}
+use Rattle.plan_format.specs.Plan.{Plan, count, op, queues}
+use Rattle.plan_format.specs.Sound.{In-range}
+use Rattle.plan_columns.specs.Columns.{Queue-column, Wait-columns, Signal-columns, Mark-columns}
+
+-- the number of each of three waits, 0 in place of one that is missing
+abbrev pub three : (many : ℕ) → (number : ℕ → ℕ) → (j : ℕ) → ℕ
+three many number j = cond (ltb j many) (number j) 0
+
+-- the operation of each signal or mark
+abbrev pub repeated : (many i : ℕ) → List ℕ
+repeated many i = tabulate-from many 0 (λ j. i)
+
+-- what operation i, at a place of the numbers, adds to a column
+abbrev pub Part : Type 0
+Part = (i at : ℕ) → List ℕ
+
+module _ (numbers : List ℕ) where
+  -- ---- owners, one after the other
+  abbrev pub owner-numbers : (many at : ℕ) → List ℕ
+  owner-numbers many at = tabulate-from many 0 (λ j. getD numbers (at + j) 0 % 65536)
+
+  -- ---- pairs of numbers after their count, at a place
+  abbrev pub first-at : (at j : ℕ) → ℕ
+  first-at at j = getD numbers (at + 1 + 2 * j) 0
+
+  abbrev pub second-at : (at j : ℕ) → ℕ
+  second-at at j = getD numbers (at + 2 + 2 * j) 0
+
+  abbrev pub wait-semaphores : (many at : ℕ) → List ℕ
+  wait-semaphores many at = tabulate-from 3 0 (λ j. three many (first-at at) j % 65536)
+
+  abbrev pub wait-values : (many at : ℕ) → List ℕ
+  wait-values many at = tabulate-from 3 0 (λ j. three many (second-at at) j)
+
+  abbrev pub signal-semaphores : (many at : ℕ) → List ℕ
+  signal-semaphores many at = tabulate-from many 0 (λ j. first-at at j % 65536)
+
+  abbrev pub signal-values : (many at : ℕ) → List ℕ
+  signal-values many at = tabulate-from many 0 (λ j. second-at at j)
+
+  abbrev pub mark-codes : (many at : ℕ) → List ℕ
+  mark-codes many at = tabulate-from many 0 (λ j. 2 * (first-at at j % 256) + second-at at j % 2)
+
+  -- ---- where the parts of an operation stand
+  unfoldable pub wait-count : (at : ℕ) → ℕ
+  wait-count at = getD numbers (at + 1) 0 % 4
+
+  unfoldable pub signals-at : (at : ℕ) → ℕ
+  signals-at at = at + 2 + 2 * wait-count at
+
+  unfoldable pub signal-count : (at : ℕ) → ℕ
+  signal-count at = getD numbers (signals-at at) 0 % 4
+
+  unfoldable pub marks-at : (at : ℕ) → ℕ
+  marks-at at = signals-at at + 1 + 2 * signal-count at
+
+  unfoldable pub mark-count : (at : ℕ) → ℕ
+  mark-count at = getD numbers (marks-at at) 0 % 8
+
+  unfoldable pub next-at : (at : ℕ) → ℕ
+  next-at at = marks-at at + 1 + 2 * mark-count at
+
+  -- ---- what operation i, at a place, adds to each column
+  abbrev pub queue-part : Part
+  queue-part i at = getD numbers at 0 % 65536 ∷ []
+
+  abbrev pub wait-semaphore-part : Part
+  wait-semaphore-part i at = wait-semaphores (wait-count at) (at + 1)
+
+  abbrev pub wait-value-part : Part
+  wait-value-part i at = wait-values (wait-count at) (at + 1)
+
+  abbrev pub signal-semaphore-part : Part
+  signal-semaphore-part i at = signal-semaphores (signal-count at) (signals-at at)
+
+  abbrev pub signal-value-part : Part
+  signal-value-part i at = signal-values (signal-count at) (signals-at at)
+
+  abbrev pub signal-operation-part : Part
+  signal-operation-part i at = repeated (signal-count at) i
+
+  abbrev pub mark-part : Part
+  mark-part i at = mark-codes (mark-count at) (marks-at at)
+
+  abbrev pub mark-operation-part : Part
+  mark-operation-part i at = repeated (mark-count at) i
+
+  -- the parts of some operations, one after the other
+  unfoldable pub parts : Part → (many i at : ℕ) → List ℕ
+  parts f zero i at = []
+  parts f (suc k) i at = f i at ++ parts f k (suc i) (next-at at)
+
+-- ---- one operation
+-- a part stands in a column from a place on; the column has room for so many
+pub record Put (room : ℕ) (part : List ℕ) (place : ℕ) (before after : List ℕ) : Type 0 where
+  pub stored : after ≡ sets before place part
+  pub size : length before ≡ room
+
+-- operation i at a place stands in every column; `signals` and `marks` are how many stand before it
+pub record Added (numbers : List ℕ) (i at signals marks : ℕ) (queue wsem wval ssem sval sop mark mop : List ℕ)
+    (queue′ wsem′ wval′ ssem′ sval′ sop′ mark′ mop′ : List ℕ) (at′ signals′ marks′ : ℕ) : Type 0 where
+  pub queues-added : Put 1024 (queue-part numbers i at) i queue queue′
+  pub wait-semaphores-added : Put 3072 (wait-semaphore-part numbers i at) (3 * i) wsem wsem′
+  pub wait-values-added : Put 3072 (wait-value-part numbers i at) (3 * i) wval wval′
+  pub signal-semaphores-added : Put 2048 (signal-semaphore-part numbers i at) signals ssem ssem′
+  pub signal-values-added : Put 2048 (signal-value-part numbers i at) signals sval sval′
+  pub signal-operations-added : Put 2048 (signal-operation-part numbers i at) signals sop sop′
+  pub marks-added : Put 4096 (mark-part numbers i at) marks mark mark′
+  pub mark-operations-added : Put 4096 (mark-operation-part numbers i at) marks mop mop′
+  pub next : at′ ≡ next-at numbers at
+  pub more-signals : signals′ ≡ signals + signal-count numbers at
+  pub more-marks : marks′ ≡ marks + mark-count numbers at
+
+-- ---- plans
+-- the limits of a read plan
+pub record Limits (p : Plan) : Type 0 where
+  pub few-queues : queues p ≤ 16
+  pub few-semaphores : length (p .owners) ≤ 64
+  pub few-buffers : length (p .sizes) ≤ 256
+  pub few-operations : count p ≤ 1024
+  pub in-range : (i : ℕ) → i < count p → In-range p (op p i)
+  pub few-waits : (i : ℕ) → i < count p → length (op p i .waits) ≤ 3
+  pub few-signals : (i : ℕ) → i < count p → length (op p i .signals) ≤ 2
+  pub few-marks : (i : ℕ) → i < count p → length (op p i .marks) ≤ 4
+
+-- columns that show a plan, and how many signals and marks it has
+pub record Shown (p : Plan) (signals marks : ℕ) (queue wsem wval ssem sval sop mark mop : List ℕ) : Type 0 where
+  pub queues-shown : Queue-column p queue
+  pub waits-shown : Wait-columns p wsem wval
+  pub signals-shown : Signal-columns p signals ssem sval sop
+  pub marks-shown : Mark-columns p marks mark mop

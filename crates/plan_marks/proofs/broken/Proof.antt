@@ -1,0 +1,26 @@
+-- `plan_marks::broken` gives the lower of what the two passes find. Assumes nothing.
+use mathlib.Core.Path.{ap₂, _∙_}
+use Prim.Native.Nat.{ℕ, min}
+use borrow.Author.Needs.{needs}
+use Rattle.plan_marks.proofs.Found.{broken-found}
+use Rattle.plan_marks.proofs.broken.Statement.{statement}
+use Rattle.plan_marks.proofs.broken.Tie as tie
+
+uses-requires : tie.Need-uses-requires
+uses-requires c κs = search needs
+
+reuses-requires : tie.Need-reuses-requires
+reuses-requires c κs = search needs
+
+lower-requires : tie.Need-lower-requires
+lower-requires c κs = search needs
+
+returns : tie.Need-returns
+returns c =
+    λ p shown.
+    c .lower .ensures
+    ∙ ap₂ (λ (a b : ℕ). min a b) (c .before .before .uses .ensures) (c .before .reuses .ensures)
+    ∙ broken-found p _ _ _ _ _ _ shown
+
+pub broken-spec : {M : Type 1} → statement M
+broken-spec = tie.close (tie.spec uses-requires reuses-requires lower-requires returns)
