@@ -1,0 +1,4 @@
+pub mod Words
+pub mod Looks
+pub mod Chains
+pub mod Merges

@@ -1,0 +1,3 @@
+// The standard run and the frontier rows, in one pass.
+mod merge;
+mod queues;
