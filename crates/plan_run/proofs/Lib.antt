@@ -2,3 +2,4 @@ pub mod Words
 pub mod Looks
 pub mod Chains
 pub mod Merges
+pub mod Turns

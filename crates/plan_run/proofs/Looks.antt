@@ -50,13 +50,19 @@ module _ (source ran : List ℕ) (j : ℕ) (a x : ℕ) (a-is : a ≡ getD source
       held-none z-ran = rw (← a-is, ← b-is, ← c-is) (sym (passed (held-by ran c 1024) ∙ held-no ran c 1024 (λ u. z-ran (z-is ∙ u))))
 
 -- ---- the bit of a queue
-pub unit-small : (q : ℕ) → q < 16 → 2 ^ q < 65536
+unit-small : (q : ℕ) → q < 16 → 2 ^ q < 65536
 unit-small q l = pow-lt {i = q} {j = 16} l
 
 pub unit-shifted : (q w : ℕ) → q < 16 → 65536 ≤ w → 1 * 2 ^ q % w ≡ 2 ^ q
 unit-shifted q w l u =
     let e : 1 * 2 ^ q ≡ 2 ^ q = omega arith in
     rw e (mod-eq-of-lt (let h : 2 ^ q < w = omega (arith, unit-small q l) in h))
+
+pub shifted-small : (q w : ℕ) → q < 16 → 65536 ≤ w → 1 * 2 ^ q % w < 65536
+shifted-small q w l u = rw (unit-shifted q w l u) (unit-small q l)
+
+pub mask-small : (seen unit : ℕ) → unit < 65536 → bitOr (seen % 65536) unit < 65536
+mask-small seen unit h = or-lt 16 (seen % 65536) unit (omega arith) h
 
 unit-only : (q k : ℕ) → has (2 ^ q) k ≡ true → q ≡ k
 unit-only q k h = eqb-true q k (sym (has-unit q k) ∙ h)

@@ -9,7 +9,7 @@ use lib.ListN.{length, getD, set, length-set}
 use lib.Seq.{getD-set-same, getD-set-other}
 use borrow.Author.Tests.{eqb-true, eqb-false}
 use Rattle.basics.proofs.Tests.{by-cases}
-use Rattle.plan_run.specs.Merge.{cell, largest, Laid}
+use Rattle.plan_run.specs.Merge.{cell, largest, Laid, Merged}
 
 -- ---- a row merged
 pub merged-is :
@@ -50,3 +50,13 @@ module _ (rows : List ℕ) (j : ℕ) (row : List ℕ) where
         ∙ getD-set-other old (16 * j + k) (16 * i + m) (getD row k 0) 0 (λ z. ne (let u : i ≡ j = omega arith in u)) ∙ h .elsewhere i m l ne;
     long = ap length now-is ∙ length-set old (16 * j + k) (getD row k 0) ∙ h .long;
   }
+
+pub merged-laid :
+    (rows unit : List ℕ) (j q a b c d a′ b′ c′ d′ : ℕ) (row rows-now : List ℕ) → a ≡ a′ → b ≡ b′ → c ≡ c′ → d ≡ d′ →
+    ((k : ℕ) → k < 16 → getD row k 0 ≡ (largest rows a b c d k + getD unit (16 - q + k) 0) % 65536) → Laid rows j row 16 rows-now →
+    Merged rows unit j q a′ b′ c′ d′ rows-now
+merged-laid rows unit j q a b c d a′ b′ c′ d′ row rows-now ea eb ec ed h laid = record {
+  there = λ k l. laid .there k l ∙ h k l ∙ rw (ea, eb, ec, ed);
+  elsewhere = laid .elsewhere;
+  long = laid .long;
+}

@@ -1,3 +1,4 @@
 // The standard run and the frontier rows, in one pass.
 mod merge;
 mod queues;
+mod steps;

@@ -12,7 +12,7 @@ use lib.ListN.{length}
 use native.Mathlib.Omega.{arith}
 use lib.Bits.{or-lt}
 use denote.Ref.{now}
-use Rattle.plan_run.proofs.Looks.{unit-small, unit-shifted, looked-closed, looked-free, looked-held}
+use Rattle.plan_run.proofs.Looks.{unit-shifted, shifted-small, looked-closed, looked-free, looked-held}
 
 -- src/queues.rt:56:9
 get16-requires : tie.Need-get16-requires
@@ -39,7 +39,7 @@ returns-2 : tie.Need-returns-2
 returns-2 c =
     let q = c .before .before .before .before .before .args .q in
     let e = unit-shifted q 4294967296 (c .before .before .before .before .before .pre .0) (omega arith) in
-    (or-lt 16 _ _ (c .before .before .before .before .before .pre .1) (rw e (unit-small q (c .before .before .before .before .before .pre .0))),
+    (or-lt 16 _ _ (c .before .before .before .before .before .pre .1) (shifted-small q 4294967296 (c .before .before .before .before .before .pre .0) (omega arith)),
     looked-free _ _ _ _ _ _ _ (c .before .before .before .get16 .ensures) (c .before .before .if1 .left) _ (c .before .blocker .ensures) (c .if2 .taken) _ e)
 
 -- src/queues.rt:64:9
