@@ -6,3 +6,4 @@ pub mod Filters
 pub mod Searches
 pub mod Tables
 pub mod Counts
+pub mod Places

@@ -2,4 +2,9 @@ pub mod Words
 pub mod Looks
 pub mod Chains
 pub mod Merges
+pub mod Sources
+pub mod Watches
+pub mod Readies
+pub mod Standing
 pub mod Turns
+pub mod Ends
