@@ -6,5 +6,7 @@ pub mod Sources
 pub mod Watches
 pub mod Readies
 pub mod Standing
+pub mod Fills
+pub mod Listings
 pub mod Turns
 pub mod Ends

@@ -62,7 +62,7 @@ module _ (p : Plan) (n : ℕ) (queue source : List ℕ) (shown : Shown p n queue
           let g = source-has p n queue source shown j l w m i t in
           ran-member i u (λ z. blocker-free source ran j sentinel e (g .0) (g .1) (ap (λ (x : ℕ). getD ran x 0) (g .2) ∙ z))
 
-  ready-gives : (j : ℕ) → ready p r j ≡ true → (j < count p) × (member j r ≡ false) × (enabled p r j ≡ true)
+  pub ready-gives : (j : ℕ) → ready p r j ≡ true → (j < count p) × (member j r ≡ false) × (enabled p r j ≡ true)
   unfolding ready
   ready-gives j t = (can-below (count p) (enabled p) r j t, can-fresh (count p) (enabled p) r j t, can-enabled (count p) (enabled p) r j t)
 
