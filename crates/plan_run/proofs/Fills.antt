@@ -67,7 +67,7 @@ tally-none : (f : ℕ → Bool) → tally 0 f ≡ 0
 unfolding tally
 tally-none f = refl
 
-epoch-first : (p : Plan) (j : ℕ) → epoch p j ≡ 1 + tally j (λ k. same-queue p k j)
+pub epoch-first : (p : Plan) (j : ℕ) → epoch p j ≡ 1 + tally j (λ k. same-queue p k j)
 unfolding epoch tally same-queue
 epoch-first p j = rw (eq-eqb (op p j .queue) (op p j .queue) refl)
 

@@ -10,3 +10,4 @@ pub mod Fills
 pub mod Listings
 pub mod Turns
 pub mod Ends
+pub mod Missing

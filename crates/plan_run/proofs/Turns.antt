@@ -21,7 +21,7 @@ use Rattle.plan_run.proofs.Standing.{places-more}
 use Rattle.plan_run.proofs.Fills.{filled-more}
 use Rattle.plan_run.proofs.Listings.{greedy-left, listed-more}
 
-head-inside : (p : Plan) (r : List ℕ) (q x : ℕ) → Head p r q x → x < 1024 → x < count p
+pub head-inside : (p : Plan) (r : List ℕ) (q x : ℕ) → Head p r q x → x < 1024 → x < count p
 head-inside p r q x (waiting _ l e f h) b = l
 head-inside p r q x (finished h) b = absurd (omega arith)
 

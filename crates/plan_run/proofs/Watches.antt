@@ -31,6 +31,18 @@ module _ (head source ran : List ℕ) (q : ℕ) where
       and-both (ltb (getD head q 0) 1024) (eqb (blocker-of source ran (getD head q 0)) 1024) (lt-ltb (getD head q 0) 1024 l)
       (eq-eqb (blocker-of source ran (getD head q 0)) 1024 e)
 
+-- a queue that was looked at and cannot go is noted at what holds it
+pub noted-by :
+    (mask ready : ℕ) (head source ran waiter : List ℕ) (ready′ : ℕ) (waiter′ : List ℕ) → Looked mask ready head source ran waiter ready′ waiter′ →
+    (k : ℕ) → k < 16 → has mask k ≡ true → ((m : ℕ) → m < 3 → getD source (3 * getD head k 0 + m) 0 ≤ 1024) →
+    getD head k 0 < 1024 → can-go head source ran k ≡ false → Noted head source ran waiter′ k
+noted-by mask ready head source ran waiter ready′ waiter′ looked k l m small h f =
+    let b = blocker-of source ran (getD head k 0) in
+    let ne : b ≡ 1024 → ⊥ = λ z. clash (can-go head source ran k) (go-by head source ran k h z) f in
+    let w = blocker-where source ran (getD head k 0) b refl ne in
+    let few : b < 1024 = omega (arith, small (w .0) (w .1), w .2) in
+    record { place = w .0; at = b; few = w .1; source-is = w .2; inside = few; held = w .3; marked = looked .noted k b l m h refl few }
+
 module _ (source head ran waiter : List ℕ) (ready : ℕ) (watch : Watch source head ran waiter ready) (none-run : getD ran 1024 0 ≡ 1)
     (head-long : length head ≡ 16) (ran-long : length ran ≡ 1025)
     (q j : ℕ) (inside : q < 16) (there : has ready q ≡ true) (small : j < 1024)
@@ -101,14 +113,6 @@ module _ (source head ran waiter : List ℕ) (ready : ℕ) (watch : Watch source
       (λ t. rw (t, no-fewer k ne t))
       (λ u. rw u (by-cases (can-go head′ source ran′ k) (λ t. rw (t, woken k l ne u t)) (λ v. rw (v, and-false (has (bitOr (seen % 65536) bit) k)))))))
 
-  noted-new : (k : ℕ) → k < 16 → has (bitOr (seen % 65536) bit) k ≡ true → getD head′ k 0 < 1024 → can-go head′ source ran′ k ≡ false → Noted head′ source ran′ waiter′ k
-  noted-new k l m h f =
-      let b = blocker-of source ran′ (getD head′ k 0) in
-      let ne : b ≡ 1024 → ⊥ = λ z. clash (can-go head′ source ran′ k) (go-by head′ source ran′ k h z) f in
-      let w = blocker-where source ran′ (getD head′ k 0) b refl ne in
-      let few : b < 1024 = omega (arith, sources-small k l h (w .0) (w .1), w .2) in
-      record { place = w .0; at = b; few = w .1; source-is = w .2; inside = few; held = w .3; marked = looked .noted k b l m h refl few }
-
   noted-old : (k : ℕ) → k < 16 → has (bitOr (seen % 65536) bit) k ≡ false → getD head′ k 0 < 1024 → can-go head′ source ran′ k ≡ false → Noted head′ source ran′ waiter′ k
   noted-old k l m h f =
       let either-bit = sym (mask-bits k l) ∙ m in
@@ -130,6 +134,6 @@ module _ (source head ran waiter : List ℕ) (ready : ℕ) (watch : Watch source
   pub watch-more : Watch source head′ ran′ waiter′ ready′
   watch-more = record {
     readies = readies′;
-    noted = λ k l h f. by-cases (has (bitOr (seen % 65536) bit) k) (λ t. noted-new k l t h f) (λ n. noted-old k l n h f);
+    noted = λ k l h f. by-cases (has (bitOr (seen % 65536) bit) k) (λ t. noted-by (bitOr (seen % 65536) bit) (ready - bit) head′ source ran′ waiter ready′ waiter′ looked k l t (sources-small k l h) h f) (λ n. noted-old k l n h f);
     long = looked .long ∙ watch .long;
   }

@@ -8,7 +8,7 @@ use native.Mathlib.Omega.{arith}
 use lib.Dec.{eqb}
 use lib.Bits.{bitOr, or-step, or-shr}
 use lib.Count.{ones, under, trailingZeros, ones-step}
-use lib.Pow.{field, mod-mod-pow}
+use lib.Pow.{pow-pos, field, mod-mod-pow}
 use borrow.Author.Tests.{eqb-true, eqb-false, eq-eqb, ne-eqb}
 use Rattle.basics.specs.Lists.{tally}
 use Rattle.basics.proofs.Tests.{by-cases}
@@ -123,3 +123,11 @@ has-split m q k h =
     by-cases (eqb q k)
     (λ t. rw (has-unit q k, t) (ap (λ (x : ℕ). has m x) (sym (eqb-true q k t)) ∙ h))
     (λ f. rw (has-unit q k, has-minus m q k h, f))
+
+-- ---- every bit
+pub has-all : (m k : ℕ) → k < m → has (2 ^ m - 1) k ≡ true
+unfolding has
+has-all zero k l = absurd (not-suc-le-zero l)
+has-all (suc m) zero l = eq-eqb ((2 ^ suc m - 1) % 2) 1 (omega (arith, pow-suc 2 m, pow-pos m))
+has-all (suc m) (suc k) l =
+    ap (λ (x : ℕ). has x k) (let e : (2 ^ suc m - 1) / 2 ≡ 2 ^ m - 1 = omega (arith, pow-suc 2 m, pow-pos m) in e) ∙ has-all m k (le-of-suc-le-suc l)

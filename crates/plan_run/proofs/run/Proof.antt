@@ -50,7 +50,7 @@ loop-holds c = (
   c .wake .ensures .0,
   refl,
   λ p shown cleared room.
-      started p _ _ _ _ _ _ _ (c .before .before .before .before .before .before .before .if1 .left) shown cleared (c .before .before .before .before .chain .ensures) _ _ _ refl refl refl _ _ (c .wake .ensures .1),
+      started p _ _ _ _ _ _ _ shown cleared (c .before .before .before .before .chain .ensures) _ _ _ refl refl refl _ _ (c .wake .ensures .1),
 )
 
 -- src/lib.rt:37:13

@@ -9,7 +9,7 @@ use Prim.Native.Nat.{ℕ, _+_, _-_, _*_, _%_, _≤_, _<_}
 use native.Mathlib.Omega.{arith}
 use lib.ListN.{getD}
 use borrow.Author.Count.{below-none, below-more}
-use Rattle.plan_run.proofs.Ends.{own-cell, stuck-at, stuck-nowhere}
+use Rattle.plan_run.proofs.Missing.{own-cell, stuck-at, stuck-nowhere}
 
 abbrev Inv-loop : tie.InvT-loop
 Inv-loop n queue rows many i₀ i = (i ≤ n) × ((k : ℕ) → k < i → getD rows (16 * k + getD queue k 0 % 16) 0 ≡ 0 → ⊥)
