@@ -1,8 +1,6 @@
 -- The pass begins with the empty run and ends with the standard run. Assumes nothing.
 use mathlib.Core.Path.{_≡_, refl, sym, ap, _∙_, subst}
-use mathlib.Core.Bool.{Bool, true, false, _&&_, _||_}
 use mathlib.Core.List.{List, [], _∷_, _++_, append-assoc, append-nil}
-use mathlib.Core.Option.{Option, none}
 use Prim.Native.Nat.{ℕ, zero, suc, _+_, _-_, _*_, _≤_, _<_, zero-le}
 use native.Mathlib.Nat.{not-suc-le-zero, le-of-suc-le-suc}
 use native.Mathlib.Omega.{arith}
@@ -15,11 +13,11 @@ use Rattle.basics.proofs.Tests.{by-cases}
 use Rattle.basics.proofs.Members.{member-nil}
 use Rattle.order.specs.Greedy.{greedy}
 use Rattle.order.proofs.Runs.{runs-nil}
-use Rattle.plan_format.specs.Plan.{Plan, count, op}
+use Rattle.plan_format.specs.Plan.{Plan, count}
 use Rattle.plan_order.specs.Runs.{enabled, is-run, next, number-ready, ready-numbers, standard, run-list}
 use Rattle.plan_columns.specs.Columns.{Queue-column, Row-columns}
 use Rattle.plan_run.specs.Words.{has}
-use Rattle.plan_run.specs.Queues.{First, found, absent, Chained, can-go, Looked}
+use Rattle.plan_run.specs.Queues.{First, found, absent, Chained, Looked}
 use Rattle.plan_run.specs.Run.{Shown, Cleared, Rows-of, Listed, Ran}
 use Rattle.plan_run.specs.State.{Head, waiting, finished, Last, unused, Places, Watch, Going, Tables}
 use Rattle.plan_run.proofs.Words.{has-none, has-all}
@@ -125,7 +123,7 @@ module _ (p : Plan) where
         ∙ sym (getD-append-add (standard p) (ready-numbers p [] (standard p)) (k - n) 0)
         ∙ ap (λ (x : ℕ). getD (standard p ++ ready-numbers p [] (standard p)) x 0) (sym here))
 
-    pub listed-whole : list-now ≡ in-front (run-list p) list
+    listed-whole : list-now ≡ in-front (run-list p) list
     unfolding in-front
     listed-whole =
         let front-long : length (take (2 * n) list-now) ≡ 2 * n = length-take-le (2 * n) list-now (omega (arith, listed .long)) in

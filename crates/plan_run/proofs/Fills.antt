@@ -1,26 +1,26 @@
 -- The row of an operation that runs: merged from the rows of its queue's last operation and of its sources. Assumes nothing.
 use mathlib.Core.Path.{_≡_, refl, sym, ap, ap₂, _∙_, subst}
 use mathlib.Core.Bool.{Bool, true, false, cond}
-use mathlib.Core.Logic.{_⊎_, inl, inr}
+use mathlib.Core.Logic.{inl}
 use mathlib.Core.List.{List, [], _∷_, _++_}
-use Prim.Native.Nat.{ℕ, zero, suc, _+_, _-_, _*_, _%_, _≤_, _<_, zero-le, min, max}
-use native.Mathlib.Nat.{le-trans, mod-eq-of-lt}
+use Prim.Native.Nat.{ℕ, zero, suc, _+_, _-_, _*_, _%_, _≤_, _<_, max}
+use native.Mathlib.Nat.{le-trans}
 use native.Mathlib.Omega.{arith}
 use lib.Dec.{ltb, leb, eqb}
-use lib.ListN.{length, getD}
-use borrow.Author.Tests.{ltb-true, ltb-false, lt-ltb, le-ltb, leb-true, leb-false, eqb-true, eqb-false, eq-eqb, ne-eqb}
+use lib.ListN.{getD}
+use borrow.Author.Tests.{ltb-true, ltb-false, lt-ltb, leb-true, leb-false, eqb-true, eqb-false, eq-eqb, ne-eqb}
 use Rattle.basics.specs.Lists.{member, filter, tally}
 use Rattle.basics.proofs.Tests.{by-cases, clash, is-false, or-left, or-right, either}
 use Rattle.basics.proofs.Members.{member-nil, member-here, member-there, member-cons, member-left, member-snoc, member-last}
-use Rattle.basics.proofs.Filters.{filter-yes, filter-no, filter-has, filter-passes, filter-among}
+use Rattle.basics.proofs.Filters.{filter-has, filter-passes, filter-among}
 use Rattle.basics.proofs.Tallies.{tally-same, tally-ends, tally-le}
 use Rattle.order.specs.Closure.{once}
 use Rattle.order.proofs.Extensions.{chain-steps}
 use Rattle.plan_format.specs.Plan.{Plan, count, op}
-use Rattle.plan_order.specs.Precedence.{same-queue, direct, Before, before, at-or-before}
+use Rattle.plan_order.specs.Precedence.{same-queue, direct, before, at-or-before}
 use Rattle.plan_order.specs.Promise.{most-of, Row-epoch, Row-step}
 use Rattle.plan_order.specs.Rows.{epoch, row}
-use Rattle.plan_order.specs.Runs.{enabled, ready, is-run}
+use Rattle.plan_order.specs.Runs.{enabled, is-run}
 use Rattle.plan_order.proofs.Demand2.{row-epoch, row-step}
 use Rattle.plan_order.proofs.Demand3.{rules-good}
 use Rattle.plan_order.proofs.Precedence.{chain-before}
@@ -192,10 +192,12 @@ module _ (p : Plan) (n : ℕ) (queue source next unit : List ℕ) (shown : Shown
   last-covers x (unused h) same i l e = absurd (h i (goes .earlier i l e) e)
   last-covers x (latest _ m z h) same i l e =
       let u = run-inside p n queue source shown r head prev ran places x m in
-      let le = h i (goes .earlier i l e) e in
-      (x, ks-has x u (subst (λ (y : ℕ). member y four ≡ true) (sym same) (unfold four in (member-here (getD prev q 0) _))),
-      by-cases (eqb i x) (λ t. or-left (eqb i x) (before p i x) t)
-      (λ f. or-right (eqb i x) (before p i x) (chain-before p i x (once i x (direct-by p i x (omega arith) u (by-queue (omega (arith, eqb-false i x f)) (e ∙ sym z)))))))
+      let le = h i (goes .earlier i l e) e in (
+        x,
+        ks-has x u (subst (λ (y : ℕ). member y four ≡ true) (sym same) (unfold four in (member-here (getD prev q 0) _))),
+        by-cases (eqb i x) (λ t. or-left (eqb i x) (before p i x) t)
+            (λ f. or-right (eqb i x) (before p i x) (chain-before p i x (once i x (direct-by p i x (omega arith) u (by-queue (omega (arith, eqb-false i x f)) (e ∙ sym z)))))),
+      )
 
   covers : (i : ℕ) → direct p i j ≡ true → (k : ℕ) × (member k ks ≡ true) × (at-or-before p i k ≡ true)
   covers i d = of-why (direct-why p i j d)
@@ -240,8 +242,13 @@ module _ (p : Plan) (n : ℕ) (queue source next unit : List ℕ) (shown : Shown
   most-near : (x : ℕ) → Last p r q x → x ≡ getD prev q 0 → epoch p j ≤ 1 + most-of p q ks
   unfolding Row-epoch
   most-near x (unused h) same =
-      omega (arith, epoch-first p j, tally-ends 0 j (λ k. same-queue p k j) (λ k a b. unfold same-queue in
-      (ne-eqb (op p k .queue) (op p j .queue) (λ z. h k (goes .earlier k b (z ∙ goes .on-queue)) (z ∙ goes .on-queue)))), tally-none (λ k. same-queue p k j))
+      omega (
+        arith,
+        epoch-first p j,
+        tally-ends 0 j (λ k. same-queue p k j) (λ k a b. unfold same-queue in
+            (ne-eqb (op p k .queue) (op p j .queue) (λ z. h k (goes .earlier k b (z ∙ goes .on-queue)) (z ∙ goes .on-queue)))),
+        tally-none (λ k. same-queue p k j),
+      )
   most-near x (latest _ m z h) same =
       let u = run-inside p n queue source shown r head prev ran places x m in
       let own = rw z at (row-epoch p x x u (rw z inside) .0 (inl refl)) in

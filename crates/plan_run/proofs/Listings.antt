@@ -1,12 +1,12 @@
 -- The list of the pass: the run so far, the numbers ready, and the steps that are left. Assumes nothing.
-use mathlib.Core.Path.{_≡_, refl, sym, ap, _∙_, subst}
+use mathlib.Core.Path.{_≡_, refl, sym, ap, _∙_}
 use mathlib.Core.List.{List, [], _∷_, _++_}
 use mathlib.Core.Option.{Option, none, some}
 use Prim.Native.Nat.{ℕ, zero, suc, _+_, _-_, _*_, _%_, _≤_, _<_}
 use native.Mathlib.Nat.{mod-eq-of-lt}
 use native.Mathlib.Omega.{arith}
 use lib.Dec.{eqb}
-use lib.ListN.{length, getD, set, take, drop, length-append, length-set, List·getD-append}
+use lib.ListN.{length, getD, set, drop, length-append, length-set, List·getD-append}
 use lib.Seq.{getD-set-same, getD-set-other, getD-at, take-at, take-append-le, drop-set-lt}
 use borrow.Author.Tests.{eqb-true, eqb-false}
 use Rattle.basics.proofs.Tests.{by-cases}
@@ -17,7 +17,7 @@ use Rattle.plan_run.specs.Run.{Listed}
 
 -- ---- the steps that are left of a greedy run
 module _ (next : List ℕ → Option ℕ) where
-  pub greedy-step : (k : ℕ) (r : List ℕ) (j : ℕ) → next r ≡ some j → greedy next (suc k) r ≡ greedy next k (r ++ (j ∷ []))
+  greedy-step : (k : ℕ) (r : List ℕ) (j : ℕ) → next r ≡ some j → greedy next (suc k) r ≡ greedy next k (r ++ (j ∷ []))
   unfolding greedy with-next
   greedy-step k r j e = rw e
 

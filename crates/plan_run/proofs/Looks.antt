@@ -1,6 +1,6 @@
 -- What holds an operation, and what a look at some queues leaves: none, one, and one more. Assumes nothing.
-use mathlib.Core.Path.{_≡_, refl, sym, ap, ap₂, _∙_, subst}
-use mathlib.Core.Bool.{Bool, true, false, _&&_, _||_, not, and-false, or-false}
+use mathlib.Core.Path.{_≡_, refl, sym, ap, _∙_, subst}
+use mathlib.Core.Bool.{Bool, true, false, _&&_, _||_, and-false, or-false}
 use mathlib.Core.List.{List}
 use Prim.Native.Nat.{ℕ, _+_, _-_, _*_, _%_, _^_, _≤_, _<_}
 use native.Mathlib.Nat.{mod-eq-of-lt}
@@ -75,7 +75,7 @@ join-bits false false s g = refl
 
 module _ (head source ran : List ℕ) where
   -- ---- nothing looked at
-  pub looked-none : (ready : ℕ) (waiter : List ℕ) → Looked 0 ready head source ran waiter ready waiter
+  looked-none : (ready : ℕ) (waiter : List ℕ) → Looked 0 ready head source ran waiter ready waiter
   looked-none ready waiter = record {
     readies = λ q l. sym (ap (λ (b : Bool). has ready q || (b && can-go head source ran q)) (has-none q) ∙ or-false (has ready q));
     kept = λ b q l h. h;
@@ -84,7 +84,7 @@ module _ (head source ran : List ℕ) where
   }
 
   -- ---- one after another
-  pub looked-join :
+  looked-join :
       (first rest mask ready : ℕ) (waiter : List ℕ) (r : ℕ) (w : List ℕ) (ready-now : ℕ) (waiter-now : List ℕ) →
       ((q : ℕ) → q < 16 → has mask q ≡ (has first q || has rest q)) →
       Looked first ready head source ran waiter r w → Looked rest r head source ran w ready-now waiter-now →

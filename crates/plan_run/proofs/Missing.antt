@@ -1,21 +1,20 @@
 -- The lowest operation that did not run, by the rows: zero at its own queue. Assumes nothing.
-use mathlib.Core.Path.{_≡_, refl, sym, ap, _∙_, subst}
+use mathlib.Core.Path.{_≡_, refl, sym, ap, _∙_}
 use mathlib.Core.Bool.{true, false, not}
 use mathlib.Core.Logic.{inl}
 use mathlib.Core.List.{List}
-use mathlib.Core.Option.{Option, none, some}
-use Prim.Native.Nat.{ℕ, _+_, _*_, _%_, _≤_, _<_}
+use mathlib.Core.Option.{some}
+use Prim.Native.Nat.{ℕ, _+_, _*_, _%_, _<_}
 use native.Mathlib.Nat.{mod-eq-of-lt}
 use native.Mathlib.Omega.{arith}
 use lib.ListN.{getD}
 use borrow.Author.Tests.{not-true}
 use Rattle.basics.specs.Lists.{member}
-use Rattle.basics.proofs.Tests.{by-cases, by-option, is-true, is-false, not-of-false}
+use Rattle.basics.proofs.Tests.{by-option, is-true, is-false, not-of-false}
 use Rattle.basics.proofs.Searches.{lowest-some, lowest-is}
 use Rattle.plan_format.specs.Plan.{Plan, count, op}
 use Rattle.plan_format.specs.Sound.{Sound}
 use Rattle.plan_order.specs.Promise.{Row-epoch}
-use Rattle.plan_order.specs.Rows.{epoch, row}
 use Rattle.plan_order.specs.Runs.{standard, missing}
 use Rattle.plan_order.proofs.Demand2.{row-epoch}
 use Rattle.plan_columns.specs.Columns.{Queue-column, Row-columns}

@@ -1,9 +1,9 @@
 -- The ready word after a run: its bits are the ready queues, its lowest bit the queue that goes next, its ones the number ready. Assumes nothing.
-use mathlib.Core.Path.{_≡_, refl, sym, ap, _∙_, subst}
+use mathlib.Core.Path.{_≡_, sym, ap, _∙_, subst}
 use mathlib.Core.Bool.{Bool, true, false, _&&_, cond}
-use mathlib.Core.List.{List, []}
+use mathlib.Core.List.{List}
 use mathlib.Core.Option.{Option, none, some}
-use Prim.Native.Nat.{ℕ, _+_, _*_, _≤_, _<_, zero-le}
+use Prim.Native.Nat.{ℕ, _+_, _*_, _<_, zero-le}
 use native.Mathlib.Omega.{arith}
 use lib.Count.{ones}
 use lib.Dec.{ltb, eqb}
@@ -15,7 +15,6 @@ use Rattle.basics.proofs.Tallies.{tally-same, tally-further, tally-ends}
 use Rattle.basics.proofs.Searches.{first-some, first-is, lowest-some, lowest-is, some-is, none-is}
 use Rattle.order.proofs.Runs.{can-below, can-fresh, can-enabled, can-by, run-below}
 use Rattle.plan_format.specs.Plan.{Plan, count, op, queues}
-use Rattle.plan_order.specs.Precedence.{direct}
 use Rattle.plan_order.specs.Runs.{enabled, ready, is-run, ready-on, next, number-ready}
 use Rattle.plan_order.proofs.Demand3.{rules-good}
 use Rattle.plan_order.proofs.Readiness.{Why, by-queue, by-wait, direct-why, direct-by, direct-below, enabled-gives, predecessors-run, predecessors-suffice}
@@ -94,7 +93,7 @@ module _ (p : Plan) (n : ℕ) (queue source : List ℕ) (shown : Shown p n queue
   pub goes : (q : ℕ) → q < 16 → can-go head source ran q ≡ true → Goes q (getD head q 0)
   goes q l t = let g = go-gives head source ran q t in head-goes q (getD head q 0) (places .heads q l) (g .0) (g .1)
 
-  pub goes-on : (q : ℕ) → q < 16 → can-go head source ran q ≡ true → ready-on p r q ≡ some (getD head q 0)
+  goes-on : (q : ℕ) → q < 16 → can-go head source ran q ≡ true → ready-on p r q ≡ some (getD head q 0)
   unfolding ready-on
   goes-on q l t =
       let g = goes q l t in
@@ -117,7 +116,7 @@ module _ (p : Plan) (n : ℕ) (queue source : List ℕ) (shown : Shown p n queue
       held (omega (arith, shown .sound .few-operations)) (enabled-free x l (subst (λ (y : ℕ). enabled p r y ≡ true) ix (w .2))))
       (λ s. clash (member x r) (enabled-gives p r i (w .2) .earlier x (omega (arith, ltb-false i x b, eqb-false i x s)) (z ∙ sym e)) f))
 
-  pub stays-on : (q : ℕ) → q < 16 → can-go head source ran q ≡ false → _≡_ {A = Option ℕ} (ready-on p r q) none
+  stays-on : (q : ℕ) → q < 16 → can-go head source ran q ≡ false → _≡_ {A = Option ℕ} (ready-on p r q) none
   unfolding ready-on
   stays-on q l f =
       by-option (ready-on p r q) (λ e. e)

@@ -1,6 +1,6 @@
 -- The source column and what is directly before an operation by a wait; what holds an operation, by its three sources. Assumes nothing.
 use mathlib.Core.Path.{_≡_, refl, sym, ap, _∙_, subst}
-use mathlib.Core.Bool.{true, false, false≢true}
+use mathlib.Core.Bool.{true, false≢true}
 use mathlib.Core.Logic.{_⊎_, inl, inr}
 use mathlib.Core.List.{List, List·Memᴰ}
 use Prim.Native.Nat.{ℕ, zero, suc, _+_, _*_, _≤_, _<_}
@@ -13,7 +13,7 @@ use Rattle.basics.proofs.Tests.{by-cases, either}
 use Rattle.basics.proofs.Places.{place-member, member-place}
 use Rattle.plan_format.specs.Plan.{Point, Plan, count, op}
 use Rattle.plan_order.specs.Precedence.{Resolution, free, on, never, resolve, rests-on}
-use Rattle.plan_order.proofs.Resolution.{Resolved, at-zero, at-signal, at-none, resolve-is, rests-gives}
+use Rattle.plan_order.proofs.Resolution.{Resolved, at-signal, resolve-is}
 use Rattle.plan_columns.specs.Columns.{no-point, wait-at, source-of, Source-column}
 use Rattle.plan_run.specs.Queues.{held-by, blocker-of}
 use Rattle.plan_run.specs.Run.{Shown}

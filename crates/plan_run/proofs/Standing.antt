@@ -1,9 +1,9 @@
 -- Where the run stands on each queue after one operation more. Assumes nothing.
-use mathlib.Core.Path.{_≡_, refl, sym, ap, _∙_, subst}
+use mathlib.Core.Path.{_≡_, sym, ap, _∙_, subst}
 use mathlib.Core.Bool.{Bool, true, false, cond}
 use mathlib.Core.List.{List, [], _∷_, _++_}
-use Prim.Native.Nat.{ℕ, suc, _+_, _%_, _≤_, _<_}
-use native.Mathlib.Nat.{le-refl, mod-eq-of-lt}
+use Prim.Native.Nat.{ℕ, suc, _%_, _≤_, _<_}
+use native.Mathlib.Nat.{mod-eq-of-lt}
 use native.Mathlib.Omega.{arith}
 use lib.Dec.{ltb, eqb}
 use lib.ListN.{length, getD, set, length-set}
@@ -28,10 +28,10 @@ module _ (p : Plan) (n : ℕ) (queue source next unit : List ℕ) (shown : Shown
     (goes : Goes p n queue source shown r head prev ran places q j) (head′ prev′ ran′ : List ℕ)
     (head-is : head′ ≡ set head q (getD next j 0 % 65536)) (prev-is : prev′ ≡ set prev q j) (ran-is : ran′ ≡ set ran j 1) where
   -- ---- members of the longer run
-  pub grows : (i : ℕ) → member i r ≡ true → member i (r ++ (j ∷ [])) ≡ true
+  grows : (i : ℕ) → member i r ≡ true → member i (r ++ (j ∷ [])) ≡ true
   grows i m = member-left i r (j ∷ []) m
 
-  pub still-out : (i : ℕ) → member i r ≡ false → (i ≡ j → ⊥) → member i (r ++ (j ∷ [])) ≡ false
+  still-out : (i : ℕ) → member i r ≡ false → (i ≡ j → ⊥) → member i (r ++ (j ∷ [])) ≡ false
   still-out i f ne = is-false (member i (r ++ (j ∷ []))) (λ t. either (member-snoc i r j t) (λ u. clash (member i r) u f) (λ e. ne (sym e)))
 
   -- j is before whatever of its queue comes later

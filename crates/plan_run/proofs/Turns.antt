@@ -3,7 +3,7 @@ use mathlib.Core.Path.{_≡_, sym, ap, _∙_, subst}
 use mathlib.Core.Bool.{true}
 use mathlib.Core.List.{List, [], _∷_, _++_}
 use mathlib.Core.Option.{some}
-use Prim.Native.Nat.{ℕ, _+_, _-_, _*_, _%_, _^_, _≤_, _<_, min}
+use Prim.Native.Nat.{ℕ, _+_, _-_, _*_, _%_, _^_, _≤_, _<_}
 use native.Mathlib.Omega.{arith}
 use lib.Bits.{bitOr}
 use lib.Count.{ones, ones-le}
@@ -13,7 +13,7 @@ use Rattle.plan_order.specs.Runs.{standard, next as next-of}
 use Rattle.plan_run.specs.Words.{Lowest-bit}
 use Rattle.plan_run.specs.Queues.{can-go, Looked}
 use Rattle.plan_run.specs.Run.{Shown}
-use Rattle.plan_run.specs.State.{Head, waiting, finished, Tables, Stepped, Going}
+use Rattle.plan_run.specs.State.{Head, waiting, finished, Tables, slot-of, Stepped, Going}
 use Rattle.plan_run.proofs.Sources.{source-small}
 use Rattle.plan_run.proofs.Watches.{go-gives, watch-more}
 use Rattle.plan_run.proofs.Readies.{Goes, goes, lowest-next, ones-ready}
@@ -30,7 +30,7 @@ module _ (p : Plan) (n : ℕ) (queue source next unit first : List ℕ) (shown :
   pub turned :
       (i ready : ℕ) (head prev ran waiter rows list : List ℕ) → Going p n i source head prev ran waiter ready rows first list →
       0 < ready → ready < 65536 → i < n →
-      (q j : ℕ) → q < 16 → Lowest-bit ready q → j ≡ min (getD head q 0) 1024 →
+      (q j : ℕ) → q < 16 → Lowest-bit ready q → j ≡ slot-of (getD head q 0) →
       (list₁ list₂ : List ℕ) → list₁ ≡ set list (i + n) (ones ready % 4294967296) → list₂ ≡ set list₁ i (j % 4294967296) →
       (head′ prev′ ran′ rows′ : List ℕ) → Stepped j q source next unit head prev ran rows head′ prev′ ran′ rows′ →
       (seen bit : ℕ) → seen ≡ getD waiter j 0 → bit ≡ 2 ^ q →

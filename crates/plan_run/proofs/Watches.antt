@@ -1,6 +1,6 @@
 -- The ready queues and the notes after a step: whoever can go is ready, whoever is held is noted at what holds it. Assumes nothing.
-use mathlib.Core.Path.{_≡_, refl, sym, ap, _∙_, subst}
-use mathlib.Core.Bool.{Bool, true, false, _&&_, _||_, not, and-false, or-true, or-false}
+use mathlib.Core.Path.{_≡_, refl, sym, ap, _∙_}
+use mathlib.Core.Bool.{Bool, true, false, _&&_, _||_, not, and-false, or-true}
 use mathlib.Core.List.{List}
 use Prim.Native.Nat.{ℕ, _+_, _-_, _*_, _%_, _^_, _≤_, _<_}
 use native.Mathlib.Omega.{arith}
@@ -8,8 +8,8 @@ use lib.Bits.{bitOr}
 use lib.Dec.{ltb, eqb}
 use lib.ListN.{length, getD, set}
 use lib.Seq.{getD-set-same, getD-set-other}
-use borrow.Author.Tests.{ltb-true, lt-ltb, eqb-true, eqb-false, eq-eqb, ne-eqb}
-use Rattle.basics.proofs.Tests.{by-cases, clash, is-true, is-false, and-left, and-right, and-both, or-left, or-right}
+use borrow.Author.Tests.{ltb-true, lt-ltb, eqb-true, eqb-false, eq-eqb}
+use Rattle.basics.proofs.Tests.{by-cases, clash, is-false, and-left, and-right, and-both, or-left, or-right}
 use Rattle.plan_run.specs.Words.{has}
 use Rattle.plan_run.specs.Queues.{blocker-of, can-go, Looked}
 use Rattle.plan_run.specs.State.{Noted, Watch}

@@ -2,6 +2,7 @@
 mod merge;
 mod queues;
 mod steps;
+
 ghost use mathlib.Core.Path.{_≡_};
 ghost use Prim.Native.Nat.{_*_, _≤_};
 ghost use lib.ListN.{length};
@@ -13,7 +14,13 @@ ghost use Rattle.plan_run.specs.Run.{Shown, Cleared, Rows-of, Ran, place
 
 // The standard run into `list`, with the number ready before each step from place n on, and the row of each operation that ran into `rows`,
 // which are all zero before; how many operations ran.
-pub fn run(n: u16, queue: &[u16; 1024], source: &[u16; 3072], rows: &mut [u16; 16416], list: &mut [u32]) -> usize
+pub fn run(
+    n: u16,
+    queue: &[u16; 1024],
+    source: &[u16; 3072],
+    rows: &mut [u16; 16416],
+    list: &mut [u32],
+) -> usize
     ensures { λ r. ⌜ ((p : Plan) → Shown p n (now (queue .entry)) (now (source .entry)) → Cleared (now (rows .entry)) → 2 * n ≤ length (now (list .entry)) →
         Ran p n r (now (rows .exit)) (now (list .entry)) (now (list .exit))) ⌝ }
 {
@@ -36,7 +43,20 @@ pub fn run(n: u16, queue: &[u16; 1024], source: &[u16; 3072], rows: &mut [u16; 1
         if ready == 0 {
             return i;
         }
-        ready = steps::turn(i, many, ready, source, &next, &unit, &mut head, &mut prev, &mut ran, &mut waiter, rows, list);
+        ready = steps::turn(
+            i,
+            many,
+            ready,
+            source,
+            &next,
+            &unit,
+            &mut head,
+            &mut prev,
+            &mut ran,
+            &mut waiter,
+            rows,
+            list,
+        );
         i += 1;
     }
     i

@@ -24,7 +24,15 @@ fn sum(a: u16, b: u16) -> u16
 }
 
 // The largest of four rows in each column, and what `unit` has for it, shifted to column q.
-pub fn merge(rows: &[u16; 16416], unit: &[u16; 32], q: usize, a: usize, b: usize, c: usize, d: usize) -> [u16; 16]
+pub fn merge(
+    rows: &[u16; 16416],
+    unit: &[u16; 32],
+    q: usize,
+    a: usize,
+    b: usize,
+    c: usize,
+    d: usize,
+) -> [u16; 16]
     requires { ⌜ (q < 16) × (a ≤ 1024) × (b ≤ 1024) × (c ≤ 1024) × (d ≤ 1024) ⌝ }
     ensures { λ r. ⌜ ((k : ℕ) → k < 16 → getD r k 0 ≡ (largest (now (rows .entry)) a b c d k + getD (now (unit .entry)) (16 - q + k) 0) % 65536) ⌝ }
 {

@@ -49,7 +49,14 @@ pub fn lowest(word: u32) -> usize
 }
 
 // Queue q looked at: added to `ready` if it can go, else noted at what holds it.
-fn look(q: usize, ready: u32, head: &[u16; 16], source: &[u16; 3072], ran: &[u16; 1025], waiter: &mut [u16; 1025]) -> u32
+fn look(
+    q: usize,
+    ready: u32,
+    head: &[u16; 16],
+    source: &[u16; 3072],
+    ran: &[u16; 1025],
+    waiter: &mut [u16; 1025],
+) -> u32
     requires { ⌜ (q < 16) × (ready < 65536) ⌝ }
     ensures { λ r. ⌜ (r < 65536) × Looked (2 ^ q) ready (now (head .entry)) (now (source .entry)) (now (ran .entry)) (now (waiter .entry)) r (now (waiter .exit)) ⌝ }
 {
@@ -67,7 +74,14 @@ fn look(q: usize, ready: u32, head: &[u16; 16], source: &[u16; 3072], ran: &[u16
 }
 
 // The queues of `mask` looked at.
-pub fn wake(mask: u32, ready: u32, head: &[u16; 16], source: &[u16; 3072], ran: &[u16; 1025], waiter: &mut [u16; 1025]) -> u32
+pub fn wake(
+    mask: u32,
+    ready: u32,
+    head: &[u16; 16],
+    source: &[u16; 3072],
+    ran: &[u16; 1025],
+    waiter: &mut [u16; 1025],
+) -> u32
     requires { ⌜ (mask < 65536) × (ready < 65536) ⌝ }
     ensures { λ r. ⌜ (r < 65536) × Looked mask ready (now (head .entry)) (now (source .entry)) (now (ran .entry)) (now (waiter .entry)) r (now (waiter .exit)) ⌝ }
 {

@@ -3,27 +3,34 @@ use crate::merge;
 use crate::queues;
 ghost use mathlib.Core.Path.{_≡_};
 ghost use mathlib.Core.List.{List};
-ghost use Prim.Native.Nat.{ℕ, _+_, _*_, _<_, _≤_, min};
+ghost use Prim.Native.Nat.{ℕ, _+_, _*_, _<_, _≤_};
 ghost use lib.ListN.{length, getD};
 ghost use Rattle.plan_format.specs.Plan.{Plan};
 ghost use Rattle.plan_run.specs.Merge.{Merged};
 ghost use Rattle.plan_run.specs.Run.{Shown};
-ghost use Rattle.plan_run.specs.State.{Tables, Stepped, Going};
+ghost use Rattle.plan_run.specs.State.{Tables, slot-of, Stepped, Going};
 
 // An operation number; past 1,024 it reads as 1,024, whose row is zero.
 fn slot(a: &[u16], i: usize) -> usize
-    ensures { λ r. ⌜ r ≡ min (getD (now (a .entry)) i 0) 1024 ⌝ }
+    ensures { λ r. ⌜ r ≡ slot-of (getD (now (a .entry)) i 0) ⌝ }
 {
     let x = cells::get16(a, i);
     if x < 1024 { x } else { 1024 }
 }
 
 // The row of operation j of queue q, from those of the queue's last operation and of its sources.
-fn fill(j: usize, q: usize, source: &[u16; 3072], prev: &[u16; 16], unit: &[u16; 32], rows: &mut [u16; 16416])
+fn fill(
+    j: usize,
+    q: usize,
+    source: &[u16; 3072],
+    prev: &[u16; 16],
+    unit: &[u16; 32],
+    rows: &mut [u16; 16416],
+)
     requires { ⌜ (j ≤ 1024) × (q < 16) ⌝ }
     ensures { λ _. ⌜ (length (now (rows .entry)) ≡ 16416 →
-        Merged (now (rows .entry)) (now (unit .entry)) j q (min (getD (now (prev .entry)) q 0) 1024) (min (getD (now (source .entry)) (3 * j) 0) 1024)
-        (min (getD (now (source .entry)) (3 * j + 1) 0) 1024) (min (getD (now (source .entry)) (3 * j + 2) 0) 1024) (now (rows .exit))) ⌝ }
+        Merged (now (rows .entry)) (now (unit .entry)) j q (slot-of (getD (now (prev .entry)) q 0)) (slot-of (getD (now (source .entry)) (3 * j) 0))
+        (slot-of (getD (now (source .entry)) (3 * j + 1) 0)) (slot-of (getD (now (source .entry)) (3 * j + 2) 0)) (now (rows .exit))) ⌝ }
 {
     let last = slot(prev, q);
     let a = slot(source, 3 * j);

@@ -1,11 +1,8 @@
+-- `plan_run::run` leaves the standard run and its rows. The invariant: after i steps the pass stands at a run of i operations, for every
+-- plan that the columns show. Assumes nothing.
 use borrow.Author.Needs.{needs}
 use Rattle.plan_run.proofs.run.Statement.{statement}
 use Rattle.plan_run.proofs.run.Tie as tie
-use Rattle.plan_run.proofs.run.Reads as reads
-use Rattle.plan_run.proofs.run.Lts as lts
-use Rattle.plan_run.proofs.queues.chain.Reads as chain-reads
-use Rattle.plan_run.proofs.queues.wake.Reads as wake-reads
-use Rattle.plan_run.proofs.steps.turn.Reads as turn-reads
 use mathlib.Core.Path.{_≡_, refl, _∙_}
 use Prim.Native.Nat.{_-_, _*_, _≤_, _<_}
 use native.Mathlib.Omega.{arith}
@@ -23,27 +20,21 @@ Inv-loop n queue source rows₀ list₀ many head₀ prev₀ next ran₀ waiter�
 abbrev μ-loop : tie.MeasureT-loop
 μ-loop n queue source rows₀ list₀ many head₀ prev₀ next ran₀ waiter₀ unit ready₀ i₀ rows list head prev ran waiter ready i = n - i
 
--- src/lib.rt:22:9
 returns : tie.Need-returns Inv-loop μ-loop
 returns c = λ p shown cleared room. absurd (omega (arith, shown .sound .few-operations, shown .many))
 
--- src/lib.rt:30:5
 array-write-ran : tie.Need-array-write-ran Inv-loop μ-loop
 array-write-ran c = search needs
 
--- src/lib.rt:31:5
 array-write-unit : tie.Need-array-write-unit Inv-loop μ-loop
 array-write-unit c = search needs
 
--- src/lib.rt:32:5
 chain-requires : tie.Need-chain-requires Inv-loop μ-loop
 chain-requires c κs = (omega arith, refl, refl)
 
--- src/lib.rt:33:9
 wake-requires : tie.Need-wake-requires Inv-loop μ-loop
 wake-requires c κs = search needs
 
--- src/lib.rt:35:5
 loop-holds : tie.Need-loop-holds Inv-loop μ-loop
 loop-holds c = (
   omega arith,
@@ -53,16 +44,13 @@ loop-holds c = (
       started p _ _ _ _ _ _ _ shown cleared (c .before .before .before .before .chain .ensures) _ _ _ refl refl refl _ _ (c .wake .ensures .1),
 )
 
--- src/lib.rt:37:13
 same-length : tie.Need-same-length Inv-loop μ-loop
 same-length c = search needs
 
--- src/lib.rt:37:13
 returns-2 : tie.Need-returns-2 Inv-loop μ-loop
 returns-2 c = λ p shown cleared room.
     ended-early p _ _ _ shown _ _ _ _ _ _ _ _ _ room (c .before .before .loop .inv .3 p shown cleared room) (c .if2 .taken)
 
--- src/lib.rt:39:9
 turn-requires : tie.Need-turn-requires Inv-loop μ-loop
 turn-requires c κs = (
   omega (arith, c .before .before .before .before .before .before .before .before .if2 .left),
@@ -71,15 +59,12 @@ turn-requires c κs = (
   c .before .before .before .before .before .before .before .before .before .before .before .before .before .before .before .before .before .before .if1 .left,
 )
 
--- src/lib.rt:40:9
 add-i : tie.Need-add-i Inv-loop μ-loop
 add-i c = search needs
 
--- src/lib.rt:35:5
 loop-less : tie.Need-loop-less Inv-loop μ-loop
 loop-less c = search needs
 
--- src/lib.rt:35:5
 loop-again : tie.Need-loop-again Inv-loop μ-loop
 loop-again c = (
   omega (arith, c .before .before .before .before .before .before .before .before .before .before .before .before .loop-test .taken),
@@ -89,11 +74,9 @@ loop-again c = (
       c .before .before .turn .ensures .1 p _ _ shown (tables-are _ _ _ _ _ (c .before .before .before .before .before .before .before .before .before .before .before .before .before .before .before .before .before .before .chain .ensures) refl) room (c .before .before .before .before .before .before .before .before .before .before .before .before .before .loop .inv .3 p shown cleared room),
 )
 
--- src/lib.rt:16:1
 same-length-2 : tie.Need-same-length-2 Inv-loop μ-loop
 same-length-2 c = search needs
 
--- src/lib.rt:16:1
 returns-3 : tie.Need-returns-3 Inv-loop μ-loop
 returns-3 c = λ p shown cleared room.
     ended-full p _ _ _ shown _ _ _ _ _ _ _ _ _ room (c .before .loop .inv .3 p shown cleared room) (omega (arith, c .before .loop .inv .0))

@@ -1,10 +1,7 @@
+-- `merge::merge` gives the largest cell of each column and the unit's: the invariant says so of the columns passed. Assumes nothing.
 use borrow.Author.Needs.{needs}
 use Rattle.plan_run.proofs.merge.merge.Statement.{statement}
 use Rattle.plan_run.proofs.merge.merge.Tie as tie
-use Rattle.plan_run.proofs.merge.merge.Reads as reads
-use Rattle.plan_run.proofs.merge.merge.Lts as lts
-use Rattle.plan_run.proofs.merge.larger.Reads as larger-reads
-use Rattle.plan_run.proofs.merge.sum.Reads as sum-reads
 use mathlib.Core.Path.{_≡_, refl}
 use Prim.Native.Nat.{ℕ, _+_, _-_, _%_, _≤_, _<_}
 use native.Mathlib.Omega.{arith}
@@ -20,123 +17,93 @@ Inv-loop rows unit q a b c d row₀ from k₀ row k =
 abbrev μ-loop : tie.MeasureT-loop
 μ-loop rows unit q a b c d row₀ from k₀ row k = 16 - k
 
--- src/merge.rt:32:16
 sub-from : tie.Need-sub-from Inv-loop μ-loop
 sub-from c = search needs
 
--- src/merge.rt:33:5
 loop-holds : tie.Need-loop-holds Inv-loop μ-loop
 loop-holds c = (omega arith, refl, below-none _)
 
--- src/merge.rt:34:30
 mul-larger : tie.Need-mul-larger Inv-loop μ-loop
 mul-larger c = search needs
 
--- src/merge.rt:34:30
 add-larger : tie.Need-add-larger Inv-loop μ-loop
 add-larger c = search needs
 
--- src/merge.rt:34:25
 mul-larger-2 : tie.Need-mul-larger-2 Inv-loop μ-loop
 mul-larger-2 c = search needs
 
--- src/merge.rt:34:25
 element-copy-out-larger : tie.Need-element-copy-out-larger Inv-loop μ-loop
 element-copy-out-larger c = search needs
 
--- src/merge.rt:34:48
 mul-larger-3 : tie.Need-mul-larger-3 Inv-loop μ-loop
 mul-larger-3 c = search needs
 
--- src/merge.rt:34:48
 add-larger-2 : tie.Need-add-larger-2 Inv-loop μ-loop
 add-larger-2 c = search needs
 
--- src/merge.rt:34:43
 mul-larger-4 : tie.Need-mul-larger-4 Inv-loop μ-loop
 mul-larger-4 c = search needs
 
--- src/merge.rt:34:43
 element-copy-out-larger-2 : tie.Need-element-copy-out-larger-2 Inv-loop μ-loop
 element-copy-out-larger-2 c = search needs
 
--- src/merge.rt:34:13
 larger-requires : tie.Need-larger-requires Inv-loop μ-loop
 larger-requires c κs = search needs
 
--- src/merge.rt:35:30
 mul-larger-5 : tie.Need-mul-larger-5 Inv-loop μ-loop
 mul-larger-5 c = search needs
 
--- src/merge.rt:35:30
 add-larger-3 : tie.Need-add-larger-3 Inv-loop μ-loop
 add-larger-3 c = search needs
 
--- src/merge.rt:35:25
 mul-larger-6 : tie.Need-mul-larger-6 Inv-loop μ-loop
 mul-larger-6 c = search needs
 
--- src/merge.rt:35:25
 element-copy-out-larger-3 : tie.Need-element-copy-out-larger-3 Inv-loop μ-loop
 element-copy-out-larger-3 c = search needs
 
--- src/merge.rt:35:48
 mul-larger-7 : tie.Need-mul-larger-7 Inv-loop μ-loop
 mul-larger-7 c = search needs
 
--- src/merge.rt:35:48
 add-larger-4 : tie.Need-add-larger-4 Inv-loop μ-loop
 add-larger-4 c = search needs
 
--- src/merge.rt:35:43
 mul-larger-8 : tie.Need-mul-larger-8 Inv-loop μ-loop
 mul-larger-8 c = search needs
 
--- src/merge.rt:35:43
 element-copy-out-larger-4 : tie.Need-element-copy-out-larger-4 Inv-loop μ-loop
 element-copy-out-larger-4 c = search needs
 
--- src/merge.rt:35:13
 larger-requires-2 : tie.Need-larger-requires-2 Inv-loop μ-loop
 larger-requires-2 c κs = search needs
 
--- src/merge.rt:36:22
 larger-requires-3 : tie.Need-larger-requires-3 Inv-loop μ-loop
 larger-requires-3 c κs = search needs
 
--- src/merge.rt:36:43
 add-sum : tie.Need-add-sum Inv-loop μ-loop
 add-sum c = search needs
 
--- src/merge.rt:36:38
 mul-sum : tie.Need-mul-sum Inv-loop μ-loop
 mul-sum c = search needs
 
--- src/merge.rt:36:38
 element-copy-out-sum : tie.Need-element-copy-out-sum Inv-loop μ-loop
 element-copy-out-sum c = search needs
 
--- src/merge.rt:36:18
 sum-requires : tie.Need-sum-requires Inv-loop μ-loop
 sum-requires c κs = search needs
 
--- src/merge.rt:36:9
 mul-row : tie.Need-mul-row Inv-loop μ-loop
 mul-row c = search needs
 
--- src/merge.rt:36:9
 array-write-row : tie.Need-array-write-row Inv-loop μ-loop
 array-write-row c = search needs
 
--- src/merge.rt:33:9
 add-k : tie.Need-add-k Inv-loop μ-loop
 add-k c = search needs
 
--- src/merge.rt:33:5
 loop-less : tie.Need-loop-less Inv-loop μ-loop
 loop-less c = search needs
 
--- src/merge.rt:33:5
 loop-again : tie.Need-loop-again Inv-loop μ-loop
 loop-again c =
     let at = c .before .before .before .before .before .before .before .before .before .before .loop in
@@ -145,10 +112,9 @@ loop-again c =
       omega arith,
       simp length-set (at .inv .1),
       merged-more f (at .row) (at .k) (c .sum .result) _ (at .inv .1) (omega arith) (at .inv .2)
-      (merged-is _ _ _ _ _ _ _ _ _ _ _ (c .before .before .before .before .before .before .larger .ensures) (c .before .before .before .larger2 .ensures) (c .before .before .larger3 .ensures) (c .sum .ensures)) refl,
+          (merged-is _ _ _ _ _ _ _ _ _ _ _ (c .before .before .before .before .before .before .larger .ensures) (c .before .before .before .larger2 .ensures) (c .before .before .larger3 .ensures) (c .sum .ensures)) refl,
     )
 
--- src/merge.rt:27:1
 returns : tie.Need-returns Inv-loop μ-loop
 returns c = let e : c .before .loop .k ≡ 16 = omega arith in rw e at (c .before .loop .inv .2)
 

@@ -1,70 +1,53 @@
+-- `queues::blocker` gives the first source that has not run. Assumes nothing.
 use borrow.Author.Needs.{needs}
 use Rattle.plan_run.proofs.queues.blocker.Statement.{statement}
 use Rattle.plan_run.proofs.queues.blocker.Tie as tie
-use Rattle.plan_run.proofs.queues.blocker.Reads as reads
-use Rattle.plan_run.proofs.queues.blocker.Lts as lts
-use Rattle.cells.proofs.get16.Reads as get16-reads
 use Rattle.plan_run.proofs.Looks.{held-first, held-second, held-third, held-none}
 
--- src/queues.rt:28:34
 mul-get16 : tie.Need-mul-get16
 mul-get16 c = search needs
 
--- src/queues.rt:28:9
 get16-requires : tie.Need-get16-requires
 get16-requires c κs = search needs
 
--- src/queues.rt:29:8
 get16-requires-2 : tie.Need-get16-requires-2
 get16-requires-2 c κs = search needs
 
--- src/queues.rt:30:9
 returns : tie.Need-returns
 returns c = held-first _ _ _ _ _ (c .before .before .before .get16 .ensures) (c .before .get162 .ensures) (c .if1 .taken)
 
--- src/queues.rt:32:34
 mul-get16-2 : tie.Need-mul-get16-2
 mul-get16-2 c = search needs
 
--- src/queues.rt:32:34
 add-get16 : tie.Need-add-get16
 add-get16 c = search needs
 
--- src/queues.rt:32:9
 get16-requires-3 : tie.Need-get16-requires-3
 get16-requires-3 c κs = search needs
 
--- src/queues.rt:33:8
 get16-requires-4 : tie.Need-get16-requires-4
 get16-requires-4 c κs = search needs
 
--- src/queues.rt:34:9
 returns-2 : tie.Need-returns-2
 returns-2 c =
     held-second _ _ _ _ _ (c .before .before .before .before .before .before .before .before .get16 .ensures) (c .before .before .before .before .before .before .get162 .ensures) (c .before .before .before .before .before .if1 .left) _ _ (c .before .before .before .get163 .ensures) (c .before .get164 .ensures) (c .if2 .taken)
 
--- src/queues.rt:36:34
 mul-get16-3 : tie.Need-mul-get16-3
 mul-get16-3 c = search needs
 
--- src/queues.rt:36:34
 add-get16-2 : tie.Need-add-get16-2
 add-get16-2 c = search needs
 
--- src/queues.rt:36:9
 get16-requires-5 : tie.Need-get16-requires-5
 get16-requires-5 c κs = search needs
 
--- src/queues.rt:37:8
 get16-requires-6 : tie.Need-get16-requires-6
 get16-requires-6 c κs = search needs
 
--- src/queues.rt:38:9
 returns-3 : tie.Need-returns-3
 returns-3 c =
     held-third _ _ _ _ _ (c .before .before .before .before .before .before .before .before .before .before .before .before .before .get16 .ensures) (c .before .before .before .before .before .before .before .before .before .before .before .get162 .ensures) (c .before .before .before .before .before .before .before .before .before .before .if1 .left) _ _ (c .before .before .before .before .before .before .before .before .get163 .ensures) (c .before .before .before .before .before .before .get164 .ensures) (c .before .before .before .before .before .if2 .left) _ _ (c .before .before .before .get165 .ensures) (c .before .get166 .ensures) (c .if3 .taken)
 
--- src/queues.rt:24:1
 returns-4 : tie.Need-returns-4
 returns-4 c =
     held-none _ _ _ _ _ (c .before .before .before .before .before .before .before .before .before .before .before .before .before .get16 .ensures) (c .before .before .before .before .before .before .before .before .before .before .before .get162 .ensures) (c .before .before .before .before .before .before .before .before .before .before .if1 .left) _ _ (c .before .before .before .before .before .before .before .before .get163 .ensures) (c .before .before .before .before .before .before .get164 .ensures) (c .before .before .before .before .before .if2 .left) _ _ (c .before .before .before .get165 .ensures) (c .before .get166 .ensures) (c .if3 .left)

@@ -1,10 +1,7 @@
+-- `queues::chain` chains the operations from the last to the first: the invariant says so of those passed. Assumes nothing.
 use borrow.Author.Needs.{needs}
 use Rattle.plan_run.proofs.queues.chain.Statement.{statement}
 use Rattle.plan_run.proofs.queues.chain.Tie as tie
-use Rattle.plan_run.proofs.queues.chain.Reads as reads
-use Rattle.plan_run.proofs.queues.chain.Lts as lts
-use Rattle.cells.proofs.get16.Reads as get16-reads
-use Rattle.cells.proofs.put16.Reads as put16-reads
 use mathlib.Core.Path.{_≡_}
 use Prim.Native.Nat.{_-_, _≤_}
 use native.Mathlib.Omega.{arith}
@@ -17,44 +14,35 @@ Inv-loop n queue head₀ next₀ i₀ head next i = (i ≤ n) × Chained queue i
 abbrev μ-loop : tie.MeasureT-loop
 μ-loop n queue head₀ next₀ i₀ head next i = i
 
--- src/queues.rt:14:5
 loop-holds : tie.Need-loop-holds Inv-loop μ-loop
 loop-holds c = (omega arith, chained-none _ _ (c .pre .0) _ _ (c .pre .1) (c .pre .2))
 
--- src/queues.rt:15:9
 sub-i : tie.Need-sub-i Inv-loop μ-loop
 sub-i c = search needs
 
--- src/queues.rt:16:13
 get16-requires : tie.Need-get16-requires Inv-loop μ-loop
 get16-requires c κs = search needs
 
--- src/queues.rt:17:13
 get16-requires-2 : tie.Need-get16-requires-2 Inv-loop μ-loop
 get16-requires-2 c κs = search needs
 
--- src/queues.rt:18:9
 put16-requires : tie.Need-put16-requires Inv-loop μ-loop
 put16-requires c κs = search needs
 
--- src/queues.rt:19:9
 put16-requires-2 : tie.Need-put16-requires-2 Inv-loop μ-loop
 put16-requires-2 c κs = search needs
 
--- src/queues.rt:14:5
 loop-less : tie.Need-loop-less Inv-loop μ-loop
 loop-less c = search needs
 
--- src/queues.rt:14:5
 loop-again : tie.Need-loop-again Inv-loop μ-loop
 loop-again c =
     let i = c .before .before .before .before .before .before .before .before .before .before .loop .i in (
       omega arith,
       chained-more _ _ (c .before .before .before .before .before .before .before .before .before .before .before .pre .0) (i - 1) _ _ _ _ _ _ (omega arith) i (omega arith) (c .before .before .before .before .before .before .before .before .before .before .loop .inv .1)
-      (c .before .before .before .before .before .before .before .get16 .ensures) (c .before .before .before .before .get162 .ensures) (c .before .before .put16 .ensures) (c .put162 .ensures),
+          (c .before .before .before .before .before .before .before .get16 .ensures) (c .before .before .before .before .get162 .ensures) (c .before .before .put16 .ensures) (c .put162 .ensures),
     )
 
--- src/queues.rt:9:1
 returns : tie.Need-returns Inv-loop μ-loop
 returns c = let e : c .before .loop .i ≡ 0 = omega arith in rw e at (c .before .loop .inv .1)
 

@@ -1,17 +1,13 @@
-use borrow.Author.Needs.{needs}
+-- `queues::lowest` gives the lowest bit: the trailing zeros. Assumes nothing.
 use Rattle.plan_run.proofs.queues.lowest.Statement.{statement}
 use Rattle.plan_run.proofs.queues.lowest.Tie as tie
-use Rattle.plan_run.proofs.queues.lowest.Reads as reads
-use Rattle.plan_run.proofs.queues.lowest.Lts as lts
 use native.Mathlib.Omega.{arith}
 use lib.Count.{trailing-le}
 use Rattle.plan_run.proofs.Words.{trailing-lowest}
 
--- src/queues.rt:48:5
 cast-result : tie.Need-cast-result
 cast-result c = omega (arith, trailing-le 32 (c .args .word))
 
--- src/queues.rt:44:1
 returns : tie.Need-returns
 returns c = trailing-lowest 32 16 (c .args .word) (omega arith) (c .pre .0) (c .pre .1)
 

@@ -1,58 +1,42 @@
+-- `steps::fill` lays the merged row down. Assumes nothing.
 use borrow.Author.Needs.{needs}
 use Rattle.plan_run.proofs.steps.fill.Statement.{statement}
 use Rattle.plan_run.proofs.steps.fill.Tie as tie
-use Rattle.plan_run.proofs.steps.fill.Reads as reads
-use Rattle.plan_run.proofs.steps.fill.Lts as lts
-use Rattle.plan_run.proofs.merge.lay.Reads as lay-reads
-use Rattle.plan_run.proofs.merge.merge.Reads as merge-reads
-use Rattle.plan_run.proofs.steps.slot.Reads as slot-reads
 use Rattle.plan_run.proofs.Merges.{merged-laid}
 
--- src/steps.rt:28:9
 slot-requires : tie.Need-slot-requires
 slot-requires c κs = search needs
 
--- src/steps.rt:29:26
 mul-slot : tie.Need-mul-slot
 mul-slot c = search needs
 
--- src/steps.rt:29:9
 slot-requires-2 : tie.Need-slot-requires-2
 slot-requires-2 c κs = search needs
 
--- src/steps.rt:30:26
 mul-slot-2 : tie.Need-mul-slot-2
 mul-slot-2 c = search needs
 
--- src/steps.rt:30:26
 add-slot : tie.Need-add-slot
 add-slot c = search needs
 
--- src/steps.rt:30:9
 slot-requires-3 : tie.Need-slot-requires-3
 slot-requires-3 c κs = search needs
 
--- src/steps.rt:31:26
 mul-slot-3 : tie.Need-mul-slot-3
 mul-slot-3 c = search needs
 
--- src/steps.rt:31:26
 add-slot-2 : tie.Need-add-slot-2
 add-slot-2 c = search needs
 
--- src/steps.rt:31:9
 slot-requires-4 : tie.Need-slot-requires-4
 slot-requires-4 c κs = search needs
 
--- src/steps.rt:32:9
 merge-requires : tie.Need-merge-requires
 merge-requires c κs = search needs
 
--- src/steps.rt:33:5
 lay-requires : tie.Need-lay-requires
 lay-requires c κs = search needs
 
--- src/steps.rt:22:1
 returns : tie.Need-returns
 returns c = λ h.
     merged-laid _ _ _ _ _ _ _ _ _ _ _ _ _ _ (c .before .before .before .before .before .before .before .before .before .before .slot .ensures) (c .before .before .before .before .before .before .before .before .slot2 .ensures) (c .before .before .before .before .before .before .slot3 .ensures) (c .before .before .before .before .slot4 .ensures)

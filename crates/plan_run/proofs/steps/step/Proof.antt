@@ -1,38 +1,28 @@
+-- `steps::step` runs one operation. Assumes nothing.
 use borrow.Author.Needs.{needs}
 use Rattle.plan_run.proofs.steps.step.Statement.{statement}
 use Rattle.plan_run.proofs.steps.step.Tie as tie
-use Rattle.plan_run.proofs.steps.step.Reads as reads
-use Rattle.plan_run.proofs.steps.step.Lts as lts
-use Rattle.cells.proofs.get16.Reads as get16-reads
-use Rattle.cells.proofs.put16.Reads as put16-reads
-use Rattle.plan_run.proofs.steps.fill.Reads as fill-reads
 use mathlib.Core.Path.{ap, _∙_}
 use Prim.Native.Nat.{ℕ, _%_, _<_}
 use native.Mathlib.Nat.{mod-eq-of-lt}
 use native.Mathlib.Omega.{arith}
 use lib.ListN.{set}
 
--- src/steps.rt:52:5
 fill-requires : tie.Need-fill-requires
 fill-requires c κs = search needs
 
--- src/steps.rt:53:5
 put16-requires : tie.Need-put16-requires
 put16-requires c κs = search needs
 
--- src/steps.rt:54:5
 put16-requires-2 : tie.Need-put16-requires-2
 put16-requires-2 c κs = search needs
 
--- src/steps.rt:55:9
 get16-requires : tie.Need-get16-requires
 get16-requires c κs = search needs
 
--- src/steps.rt:56:5
 put16-requires-3 : tie.Need-put16-requires-3
 put16-requires-3 c κs = search needs
 
--- src/steps.rt:37:1
 returns : tie.Need-returns
 returns c =
     let small : c .before .before .before .before .before .before .before .before .before .before .before .args .j < 65536 = omega arith in

@@ -1,79 +1,57 @@
+-- `steps::turn` takes the pass one step on. Assumes nothing.
 use borrow.Author.Needs.{needs}
 use Rattle.plan_run.proofs.steps.turn.Statement.{statement}
 use Rattle.plan_run.proofs.steps.turn.Tie as tie
-use Rattle.plan_run.proofs.steps.turn.Reads as reads
-use Rattle.plan_run.proofs.steps.turn.Lts as lts
-use Rattle.cells.proofs.get16.Reads as get16-reads
-use Rattle.cells.proofs.put32.Reads as put32-reads
-use Rattle.plan_run.proofs.queues.lowest.Reads as lowest-reads
-use Rattle.plan_run.proofs.queues.wake.Reads as wake-reads
-use Rattle.plan_run.proofs.steps.slot.Reads as slot-reads
-use Rattle.plan_run.proofs.steps.step.Reads as step-reads
 use native.Mathlib.Omega.{arith}
 use lib.Count.{ones-le}
 use Rattle.plan_run.proofs.Words.{has-le}
 use Rattle.plan_run.proofs.Looks.{unit-shifted, shifted-small, mask-small}
 use Rattle.plan_run.proofs.Turns.{turned}
 
--- src/steps.rt:80:9
 lowest-requires : tie.Need-lowest-requires
 lowest-requires c κs = search needs
 
--- src/steps.rt:81:9
 slot-requires : tie.Need-slot-requires
 slot-requires c κs = search needs
 
--- src/steps.rt:82:24
 add-put32 : tie.Need-add-put32
 add-put32 c = search needs
 
--- src/steps.rt:82:31
 cast-put32 : tie.Need-cast-put32
 cast-put32 c = omega (arith, ones-le 16 (c .before .before .before .before .before .before .args .ready) (c .before .before .before .before .before .before .pre .1))
 
--- src/steps.rt:82:5
 put32-requires : tie.Need-put32-requires
 put32-requires c κs = search needs
 
--- src/steps.rt:83:5
 put32-requires-2 : tie.Need-put32-requires-2
 put32-requires-2 c κs = search needs
 
--- src/steps.rt:84:5
 step-requires : tie.Need-step-requires
 step-requires c κs = search needs
 
--- src/steps.rt:85:18
 get16-requires : tie.Need-get16-requires
 get16-requires c κs = search needs
 
--- src/steps.rt:85:17
 cast-mask : tie.Need-cast-mask
 cast-mask c = search needs
 
--- src/steps.rt:85:70
 cast-mask-2 : tie.Need-cast-mask-2
 cast-mask-2 c = search needs
 
--- src/steps.rt:85:62
 shl-mask : tie.Need-shl-mask
 shl-mask c = search needs
 
--- src/steps.rt:86:41
 cast-wake : tie.Need-cast-wake
 cast-wake c = search needs
 
--- src/steps.rt:86:33
 shl-wake : tie.Need-shl-wake
 shl-wake c = search needs
 
--- src/steps.rt:86:24
 sub-wake : tie.Need-sub-wake
 sub-wake c =
     let l = c .before .before .before .before .before .before .before .before .before .before .before .before .before .before .before .before .before .before .before .lowest in
     omega (arith, unit-shifted (l .result) 4294967296 (l .ensures .0) (omega arith), has-le _ _ (l .ensures .1 .there))
 
--- src/steps.rt:86:5
 wake-requires : tie.Need-wake-requires
 wake-requires c κs =
     let l = c .before .before .before .before .before .before .before .before .before .before .before .before .before .before .before .before .before .before .before .before .before .before .lowest in (
@@ -81,11 +59,9 @@ wake-requires c κs =
       omega (arith, c .before .before .before .before .before .before .before .before .before .before .before .before .before .before .before .before .before .before .before .before .before .before .before .before .pre .1),
     )
 
--- src/steps.rt:60:1
 same-length : tie.Need-same-length
 same-length c = search needs
 
--- src/steps.rt:60:1
 returns : tie.Need-returns
 returns c = (
   c .wake .ensures .0,
