@@ -34,6 +34,15 @@ filter-passes f (x ∷ xs) i m =
     (λ t. either (member-cons i x (filter f xs) (rw (filter-yes f x xs t) at m)) (λ q. ap f (sym q) ∙ t) (λ m′. filter-passes f xs i m′))
     (λ n. filter-passes f xs i (rw (filter-no f x xs n) at m))
 
+pub filter-among : (f : ℕ → Bool) (xs : List ℕ) (i : ℕ) → member i (filter f xs) ≡ true → member i xs ≡ true
+unfolding filter
+filter-among f [] i m = m
+filter-among f (x ∷ xs) i m =
+    by-cases (f x)
+    (λ t. either (member-cons i x (filter f xs) (rw (filter-yes f x xs t) at m))
+    (λ q. subst (λ (z : ℕ). member i (z ∷ xs) ≡ true) (sym q) (member-here i xs)) (λ m′. member-there i x xs (filter-among f xs i m′)))
+    (λ n. member-there i x xs (filter-among f xs i (rw (filter-no f x xs n) at m)))
+
 pub filter-lengths : (f : ℕ → Bool) (xs : List ℕ) → length (filter f xs) + length (filter (λ i. not (f i)) xs) ≡ length xs
 unfolding filter
 filter-lengths f [] = refl

@@ -8,6 +8,6 @@ pub mod Tables
 pub mod Fronts
 pub mod Places
 pub mod Pairwise
-pub mod Counts
 pub mod Ranks
 pub mod Stores
+pub mod Elements

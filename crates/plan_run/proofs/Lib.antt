@@ -1,0 +1,13 @@
+pub mod Words
+pub mod Looks
+pub mod Chains
+pub mod Merges
+pub mod Sources
+pub mod Watches
+pub mod Readies
+pub mod Standing
+pub mod Fills
+pub mod Listings
+pub mod Turns
+pub mod Ends
+pub mod Missing

@@ -1,0 +1,157 @@
+-- `merge::merge` gives the largest cell of each column and the unit's: the invariant says so of the columns passed. Assumes nothing.
+use borrow.Author.Needs.{needs}
+use Rattle.plan_run.proofs.merge.merge.Statement.{statement}
+use Rattle.plan_run.proofs.merge.merge.Tie as tie
+use mathlib.Core.Path.{_≡_, refl}
+use Prim.Native.Nat.{ℕ, _+_, _-_, _%_, _≤_, _<_}
+use native.Mathlib.Omega.{arith}
+use lib.ListN.{length, getD, length-set}
+use borrow.Author.Count.{below-none}
+use Rattle.plan_run.specs.Merge.{largest}
+use Rattle.plan_run.proofs.Merges.{merged-is, merged-more}
+
+abbrev Inv-loop : tie.InvT-loop
+Inv-loop rows unit q a b c d row₀ from k₀ row k =
+    (k ≤ 16) × (length row ≡ 16) × ((m : ℕ) → m < k → getD row m 0 ≡ (largest rows a b c d m + getD unit (16 - q + m) 0) % 65536)
+
+abbrev μ-loop : tie.MeasureT-loop
+μ-loop rows unit q a b c d row₀ from k₀ row k = 16 - k
+
+sub-from : tie.Need-sub-from Inv-loop μ-loop
+sub-from c = search needs
+
+loop-holds : tie.Need-loop-holds Inv-loop μ-loop
+loop-holds c = (omega arith, refl, below-none _)
+
+mul-larger : tie.Need-mul-larger Inv-loop μ-loop
+mul-larger c = search needs
+
+add-larger : tie.Need-add-larger Inv-loop μ-loop
+add-larger c = search needs
+
+mul-larger-2 : tie.Need-mul-larger-2 Inv-loop μ-loop
+mul-larger-2 c = search needs
+
+element-copy-out-larger : tie.Need-element-copy-out-larger Inv-loop μ-loop
+element-copy-out-larger c = search needs
+
+mul-larger-3 : tie.Need-mul-larger-3 Inv-loop μ-loop
+mul-larger-3 c = search needs
+
+add-larger-2 : tie.Need-add-larger-2 Inv-loop μ-loop
+add-larger-2 c = search needs
+
+mul-larger-4 : tie.Need-mul-larger-4 Inv-loop μ-loop
+mul-larger-4 c = search needs
+
+element-copy-out-larger-2 : tie.Need-element-copy-out-larger-2 Inv-loop μ-loop
+element-copy-out-larger-2 c = search needs
+
+larger-requires : tie.Need-larger-requires Inv-loop μ-loop
+larger-requires c κs = search needs
+
+mul-larger-5 : tie.Need-mul-larger-5 Inv-loop μ-loop
+mul-larger-5 c = search needs
+
+add-larger-3 : tie.Need-add-larger-3 Inv-loop μ-loop
+add-larger-3 c = search needs
+
+mul-larger-6 : tie.Need-mul-larger-6 Inv-loop μ-loop
+mul-larger-6 c = search needs
+
+element-copy-out-larger-3 : tie.Need-element-copy-out-larger-3 Inv-loop μ-loop
+element-copy-out-larger-3 c = search needs
+
+mul-larger-7 : tie.Need-mul-larger-7 Inv-loop μ-loop
+mul-larger-7 c = search needs
+
+add-larger-4 : tie.Need-add-larger-4 Inv-loop μ-loop
+add-larger-4 c = search needs
+
+mul-larger-8 : tie.Need-mul-larger-8 Inv-loop μ-loop
+mul-larger-8 c = search needs
+
+element-copy-out-larger-4 : tie.Need-element-copy-out-larger-4 Inv-loop μ-loop
+element-copy-out-larger-4 c = search needs
+
+larger-requires-2 : tie.Need-larger-requires-2 Inv-loop μ-loop
+larger-requires-2 c κs = search needs
+
+larger-requires-3 : tie.Need-larger-requires-3 Inv-loop μ-loop
+larger-requires-3 c κs = search needs
+
+add-sum : tie.Need-add-sum Inv-loop μ-loop
+add-sum c = search needs
+
+mul-sum : tie.Need-mul-sum Inv-loop μ-loop
+mul-sum c = search needs
+
+element-copy-out-sum : tie.Need-element-copy-out-sum Inv-loop μ-loop
+element-copy-out-sum c = search needs
+
+sum-requires : tie.Need-sum-requires Inv-loop μ-loop
+sum-requires c κs = search needs
+
+mul-row : tie.Need-mul-row Inv-loop μ-loop
+mul-row c = search needs
+
+array-write-row : tie.Need-array-write-row Inv-loop μ-loop
+array-write-row c = search needs
+
+add-k : tie.Need-add-k Inv-loop μ-loop
+add-k c = search needs
+
+loop-less : tie.Need-loop-less Inv-loop μ-loop
+loop-less c = search needs
+
+loop-again : tie.Need-loop-again Inv-loop μ-loop
+loop-again c =
+    let at = c .before .before .before .before .before .before .before .before .before .before .loop in
+    let here = c .before .before .before .before .before .before .before .before .before .before .before .args in
+    let f : ℕ → ℕ = λ m. (largest (here .rows .now) (here .a) (here .b) (here .c) (here .d) m + getD (here .unit .now) (16 - here .q + m) 0) % 65536 in (
+      omega arith,
+      simp length-set (at .inv .1),
+      merged-more f (at .row) (at .k) (c .sum .result) _ (at .inv .1) (omega arith) (at .inv .2)
+          (merged-is _ _ _ _ _ _ _ _ _ _ _ (c .before .before .before .before .before .before .larger .ensures) (c .before .before .before .larger2 .ensures) (c .before .before .larger3 .ensures) (c .sum .ensures)) refl,
+    )
+
+returns : tie.Need-returns Inv-loop μ-loop
+returns c = let e : c .before .loop .k ≡ 16 = omega arith in rw e at (c .before .loop .inv .2)
+
+pub merge-spec : {M : Type 1} → statement M
+merge-spec =
+    tie.close
+    (tie.spec
+    Inv-loop
+    μ-loop
+    sub-from
+    loop-holds
+    mul-larger
+    add-larger
+    mul-larger-2
+    element-copy-out-larger
+    mul-larger-3
+    add-larger-2
+    mul-larger-4
+    element-copy-out-larger-2
+    larger-requires
+    mul-larger-5
+    add-larger-3
+    mul-larger-6
+    element-copy-out-larger-3
+    mul-larger-7
+    add-larger-4
+    mul-larger-8
+    element-copy-out-larger-4
+    larger-requires-2
+    larger-requires-3
+    add-sum
+    mul-sum
+    element-copy-out-sum
+    sum-requires
+    mul-row
+    array-write-row
+    add-k
+    loop-less
+    loop-again
+    returns)

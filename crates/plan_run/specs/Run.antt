@@ -1,0 +1,49 @@
+-- What the standard run's pass is given and what it leaves, for every plan that the columns show. Assumes nothing: these are definitions.
+use mathlib.Core.Path.{_≡_}
+use mathlib.Core.Bool.{true, false}
+use mathlib.Core.List.{List}
+use mathlib.Core.Option.{Option, none, some}
+use Prim.Native.Nat.{ℕ, _+_, _*_, _≤_, _<_}
+use lib.ListN.{length, getD, take, drop}
+use Rattle.basics.specs.Lists.{member, in-front}
+use Rattle.plan_format.specs.Plan.{Plan, count, op}
+use Rattle.plan_format.specs.Sound.{Sound}
+use Rattle.plan_order.specs.Runs.{number-ready, standard, run-list}
+use Rattle.plan_columns.specs.Columns.{Queue-column, Source-column, Row-columns}
+
+-- columns that show a sound plan of n operations
+pub record Shown (p : Plan) (n : ℕ) (queue source : List ℕ) : Type 0 where
+  pub sound : Sound p
+  pub many : count p ≡ n
+  pub few-waits : (i : ℕ) → i < count p → length (op p i .waits) ≤ 3
+  pub queues : Queue-column p queue
+  pub sources : Source-column p source
+
+-- a table of 1,026 rows, all zero
+pub record Cleared (rows : List ℕ) : Type 0 where
+  pub long : length rows ≡ 16416
+  pub zeros : (k : ℕ) → getD rows k 0 ≡ 0
+
+-- the rows of the operations that have run; every other row of the 1,026 is zero
+pub record Rows-of (p : Plan) (run rows : List ℕ) : Type 0 where
+  pub ran : Row-columns p (λ j. member j run ≡ true) rows
+  pub others : (j q : ℕ) → j < 1026 → member j run ≡ false → q < 16 → getD rows (16 * j + q) 0 ≡ 0
+
+-- the run in the front of the list, the number ready before each step from place n on, and nothing past 2 n
+pub record Listed (p : Plan) (n : ℕ) (run list list-now : List ℕ) : Type 0 where
+  pub steps : (k : ℕ) → k < length run → getD list-now k 0 ≡ getD run k 0
+  pub readies : (k : ℕ) → k < length run → getD list-now (n + k) 0 ≡ number-ready p (take k run)
+  pub past : drop (2 * n) list-now ≡ drop (2 * n) list
+  pub long : length list-now ≡ length list
+
+-- the whole pass
+pub record Ran (p : Plan) (n answer : ℕ) (rows list list-now : List ℕ) : Type 0 where
+  pub many : answer ≡ length (standard p)
+  pub listed : Listed p n (standard p) list list-now
+  pub whole : answer ≡ n → list-now ≡ in-front (run-list p) list
+  pub filled : Rows-of p (standard p) rows
+
+-- a place, or the number past the last
+unfoldable pub place-or : Option ℕ → (n : ℕ) → ℕ
+place-or none n = n
+place-or (some i) n = i

@@ -1,0 +1,80 @@
+// The standard run and the frontier rows, in one pass.
+mod merge;
+mod queues;
+mod steps;
+
+ghost use mathlib.Core.Path.{_≡_};
+ghost use Prim.Native.Nat.{_*_, _≤_};
+ghost use lib.ListN.{length};
+ghost use Rattle.plan_format.specs.Plan.{Plan, count};
+ghost use Rattle.plan_format.specs.Sound.{Sound};
+ghost use Rattle.plan_order.specs.Runs.{standard, missing};
+ghost use Rattle.plan_columns.specs.Columns.{Queue-column};
+ghost use Rattle.plan_run.specs.Run.{Shown, Cleared, Rows-of, Ran, place-or};
+
+// The standard run into `list`, with the number ready before each step from place n on, and the row of each operation that ran into `rows`,
+// which are all zero before; how many operations ran.
+pub fn run(
+    n: u16,
+    queue: &[u16; 1024],
+    source: &[u16; 3072],
+    rows: &mut [u16; 16416],
+    list: &mut [u32],
+) -> usize
+    ensures { λ r. ⌜ ((p : Plan) → Shown p n (now (queue .entry)) (now (source .entry)) → Cleared (now (rows .entry)) → 2 * n ≤ length (now (list .entry)) →
+        Ran p n r (now (rows .exit)) (now (list .entry)) (now (list .exit))) ⌝ }
+{
+    let many = n as usize;
+    if 1024 < many {
+        return 0;
+    }
+    let mut head = [1024u16; 16];
+    let mut prev = [1024u16; 16];
+    let mut next = [1024u16; 1024];
+    let mut ran = [0u16; 1025];
+    let mut waiter = [0u16; 1025];
+    let mut unit = [0u16; 32];
+    ran[1024] = 1;
+    unit[16] = 1;
+    queues::chain(many, queue, &mut head, &mut next);
+    let mut ready = queues::wake(65535, 0, &head, source, &ran, &mut waiter);
+    let mut i: usize = 0;
+    while i < many {
+        if ready == 0 {
+            return i;
+        }
+        ready = steps::turn(
+            i,
+            many,
+            ready,
+            source,
+            &next,
+            &unit,
+            &mut head,
+            &mut prev,
+            &mut ran,
+            &mut waiter,
+            rows,
+            list,
+        );
+        i += 1;
+    }
+    i
+}
+
+// The lowest operation that did not run: its row is zero at its own queue. n if each ran.
+pub fn stuck(n: u16, queue: &[u16; 1024], rows: &[u16; 16416]) -> usize
+    ensures { λ r. ⌜ ((p : Plan) → Sound p → count p ≡ n → Queue-column p (now (queue .entry)) → Rows-of p (standard p) (now (rows .entry)) →
+        r ≡ place-or (missing p) n) ⌝ }
+{
+    let many = n as usize;
+    let mut i: usize = 0;
+    while i < many {
+        let q = cells::get16(queue, i) % 16;
+        if cells::get16(rows, 16 * i + q) == 0 {
+            return i;
+        }
+        i += 1;
+    }
+    i
+}

@@ -1,0 +1,96 @@
+// The queues during a run: which operation is next on each, what holds it, and which queues are ready.
+ghost use mathlib.Core.Path.{_≡_};
+ghost use Prim.Native.Nat.{_<_, _≤_, _^_};
+ghost use lib.ListN.{length, replicate};
+ghost use Rattle.plan_run.specs.Words.{Lowest-bit};
+ghost use Rattle.plan_run.specs.Queues.{Chained, blocker-of, Looked};
+
+// For each operation the next of its queue; the first of each queue in `head`.
+pub fn chain(n: usize, queue: &[u16; 1024], head: &mut [u16; 16], next: &mut [u16; 1024])
+    requires { ⌜ (n ≤ 1024) × (now head ≡ replicate 16 1024) × (length (now next) ≡ 1024) ⌝ }
+    ensures { λ _. ⌜ Chained (now (queue .entry)) 0 n (now (head .exit)) (now (next .exit)) ⌝ }
+{
+    let mut i = n;
+    while 0 < i {
+        i -= 1;
+        let q = cells::get16(queue, i);
+        let first = cells::get16(head, q);
+        cells::put16(next, i, first);
+        cells::put16(head, q, i);
+    }
+}
+
+// The first source of operation j that has not run; 1,024 if each has.
+fn blocker(j: usize, source: &[u16; 3072], ran: &[u16; 1025]) -> usize
+    requires { ⌜ j < 65536 ⌝ }
+    ensures { λ r. ⌜ r ≡ blocker-of (now (source .entry)) (now (ran .entry)) j ⌝ }
+{
+    let a = cells::get16(source, 3 * j);
+    if cells::get16(ran, a) == 0 {
+        return a;
+    }
+    let b = cells::get16(source, 3 * j + 1);
+    if cells::get16(ran, b) == 0 {
+        return b;
+    }
+    let c = cells::get16(source, 3 * j + 2);
+    if cells::get16(ran, c) == 0 {
+        return c;
+    }
+    1024
+}
+
+// The lowest queue of a word.
+pub fn lowest(word: u32) -> usize
+    requires { ⌜ (0 < word) × (word < 65536) ⌝ }
+    ensures { λ r. ⌜ (r < 16) × Lowest-bit word r ⌝ }
+{
+    u32::trailing_zeros(word) as usize
+}
+
+// Queue q looked at: added to `ready` if it can go, else noted at what holds it.
+fn look(
+    q: usize,
+    ready: u32,
+    head: &[u16; 16],
+    source: &[u16; 3072],
+    ran: &[u16; 1025],
+    waiter: &mut [u16; 1025],
+) -> u32
+    requires { ⌜ (q < 16) × (ready < 65536) ⌝ }
+    ensures { λ r. ⌜ (r < 65536) × Looked (2 ^ q) ready (now (head .entry)) (now (source .entry)) (now (ran .entry)) (now (waiter .entry)) r (now (waiter .exit)) ⌝ }
+{
+    let j = cells::get16(head, q);
+    if 1024 <= j {
+        return ready;
+    }
+    let b = blocker(j, source, ran);
+    if b == 1024 {
+        return ready | (1u32 << q);
+    }
+    let w = cells::get16(waiter, b);
+    cells::put16(waiter, b, w | (1usize << q));
+    ready
+}
+
+// The queues of `mask` looked at.
+pub fn wake(
+    mask: u32,
+    ready: u32,
+    head: &[u16; 16],
+    source: &[u16; 3072],
+    ran: &[u16; 1025],
+    waiter: &mut [u16; 1025],
+) -> u32
+    requires { ⌜ (mask < 65536) × (ready < 65536) ⌝ }
+    ensures { λ r. ⌜ (r < 65536) × Looked mask ready (now (head .entry)) (now (source .entry)) (now (ran .entry)) (now (waiter .entry)) r (now (waiter .exit)) ⌝ }
+{
+    let mut left = mask;
+    let mut r = ready;
+    while 0 < left {
+        let q = lowest(left);
+        left -= 1u32 << q;
+        r = look(q, r, head, source, ran, waiter);
+    }
+    r
+}

@@ -1,0 +1,94 @@
+// Steps of the standard run: the next operation of the lowest ready queue runs, and its row is merged.
+use crate::merge;
+use crate::queues;
+ghost use mathlib.Core.Path.{_≡_};
+ghost use mathlib.Core.List.{List};
+ghost use Prim.Native.Nat.{ℕ, _+_, _*_, _<_, _≤_};
+ghost use lib.ListN.{length, getD};
+ghost use Rattle.plan_format.specs.Plan.{Plan};
+ghost use Rattle.plan_run.specs.Merge.{Merged};
+ghost use Rattle.plan_run.specs.Run.{Shown};
+ghost use Rattle.plan_run.specs.State.{Tables, slot-of, Stepped, Going};
+
+// An operation number; past 1,024 it reads as 1,024, whose row is zero.
+fn slot(a: &[u16], i: usize) -> usize
+    ensures { λ r. ⌜ r ≡ slot-of (getD (now (a .entry)) i 0) ⌝ }
+{
+    let x = cells::get16(a, i);
+    if x < 1024 { x } else { 1024 }
+}
+
+// The row of operation j of queue q, from those of the queue's last operation and of its sources.
+fn fill(
+    j: usize,
+    q: usize,
+    source: &[u16; 3072],
+    prev: &[u16; 16],
+    unit: &[u16; 32],
+    rows: &mut [u16; 16416],
+)
+    requires { ⌜ (j ≤ 1024) × (q < 16) ⌝ }
+    ensures { λ _. ⌜ (length (now (rows .entry)) ≡ 16416 →
+        Merged (now (rows .entry)) (now (unit .entry)) j q (slot-of (getD (now (prev .entry)) q 0)) (slot-of (getD (now (source .entry)) (3 * j) 0))
+        (slot-of (getD (now (source .entry)) (3 * j + 1) 0)) (slot-of (getD (now (source .entry)) (3 * j + 2) 0)) (now (rows .exit))) ⌝ }
+{
+    let last = slot(prev, q);
+    let a = slot(source, 3 * j);
+    let b = slot(source, 3 * j + 1);
+    let c = slot(source, 3 * j + 2);
+    let row = merge::merge(rows, unit, q, last, a, b, c);
+    merge::lay(rows, j, row);
+}
+
+// Operation j, the next of queue q, runs.
+fn step(
+    j: usize,
+    q: usize,
+    source: &[u16; 3072],
+    next: &[u16; 1024],
+    unit: &[u16; 32],
+    head: &mut [u16; 16],
+    prev: &mut [u16; 16],
+    ran: &mut [u16; 1025],
+    rows: &mut [u16; 16416],
+)
+    requires { ⌜ (j ≤ 1024) × (q < 16) ⌝ }
+    ensures { λ _. ⌜ Stepped j q (now (source .entry)) (now (next .entry)) (now (unit .entry)) (now (head .entry)) (now (prev .entry)) (now (ran .entry))
+        (now (rows .entry)) (now (head .exit)) (now (prev .exit)) (now (ran .exit)) (now (rows .exit)) ⌝ }
+{
+    fill(j, q, source, prev, unit, rows);
+    cells::put16(ran, j, 1);
+    cells::put16(prev, q, j);
+    let after = cells::get16(next, j);
+    cells::put16(head, q, after);
+}
+
+// Step i of the run: the next operation of the lowest ready queue. The queues that are ready afterwards.
+pub fn turn(
+    i: usize,
+    n: usize,
+    ready: u32,
+    source: &[u16; 3072],
+    next: &[u16; 1024],
+    unit: &[u16; 32],
+    head: &mut [u16; 16],
+    prev: &mut [u16; 16],
+    ran: &mut [u16; 1025],
+    waiter: &mut [u16; 1025],
+    rows: &mut [u16; 16416],
+    list: &mut [u32],
+) -> u32
+    requires { ⌜ (0 < ready) × (ready < 65536) × (i < n) × (n ≤ 1024) ⌝ }
+    ensures { λ r. ⌜ (r < 65536) × ((p : Plan) (queue first : List ℕ) → Shown p n queue (now (source .entry)) → Tables queue n (now (next .entry)) (now (unit .entry)) →
+        2 * n ≤ length first →
+        Going p n i (now (source .entry)) (now (head .entry)) (now (prev .entry)) (now (ran .entry)) (now (waiter .entry)) ready (now (rows .entry)) first (now (list .entry)) →
+        Going p n (i + 1) (now (source .entry)) (now (head .exit)) (now (prev .exit)) (now (ran .exit)) (now (waiter .exit)) r (now (rows .exit)) first (now (list .exit))) ⌝ }
+{
+    let q = queues::lowest(ready);
+    let j = slot(head, q);
+    cells::put32(list, i + n, u32::count_ones(ready) as usize);
+    cells::put32(list, i, j);
+    step(j, q, source, next, unit, head, prev, ran, rows);
+    let mask = ((cells::get16(waiter, j) % 65536) as u32) | (1u32 << q);
+    queues::wake(mask, ready - (1u32 << q), head, source, ran, waiter)
+}
