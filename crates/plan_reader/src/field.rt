@@ -1,0 +1,126 @@
+// Fields: each is read at a cursor, judged, and stored behind the numbers before it. A cursor with a refusal passes through unchanged.
+use crate::word;
+use crate::Cursor;
+ghost use mathlib.Core.Path.{_≡_};
+ghost use Prim.Native.Nat.{_+_, _≤_};
+ghost use lib.ListN.{drop, take};
+ghost use Rattle.basics.specs.Lists.{member};
+ghost use Rattle.plan_format.specs.Form.{any-number, new-axis};
+ghost use Rattle.plan_format.specs.Grammar.{field};
+ghost use Rattle.plan_reader.specs.Reading.{Room, Reads, Limited, axis-field, size-field};
+
+// A byte below `limit`; any other is refused by `over`.
+pub fn byte(plan: &[u8], c: Cursor, limit: u64, over: u32, numbers: &mut [u64; 22868]) -> Cursor
+    requires { ⌜ Room 1 (now plan) c ⌝ }
+    requires { ⌜ 1 ≤ over ⌝ }
+    ensures { λ r. ⌜ Limited 1 limit over (now (plan .entry)) c (now (numbers .entry)) r (now (numbers .exit)) ⌝ }
+{
+    let at = c.at;
+    let got = c.got;
+    if c.number != 0 {
+        return Cursor { number: c.number, at, got, value: 0 };
+    }
+    if plan.len() - at < 1 {
+        return Cursor { number: 1, at, got, value: 0 };
+    }
+    let value = word::word1(plan, at);
+    if limit <= value {
+        return Cursor { number: over, at, got, value: 0 };
+    }
+    numbers[got] = value;
+    Cursor { number: 0, at: at + 1, got: got + 1, value }
+}
+
+// Two bytes below `limit`; any other number is refused by `over`.
+pub fn pair(plan: &[u8], c: Cursor, limit: u64, over: u32, numbers: &mut [u64; 22868]) -> Cursor
+    requires { ⌜ Room 1 (now plan) c ⌝ }
+    requires { ⌜ 1 ≤ over ⌝ }
+    ensures { λ r. ⌜ Limited 2 limit over (now (plan .entry)) c (now (numbers .entry)) r (now (numbers .exit)) ⌝ }
+{
+    let at = c.at;
+    let got = c.got;
+    if c.number != 0 {
+        return Cursor { number: c.number, at, got, value: 0 };
+    }
+    if plan.len() - at < 2 {
+        return Cursor { number: 1, at, got, value: 0 };
+    }
+    let value = word::word2(plan, at);
+    if limit <= value {
+        return Cursor { number: over, at, got, value: 0 };
+    }
+    numbers[got] = value;
+    Cursor { number: 0, at: at + 2, got: got + 1, value }
+}
+
+// The size of a buffer: four bytes, any number.
+pub fn size(plan: &[u8], c: Cursor, numbers: &mut [u64; 22868]) -> Cursor
+    requires { ⌜ Room 1 (now plan) c ⌝ }
+    ensures { λ r. ⌜ Reads size-field 1 (now (plan .entry)) c (now (numbers .entry)) r (now (numbers .exit)) ⌝ }
+{
+    let at = c.at;
+    let got = c.got;
+    if c.number != 0 {
+        return c;
+    }
+    if plan.len() - at < 4 {
+        return Cursor { number: 1, at, got, value: 0 };
+    }
+    let value = word::word4(plan, at);
+    numbers[got] = value;
+    Cursor { number: 0, at: at + 4, got: got + 1, value }
+}
+
+// The value of a wait or a signal: eight bytes, any number.
+pub fn point_value(plan: &[u8], c: Cursor, numbers: &mut [u64; 22868]) -> Cursor
+    requires { ⌜ Room 1 (now plan) c ⌝ }
+    ensures { λ r. ⌜ Reads (field 8 any-number) 1 (now (plan .entry)) c (now (numbers .entry)) r (now (numbers .exit)) ⌝ }
+{
+    let at = c.at;
+    let got = c.got;
+    if c.number != 0 {
+        return c;
+    }
+    if plan.len() - at < 8 {
+        return Cursor { number: 1, at, got, value: 0 };
+    }
+    let value = word::word8(plan, at);
+    numbers[got] = value;
+    Cursor { number: 0, at: at + 8, got: got + 1, value }
+}
+
+// Whether `axis` stands among the first `got` numbers, behind the count.
+fn repeated(numbers: &[u64; 22868], got: usize, axis: u64) -> bool
+    requires { ⌜ got ≤ 22868 ⌝ }
+    ensures { λ r. ⌜ r ≡ member axis (drop 1 (take got (now (numbers .entry)))) ⌝ }
+{
+    let mut i = 1;
+    while i < got {
+        if numbers[i] == axis {
+            return true;
+        }
+        i += 1;
+    }
+    false
+}
+
+// The axis of a queue: eight bytes, a number that no earlier queue has.
+pub fn axis(plan: &[u8], c: Cursor, numbers: &mut [u64; 22868]) -> Cursor
+    requires { ⌜ Room 1 (now plan) c ⌝ }
+    ensures { λ r. ⌜ Reads axis-field 1 (now (plan .entry)) c (now (numbers .entry)) r (now (numbers .exit)) ⌝ }
+{
+    let at = c.at;
+    let got = c.got;
+    if c.number != 0 {
+        return c;
+    }
+    if plan.len() - at < 8 {
+        return Cursor { number: 1, at, got, value: 0 };
+    }
+    let value = word::word8(plan, at);
+    if repeated(numbers, got, value) {
+        return Cursor { number: 5, at, got, value: 0 };
+    }
+    numbers[got] = value;
+    Cursor { number: 0, at: at + 8, got: got + 1, value }
+}

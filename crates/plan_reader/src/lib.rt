@@ -1,0 +1,65 @@
+// The reader of stored plans: one pass over the bytes, a cursor by value, each field judged and stored as it is read.
+mod field;
+mod operation;
+mod section;
+mod word;
+use plan_format::Told;
+ghost use mathlib.Core.Path.{_≡_};
+ghost use mathlib.Core.List.{_++_};
+ghost use Prim.Native.Nat.{_+_, _≤_};
+ghost use lib.ListN.{length, getD, take};
+ghost use Rattle.basics.specs.Lists.{in-front};
+ghost use Rattle.plan_format.specs.Stored.{Read-says};
+ghost use Rattle.plan_reader.specs.Reading.{Numbers-read};
+
+// Where the reading stands: the refusal met, or 0; the place in the bytes; how many numbers are stored; the one read last.
+pub struct Cursor {
+    pub number: u32,
+    pub at: usize,
+    pub got: usize,
+    pub value: u64,
+}
+
+// The numbers of a stored plan, or the first of refusals 1 to 5; the answer is how many numbers there are.
+pub fn read_numbers(plan: &[u8], numbers: &mut [u64; 22868]) -> Told
+    ensures { λ r. ⌜ Numbers-read (now (plan .entry)) r (now (numbers .exit)) ⌝ }
+{
+    let c = section::sections(plan, numbers);
+    let at = c.at;
+    if c.number != 0 {
+        return Told { number: c.number, place: at as u64, answer: 0 };
+    }
+    if at < plan.len() {
+        return Told { number: 3, place: at as u64, answer: 0 };
+    }
+    Told { number: 0, place: 0, answer: c.got as u64 }
+}
+
+// The first `many` numbers, in front of the room.
+fn store(numbers: &[u64; 22868], many: usize, room: &mut [u64])
+    requires { ⌜ (many ≤ 22868) × (many ≤ length (now room)) ⌝ }
+    ensures { λ _. ⌜ now (room .exit) ≡ in-front (take many (now (numbers .entry))) (now (room .entry)) ⌝ }
+{
+    let mut i = 0;
+    while i < many {
+        room[i] = numbers[i];
+        i += 1;
+    }
+}
+
+// The numbers of a stored plan in front of the room, with their length as the answer; or a refusal, and the room untouched.
+pub fn read_plan(plan: &[u8], room: &mut [u64]) -> Told
+    ensures { λ r. ⌜ Read-says (now (plan .entry)) r (now (room .entry)) (now (room .exit)) ⌝ }
+{
+    let mut numbers = [0u64; 22868];
+    let told = read_numbers(plan, &mut numbers);
+    if told.number != 0 {
+        return told;
+    }
+    let many = told.answer as usize;
+    if room.len() < many {
+        return Told { number: 9, place: told.answer, answer: 0 };
+    }
+    store(&numbers, many, room);
+    told
+}
