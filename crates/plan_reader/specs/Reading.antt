@@ -20,16 +20,17 @@ fault-of c = cond (eqb (c .number) 0) none-given (refusal (c .number) (c .at))
 unfoldable pub here : (bs : List ℕ) → Cursor → (nums : List ℕ) → Scan
 here bs c nums = scan (drop (c .at) bs) (c .at) (take (c .got) nums) (fault-of c)
 
--- a cursor that stands in the bytes, with room for so many numbers
-pub record Room (many : ℕ) (bs : List ℕ) (c : Cursor) : Type 0 where
+-- a cursor that stands in the bytes, with room for so many numbers more
+pub record Room (many : ℕ) (bs : List ℕ) (c : Cursor) (nums : List ℕ) : Type 0 where
   pub inside : c .at ≤ length bs
-  pub room : c .got + many ≤ 22868
+  pub room : c .got + many ≤ length nums
 
 -- from the cursor `c` to the cursor `r` a thing is read, at most so many numbers long
 pub record Reads (g : Grammar) (many : ℕ) (bs : List ℕ) (c : Cursor) (nums : List ℕ) (r : Cursor) (nums-now : List ℕ) : Type 0 where
   pub read : read-by bytes g (here bs c nums) ≡ here bs r nums-now
   pub inside : r .at ≤ length bs
   pub few : r .got ≤ c .got + many
+  pub as-long : length nums-now ≡ length nums
 
 -- a word of some bytes at a place
 pub record Word (width : ℕ) (bs : List ℕ) (at v : ℕ) : Type 0 where

@@ -3,15 +3,15 @@ use crate::word;
 use crate::Cursor;
 ghost use mathlib.Core.Path.{_≡_};
 ghost use Prim.Native.Nat.{_+_, _≤_};
-ghost use lib.ListN.{drop, take};
+ghost use lib.ListN.{length, drop, take};
 ghost use Rattle.basics.specs.Lists.{member};
 ghost use Rattle.plan_format.specs.Form.{any-number, new-axis};
 ghost use Rattle.plan_format.specs.Grammar.{field};
 ghost use Rattle.plan_reader.specs.Reading.{Room, Reads, Limited, axis-field, size-field};
 
 // A byte below `limit`; any other is refused by `over`.
-pub fn byte(plan: &[u8], c: Cursor, limit: u64, over: u32, numbers: &mut [u64; 22868]) -> Cursor
-    requires { ⌜ Room 1 (now plan) c ⌝ }
+pub fn byte(plan: &[u8], c: Cursor, limit: u64, over: u32, numbers: &mut [u64]) -> Cursor
+    requires { ⌜ Room 1 (now plan) c (now numbers) ⌝ }
     requires { ⌜ 1 ≤ over ⌝ }
     ensures { λ r. ⌜ Limited 1 limit over (now (plan .entry)) c (now (numbers .entry)) r (now (numbers .exit)) ⌝ }
 {
@@ -32,8 +32,8 @@ pub fn byte(plan: &[u8], c: Cursor, limit: u64, over: u32, numbers: &mut [u64; 2
 }
 
 // Two bytes below `limit`; any other number is refused by `over`.
-pub fn pair(plan: &[u8], c: Cursor, limit: u64, over: u32, numbers: &mut [u64; 22868]) -> Cursor
-    requires { ⌜ Room 1 (now plan) c ⌝ }
+pub fn pair(plan: &[u8], c: Cursor, limit: u64, over: u32, numbers: &mut [u64]) -> Cursor
+    requires { ⌜ Room 1 (now plan) c (now numbers) ⌝ }
     requires { ⌜ 1 ≤ over ⌝ }
     ensures { λ r. ⌜ Limited 2 limit over (now (plan .entry)) c (now (numbers .entry)) r (now (numbers .exit)) ⌝ }
 {
@@ -54,8 +54,8 @@ pub fn pair(plan: &[u8], c: Cursor, limit: u64, over: u32, numbers: &mut [u64; 2
 }
 
 // The size of a buffer: four bytes, any number.
-pub fn size(plan: &[u8], c: Cursor, numbers: &mut [u64; 22868]) -> Cursor
-    requires { ⌜ Room 1 (now plan) c ⌝ }
+pub fn size(plan: &[u8], c: Cursor, numbers: &mut [u64]) -> Cursor
+    requires { ⌜ Room 1 (now plan) c (now numbers) ⌝ }
     ensures { λ r. ⌜ Reads size-field 1 (now (plan .entry)) c (now (numbers .entry)) r (now (numbers .exit)) ⌝ }
 {
     let at = c.at;
@@ -72,8 +72,8 @@ pub fn size(plan: &[u8], c: Cursor, numbers: &mut [u64; 22868]) -> Cursor
 }
 
 // The value of a wait or a signal: eight bytes, any number.
-pub fn point_value(plan: &[u8], c: Cursor, numbers: &mut [u64; 22868]) -> Cursor
-    requires { ⌜ Room 1 (now plan) c ⌝ }
+pub fn point_value(plan: &[u8], c: Cursor, numbers: &mut [u64]) -> Cursor
+    requires { ⌜ Room 1 (now plan) c (now numbers) ⌝ }
     ensures { λ r. ⌜ Reads (field 8 any-number) 1 (now (plan .entry)) c (now (numbers .entry)) r (now (numbers .exit)) ⌝ }
 {
     let at = c.at;
@@ -90,8 +90,8 @@ pub fn point_value(plan: &[u8], c: Cursor, numbers: &mut [u64; 22868]) -> Cursor
 }
 
 // Whether `axis` stands among the first `got` numbers, behind the count.
-fn repeated(numbers: &[u64; 22868], got: usize, axis: u64) -> bool
-    requires { ⌜ got ≤ 22868 ⌝ }
+fn repeated(numbers: &[u64], got: usize, axis: u64) -> bool
+    requires { ⌜ got ≤ length (now numbers) ⌝ }
     ensures { λ r. ⌜ r ≡ member axis (drop 1 (take got (now (numbers .entry)))) ⌝ }
 {
     let mut i = 1;
@@ -105,8 +105,8 @@ fn repeated(numbers: &[u64; 22868], got: usize, axis: u64) -> bool
 }
 
 // The axis of a queue: eight bytes, a number that no earlier queue has.
-pub fn axis(plan: &[u8], c: Cursor, numbers: &mut [u64; 22868]) -> Cursor
-    requires { ⌜ Room 1 (now plan) c ⌝ }
+pub fn axis(plan: &[u8], c: Cursor, numbers: &mut [u64]) -> Cursor
+    requires { ⌜ Room 1 (now plan) c (now numbers) ⌝ }
     ensures { λ r. ⌜ Reads axis-field 1 (now (plan .entry)) c (now (numbers .entry)) r (now (numbers .exit)) ⌝ }
 {
     let at = c.at;

@@ -36,8 +36,8 @@ pub fn read_numbers(plan: &[u8], numbers: &mut [u64; 22868]) -> Told
 }
 
 // The first `many` numbers, in front of the room.
-fn store(numbers: &[u64; 22868], many: usize, room: &mut [u64])
-    requires { ⌜ (many ≤ 22868) × (many ≤ length (now room)) ⌝ }
+fn store(numbers: &[u64], many: usize, room: &mut [u64])
+    requires { ⌜ (many ≤ length (now numbers)) × (many ≤ length (now room)) ⌝ }
     ensures { λ _. ⌜ now (room .exit) ≡ in-front (take many (now (numbers .entry))) (now (room .entry)) ⌝ }
 {
     let mut i = 0;

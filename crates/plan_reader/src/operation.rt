@@ -6,8 +6,8 @@ ghost use Rattle.plan_format.specs.Grammar.{counted};
 ghost use Rattle.plan_reader.specs.Reading.{Room, Reads, point-below, mark-below, operation-below};
 
 // A wait or a signal: a semaphore and a value.
-fn point(plan: &[u8], c: Cursor, semaphores: u64, numbers: &mut [u64; 22868]) -> Cursor
-    requires { ⌜ Room 2 (now plan) c ⌝ }
+fn point(plan: &[u8], c: Cursor, semaphores: u64, numbers: &mut [u64]) -> Cursor
+    requires { ⌜ Room 2 (now plan) c (now numbers) ⌝ }
     ensures { λ r. ⌜ Reads (point-below semaphores) 2 (now (plan .entry)) c (now (numbers .entry)) r (now (numbers .exit)) ⌝ }
 {
     let semaphore = field::byte(plan, c, semaphores, 4, numbers);
@@ -15,8 +15,8 @@ fn point(plan: &[u8], c: Cursor, semaphores: u64, numbers: &mut [u64; 22868]) ->
 }
 
 // The waits or the signals: a count, at most `most`, and the points.
-fn points(plan: &[u8], c: Cursor, most: u64, semaphores: u64, numbers: &mut [u64; 22868]) -> Cursor
-    requires { ⌜ Room (1 + 2 * most) (now plan) c ⌝ }
+fn points(plan: &[u8], c: Cursor, most: u64, semaphores: u64, numbers: &mut [u64]) -> Cursor
+    requires { ⌜ Room (1 + 2 * most) (now plan) c (now numbers) ⌝ }
     ensures { λ r. ⌜ Reads (counted 0 most 1 (point-below semaphores)) (1 + 2 * most) (now (plan .entry)) c (now (numbers .entry)) r (now (numbers .exit)) ⌝ }
 {
     let start = field::byte(plan, c, most + 1, 2, numbers);
@@ -34,8 +34,8 @@ fn points(plan: &[u8], c: Cursor, most: u64, semaphores: u64, numbers: &mut [u64
 }
 
 // A mark: a buffer and a kind.
-fn mark(plan: &[u8], c: Cursor, buffers: u64, numbers: &mut [u64; 22868]) -> Cursor
-    requires { ⌜ Room 2 (now plan) c ⌝ }
+fn mark(plan: &[u8], c: Cursor, buffers: u64, numbers: &mut [u64]) -> Cursor
+    requires { ⌜ Room 2 (now plan) c (now numbers) ⌝ }
     ensures { λ r. ⌜ Reads (mark-below buffers) 2 (now (plan .entry)) c (now (numbers .entry)) r (now (numbers .exit)) ⌝ }
 {
     let buffer = field::pair(plan, c, buffers, 4, numbers);
@@ -43,8 +43,8 @@ fn mark(plan: &[u8], c: Cursor, buffers: u64, numbers: &mut [u64; 22868]) -> Cur
 }
 
 // The marks: a count, at most four, and the marks.
-fn marks(plan: &[u8], c: Cursor, buffers: u64, numbers: &mut [u64; 22868]) -> Cursor
-    requires { ⌜ Room 9 (now plan) c ⌝ }
+fn marks(plan: &[u8], c: Cursor, buffers: u64, numbers: &mut [u64]) -> Cursor
+    requires { ⌜ Room 9 (now plan) c (now numbers) ⌝ }
     ensures { λ r. ⌜ Reads (counted 0 4 1 (mark-below buffers)) 9 (now (plan .entry)) c (now (numbers .entry)) r (now (numbers .exit)) ⌝ }
 {
     let start = field::byte(plan, c, 5, 2, numbers);
@@ -62,8 +62,8 @@ fn marks(plan: &[u8], c: Cursor, buffers: u64, numbers: &mut [u64; 22868]) -> Cu
 }
 
 // One operation.
-fn operation(plan: &[u8], c: Cursor, queues: u64, semaphores: u64, buffers: u64, numbers: &mut [u64; 22868]) -> Cursor
-    requires { ⌜ Room 22 (now plan) c ⌝ }
+fn operation(plan: &[u8], c: Cursor, queues: u64, semaphores: u64, buffers: u64, numbers: &mut [u64]) -> Cursor
+    requires { ⌜ Room 22 (now plan) c (now numbers) ⌝ }
     ensures { λ r. ⌜ Reads (operation-below queues semaphores buffers) 22 (now (plan .entry)) c (now (numbers .entry)) r (now (numbers .exit)) ⌝ }
 {
     let queue = field::byte(plan, c, queues, 4, numbers);
@@ -73,8 +73,8 @@ fn operation(plan: &[u8], c: Cursor, queues: u64, semaphores: u64, buffers: u64,
 }
 
 // The section of operations.
-pub fn operations(plan: &[u8], c: Cursor, queues: u64, semaphores: u64, buffers: u64, numbers: &mut [u64; 22868]) -> Cursor
-    requires { ⌜ Room 22529 (now plan) c ⌝ }
+pub fn operations(plan: &[u8], c: Cursor, queues: u64, semaphores: u64, buffers: u64, numbers: &mut [u64]) -> Cursor
+    requires { ⌜ Room 22529 (now plan) c (now numbers) ⌝ }
     ensures { λ r. ⌜ Reads (counted 0 1024 2 (operation-below queues semaphores buffers)) 22529 (now (plan .entry)) c (now (numbers .entry)) r (now (numbers .exit)) ⌝ }
 {
     let start = field::pair(plan, c, 1025, 2, numbers);

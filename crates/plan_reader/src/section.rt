@@ -5,15 +5,15 @@ use crate::Cursor;
 ghost use mathlib.Core.Path.{_≡_};
 ghost use mathlib.Core.List.{[]};
 ghost use Prim.Native.Nat.{_+_, _≤_};
-ghost use lib.ListN.{getD};
+ghost use lib.ListN.{length, getD};
 ghost use Rattle.plan_format.specs.Form.{first-form, plan-grammar};
 ghost use Rattle.plan_format.specs.Grammar.{counted, field};
 ghost use Rattle.plan_format.specs.Refusal.{none-given};
 ghost use Rattle.plan_reader.specs.Reading.{Room, Reads, Plan-read, axis-field, size-field, limited};
 
 // The section of queues.
-fn axes(plan: &[u8], c: Cursor, numbers: &mut [u64; 22868]) -> Cursor
-    requires { ⌜ Room 17 (now plan) c ⌝ }
+fn axes(plan: &[u8], c: Cursor, numbers: &mut [u64]) -> Cursor
+    requires { ⌜ Room 17 (now plan) c (now numbers) ⌝ }
     ensures { λ r. ⌜ Reads (counted 0 16 1 axis-field) 17 (now (plan .entry)) c (now (numbers .entry)) r (now (numbers .exit)) ⌝ }
 {
     let start = field::byte(plan, c, 17, 2, numbers);
@@ -31,8 +31,8 @@ fn axes(plan: &[u8], c: Cursor, numbers: &mut [u64; 22868]) -> Cursor
 }
 
 // The section of semaphores.
-fn owners(plan: &[u8], c: Cursor, queues: u64, numbers: &mut [u64; 22868]) -> Cursor
-    requires { ⌜ Room 65 (now plan) c ⌝ }
+fn owners(plan: &[u8], c: Cursor, queues: u64, numbers: &mut [u64]) -> Cursor
+    requires { ⌜ Room 65 (now plan) c (now numbers) ⌝ }
     ensures { λ r. ⌜ Reads (counted 0 64 1 (field 1 (limited queues 4))) 65 (now (plan .entry)) c (now (numbers .entry)) r (now (numbers .exit)) ⌝ }
 {
     let start = field::byte(plan, c, 65, 2, numbers);
@@ -50,8 +50,8 @@ fn owners(plan: &[u8], c: Cursor, queues: u64, numbers: &mut [u64; 22868]) -> Cu
 }
 
 // The section of buffers.
-fn sizes(plan: &[u8], c: Cursor, numbers: &mut [u64; 22868]) -> Cursor
-    requires { ⌜ Room 257 (now plan) c ⌝ }
+fn sizes(plan: &[u8], c: Cursor, numbers: &mut [u64]) -> Cursor
+    requires { ⌜ Room 257 (now plan) c (now numbers) ⌝ }
     ensures { λ r. ⌜ Reads (counted 0 256 2 size-field) 257 (now (plan .entry)) c (now (numbers .entry)) r (now (numbers .exit)) ⌝ }
 {
     let start = field::pair(plan, c, 257, 2, numbers);
@@ -69,14 +69,15 @@ fn sizes(plan: &[u8], c: Cursor, numbers: &mut [u64; 22868]) -> Cursor
 }
 
 // The number at a position, 0 past the end.
-fn entry(numbers: &[u64; 22868], i: usize) -> u64
+fn entry(numbers: &[u64], i: usize) -> u64
     ensures { λ r. ⌜ r ≡ getD (now (numbers .entry)) i 0 ⌝ }
 {
-    if i < 22868 { numbers[i] } else { 0 }
+    if i < numbers.len() { numbers[i] } else { 0 }
 }
 
 // The four sections; a count stands in front of its section.
-pub fn sections(plan: &[u8], numbers: &mut [u64; 22868]) -> Cursor
+pub fn sections(plan: &[u8], numbers: &mut [u64]) -> Cursor
+    requires { ⌜ 22868 ≤ length (now numbers) ⌝ }
     ensures { λ r. ⌜ Plan-read (now (plan .entry)) r (now (numbers .exit)) ⌝ }
 {
     let start = Cursor { number: 0, at: 0, got: 0, value: 0 };

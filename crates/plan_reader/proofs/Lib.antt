@@ -1,0 +1,5 @@
+pub mod Words
+pub mod Grammars
+pub mod Axes
+pub mod Fields
+pub mod Cursors
