@@ -10,6 +10,7 @@ use lib.ListN.{length, getD, take, drop, length-take, drop-of-length-le}
 use lib.Seq.{drop-cons, getD-take}
 use borrow.Author.Tests.{eq-eqb, ne-eqb}
 use Rattle.basics.specs.Lists.{member}
+use Rattle.plan_format.specs.Form.{new-axis}
 
 -- whether `v` is among the first `got` of `nums`, from position `i` on
 abbrev pub from-here : (nums : List ℕ) → (got v i : ℕ) → Bool
@@ -30,3 +31,13 @@ module _ (nums : List ℕ) (got v i : ℕ) (fits : got ≤ length nums) where
   pub seen-end : got ≤ i → from-here nums got v i ≡ false
   unfolding member
   seen-end h = rw (drop-of-length-le (take got nums) {i = i} (rw (length-take got nums) (omega arith)))
+
+-- the check of an axis, from the answer of the search
+module _ (got : List ℕ) (v : ℕ) (answer : Bool) (found : answer ≡ member v (drop 1 got)) where
+  pub axis-again : answer ≡ true → new-axis got v ≡ 5
+  unfolding new-axis
+  axis-again t = rw (sym found ∙ t)
+
+  pub axis-new : answer ≡ false → new-axis got v ≡ 0
+  unfolding new-axis
+  axis-new f = rw (sym found ∙ f)

@@ -28,7 +28,12 @@ module _ {bs : List ℕ} {c d r : Cursor} {nums nums₁ nums₂ : List ℕ} wher
   unfolding repeat
   reads-more {g} {m} i p q = rw (add-one i, mul-suc m i) (reads-seq p q)
 
--- none
+-- nothing
+pub reads-nothing : {bs : List ℕ} {c : Cursor} {nums : List ℕ} → c .at ≤ length bs → Reads nothing 0 bs c nums c nums
+unfolding read-by
+reads-nothing h = record { read = refl; inside = h; few = omega arith; as-long = refl }
+
+-- none of a thing
 pub reads-none : (g : Grammar) (m : ℕ) (bs : List ℕ) (c : Cursor) (nums : List ℕ) → c .at ≤ length bs → Reads (repeat 0 g) (m * 0) bs c nums c nums
 unfolding repeat read-by
 reads-none g m bs c nums h = record { read = refl; inside = h; few = omega arith; as-long = refl }

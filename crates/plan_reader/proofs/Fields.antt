@@ -7,15 +7,15 @@ use Prim.Native.Nat.{ℕ, zero, suc, _+_, _-_, _≤_, _<_}
 use native.Mathlib.Numerals.{add-one}
 use native.Mathlib.Omega.{arith}
 use lib.Dec.{ltb, eqb}
-use lib.ListN.{length, getD, take, drop, set, length-append, length-drop, length-set}
-use lib.Seq.{drop-drop, take-suc-set, getD-at}
+use lib.ListN.{length, getD, take, drop, set, length-drop, length-set}
+use lib.Seq.{drop-drop, take-suc-set}
 use borrow.Author.Tests.{lt-ltb, le-ltb, ne-eqb, eqb-true, eqb-false}
 use Rattle.basics.proofs.Tests.{by-cases}
 use Rattle.plan_format.specs.Refusal.{Refusal, refusal, none-given, given}
 use Rattle.plan_format.specs.Grammar.{Check, Grammar, field, value, bytes, Scan, scan, refused, field-number, read-field, last-got, read-by}
 use Rattle.plan_reader.specs.declared.Cursor.{Cursor}
 use Rattle.plan_reader.specs.Reading.{fault-of, here, Room, Reads, Word, limited, Limited}
-use Rattle.plan_reader.proofs.Grammars.{given-number, read-after}
+use Rattle.plan_reader.proofs.Grammars.{given-number, read-after, last-snoc}
 
 module _ (w : ℕ) (c : ℕ → ℕ) (rest : List ℕ) (p : ℕ) (got : List ℕ) where
   field-cut : length rest < w → read-field bytes w c (scan rest p got none-given) ≡ scan rest p got (refusal 1 p)
@@ -34,7 +34,7 @@ module _ (w : ℕ) (c : ℕ → ℕ) (rest : List ℕ) (p : ℕ) (got : List ℕ
 abbrev cursor : (number at got value : ℕ) → Cursor
 cursor n a k v = record { number = n; at = a; got = k; value = v }
 
-here-clean : (bs : List ℕ) (c : Cursor) (nums : List ℕ) → c .number ≡ 0 → here bs c nums ≡ scan (drop (c .at) bs) (c .at) (take (c .got) nums) none-given
+pub here-clean : (bs : List ℕ) (c : Cursor) (nums : List ℕ) → c .number ≡ 0 → here bs c nums ≡ scan (drop (c .at) bs) (c .at) (take (c .got) nums) none-given
 unfolding here fault-of
 here-clean bs c nums e = ap (λ (n : ℕ). scan (drop (c .at) bs) (c .at) (take (c .got) nums) (cond (eqb n 0) none-given (refusal n (c .at)))) e
 
@@ -42,7 +42,7 @@ here-fault : (bs : List ℕ) (n a k v : ℕ) (nums : List ℕ) → (n ≡ 0 → 
 unfolding here fault-of
 here-fault bs n a k v nums z = rw (ne-eqb n 0 z)
 
-fault-number : (c : Cursor) → (c .number ≡ 0 → ⊥) → fault-of c .number ≡ c .number
+pub fault-number : (c : Cursor) → (c .number ≡ 0 → ⊥) → fault-of c .number ≡ c .number
 unfolding fault-of refusal
 fault-number c z = rw (ne-eqb (c .number) 0 z)
 
@@ -108,9 +108,6 @@ module _ {w : ℕ} {check : Check} {bs : List ℕ} {c : Cursor} {nums : List ℕ
         }
 
 -- ---- limited fields, whose number the cursor has
-last-snoc : (xs : List ℕ) (v : ℕ) → getD (xs ++ (v ∷ [])) (length (xs ++ (v ∷ [])) - 1) 0 ≡ v
-last-snoc xs v = rw length-append (getD-at xs v [] 0 (length xs + 1 - 1) (omega arith))
-
 module _ {w limit over : ℕ} {bs : List ℕ} {c : Cursor} {nums : List ℕ} where
   pub limited-passed : (c .number ≡ 0 → ⊥) → c .at ≤ length bs → Limited w limit over bs c nums (cursor (c .number) (c .at) (c .got) 0) nums
   limited-passed z h = record { reads = passed z h; value-is = λ e. absurd (z e); value-below = omega arith }

@@ -3,3 +3,5 @@ pub mod Grammars
 pub mod Axes
 pub mod Fields
 pub mod Cursors
+pub mod Counts
+pub mod Answers

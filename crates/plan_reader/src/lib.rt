@@ -61,5 +61,5 @@ pub fn read_plan(plan: &[u8], room: &mut [u64]) -> Told
         return Told { number: 9, place: told.answer, answer: 0 };
     }
     store(&numbers, many, room);
-    told
+    Told { number: 0, place: 0, answer: told.answer }
 }

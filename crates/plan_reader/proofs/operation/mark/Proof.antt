@@ -23,7 +23,7 @@ same-length c = search needs
 -- src/operation.rt:37:1
 returns : tie.Need-returns
 unfolding mark-below
-returns c = reads-seq (c .before .pair .ensures .reads) (c .byte .ensures .reads)
+returns c = reads-seq (c .before .before .before .before .before .before .pair .ensures .reads) (c .before .before .byte .ensures .reads)
 
 pub mark-spec : {M : Type 1} → statement M
 mark-spec = tie.close (tie.spec pair-requires byte-requires same-length returns)

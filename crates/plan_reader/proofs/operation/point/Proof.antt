@@ -23,7 +23,7 @@ same-length c = search needs
 -- src/operation.rt:9:1
 returns : tie.Need-returns
 unfolding point-below
-returns c = reads-seq (c .before .byte .ensures .reads) (c .point-value .ensures)
+returns c = reads-seq (c .before .before .before .before .before .before .byte .ensures .reads) (c .before .before .point-value .ensures)
 
 pub point-spec : {M : Type 1} → statement M
 point-spec = tie.close (tie.spec byte-requires point-value-requires same-length returns)

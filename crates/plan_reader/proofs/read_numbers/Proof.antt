@@ -1,0 +1,25 @@
+use borrow.Author.Needs.{needs}
+use Rattle.plan_reader.proofs.read_numbers.Statement.{statement}
+use Rattle.plan_reader.proofs.read_numbers.Tie as tie
+use Rattle.plan_reader.proofs.read_numbers.Reads as reads
+use Rattle.plan_reader.proofs.read_numbers.Lts as lts
+use Rattle.plan_reader.proofs.section.sections.Reads as sections-reads
+
+-- src/lib.rt:27:9
+sections-requires : tie.Need-sections-requires
+sections-requires c κs = search needs
+
+-- src/lib.rt:30:9
+returns : tie.Need-returns
+returns c = search needs
+
+-- src/lib.rt:33:9
+returns-2 : tie.Need-returns-2
+returns-2 c = search needs
+
+-- src/lib.rt:24:1
+returns-3 : tie.Need-returns-3
+returns-3 c = search needs
+
+pub read-numbers-spec : {M : Type 1} → statement M
+read-numbers-spec = tie.close (tie.spec sections-requires returns returns-2 returns-3)
