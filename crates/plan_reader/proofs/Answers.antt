@@ -6,7 +6,7 @@ use Prim.Native.Nat.{ℕ, suc, _+_, _-_, _≤_, _<_}
 use native.Mathlib.Numerals.{add-one}
 use native.Mathlib.Omega.{arith}
 use lib.Dec.{ltb, eqb}
-use lib.ListN.{length, getD, take, drop, set, length-append, length-drop}
+use lib.ListN.{length, getD, take, drop, set, length-append, length-drop, length-take}
 use lib.Seq.{length-take-le, take-suc, drop-cons, set-at, append-snoc}
 use borrow.Author.Tests.{lt-ltb, le-ltb, eq-eqb, ne-eqb, eqb-false}
 use Rattle.basics.specs.Lists.{in-front}
@@ -25,11 +25,12 @@ scanned-is : {bs : List ℕ} {c : Cursor} {nums : List ℕ} → Plan-read bs c n
 unfolding scanned scanned-by first-form bytes
 scanned-is p = ap ended (p .read)
 
-numbers-read : {bs : List ℕ} {r : Told} {nums : List ℕ} (s : Scan) → scanned bs ≡ s → Tells (s .fault) (length (s .got)) r → (r .number ≡ 0 → take (length (s .got)) nums ≡ s .got) → Numbers-read bs r nums
-numbers-read {bs} {r} {nums} s e t n =
+numbers-read : {bs : List ℕ} {r : Told} {nums : List ℕ} (s : Scan) → scanned bs ≡ s → Tells (s .fault) (length (s .got)) r → (r .number ≡ 0 → take (length (s .got)) nums ≡ s .got) → r .answer ≤ 22868 → Numbers-read bs r nums
+numbers-read {bs} {r} {nums} s e t n few =
     record {
       told = subst (λ (x : Scan). Tells (x .fault) (length (x .got)) r) (sym e) t;
       numbers = λ z. subst (λ (x : Scan). take (length (x .got)) nums ≡ x .got) (sym e) (n z);
+      few = few;
     }
 
 ended-given : (s : Scan) → given (s .fault) ≡ true → ended s ≡ s
@@ -54,7 +55,7 @@ module _ {bs : List ℕ} {c : Cursor} {nums : List ℕ} (p : Plan-read bs c nums
   unfolding here scan
   read-refused z =
       numbers-read (here bs c nums) (scanned-is p ∙ ended-given (here bs c nums) (here-given bs c nums z))
-      (record { number = sym (fault-number c z); place = sym (fault-place c z); answer-is = rw (here-given bs c nums z) }) (λ e. absurd (z e))
+      (record { number = sym (fault-number c z); place = sym (fault-place c z); answer-is = rw (here-given bs c nums z) }) (λ e. absurd (z e)) (omega arith)
 
   -- bytes behind the last section
   pub read-more : c .number ≡ 0 → c .at < length bs → Numbers-read bs (record { number = 3; place = c .at; answer = 0 }) nums
@@ -63,7 +64,7 @@ module _ {bs : List ℕ} {c : Cursor} {nums : List ℕ} (p : Plan-read bs c nums
       numbers-read (scan (drop (c .at) bs) (c .at) (take (c .got) nums) (refusal 3 (c .at)))
       (scanned-is p ∙ ap ended (here-clean bs c nums z)
       ∙ ended-more (drop (c .at) bs) (c .at) (take (c .got) nums) (λ e. omega (arith, length-drop (c .at) bs)))
-      (record { number = refl; place = refl; answer-is = refl }) (λ e. absurd (eqb-false 3 0 refl e))
+      (record { number = refl; place = refl; answer-is = refl }) (λ e. absurd (eqb-false 3 0 refl e)) (omega arith)
 
   -- a whole plan
   pub read-whole : c .number ≡ 0 → length bs ≤ c .at → c .got ≤ length nums → Numbers-read bs (record { number = 0; place = 0; answer = c .got }) nums
@@ -73,7 +74,7 @@ module _ {bs : List ℕ} {c : Cursor} {nums : List ℕ} (p : Plan-read bs c nums
       numbers-read (scan (drop (c .at) bs) (c .at) (take (c .got) nums) none-given)
       (scanned-is p ∙ ap ended (here-clean bs c nums z)
       ∙ ended-none (drop (c .at) bs) (c .at) (take (c .got) nums) (length-drop (c .at) bs ∙ omega arith))
-      (record { number = refl; place = refl; answer-is = sym l }) (λ e. ap (λ (n : ℕ). take n nums) l)
+      (record { number = refl; place = refl; answer-is = sym l }) (λ e. ap (λ (n : ℕ). take n nums) l) (p .few)
 
 -- ---- into the room
 -- the refusal that stands for a reading's and the room's
@@ -106,6 +107,16 @@ module _ (f : Refusal) (got : List ℕ) {told : Told} (t : Tells f (length got) 
   stored z h e =
       filled {g = none-given} got room (rw (clean z, le-ltb (length room) (length got) (omega (arith, answer-long z))))
       (record { number = refl; place = refl; answer-is = answer-long z }) e
+
+-- numbers that were read fit the array that they were read into
+pub read-fits : {bs : List ℕ} {r : Told} {nums : List ℕ} → Numbers-read bs r nums → r .number ≡ 0 → r .answer ≤ length nums
+read-fits {bs} {r} {nums} n z =
+    omega (arith, answer-long (scanned bs .fault) (scanned bs .got) (n .told) [] z, ap length (n .numbers z), length-take (length (scanned bs .got)) nums)
+
+pub read-front : {bs : List ℕ} {r : Told} {nums : List ℕ} → Numbers-read bs r nums → r .number ≡ 0 → (room : List ℕ) → in-front (take (r .answer) nums) room ≡ in-front (scanned bs .got) room
+read-front {bs} {r} {nums} n z room =
+    ap (λ (l : List ℕ). in-front l room)
+    (ap (λ (k : ℕ). take k nums) (answer-long (scanned bs .fault) (scanned bs .got) (n .told) [] z) ∙ n .numbers z)
 
 -- one number more in front
 pub in-front-none : (nums room : List ℕ) → room ≡ in-front (take 0 nums) room

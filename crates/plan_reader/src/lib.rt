@@ -3,6 +3,7 @@ mod field;
 mod operation;
 mod section;
 mod word;
+
 use plan_format::Told;
 ghost use mathlib.Core.Path.{_≡_};
 ghost use mathlib.Core.List.{_++_};
@@ -27,17 +28,29 @@ pub fn read_numbers(plan: &[u8], numbers: &mut [u64; 22868]) -> Told
     let c = section::sections(plan, numbers);
     let at = c.at;
     if c.number != 0 {
-        return Told { number: c.number, place: at as u64, answer: 0 };
+        return Told {
+            number: c.number,
+            place: at as u64,
+            answer: 0,
+        };
     }
     if at < plan.len() {
-        return Told { number: 3, place: at as u64, answer: 0 };
+        return Told {
+            number: 3,
+            place: at as u64,
+            answer: 0,
+        };
     }
-    Told { number: 0, place: 0, answer: c.got as u64 }
+    Told {
+        number: 0,
+        place: 0,
+        answer: c.got as u64,
+    }
 }
 
 // The first `many` numbers, in front of the room.
-fn store(numbers: &[u64], many: usize, room: &mut [u64])
-    requires { ⌜ (many ≤ length (now numbers)) × (many ≤ length (now room)) ⌝ }
+fn store(numbers: &[u64; 22868], many: usize, room: &mut [u64])
+    requires { ⌜ (many ≤ 22868) × (many ≤ length (now numbers)) × (many ≤ length (now room)) ⌝ }
     ensures { λ _. ⌜ now (room .exit) ≡ in-front (take many (now (numbers .entry))) (now (room .entry)) ⌝ }
 {
     let mut i = 0;
@@ -58,8 +71,16 @@ pub fn read_plan(plan: &[u8], room: &mut [u64]) -> Told
     }
     let many = told.answer as usize;
     if room.len() < many {
-        return Told { number: 9, place: told.answer, answer: 0 };
+        return Told {
+            number: 9,
+            place: told.answer,
+            answer: 0,
+        };
     }
     store(&numbers, many, room);
-    Told { number: 0, place: 0, answer: told.answer }
+    Told {
+        number: 0,
+        place: 0,
+        answer: told.answer,
+    }
 }

@@ -1,6 +1,6 @@
 // Operations: a queue, waits, signals and marks.
-use crate::field;
 use crate::Cursor;
+use crate::field;
 ghost use Prim.Native.Nat.{_+_, _*_, _≤_};
 ghost use Rattle.plan_format.specs.Grammar.{counted};
 ghost use Rattle.plan_reader.specs.Reading.{Room, Reads, point-below, mark-below, operation-below};
@@ -62,7 +62,14 @@ fn marks(plan: &[u8], c: Cursor, buffers: u64, numbers: &mut [u64]) -> Cursor
 }
 
 // One operation.
-fn operation(plan: &[u8], c: Cursor, queues: u64, semaphores: u64, buffers: u64, numbers: &mut [u64]) -> Cursor
+fn operation(
+    plan: &[u8],
+    c: Cursor,
+    queues: u64,
+    semaphores: u64,
+    buffers: u64,
+    numbers: &mut [u64],
+) -> Cursor
     requires { ⌜ Room 22 (now plan) c (now numbers) ⌝ }
     ensures { λ r. ⌜ Reads (operation-below queues semaphores buffers) 22 (now (plan .entry)) c (now (numbers .entry)) r (now (numbers .exit)) ⌝ }
 {
@@ -73,7 +80,14 @@ fn operation(plan: &[u8], c: Cursor, queues: u64, semaphores: u64, buffers: u64,
 }
 
 // The section of operations.
-pub fn operations(plan: &[u8], c: Cursor, queues: u64, semaphores: u64, buffers: u64, numbers: &mut [u64]) -> Cursor
+pub fn operations(
+    plan: &[u8],
+    c: Cursor,
+    queues: u64,
+    semaphores: u64,
+    buffers: u64,
+    numbers: &mut [u64],
+) -> Cursor
     requires { ⌜ Room 22529 (now plan) c (now numbers) ⌝ }
     ensures { λ r. ⌜ Reads (counted 0 1024 2 (operation-below queues semaphores buffers)) 22529 (now (plan .entry)) c (now (numbers .entry)) r (now (numbers .exit)) ⌝ }
 {

@@ -1,7 +1,7 @@
 // The sections of a plan, in stored order.
+use crate::Cursor;
 use crate::field;
 use crate::operation;
-use crate::Cursor;
 ghost use mathlib.Core.Path.{_≡_};
 ghost use mathlib.Core.List.{[]};
 ghost use Prim.Native.Nat.{_+_, _≤_};
@@ -80,7 +80,12 @@ pub fn sections(plan: &[u8], numbers: &mut [u64]) -> Cursor
     requires { ⌜ 22868 ≤ length (now numbers) ⌝ }
     ensures { λ r. ⌜ Plan-read (now (plan .entry)) r (now (numbers .exit)) ⌝ }
 {
-    let start = Cursor { number: 0, at: 0, got: 0, value: 0 };
+    let start = Cursor {
+        number: 0,
+        at: 0,
+        got: 0,
+        value: 0,
+    };
     let second = axes(plan, start, numbers);
     let queues = entry(numbers, 0);
     let third = owners(plan, second, queues, numbers);

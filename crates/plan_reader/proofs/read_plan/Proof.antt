@@ -1,3 +1,7 @@
+use mathlib.Core.Path.{_∙_}
+use native.Mathlib.Omega.{arith}
+use Rattle.plan_format.specs.Stored.{scanned, read-refusal, Read-says}
+use Rattle.plan_reader.proofs.Answers.{not-read, no-room, stored, read-fits, read-front}
 use borrow.Author.Needs.{needs}
 use Rattle.plan_reader.proofs.read_plan.Statement.{statement}
 use Rattle.plan_reader.proofs.read_plan.Tie as tie
@@ -12,19 +16,17 @@ read-numbers-requires c κs = search needs
 
 -- src/lib.rt:57:9
 returns : tie.Need-returns
-returns c = search needs
+unfolding Read-says read-refusal
+returns c = let s = c .before .before .before .before .before .before in let bs = s .args .plan .now in not-read (scanned bs .fault) (scanned bs .got) (c .before .before .read-numbers .ensures .told) (s .args .room .now) (c .if1 .taken)
 
 -- src/lib.rt:61:9
 returns-2 : tie.Need-returns-2
-returns-2 c = search needs
-
--- src/lib.rt:63:11
-slice-aggregate-store : tie.Need-slice-aggregate-store
-slice-aggregate-store c = search needs
+unfolding Read-says read-refusal
+returns-2 c = let s = c .before .before .before .before .before .before .before in let bs = s .args .plan .now in no-room (scanned bs .fault) (scanned bs .got) (c .before .before .before .read-numbers .ensures .told) (s .args .room .now) (c .before .if1 .left) (c .if2 .taken)
 
 -- src/lib.rt:63:5
 store-requires : tie.Need-store-requires
-store-requires c κs = search needs
+store-requires c κs = (omega arith, read-fits (c .before .before .before .before .before .read-numbers .ensures) (c .before .before .before .if1 .left), c .before .before .if2 .left)
 
 -- src/lib.rt:51:1
 same-length : tie.Need-same-length
@@ -32,16 +34,10 @@ same-length c = search needs
 
 -- src/lib.rt:51:1
 returns-3 : tie.Need-returns-3
-returns-3 c = search needs
+unfolding Read-says read-refusal
+returns-3 c = let s = c .before .before .before .before .before .before .before .before .before .before .before .before in let bs = s .args .plan .now in let n = c .before .before .before .before .before .before .before .before .read-numbers .ensures in let clean = c .before .before .before .before .before .before .if1 .left in stored (scanned bs .fault) (scanned bs .got) (n .told) (s .args .room .now) clean (c .before .before .before .before .before .if2 .left) (c .before .before .store .ensures ∙ read-front n clean (s .args .room .now))
 
 pub read-plan-spec : {M : Type 1} → statement M
 read-plan-spec =
     tie.close
-    (tie.spec
-    read-numbers-requires
-    returns
-    returns-2
-    slice-aggregate-store
-    store-requires
-    same-length
-    returns-3)
+    (tie.spec read-numbers-requires returns returns-2 store-requires same-length returns-3)

@@ -28,8 +28,8 @@ mul-room : tie.Need-mul-room Inv-loop μ-loop
 mul-room c = search needs
 
 -- src/lib.rt:45:19
-shared-slice-read-room : tie.Need-shared-slice-read-room Inv-loop μ-loop
-shared-slice-read-room c = search needs
+element-copy-out-room : tie.Need-element-copy-out-room Inv-loop μ-loop
+element-copy-out-room c = search needs
 
 -- src/lib.rt:45:9
 mul-room-2 : tie.Need-mul-room-2 Inv-loop μ-loop
@@ -51,10 +51,11 @@ loop-less c = search needs
 loop-again : tie.Need-loop-again Inv-loop μ-loop
 loop-again c = let l = c .before .before .loop in
     let s = c .before .before .before in
-    let v = getD (s .args .numbers .now) (l .i) 0 in
-    (omega arith,
-    ap (λ (xs : List ℕ). set xs (l .i) v) (l .inv .1) ∙ in-front-more (s .args .numbers .now) (s .args .room .now) (l .i) (omega arith) (omega arith),
-    length-set (l .room) (l .i) v ∙ l .inv .2)
+    let v = getD (s .args .numbers .now) (l .i) 0 in (
+      omega arith,
+      ap (λ (xs : List ℕ). set xs (l .i) v) (l .inv .1) ∙ in-front-more (s .args .numbers .now) (s .args .room .now) (l .i) (omega arith) (omega arith),
+      length-set (l .room) (l .i) v ∙ l .inv .2,
+    )
 
 -- src/lib.rt:39:1
 same-length : tie.Need-same-length Inv-loop μ-loop
@@ -72,7 +73,7 @@ store-spec =
     μ-loop
     loop-holds
     mul-room
-    shared-slice-read-room
+    element-copy-out-room
     mul-room-2
     slice-write-room
     add-i

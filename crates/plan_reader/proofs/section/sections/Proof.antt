@@ -1,3 +1,5 @@
+use mathlib.Core.Path.{_∙_}
+use Rattle.plan_reader.proofs.Counts.{plan-read}
 use borrow.Author.Needs.{needs}
 use Rattle.plan_reader.proofs.section.sections.Statement.{statement}
 use Rattle.plan_reader.proofs.section.sections.Tie as tie
@@ -39,11 +41,11 @@ operations-requires c κs = search needs
 
 -- src/section.rt:79:1
 same-length : tie.Need-same-length
-same-length c = search needs
+same-length c = c .before .before .operations .ensures .as-long ∙ c .before .before .before .before .before .before .before .before .sizes .ensures .as-long ∙ c .before .before .before .before .before .before .before .before .before .before .before .before .before .before .owners .ensures .as-long ∙ c .before .before .before .before .before .before .before .before .before .before .before .before .before .before .before .before .before .before .before .before .axes .ensures .as-long
 
 -- src/section.rt:79:1
 returns : tie.Need-returns
-returns c = search needs
+returns c = let s = c .before .before .before .before .before .before .before .before .before .before .before .before .before .before .before .before .before .before .before .before .before .before .before .before in plan-read (s .args .plan .now) (s .pre) (c .before .before .before .before .before .before .before .before .before .before .before .before .before .before .before .before .before .before .before .before .axes .ensures) (c .before .before .before .before .before .before .before .before .before .before .before .before .before .before .before .before .entry .ensures) (c .before .before .before .before .before .before .before .before .before .before .before .before .before .before .owners .ensures) (c .before .before .before .before .before .before .before .before .before .before .entry2 .ensures) (c .before .before .before .before .before .before .before .before .sizes .ensures) (c .before .before .before .before .entry3 .ensures) (c .before .before .operations .ensures)
 
 pub sections-spec : {M : Type 1} → statement M
 sections-spec =
