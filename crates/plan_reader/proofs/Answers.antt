@@ -1,21 +1,20 @@
 -- What the reader answers: from the end of the reading to the numbers handed back, and the copy into the room. Assumes nothing.
 use mathlib.Core.Path.{_≡_, refl, sym, ap, _∙_, subst}
-use mathlib.Core.Bool.{Bool, true, false, _||_, cond}
-use mathlib.Core.List.{List, [], _∷_, _++_}
-use Prim.Native.Nat.{ℕ, suc, _+_, _-_, _≤_, _<_}
+use mathlib.Core.Bool.{true, false, cond}
+use mathlib.Core.List.{List, []}
+use Prim.Native.Nat.{ℕ, suc, _+_, _≤_, _<_}
 use native.Mathlib.Numerals.{add-one}
 use native.Mathlib.Omega.{arith}
-use lib.Dec.{ltb, eqb}
 use lib.ListN.{length, getD, take, drop, set, length-append, length-drop, length-take}
 use lib.Seq.{length-take-le, take-suc, drop-cons, set-at, append-snoc}
 use borrow.Author.Tests.{lt-ltb, le-ltb, eq-eqb, ne-eqb, eqb-false}
 use Rattle.basics.specs.Lists.{in-front}
 use Rattle.plan_format.specs.Refusal.{Refusal, refusal, none-given, given, or-else}
-use Rattle.plan_format.specs.Grammar.{bytes, Scan, scan, refused, read-by, ended}
-use Rattle.plan_format.specs.Form.{first-form, plan-grammar, scanned-by}
-use Rattle.plan_format.specs.Stored.{scanned, room-for, read-refusal, Tells, Fills, Read-says}
+use Rattle.plan_format.specs.Grammar.{bytes, Scan, scan, refused, ended}
+use Rattle.plan_format.specs.Form.{first-form, scanned-by}
+use Rattle.plan_format.specs.Stored.{scanned, room-for, Tells, Fills}
 use Rattle.plan_format.specs.declared.Told.{Told}
-use Rattle.plan_reader.specs.declared.Cursor.{Cursor}
+use Rattle.plan_reader.specs.declared.cursor.Cursor.{Cursor}
 use Rattle.plan_reader.specs.Reading.{fault-of, here, Plan-read, Numbers-read}
 use Rattle.plan_reader.proofs.Grammars.{given-number, given-none}
 use Rattle.plan_reader.proofs.Fields.{here-given, here-clean, fault-number}

@@ -2,17 +2,17 @@
 use mathlib.Core.Path.{_≡_, refl, sym, ap, _∙_, subst}
 use mathlib.Core.Bool.{cond}
 use mathlib.Core.List.{List, [], _∷_, _++_, append-assoc}
-use Prim.Native.Nat.{ℕ, suc, _+_, _*_, _≤_, _<_, min}
+use Prim.Native.Nat.{ℕ, _+_, _≤_}
 use native.Mathlib.Omega.{arith}
 use lib.Dec.{ltb}
-use lib.ListN.{length, getD, take, drop, length-append, length-take}
+use lib.ListN.{length, getD, take, length-append, length-take}
 use lib.Seq.{getD-at, getD-take, length-take-le}
-use Rattle.plan_format.specs.Refusal.{none-given}
-use Rattle.plan_format.specs.Grammar.{Check, Grammar, field, seq, counted, nothing, bytes, Scan, scan, read-by}
+use Rattle.plan_format.specs.Grammar.{field, counted, bytes, Scan, scan, read-by}
 use Rattle.plan_format.specs.Form.{first-form, queue-count, semaphore-count, buffer-count, any-number, below, new-axis, a-queue, a-semaphore, a-buffer, a-kind, point, mark, part, operation, plan-grammar}
-use Rattle.plan_reader.specs.declared.Cursor.{Cursor}
+use Rattle.plan_reader.specs.declared.cursor.Cursor.{Cursor}
 use Rattle.plan_reader.specs.Reading.{fault-of, here, Reads, Plan-read, limited, axis-field, size-field, point-below, mark-below, operation-below}
-use Rattle.plan_reader.proofs.Grammars.{Alike, field-alike, seq-alike, counted-alike, nothing-alike, alike-from, Section, section}
+use Rattle.plan_reader.proofs.Alike.{Alike, field-alike, seq-alike, counted-alike, nothing-alike, alike-from}
+use Rattle.plan_reader.proofs.Follows.{Section, section}
 
 -- the number that stands behind a front of the numbers read
 number-at : (nums : List ℕ) (k i : ℕ) (front : List ℕ) (v : ℕ) (rest : List ℕ) → take k nums ≡ front ++ (v ∷ rest) → length front ≡ i → getD nums i 0 ≡ v

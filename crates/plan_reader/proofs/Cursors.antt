@@ -1,20 +1,20 @@
 -- What cursors read, put together: one thing after another, a count and its things, a loop that stops at a refusal. Assumes nothing.
-use mathlib.Core.Path.{_≡_, refl, sym, ap, _∙_, subst}
-use mathlib.Core.Bool.{Bool, true, false, _||_, cond}
-use mathlib.Core.List.{List, [], _∷_, _++_}
-use Prim.Native.Nat.{ℕ, zero, suc, _+_, _-_, _*_, _≤_, _<_, zero-le}
+use mathlib.Core.Path.{_≡_, refl, sym, ap, _∙_}
+use mathlib.Core.Bool.{cond}
+use mathlib.Core.List.{List}
+use Prim.Native.Nat.{ℕ, _+_, _*_, _≤_, zero-le}
 use native.Mathlib.Nat.{mul-le-mul-left, mul-suc}
 use native.Mathlib.Numerals.{add-one}
 use native.Mathlib.Omega.{arith}
-use lib.Dec.{ltb, eqb}
-use lib.ListN.{length, getD, take, drop}
+use lib.Dec.{ltb}
+use lib.ListN.{length, take, drop}
 use borrow.Author.Tests.{lt-ltb, le-ltb, ltb-true, ltb-false}
 use Rattle.basics.proofs.Tests.{by-cases}
 use Rattle.plan_format.specs.Refusal.{given}
-use Rattle.plan_format.specs.Grammar.{Check, Grammar, field, seq, counted, nothing, bytes, Scan, scan, read-field, last-got, count-check, read-by}
-use Rattle.plan_reader.specs.declared.Cursor.{Cursor}
+use Rattle.plan_format.specs.Grammar.{Grammar, seq, counted, nothing, bytes, Scan, scan, count-check, read-by}
+use Rattle.plan_reader.specs.declared.cursor.Cursor.{Cursor}
 use Rattle.plan_reader.specs.Reading.{fault-of, here, Reads, limited, Limited}
-use Rattle.plan_reader.proofs.Grammars.{repeat, read-counted, repeat-stops, field-same, given-not}
+use Rattle.plan_reader.proofs.Grammars.{repeat, read-counted, repeat-stops, field-same}
 use Rattle.plan_reader.proofs.Fields.{here-given, fault-none}
 
 module _ {bs : List ℕ} {c d r : Cursor} {nums nums₁ nums₂ : List ℕ} where

@@ -1,20 +1,20 @@
 -- One field, read where there is no fault: cut short, refused by its check, or kept; and the cursor that stands for what is read.
 -- Assumes nothing.
-use mathlib.Core.Path.{_≡_, refl, sym, ap, _∙_, subst}
-use mathlib.Core.Bool.{Bool, true, false, cond}
+use mathlib.Core.Path.{_≡_, refl, sym, ap, _∙_}
+use mathlib.Core.Bool.{true, cond}
 use mathlib.Core.List.{List, [], _∷_, _++_}
-use Prim.Native.Nat.{ℕ, zero, suc, _+_, _-_, _≤_, _<_}
+use Prim.Native.Nat.{ℕ, _+_, _-_, _≤_, _<_}
 use native.Mathlib.Numerals.{add-one}
 use native.Mathlib.Omega.{arith}
-use lib.Dec.{ltb, eqb}
-use lib.ListN.{length, getD, take, drop, set, length-drop, length-set}
+use lib.Dec.{eqb}
+use lib.ListN.{length, take, drop, set, length-drop, length-set}
 use lib.Seq.{drop-drop, take-suc-set}
 use borrow.Author.Tests.{lt-ltb, le-ltb, ne-eqb, eqb-true, eqb-false}
 use Rattle.basics.proofs.Tests.{by-cases}
-use Rattle.plan_format.specs.Refusal.{Refusal, refusal, none-given, given}
+use Rattle.plan_format.specs.Refusal.{refusal, none-given, given}
 use Rattle.plan_format.specs.Grammar.{Check, Grammar, field, value, bytes, Scan, scan, refused, field-number, read-field, last-got, read-by}
-use Rattle.plan_reader.specs.declared.Cursor.{Cursor}
-use Rattle.plan_reader.specs.Reading.{fault-of, here, Room, Reads, Word, limited, Limited}
+use Rattle.plan_reader.specs.declared.cursor.Cursor.{Cursor}
+use Rattle.plan_reader.specs.Reading.{fault-of, here, Reads, Word, limited, Limited}
 use Rattle.plan_reader.proofs.Grammars.{given-number, read-after, last-snoc}
 
 module _ (w : ℕ) (c : ℕ → ℕ) (rest : List ℕ) (p : ℕ) (got : List ℕ) where

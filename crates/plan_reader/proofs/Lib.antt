@@ -1,5 +1,7 @@
 pub mod Words
 pub mod Grammars
+pub mod Alike
+pub mod Follows
 pub mod Axes
 pub mod Fields
 pub mod Cursors

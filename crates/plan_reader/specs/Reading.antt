@@ -1,17 +1,17 @@
 -- What the reader's functions say: the reading that a cursor stands for, and the grammars of the sections once the counts are known.
 -- Assumes nothing: these are definitions.
 use mathlib.Core.Path.{_≡_}
-use mathlib.Core.Bool.{Bool, true, false, cond}
-use mathlib.Core.List.{List, [], _∷_}
-use Prim.Native.Nat.{ℕ, _+_, _-_, _*_, _≤_, _<_, _^_}
+use mathlib.Core.Bool.{cond}
+use mathlib.Core.List.{List, []}
+use Prim.Native.Nat.{ℕ, _+_, _-_, _≤_, _<_, _^_}
 use lib.Dec.{ltb, eqb}
-use lib.ListN.{length, getD, take, drop}
+use lib.ListN.{length, take, drop}
 use Rattle.plan_format.specs.Refusal.{Refusal, refusal, none-given}
-use Rattle.plan_format.specs.Grammar.{Check, Grammar, field, seq, counted, nothing, value, bytes, Scan, scan, last-got, read-by}
+use Rattle.plan_format.specs.Grammar.{Check, Grammar, field, seq, counted, value, bytes, Scan, scan, last-got, read-by}
 use Rattle.plan_format.specs.Form.{first-form, any-number, new-axis, part, plan-grammar}
 use Rattle.plan_format.specs.Stored.{scanned, Tells}
 use Rattle.plan_format.specs.declared.Told.{Told}
-use Rattle.plan_reader.specs.declared.Cursor.{Cursor}
+use Rattle.plan_reader.specs.declared.cursor.Cursor.{Cursor}
 
 -- the reading of `bs` that a cursor stands for, its numbers being in front of `nums`
 unfoldable pub fault-of : Cursor → Refusal

@@ -1,11 +1,11 @@
 // Fields: each is read at a cursor, judged, and stored behind the numbers before it. A cursor with a refusal passes through unchanged.
-use crate::Cursor;
+use crate::cursor::Cursor;
 use crate::word;
 ghost use mathlib.Core.Path.{_≡_};
-ghost use Prim.Native.Nat.{_+_, _≤_};
+ghost use Prim.Native.Nat.{_≤_};
 ghost use lib.ListN.{length, drop, take};
 ghost use Rattle.basics.specs.Lists.{member};
-ghost use Rattle.plan_format.specs.Form.{any-number, new-axis};
+ghost use Rattle.plan_format.specs.Form.{any-number};
 ghost use Rattle.plan_format.specs.Grammar.{field};
 ghost use Rattle.plan_reader.specs.Reading.{Room, Reads, Limited, axis-field, size-field};
 
@@ -18,37 +18,17 @@ pub fn byte(plan: &[u8], c: Cursor, limit: u64, over: u32, numbers: &mut [u64]) 
     let at = c.at;
     let got = c.got;
     if c.number != 0 {
-        return Cursor {
-            number: c.number,
-            at,
-            got,
-            value: 0,
-        };
+        return c.refused(c.number);
     }
     if plan.len() - at < 1 {
-        return Cursor {
-            number: 1,
-            at,
-            got,
-            value: 0,
-        };
+        return c.refused(1);
     }
     let value = word::word1(plan, at);
     if limit <= value {
-        return Cursor {
-            number: over,
-            at,
-            got,
-            value: 0,
-        };
+        return c.refused(over);
     }
     numbers[got] = value;
-    Cursor {
-        number: 0,
-        at: at + 1,
-        got: got + 1,
-        value,
-    }
+    c.past(1, value)
 }
 
 // Two bytes below `limit`; any other number is refused by `over`.
@@ -60,37 +40,17 @@ pub fn pair(plan: &[u8], c: Cursor, limit: u64, over: u32, numbers: &mut [u64]) 
     let at = c.at;
     let got = c.got;
     if c.number != 0 {
-        return Cursor {
-            number: c.number,
-            at,
-            got,
-            value: 0,
-        };
+        return c.refused(c.number);
     }
     if plan.len() - at < 2 {
-        return Cursor {
-            number: 1,
-            at,
-            got,
-            value: 0,
-        };
+        return c.refused(1);
     }
     let value = word::word2(plan, at);
     if limit <= value {
-        return Cursor {
-            number: over,
-            at,
-            got,
-            value: 0,
-        };
+        return c.refused(over);
     }
     numbers[got] = value;
-    Cursor {
-        number: 0,
-        at: at + 2,
-        got: got + 1,
-        value,
-    }
+    c.past(2, value)
 }
 
 // The size of a buffer: four bytes, any number.
@@ -104,21 +64,11 @@ pub fn size(plan: &[u8], c: Cursor, numbers: &mut [u64]) -> Cursor
         return c;
     }
     if plan.len() - at < 4 {
-        return Cursor {
-            number: 1,
-            at,
-            got,
-            value: 0,
-        };
+        return c.refused(1);
     }
     let value = word::word4(plan, at);
     numbers[got] = value;
-    Cursor {
-        number: 0,
-        at: at + 4,
-        got: got + 1,
-        value,
-    }
+    c.past(4, value)
 }
 
 // The value of a wait or a signal: eight bytes, any number.
@@ -132,21 +82,11 @@ pub fn point_value(plan: &[u8], c: Cursor, numbers: &mut [u64]) -> Cursor
         return c;
     }
     if plan.len() - at < 8 {
-        return Cursor {
-            number: 1,
-            at,
-            got,
-            value: 0,
-        };
+        return c.refused(1);
     }
     let value = word::word8(plan, at);
     numbers[got] = value;
-    Cursor {
-        number: 0,
-        at: at + 8,
-        got: got + 1,
-        value,
-    }
+    c.past(8, value)
 }
 
 // Whether `axis` stands among the first `got` numbers, behind the count.
@@ -175,27 +115,12 @@ pub fn axis(plan: &[u8], c: Cursor, numbers: &mut [u64]) -> Cursor
         return c;
     }
     if plan.len() - at < 8 {
-        return Cursor {
-            number: 1,
-            at,
-            got,
-            value: 0,
-        };
+        return c.refused(1);
     }
     let value = word::word8(plan, at);
     if repeated(numbers, got, value) {
-        return Cursor {
-            number: 5,
-            at,
-            got,
-            value: 0,
-        };
+        return c.refused(5);
     }
     numbers[got] = value;
-    Cursor {
-        number: 0,
-        at: at + 8,
-        got: got + 1,
-        value,
-    }
+    c.past(8, value)
 }

@@ -1,4 +1,5 @@
 // The reader of stored plans: one pass over the bytes, a cursor by value, each field judged and stored as it is read.
+mod cursor;
 mod field;
 mod operation;
 mod section;
@@ -6,20 +7,11 @@ mod word;
 
 use plan_format::Told;
 ghost use mathlib.Core.Path.{_≡_};
-ghost use mathlib.Core.List.{_++_};
-ghost use Prim.Native.Nat.{_+_, _≤_};
-ghost use lib.ListN.{length, getD, take};
+ghost use Prim.Native.Nat.{_≤_};
+ghost use lib.ListN.{length, take};
 ghost use Rattle.basics.specs.Lists.{in-front};
 ghost use Rattle.plan_format.specs.Stored.{Read-says};
 ghost use Rattle.plan_reader.specs.Reading.{Numbers-read};
-
-// Where the reading stands: the refusal met, or 0; the place in the bytes; how many numbers are stored; the one read last.
-pub struct Cursor {
-    pub number: u32,
-    pub at: usize,
-    pub got: usize,
-    pub value: u64,
-}
 
 // The numbers of a stored plan, or the first of refusals 1 to 5; the answer is how many numbers there are.
 pub fn read_numbers(plan: &[u8], numbers: &mut [u64; 22868]) -> Told

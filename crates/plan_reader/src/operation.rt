@@ -1,7 +1,7 @@
 // Operations: a queue, waits, signals and marks.
-use crate::Cursor;
+use crate::cursor::Cursor;
 use crate::field;
-ghost use Prim.Native.Nat.{_+_, _*_, _≤_};
+ghost use Prim.Native.Nat.{_+_, _*_};
 ghost use Rattle.plan_format.specs.Grammar.{counted};
 ghost use Rattle.plan_reader.specs.Reading.{Room, Reads, point-below, mark-below, operation-below};
 

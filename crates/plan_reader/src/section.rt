@@ -1,14 +1,11 @@
 // The sections of a plan, in stored order.
-use crate::Cursor;
+use crate::cursor::Cursor;
 use crate::field;
 use crate::operation;
 ghost use mathlib.Core.Path.{_≡_};
-ghost use mathlib.Core.List.{[]};
-ghost use Prim.Native.Nat.{_+_, _≤_};
+ghost use Prim.Native.Nat.{_≤_};
 ghost use lib.ListN.{length, getD};
-ghost use Rattle.plan_format.specs.Form.{first-form, plan-grammar};
 ghost use Rattle.plan_format.specs.Grammar.{counted, field};
-ghost use Rattle.plan_format.specs.Refusal.{none-given};
 ghost use Rattle.plan_reader.specs.Reading.{Room, Reads, Plan-read, axis-field, size-field, limited};
 
 // The section of queues.

@@ -1,17 +1,14 @@
-use Prim.Native.Nat.{ℕ}
+-- `store` meets its contract: after i turns, the first i numbers are in front.
 use mathlib.Core.List.{List}
-use lib.ListN.{set, length-set, getD}
+use mathlib.Core.Path.{_≡_, refl, ap, _∙_}
+use Prim.Native.Nat.{ℕ, _-_, _≤_}
 use native.Mathlib.Omega.{arith}
-use Prim.Native.Nat.{_-_, _≤_}
-use mathlib.Core.Path.{_≡_, refl, sym, ap, _∙_}
-use lib.ListN.{length, take}
+use lib.ListN.{length, take, set, length-set, getD}
+use borrow.Author.Needs.{needs}
 use Rattle.basics.specs.Lists.{in-front}
 use Rattle.plan_reader.proofs.Answers.{in-front-none, in-front-more}
-use borrow.Author.Needs.{needs}
 use Rattle.plan_reader.proofs.store.Statement.{statement}
 use Rattle.plan_reader.proofs.store.Tie as tie
-use Rattle.plan_reader.proofs.store.Reads as reads
-use Rattle.plan_reader.proofs.store.Lts as lts
 
 abbrev Inv-loop : tie.InvT-loop
 Inv-loop numbers many room₀ i₀ room i = (i ≤ many) × (room ≡ in-front (take i numbers) room₀) × (length room ≡ length room₀)
@@ -19,65 +16,48 @@ Inv-loop numbers many room₀ i₀ room i = (i ≤ many) × (room ≡ in-front (
 abbrev μ-loop : tie.MeasureT-loop
 μ-loop numbers many room₀ i₀ room i = many - i
 
--- src/lib.rt:44:5
 loop-holds : tie.Need-loop-holds Inv-loop μ-loop
 loop-holds c = (omega arith, in-front-none (c .args .numbers .now) (c .args .room .now), refl)
 
--- src/lib.rt:45:19
 mul-room : tie.Need-mul-room Inv-loop μ-loop
 mul-room c = search needs
 
--- src/lib.rt:45:19
 element-copy-out-room : tie.Need-element-copy-out-room Inv-loop μ-loop
 element-copy-out-room c = search needs
 
--- src/lib.rt:45:9
 mul-room-2 : tie.Need-mul-room-2 Inv-loop μ-loop
 mul-room-2 c = search needs
 
--- src/lib.rt:45:9
 slice-write-room : tie.Need-slice-write-room Inv-loop μ-loop
 slice-write-room c = search needs
 
--- src/lib.rt:46:9
 add-i : tie.Need-add-i Inv-loop μ-loop
 add-i c = search needs
 
--- src/lib.rt:44:5
 loop-less : tie.Need-loop-less Inv-loop μ-loop
 loop-less c = search needs
 
--- src/lib.rt:44:5
 loop-again : tie.Need-loop-again Inv-loop μ-loop
-loop-again c = let l = c .before .before .loop in
-    let s = c .before .before .before in
-    let v = getD (s .args .numbers .now) (l .i) 0 in (
+loop-again c =
+    let l = c .before .before .loop in
+    let a = c .before .before .before .args in
+    let v = getD (a .numbers .now) (l .i) 0 in (
       omega arith,
-      ap (λ (xs : List ℕ). set xs (l .i) v) (l .inv .1) ∙ in-front-more (s .args .numbers .now) (s .args .room .now) (l .i) (omega arith) (omega arith),
+      ap (λ (xs : List ℕ). set xs (l .i) v) (l .inv .1) ∙ in-front-more (a .numbers .now) (a .room .now) (l .i) (omega arith) (omega arith),
       length-set (l .room) (l .i) v ∙ l .inv .2,
     )
 
--- src/lib.rt:39:1
 same-length : tie.Need-same-length Inv-loop μ-loop
 same-length c = search needs
 
--- src/lib.rt:39:1
 returns : tie.Need-returns Inv-loop μ-loop
-returns c = let l = c .before .loop in let a = c .before .before .args in l .inv .1 ∙ ap (λ (k : ℕ). in-front (take k (a .numbers .now)) (a .room .now)) (let e : l .i ≡ a .many = omega arith in e)
+returns c =
+    let l = c .before .loop in
+    let a = c .before .before .args in
+    let all : l .i ≡ a .many = omega arith in
+    l .inv .1 ∙ ap (λ (k : ℕ). in-front (take k (a .numbers .now)) (a .room .now)) all
 
 pub store-spec : {M : Type 1} → statement M
 store-spec =
     tie.close
-    (tie.spec
-    Inv-loop
-    μ-loop
-    loop-holds
-    mul-room
-    element-copy-out-room
-    mul-room-2
-    slice-write-room
-    add-i
-    loop-less
-    loop-again
-    same-length
-    returns)
+    (tie.spec Inv-loop μ-loop loop-holds mul-room element-copy-out-room mul-room-2 slice-write-room add-i loop-less loop-again same-length returns)

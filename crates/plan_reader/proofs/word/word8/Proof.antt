@@ -1,36 +1,31 @@
+-- `word8` meets its contract: the two halves joined.
 use native.Mathlib.Omega.{arith}
-use Rattle.plan_reader.proofs.Words.{joined}
 use borrow.Author.Needs.{needs}
+use Rattle.plan_reader.proofs.Words.{joined}
 use Rattle.plan_reader.proofs.word.word8.Statement.{statement}
 use Rattle.plan_reader.proofs.word.word8.Tie as tie
-use Rattle.plan_reader.proofs.word.word8.Reads as reads
-use Rattle.plan_reader.proofs.word.word8.Lts as lts
-use Rattle.plan_reader.proofs.word.word4.Reads as word4-reads
 
--- src/word.rt:42:5
 word4-requires : tie.Need-word4-requires
 word4-requires c κs = search needs
 
--- src/word.rt:42:35
 add-word4 : tie.Need-add-word4
 add-word4 c = search needs
 
--- src/word.rt:42:23
 word4-requires-2 : tie.Need-word4-requires-2
 word4-requires-2 c κs = search needs
 
--- src/word.rt:42:23
 mul-result : tie.Need-mul-result
 mul-result c = search needs
 
--- src/word.rt:42:5
 add-result : tie.Need-add-result
 add-result c = search needs
 
--- src/word.rt:38:1
 returns : tie.Need-returns
-returns c = let a = c .before .before .before .args in joined 4 (a .plan .now) (a .at) (c .before .word4 .result) (c .word42 .result) (omega arith) (c .before .word4 .ensures) (c .word42 .ensures)
+returns c =
+    let a = c .before .before .before .args in
+    joined 4 (a .plan .now) (a .at) (c .before .word4 .result) (c .word42 .result) (omega arith) (c .before .word4 .ensures) (c .word42 .ensures)
 
 pub word8-spec : {M : Type 1} → statement M
 word8-spec =
-    tie.close (tie.spec word4-requires add-word4 word4-requires-2 mul-result add-result returns)
+    tie.close
+    (tie.spec word4-requires add-word4 word4-requires-2 mul-result add-result returns)
