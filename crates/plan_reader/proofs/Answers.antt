@@ -66,14 +66,14 @@ module _ {bs : List ℕ} {c : Cursor} {nums : List ℕ} (p : Plan-read bs c nums
       (record { number = refl; place = refl; answer-is = refl }) (λ e. absurd (eqb-false 3 0 refl e)) (omega arith)
 
   -- a whole plan
-  pub read-whole : c .number ≡ 0 → length bs ≤ c .at → c .got ≤ length nums → Numbers-read bs (record { number = 0; place = 0; answer = c .got }) nums
+  pub read-whole : c .number ≡ 0 → length bs ≤ c .at → c .got ≤ length nums → Numbers-read bs (record { number = c .number; place = 0; answer = c .got }) nums
   unfolding scan none-given given
   read-whole z h k =
       let l = length-take-le (c .got) nums k in
       numbers-read (scan (drop (c .at) bs) (c .at) (take (c .got) nums) none-given)
       (scanned-is p ∙ ap ended (here-clean bs c nums z)
       ∙ ended-none (drop (c .at) bs) (c .at) (take (c .got) nums) (length-drop (c .at) bs ∙ omega arith))
-      (record { number = refl; place = refl; answer-is = sym l }) (λ e. ap (λ (n : ℕ). take n nums) l) (p .few)
+      (record { number = z; place = refl; answer-is = sym l }) (λ e. ap (λ (n : ℕ). take n nums) l) (p .few)
 
 -- ---- into the room
 -- the refusal that stands for a reading's and the room's

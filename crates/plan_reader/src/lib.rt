@@ -13,6 +13,17 @@ ghost use Rattle.basics.specs.Lists.{in-front};
 ghost use Rattle.plan_format.specs.Stored.{Read-says};
 ghost use Rattle.plan_reader.specs.Reading.{Numbers-read};
 
+// A refusal at a place.
+fn refused(number: u32, place: usize) -> Told
+    ensures { λ r. ⌜ r ≡ record { number = number; place = place; answer = 0 } ⌝ }
+{
+    Told {
+        number,
+        place: place as u64,
+        answer: 0,
+    }
+}
+
 // The numbers of a stored plan, or the first of refusals 1 to 5; the answer is how many numbers there are.
 pub fn read_numbers(plan: &[u8], numbers: &mut [u64; 22868]) -> Told
     ensures { λ r. ⌜ Numbers-read (now (plan .entry)) r (now (numbers .exit)) ⌝ }
@@ -20,21 +31,13 @@ pub fn read_numbers(plan: &[u8], numbers: &mut [u64; 22868]) -> Told
     let c = section::sections(plan, numbers);
     let at = c.at;
     if c.number != 0 {
-        return Told {
-            number: c.number,
-            place: at as u64,
-            answer: 0,
-        };
+        return refused(c.number, at);
     }
     if at < plan.len() {
-        return Told {
-            number: 3,
-            place: at as u64,
-            answer: 0,
-        };
+        return refused(3, at);
     }
     Told {
-        number: 0,
+        number: c.number,
         place: 0,
         answer: c.got as u64,
     }
@@ -63,11 +66,7 @@ pub fn read_plan(plan: &[u8], room: &mut [u64]) -> Told
     }
     let many = told.answer as usize;
     if room.len() < many {
-        return Told {
-            number: 9,
-            place: told.answer,
-            answer: 0,
-        };
+        return refused(9, many);
     }
     store(&numbers, many, room);
     Told {

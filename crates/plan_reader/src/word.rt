@@ -23,7 +23,9 @@ pub fn word2(plan: &[u8], at: usize) -> u64
     requires { ⌜ at + 2 ≤ length (now plan) ⌝ }
     ensures { λ r. ⌜ Word 2 (now (plan .entry)) at r ⌝ }
 {
-    word1(plan, at) + word1(plan, at + 1) * 256
+    let low = word1(plan, at);
+    let high = word1(plan, at + 1);
+    low + high * 256
 }
 
 // The number in four bytes from `at`.
@@ -31,7 +33,9 @@ pub fn word4(plan: &[u8], at: usize) -> u64
     requires { ⌜ at + 4 ≤ length (now plan) ⌝ }
     ensures { λ r. ⌜ Word 4 (now (plan .entry)) at r ⌝ }
 {
-    word2(plan, at) + word2(plan, at + 2) * 65536
+    let low = word2(plan, at);
+    let high = word2(plan, at + 2);
+    low + high * 65536
 }
 
 // The number in eight bytes from `at`.
@@ -39,5 +43,7 @@ pub fn word8(plan: &[u8], at: usize) -> u64
     requires { ⌜ at + 8 ≤ length (now plan) ⌝ }
     ensures { λ r. ⌜ Word 8 (now (plan .entry)) at r ⌝ }
 {
-    word4(plan, at) + word4(plan, at + 4) * 4294967296
+    let low = word4(plan, at);
+    let high = word4(plan, at + 4);
+    low + high * 4294967296
 }

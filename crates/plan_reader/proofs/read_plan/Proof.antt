@@ -17,12 +17,16 @@ returns c =
     let bs = s .args .plan .now in
     not-read (scanned bs .fault) (scanned bs .got) (c .before .before .read-numbers .ensures .told) (s .args .room .now) (c .if1 .taken)
 
+refused-requires : tie.Need-refused-requires
+refused-requires c κs = search needs
+
 returns-2 : tie.Need-returns-2
 unfolding Read-says read-refusal
 returns-2 c =
-    let s = c .before .before .before .before .before .before .before in
+    let s = c .before .before .before .before .before .before .before .before in
     let bs = s .args .plan .now in
-    no-room (scanned bs .fault) (scanned bs .got) (c .before .before .before .read-numbers .ensures .told) (s .args .room .now) (c .before .if1 .left) (c .if2 .taken)
+    rw (c .refused .ensures)
+    (no-room (scanned bs .fault) (scanned bs .got) (c .before .before .before .before .read-numbers .ensures .told) (s .args .room .now) (c .before .before .if1 .left) (c .before .if2 .taken))
 
 store-requires : tie.Need-store-requires
 store-requires c κs =
@@ -44,4 +48,4 @@ returns-3 c =
 pub read-plan-spec : {M : Type 1} → statement M
 read-plan-spec =
     tie.close
-    (tie.spec read-numbers-requires returns returns-2 store-requires same-length returns-3)
+    (tie.spec read-numbers-requires returns refused-requires returns-2 store-requires same-length returns-3)
