@@ -1,36 +1,30 @@
--- The search for an axis among the numbers read: from a position on. Assumes nothing.
+-- The search for an axis in a list, from a position on. Assumes nothing.
 use mathlib.Core.Path.{_≡_, sym, _∙_}
 use mathlib.Core.Bool.{Bool, true, false, _||_}
 use mathlib.Core.List.{List}
 use Prim.Native.Nat.{ℕ, _+_, _≤_, _<_}
 use native.Mathlib.Numerals.{add-one}
-use native.Mathlib.Omega.{arith}
 use lib.Dec.{eqb}
-use lib.ListN.{length, getD, take, drop, length-take, drop-of-length-le}
-use lib.Seq.{drop-cons, getD-take}
+use lib.ListN.{length, getD, drop, drop-of-length-le}
+use lib.Seq.{drop-cons}
 use borrow.Author.Tests.{eq-eqb, ne-eqb}
 use Rattle.basics.specs.Lists.{member}
 use Rattle.plan_format.specs.Form.{new-axis}
 
--- whether `v` is among the first `got` of `nums`, from position `i` on
-abbrev pub from-here : (nums : List ℕ) → (got v i : ℕ) → Bool
-from-here nums got v i = member v (drop i (take got nums))
-
-module _ (nums : List ℕ) (got v i : ℕ) (fits : got ≤ length nums) where
-  step : i < got → from-here nums got v i ≡ (eqb (getD nums i 0) v || from-here nums got v (i + 1))
+module _ (list : List ℕ) (v i : ℕ) where
+  step : i < length list → member v (drop i list) ≡ (eqb (getD list i 0) v || member v (drop (i + 1) list))
   unfolding member
-  step h =
-      rw (drop-cons (take got nums) i 0 (rw (length-take got nums) (omega arith)), getD-take got nums i 0 h, add-one i)
+  step h = rw (drop-cons list i 0 h, add-one i)
 
-  pub seen-here : i < got → getD nums i 0 ≡ v → from-here nums got v i ≡ true
-  seen-here h e = step h ∙ rw (eq-eqb (getD nums i 0) v e)
+  pub seen-here : i < length list → getD list i 0 ≡ v → member v (drop i list) ≡ true
+  seen-here h e = step h ∙ rw (eq-eqb (getD list i 0) v e)
 
-  pub seen-next : i < got → (getD nums i 0 ≡ v → ⊥) → from-here nums got v i ≡ from-here nums got v (i + 1)
-  seen-next h e = step h ∙ rw (ne-eqb (getD nums i 0) v e)
+  pub seen-next : i < length list → (getD list i 0 ≡ v → ⊥) → member v (drop i list) ≡ member v (drop (i + 1) list)
+  seen-next h e = step h ∙ rw (ne-eqb (getD list i 0) v e)
 
-  pub seen-end : got ≤ i → from-here nums got v i ≡ false
+  pub seen-end : length list ≤ i → member v (drop i list) ≡ false
   unfolding member
-  seen-end h = rw (drop-of-length-le (take got nums) {i = i} (rw (length-take got nums) (omega arith)))
+  seen-end h = rw (drop-of-length-le list {i = i} h)
 
 -- the check of an axis, from the answer of the search
 module _ (got : List ℕ) (v : ℕ) (answer : Bool) (found : answer ≡ member v (drop 1 got)) where

@@ -38,7 +38,7 @@ pub reads-none : (g : Grammar) (m : ℕ) (bs : List ℕ) (c : Cursor) (nums : Li
 unfolding repeat read-by
 reads-none g m bs c nums h = record { read = refl; inside = h; few = omega arith; as-long = refl }
 
-count-limited : (most v : ℕ) → count-check 0 most v ≡ cond (ltb v (most + 1)) 0 2
+pub count-limited : (most v : ℕ) → count-check 0 most v ≡ cond (ltb v (most + 1)) 0 2
 unfolding count-check
 count-limited most v =
     by-cases (ltb most v) (λ t. rw (le-ltb v 0 zero-le, t, le-ltb v (most + 1) (omega (arith, ltb-true most v t))))

@@ -1,10 +1,7 @@
 // Fields: each is read at a cursor, judged, and stored behind the numbers before it. A cursor with a refusal passes through unchanged.
 use crate::cursor::Cursor;
 use crate::word;
-ghost use mathlib.Core.Path.{_≡_};
 ghost use Prim.Native.Nat.{_≤_};
-ghost use lib.ListN.{length, drop, take};
-ghost use Rattle.basics.specs.Lists.{member};
 ghost use Rattle.plan_format.specs.Form.{any-number};
 ghost use Rattle.plan_format.specs.Grammar.{field};
 ghost use Rattle.plan_reader.specs.Reading.{Room, Reads, Limited, axis-field, size-field};
@@ -89,21 +86,6 @@ pub fn point_value(plan: &[u8], c: Cursor, numbers: &mut [u64]) -> Cursor
     c.past(8, value)
 }
 
-// Whether `axis` stands among the first `got` numbers, behind the count.
-fn repeated(numbers: &[u64], got: usize, axis: u64) -> bool
-    requires { ⌜ got ≤ length (now numbers) ⌝ }
-    ensures { λ r. ⌜ r ≡ member axis (drop 1 (take got (now (numbers .entry)))) ⌝ }
-{
-    let mut i = 1;
-    while i < got {
-        if numbers[i] == axis {
-            return true;
-        }
-        i += 1;
-    }
-    false
-}
-
 // The axis of a queue: eight bytes, a number that no earlier queue has.
 pub fn axis(plan: &[u8], c: Cursor, numbers: &mut [u64]) -> Cursor
     requires { ⌜ Room 1 (now plan) c (now numbers) ⌝ }
@@ -118,7 +100,7 @@ pub fn axis(plan: &[u8], c: Cursor, numbers: &mut [u64]) -> Cursor
         return c.refused(1);
     }
     let value = word::word8(plan, at);
-    if repeated(numbers, got, value) {
+    if crate::repeated(&numbers[..got], value) {
         return c.refused(5);
     }
     numbers[got] = value;

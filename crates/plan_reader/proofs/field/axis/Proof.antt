@@ -1,6 +1,7 @@
 -- `axis` meets its contract, by the law of each way out.
-use mathlib.Core.Path.{refl}
+use mathlib.Core.Path.{sym, refl}
 use native.Mathlib.Omega.{arith}
+use lib.Seq.{length-take-le}
 use borrow.Author.Needs.{needs}
 use borrow.Author.Tests.{eqb-false}
 use Rattle.plan_reader.specs.Reading.{axis-field}
@@ -25,6 +26,14 @@ returns-2 c =
 
 word8-requires : tie.Need-word8-requires
 word8-requires c κs = search needs
+
+slice-reshare-prefix-repeated : tie.Need-slice-reshare-prefix-repeated
+slice-reshare-prefix-repeated c = search needs
+
+slice-aggregate-repeated : tie.Need-slice-aggregate-repeated
+slice-aggregate-repeated c =
+    let a = c .before .before .before .before .before .before .before .args in
+    sym (length-take-le (a .c .got) (a .numbers .now) (omega arith))
 
 repeated-requires : tie.Need-repeated-requires
 repeated-requires c κs = search needs
@@ -64,4 +73,4 @@ returns-4 c =
 pub axis-spec : {M : Type 1} → statement M
 axis-spec =
     tie.close
-    (tie.spec returns sub-if2 refused-requires returns-2 word8-requires repeated-requires refused-requires-2 same-length returns-3 mul-numbers slice-write-numbers past-requires same-length-2 returns-4)
+    (tie.spec returns sub-if2 refused-requires returns-2 word8-requires slice-reshare-prefix-repeated slice-aggregate-repeated repeated-requires refused-requires-2 same-length returns-3 mul-numbers slice-write-numbers past-requires same-length-2 returns-4)

@@ -1,16 +1,18 @@
 -- `repeated` meets its contract: what is still to be searched answers for the whole.
 use mathlib.Core.Path.{_≡_, refl, sym, _∙_}
 use Prim.Native.Nat.{_-_}
+use lib.ListN.{length, drop}
 use borrow.Author.Needs.{needs}
-use Rattle.plan_reader.proofs.Axes.{from-here, seen-here, seen-next, seen-end}
-use Rattle.plan_reader.proofs.field.repeated.Statement.{statement}
-use Rattle.plan_reader.proofs.field.repeated.Tie as tie
+use Rattle.basics.specs.Lists.{member}
+use Rattle.plan_reader.proofs.Axes.{seen-here, seen-next, seen-end}
+use Rattle.plan_reader.proofs.repeated.Statement.{statement}
+use Rattle.plan_reader.proofs.repeated.Tie as tie
 
 abbrev Inv-loop : tie.InvT-loop
-Inv-loop numbers got axis i₀ i = from-here numbers got axis i ≡ from-here numbers got axis 1
+Inv-loop list number i₀ i = member number (drop i list) ≡ member number (drop 1 list)
 
 abbrev μ-loop : tie.MeasureT-loop
-μ-loop numbers got axis i₀ i = got - i
+μ-loop list number i₀ i = length list - i
 
 loop-holds : tie.Need-loop-holds Inv-loop μ-loop
 loop-holds c = refl
@@ -25,7 +27,7 @@ returns : tie.Need-returns Inv-loop μ-loop
 returns c =
     let s = c .before .before .before .before in
     let l = c .before .before .before .loop in
-    sym (seen-here (s .args .numbers .now) (s .args .got) (s .args .axis) (l .i) (s .pre) (c .before .before .loop-test .taken) (c .if1 .taken)) ∙ l .inv
+    sym (seen-here (s .args .list .now) (s .args .number) (l .i) (c .before .before .loop-test .taken) (c .if1 .taken)) ∙ l .inv
 
 add-i : tie.Need-add-i Inv-loop μ-loop
 add-i c = search needs
@@ -37,13 +39,13 @@ loop-again : tie.Need-loop-again Inv-loop μ-loop
 loop-again c =
     let s = c .before .before .before .before in
     let l = c .before .before .before .loop in
-    sym (seen-next (s .args .numbers .now) (s .args .got) (s .args .axis) (l .i) (s .pre) (c .before .before .loop-test .taken) (c .if1 .left)) ∙ l .inv
+    sym (seen-next (s .args .list .now) (s .args .number) (l .i) (c .before .before .loop-test .taken) (c .if1 .left)) ∙ l .inv
 
 returns-2 : tie.Need-returns-2 Inv-loop μ-loop
 returns-2 c =
     let s = c .before .before in
     let l = c .before .loop in
-    sym (seen-end (s .args .numbers .now) (s .args .got) (s .args .axis) (l .i) (s .pre) (c .loop-test .left)) ∙ l .inv
+    sym (seen-end (s .args .list .now) (s .args .number) (l .i) (c .loop-test .left)) ∙ l .inv
 
 pub repeated-spec : {M : Type 1} → statement M
 repeated-spec =
