@@ -1,0 +1,9 @@
+pub mod Words
+pub mod Grammars
+pub mod Alike
+pub mod Follows
+pub mod Axes
+pub mod Fields
+pub mod Cursors
+pub mod Counts
+pub mod Answers

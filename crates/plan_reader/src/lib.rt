@@ -1,0 +1,91 @@
+// The reader of stored plans: one pass over the bytes, a cursor by value, each field judged and stored as it is read.
+mod cursor;
+mod field;
+mod operation;
+mod section;
+mod word;
+
+use plan_format::Told;
+ghost use mathlib.Core.Path.{_≡_};
+ghost use Prim.Native.Nat.{_≤_};
+ghost use lib.ListN.{length, take, drop};
+ghost use Rattle.basics.specs.Lists.{member, in-front};
+ghost use Rattle.plan_format.specs.Stored.{Read-says};
+ghost use Rattle.plan_reader.specs.Reading.{Numbers-read};
+
+// Whether a number stands in a list behind the first: an axis among the axes, the count being in front of them.
+pub fn repeated(list: &[u64], number: u64) -> bool
+    ensures { λ r. ⌜ r ≡ member number (drop 1 (now (list .entry))) ⌝ }
+{
+    let mut i = 1;
+    while i < list.len() {
+        if list[i] == number {
+            return true;
+        }
+        i += 1;
+    }
+    false
+}
+
+// A refusal at a place.
+fn refused(number: u32, place: usize) -> Told
+    ensures { λ r. ⌜ r ≡ record { number = number; place = place; answer = 0 } ⌝ }
+{
+    Told {
+        number,
+        place: place as u64,
+        answer: 0,
+    }
+}
+
+// The numbers of a stored plan, or the first of refusals 1 to 5; the answer is how many numbers there are.
+pub fn read_numbers(plan: &[u8], numbers: &mut [u64; 22868]) -> Told
+    ensures { λ r. ⌜ Numbers-read (now (plan .entry)) r (now (numbers .exit)) ⌝ }
+{
+    let c = section::sections(plan, numbers);
+    let at = c.at;
+    if c.number != 0 {
+        return refused(c.number, at);
+    }
+    if at < plan.len() {
+        return refused(3, at);
+    }
+    Told {
+        number: c.number,
+        place: 0,
+        answer: c.got as u64,
+    }
+}
+
+// The first `many` numbers, in front of the room.
+fn store(numbers: &[u64; 22868], many: usize, room: &mut [u64])
+    requires { ⌜ (many ≤ 22868) × (many ≤ length (now numbers)) × (many ≤ length (now room)) ⌝ }
+    ensures { λ _. ⌜ now (room .exit) ≡ in-front (take many (now (numbers .entry))) (now (room .entry)) ⌝ }
+{
+    let mut i = 0;
+    while i < many {
+        room[i] = numbers[i];
+        i += 1;
+    }
+}
+
+// The numbers of a stored plan in front of the room, with their length as the answer; or a refusal, and the room untouched.
+pub fn read_plan(plan: &[u8], room: &mut [u64]) -> Told
+    ensures { λ r. ⌜ Read-says (now (plan .entry)) r (now (room .entry)) (now (room .exit)) ⌝ }
+{
+    let mut numbers = [0u64; 22868];
+    let told = read_numbers(plan, &mut numbers);
+    if told.number != 0 {
+        return told;
+    }
+    let many = told.answer as usize;
+    if room.len() < many {
+        return refused(9, many);
+    }
+    store(&numbers, many, room);
+    Told {
+        number: 0,
+        place: 0,
+        answer: told.answer,
+    }
+}
