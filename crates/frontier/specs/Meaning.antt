@@ -1,0 +1,2 @@
+-- What the answers mean.
+use Prim.Native.Nat.{ℕ}
