@@ -13,14 +13,10 @@ use borrow.Author.Tests.{ltb-true, lt-ltb, le-ltb, eqb-true, eqb-false, eq-eqb, 
 use Rattle.basics.proofs.Tests.{by-cases, clash, either}
 use Rattle.frontier.specs.declared.Lookup.{Lookup}
 use Rattle.frontier.specs.declared.Lookup.the-variants.{Listed, Absent}
-use Rattle.frontier.specs.Entries.{Entry, find, exceeds, exceeding, keep, cut}
-use Rattle.frontier.specs.Frontiers.{epoch-of, epoch-at}
+use Rattle.frontier.specs.Entries.{Entry, In, find, exceeds, exceeding, keep, cut}
+use Rattle.frontier.specs.Meaning.{epoch-of, epoch-at, listed-if}
 use Rattle.frontier.proofs.Sorted.{Sorted, lower, same-entry, epoch-none}
 use Rattle.frontier.proofs.Exceeds.{exceeds-not-itself, exceeds-one-way, exceeds-or, exceeds-past}
-
-abbrev pub In : Entry → List Entry → Type 0
-In x [] = ⊥
-In x (y ∷ ys) = (x ≡ y) ⊎ In x ys
 
 pub in-above : (b : ℕ) (x : Entry) (xs : List Entry) → Sorted b xs → In x xs → b ≤ x .axis
 in-above b x [] s i = absurd i
@@ -51,13 +47,8 @@ unfolding find
 find-below b a [] s h = refl
 find-below b a (x ∷ xs) s h = rw (ne-eqb (x .axis) a (λ q. omega arith)) (find-below (suc (x .axis)) a xs (s .2) (omega arith))
 
--- what is found of what is kept
-unfoldable pub found-if : (Entry → Bool) → (axis : ℕ) → Lookup → Lookup
-found-if f a (Listed e) = cond (f (record { axis = a; epoch = e })) (Listed e) Absent
-found-if f a Absent = Absent
-
-pub find-keep : (f : Entry → Bool) (b a : ℕ) (xs : List Entry) → Sorted b xs → find a (keep f xs) ≡ found-if f a (find a xs)
-unfolding find keep found-if
+pub find-keep : (f : Entry → Bool) (b a : ℕ) (xs : List Entry) → Sorted b xs → find a (keep f xs) ≡ listed-if f a (find a xs)
+unfolding find keep listed-if
 find-keep f b a [] s = refl
 find-keep f b a (x ∷ xs) s =
     by-cases (eqb (x .axis) a)
@@ -65,8 +56,8 @@ find-keep f b a (x ∷ xs) s =
     rw (t, e) (by-cases (f x) (λ k. rw (k, t)) (λ k. rw k (find-below (suc (x .axis)) a (keep f xs) (sorted-keep f (suc (x .axis)) xs (s .2)) (omega (arith, eqb-true (x .axis) a t))))))
     (λ t. rw t (by-cases (f x) (λ k. rw (k, t) (find-keep f (suc (x .axis)) a xs (s .2))) (λ k. rw k (find-keep f (suc (x .axis)) a xs (s .2)))))
 
-epoch-if : (f : Entry → Bool) (a : ℕ) (l : Lookup) → epoch-of (found-if f a l) ≤ epoch-of l
-unfolding epoch-of found-if
+epoch-if : (f : Entry → Bool) (a : ℕ) (l : Lookup) → epoch-of (listed-if f a l) ≤ epoch-of l
+unfolding epoch-of listed-if
 epoch-if f a (Listed e) = by-cases (f (record { axis = a; epoch = e })) (λ t. rw t (le-refl e)) (λ t. rw t zero-le)
 epoch-if f a Absent = zero-le
 
@@ -141,7 +132,7 @@ module _ (c b : ℕ) (xs : List Entry) (s : Sorted b xs) where
       ltb-true (exceeding m xs) c (in-keep (λ x. ltb (exceeding x xs) c) m xs i)))
 
   -- an entry is found after the cut exactly if it was there and fewer than the capacity exceed it
-  pub find-cut : (a : ℕ) → find a (cut c xs) ≡ found-if (λ x. ltb (exceeding x xs) c) a (find a xs)
+  pub find-cut : (a : ℕ) → find a (cut c xs) ≡ listed-if (λ x. ltb (exceeding x xs) c) a (find a xs)
   unfolding cut
   find-cut a = find-keep (λ x. ltb (exceeding x xs) c) b a xs s
 

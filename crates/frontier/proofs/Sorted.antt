@@ -11,7 +11,7 @@ use lib.ListN.{length}
 use borrow.Author.Tests.{ltb-true, ltb-false, leb-true, eqb-true, eqb-false, lt-ltb, le-ltb, le-leb, lt-leb, eq-eqb, ne-eqb}
 use Rattle.basics.proofs.Tests.{by-cases, and-left, and-right, and-both}
 use Rattle.frontier.specs.Entries.{Entry, rising-from, find, put, union}
-use Rattle.frontier.specs.Frontiers.{epoch-of, epoch-at}
+use Rattle.frontier.specs.Meaning.{epoch-of, epoch-at}
 
 -- `rising-from` as a type
 abbrev pub Sorted : ℕ → List Entry → Type 0

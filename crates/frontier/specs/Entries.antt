@@ -1,5 +1,7 @@
 -- Lists of entries (axis, epoch): their form, lookup, union with the larger epoch, and the cut to a capacity. Assumes nothing: these are definitions.
+use mathlib.Core.Path.{_≡_}
 use mathlib.Core.Bool.{Bool, true, false, _&&_, _||_, cond}
+use mathlib.Core.Logic.{_⊎_}
 use mathlib.Core.List.{List, [], _∷_}
 use Prim.Native.Nat.{ℕ, suc, _+_, max}
 use lib.Dec.{ltb, leb, eqb}
@@ -10,6 +12,11 @@ pub record Entry : Type 0 where
   pub axis : ℕ
   pub epoch : ℕ
 
+-- x is one of the entries
+abbrev pub In : Entry → List Entry → Type 0
+In x [] = ⊥
+In x (y ∷ ys) = (x ≡ y) ⊎ In x ys
+
 -- "axes rising, epochs above 0": the first axis is at least `least`, each later one above the one before it
 unfoldable pub rising-from : (least : ℕ) → List Entry → Bool
 rising-from least [] = true
@@ -19,6 +26,16 @@ rising-from least (x ∷ xs) = leb least (x .axis) && (ltb 0 (x .epoch) && risin
 unfoldable pub find : (axis : ℕ) → List Entry → Lookup
 find a [] = Absent
 find a (x ∷ xs) = cond (eqb (x .axis) a) (Listed (x .epoch)) (find a xs)
+
+-- the values of a lookup: the epoch, if there is one
+unfoldable pub values-of : Lookup → List ℕ
+values-of (Listed e) = e ∷ []
+values-of Absent = []
+
+-- every epoch that is listed under an axis
+unfoldable pub epochs-under : (axis : ℕ) → List Entry → List ℕ
+epochs-under a [] = []
+epochs-under a (x ∷ xs) = cond (eqb (x .axis) a) (x .epoch ∷ epochs-under a xs) (epochs-under a xs)
 
 -- "Merge takes the larger epoch of each axis": of one entry and a list with rising axes
 unfoldable pub put : Entry → List Entry → List Entry

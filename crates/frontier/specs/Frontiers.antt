@@ -102,11 +102,3 @@ number-of Yes = 0
 number-of No = 0
 number-of Unknown = 0
 number-of (Refused n) = n
-
--- the epoch that a lookup stands for: what is absent lies at 0, before every epoch
-unfoldable pub epoch-of : Lookup → ℕ
-epoch-of (Listed e) = e
-epoch-of Absent = 0
-
-unfoldable pub epoch-at : List Entry → (axis : ℕ) → ℕ
-epoch-at xs a = epoch-of (find a xs)

@@ -1,0 +1,16 @@
+use borrow.Author.Needs.{needs}
+use Rattle.frontier.proofs.walks.above.Statement.{statement}
+use Rattle.frontier.proofs.walks.above.Tie as tie
+use Rattle.frontier.proofs.walks.above.Reads as reads
+use Rattle.frontier.proofs.walks.above.Lts as lts
+
+-- src/walks.rt:237:9
+returns : tie.Need-returns
+returns c = search needs
+
+-- src/walks.rt:233:1
+returns-2 : tie.Need-returns-2
+returns-2 c = search needs
+
+pub above-spec : {M : Type 1} → statement M
+above-spec = tie.close (tie.spec returns returns-2)

@@ -1,0 +1,104 @@
+use borrow.Author.Needs.{needs}
+use Rattle.frontier.proofs.walks.trim.Statement.{statement}
+use Rattle.frontier.proofs.walks.trim.Tie as tie
+use Rattle.frontier.proofs.walks.trim.Reads as reads
+use Rattle.frontier.proofs.walks.trim.Lts as lts
+use Rattle.frontier.proofs.walks.above.Reads as above-reads
+
+abbrev Inv-loop : tie.InvT-loop
+Inv-loop axes epochs len bound tainted kept₀ at₀ n₀ i₀ kept at n i = ?
+
+abbrev μ-loop : tie.MeasureT-loop
+μ-loop axes epochs len bound tainted kept₀ at₀ n₀ i₀ kept at n i = ?
+
+-- src/walks.rt:298:5
+loop-holds : tie.Need-loop-holds Inv-loop μ-loop
+loop-holds c = search needs
+
+-- src/walks.rt:299:20
+mul-axis : tie.Need-mul-axis Inv-loop μ-loop
+mul-axis c = search needs
+
+-- src/walks.rt:299:20
+shared-slice-read-axis : tie.Need-shared-slice-read-axis Inv-loop μ-loop
+shared-slice-read-axis c = search needs
+
+-- src/walks.rt:300:21
+mul-epoch : tie.Need-mul-epoch Inv-loop μ-loop
+mul-epoch c = search needs
+
+-- src/walks.rt:300:21
+shared-slice-read-epoch : tie.Need-shared-slice-read-epoch Inv-loop μ-loop
+shared-slice-read-epoch c = search needs
+
+-- src/walks.rt:301:9
+add-i : tie.Need-add-i Inv-loop μ-loop
+add-i c = search needs
+
+-- src/walks.rt:302:13
+above-requires : tie.Need-above-requires Inv-loop μ-loop
+above-requires c κs = search needs
+
+-- src/walks.rt:298:5
+loop-less : tie.Need-loop-less Inv-loop μ-loop
+loop-less c = search needs
+
+-- src/walks.rt:298:5
+loop-again : tie.Need-loop-again Inv-loop μ-loop
+loop-again c = search needs
+
+-- src/walks.rt:305:9
+mul-kept : tie.Need-mul-kept Inv-loop μ-loop
+mul-kept c = search needs
+
+-- src/walks.rt:305:9
+array-write-kept : tie.Need-array-write-kept Inv-loop μ-loop
+array-write-kept c = search needs
+
+-- src/walks.rt:306:9
+mul-at : tie.Need-mul-at Inv-loop μ-loop
+mul-at c = search needs
+
+-- src/walks.rt:306:9
+array-write-at : tie.Need-array-write-at Inv-loop μ-loop
+array-write-at c = search needs
+
+-- src/walks.rt:307:9
+add-n : tie.Need-add-n Inv-loop μ-loop
+add-n c = search needs
+
+-- src/walks.rt:298:5
+loop-less-2 : tie.Need-loop-less-2 Inv-loop μ-loop
+loop-less-2 c = search needs
+
+-- src/walks.rt:298:5
+loop-again-2 : tie.Need-loop-again-2 Inv-loop μ-loop
+loop-again-2 c = search needs
+
+-- src/walks.rt:289:1
+returns : tie.Need-returns Inv-loop μ-loop
+returns c = search needs
+
+pub trim-spec : {M : Type 1} → statement M
+trim-spec =
+    tie.close
+    (tie.spec
+    Inv-loop
+    μ-loop
+    loop-holds
+    mul-axis
+    shared-slice-read-axis
+    mul-epoch
+    shared-slice-read-epoch
+    add-i
+    above-requires
+    loop-less
+    loop-again
+    mul-kept
+    array-write-kept
+    mul-at
+    array-write-at
+    add-n
+    loop-less-2
+    loop-again-2
+    returns)
