@@ -5,9 +5,10 @@ use mathlib.Core.Logic.{_⊎_, inl, inr}
 use Prim.Native.Nat.{ℕ, _≤_, _<_}
 use native.Mathlib.Omega.{arith}
 use lib.Dec.{ltb, eqb}
-use borrow.Author.Tests.{ltb-true, ltb-false, eqb-true, lt-ltb, le-ltb, eq-eqb}
+use borrow.Author.Tests.{ltb-true, ltb-false, eqb-true, eqb-false, lt-ltb, le-ltb, eq-eqb, ne-eqb}
 use Rattle.basics.proofs.Tests.{by-cases, clash, is-false, either, or-cases, or-left, or-right, and-left, and-right, and-both}
 use Rattle.frontier.specs.Entries.{Entry, exceeds}
+use Rattle.frontier.proofs.Sorted.{same-entry}
 
 abbrev Above : (y x : Entry) → Type 0
 Above y x = (x .epoch < y .epoch) ⊎ ((x .epoch ≡ y .epoch) × (x .axis < y .axis))
@@ -61,3 +62,33 @@ exceeds-past m y x e n =
     by-cases (ltb (y .axis) (m .axis)) (λ a. clash (exceeds m y) (by-axis m y q (ltb-true _ _ a)) n)
     (λ a. let a′ = ltb-false (y .axis) (m .axis) a in
     either (above m x e) (λ b. by-epoch y x (omega arith)) (λ b. by-axis y x (omega arith) (omega arith)))))
+
+pub exceeds-same : (y x : Entry) → exceeds y x ≡ false → exceeds x y ≡ false → x ≡ y
+exceeds-same y x p q =
+    by-cases (eqb (x .axis) (y .axis))
+    (λ t. let e = eqb-true (x .axis) (y .axis) t in
+    by-cases (ltb (x .epoch) (y .epoch)) (λ l. clash (exceeds y x) (by-epoch y x (ltb-true _ _ l)) p)
+    (λ l. by-cases (ltb (y .epoch) (x .epoch)) (λ m. clash (exceeds x y) (by-epoch x y (ltb-true _ _ m)) q)
+    (λ m. same-entry e (omega (arith, ltb-false (x .epoch) (y .epoch) l, ltb-false (y .epoch) (x .epoch) m)))))
+    (λ t. clash (exceeds x y) (exceeds-or y x (eqb-false (x .axis) (y .axis) t) p) q)
+
+-- nothing exceeds what is at least as large in both
+pub exceeds-not-top : (x top : Entry) → x .axis ≤ top .axis → x .epoch ≤ top .epoch → exceeds x top ≡ false
+exceeds-not-top x top a e = is-false (exceeds x top) (λ t. either (above x top t) (λ l. omega arith) (λ l. omega arith))
+
+-- an epoch above 0 exceeds the zero entry
+pub exceeds-zero : (x : Entry) → 0 < x .epoch → exceeds x (record { axis = 0; epoch = 0 }) ≡ true
+exceeds-zero x h = by-epoch x (record { axis = 0; epoch = 0 }) h
+
+-- the test as the code makes it
+or-none : (a : Bool) → (a || false) ≡ a
+or-none true = refl
+or-none false = refl
+
+pub test-axis : (x b : Entry) → b .epoch ≡ x .epoch → ltb (b .axis) (x .axis) ≡ exceeds x b
+unfolding exceeds
+test-axis x b e = rw (le-ltb (b .epoch) (x .epoch) (omega arith), eq-eqb (b .epoch) (x .epoch) e)
+
+pub test-epoch : (x b : Entry) → (b .epoch ≡ x .epoch → ⊥) → ltb (b .epoch) (x .epoch) ≡ exceeds x b
+unfolding exceeds
+test-epoch x b n = rw (ne-eqb (b .epoch) (x .epoch) n) (sym (or-none (ltb (b .epoch) (x .epoch))))

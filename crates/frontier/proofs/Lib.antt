@@ -5,3 +5,6 @@ pub mod Slots
 pub mod Steps
 pub mod Reach
 pub mod Join
+pub mod Evict
+pub mod Pack
+pub mod Trim

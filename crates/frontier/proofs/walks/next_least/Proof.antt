@@ -1,3 +1,12 @@
+use Prim.Native.Nat.{ℕ, _+_, _-_, _≤_, _<_}
+use native.Mathlib.Omega.{arith}
+use mathlib.Core.Path.{_≡_, refl, sym, _∙_}
+use mathlib.Core.List.{List}
+use lib.ListN.{length, drop}
+use Rattle.frontier.specs.Frontiers.{slot, slots}
+use Rattle.frontier.specs.Walks.{rest}
+use Rattle.frontier.proofs.Evict.{least-above}
+use Rattle.frontier.proofs.Trim.{least-none, least-more, least-right}
 use borrow.Author.Needs.{needs}
 use Rattle.frontier.proofs.walks.next_least.Statement.{statement}
 use Rattle.frontier.proofs.walks.next_least.Tie as tie
@@ -6,14 +15,14 @@ use Rattle.frontier.proofs.walks.next_least.Lts as lts
 use Rattle.frontier.proofs.walks.nearer_of.Reads as nearer-of-reads
 
 abbrev Inv-loop : tie.InvT-loop
-Inv-loop axes epochs len bound best₀ i₀ best i = ?
+Inv-loop axes epochs len bound best₀ i₀ best i = (i ≤ len) × (least-above (record { axis = bound .axis; epoch = bound .epoch }) (record { axis = best .axis; epoch = best .epoch }) (rest axes epochs len i) ≡ least-above (record { axis = bound .axis; epoch = bound .epoch }) (record { axis = 18446744073709551615; epoch = 18446744073709551615 }) (slots axes epochs len 0))
 
 abbrev μ-loop : tie.MeasureT-loop
-μ-loop axes epochs len bound best₀ i₀ best i = ?
+μ-loop axes epochs len bound best₀ i₀ best i = len - i
 
 -- src/walks.rt:267:5
 loop-holds : tie.Need-loop-holds Inv-loop μ-loop
-loop-holds c = search needs
+loop-holds c = (search needs, least-none _ _ _ _ _)
 
 -- src/walks.rt:268:33
 mul-nearer-of : tie.Need-mul-nearer-of Inv-loop μ-loop
@@ -45,11 +54,12 @@ loop-less c = search needs
 
 -- src/walks.rt:267:5
 loop-again : tie.Need-loop-again Inv-loop μ-loop
-loop-again c = search needs
+unfolding slot
+loop-again c = (search needs, least-more _ _ _ _ _ _ _ (c .before .before .before .loop-test .taken) (c .nearer-of .ensures) ∙ c .before .before .before .before .loop .inv .1)
 
 -- src/walks.rt:257:1
 returns : tie.Need-returns Inv-loop μ-loop
-returns c = search needs
+returns c = least-right _ _ _ _ _ _ (record { axis = 18446744073709551615; epoch = 18446744073709551615 }) (c .loop-test .left) (c .before .loop .inv .1) (c .before .before .before .before .pre .0 .2) (λ k. omega (arith, c .before .before .before .shared-slice-known .given k)) (λ k. omega (arith, c .before .before .shared-slice-known2 .given k)) (c .before .before .before .before .pre .1)
 
 pub next-least-spec : {M : Type 1} → statement M
 next-least-spec =

@@ -1,0 +1,47 @@
+use borrow.Author.Needs.{needs}
+use Rattle.frontier.proofs.Frontier.well_formed.Statement.{statement}
+use Rattle.frontier.proofs.Frontier.well_formed.Tie as tie
+use Rattle.frontier.proofs.Frontier.well_formed.Reads as reads
+use Rattle.frontier.proofs.Frontier.well_formed.Lts as lts
+use Rattle.frontier.proofs.walks.rising.Reads as rising-reads
+use Rattle.frontier.proofs.walks.zero_from.Reads as zero-from-reads
+
+-- src/lib.rt:62:13
+returns : tie.Need-returns
+returns c = search needs
+
+-- src/lib.rt:64:13
+rising-requires : tie.Need-rising-requires
+rising-requires c κs = search needs
+
+-- src/lib.rt:65:13
+returns-2 : tie.Need-returns-2
+returns-2 c = search needs
+
+-- src/lib.rt:67:13
+zero-from-requires : tie.Need-zero-from-requires
+zero-from-requires c κs = search needs
+
+-- src/lib.rt:68:13
+returns-3 : tie.Need-returns-3
+returns-3 c = search needs
+
+-- src/lib.rt:70:9
+zero-from-requires-2 : tie.Need-zero-from-requires-2
+zero-from-requires-2 c κs = search needs
+
+-- src/lib.rt:57:5
+returns-4 : tie.Need-returns-4
+returns-4 c = search needs
+
+pub well-formed-spec : {M : Type 1} → statement M
+well-formed-spec =
+    tie.close
+    (tie.spec
+    returns
+    rising-requires
+    returns-2
+    zero-from-requires
+    returns-3
+    zero-from-requires-2
+    returns-4)

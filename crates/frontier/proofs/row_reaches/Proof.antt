@@ -1,0 +1,73 @@
+use borrow.Author.Needs.{needs}
+use Rattle.frontier.proofs.row_reaches.Statement.{statement}
+use Rattle.frontier.proofs.row_reaches.Tie as tie
+use Rattle.frontier.proofs.row_reaches.Reads as reads
+use Rattle.frontier.proofs.row_reaches.Lts as lts
+
+abbrev Inv-loop : tie.InvT-loop
+Inv-loop first second i₀ i = ?
+
+abbrev μ-loop : tie.MeasureT-loop
+μ-loop first second i₀ i = ?
+
+-- src/lib.rt:212:9
+returns : tie.Need-returns Inv-loop μ-loop
+returns c = search needs
+
+-- src/lib.rt:215:5
+loop-holds : tie.Need-loop-holds Inv-loop μ-loop
+loop-holds c = search needs
+
+-- src/lib.rt:216:12
+mul-if2 : tie.Need-mul-if2 Inv-loop μ-loop
+mul-if2 c = search needs
+
+-- src/lib.rt:216:12
+shared-slice-read-if2 : tie.Need-shared-slice-read-if2 Inv-loop μ-loop
+shared-slice-read-if2 c = search needs
+
+-- src/lib.rt:216:23
+mul-if2-2 : tie.Need-mul-if2-2 Inv-loop μ-loop
+mul-if2-2 c = search needs
+
+-- src/lib.rt:216:23
+shared-slice-read-if2-2 : tie.Need-shared-slice-read-if2-2 Inv-loop μ-loop
+shared-slice-read-if2-2 c = search needs
+
+-- src/lib.rt:217:13
+returns-2 : tie.Need-returns-2 Inv-loop μ-loop
+returns-2 c = search needs
+
+-- src/lib.rt:219:9
+add-i : tie.Need-add-i Inv-loop μ-loop
+add-i c = search needs
+
+-- src/lib.rt:215:5
+loop-less : tie.Need-loop-less Inv-loop μ-loop
+loop-less c = search needs
+
+-- src/lib.rt:215:5
+loop-again : tie.Need-loop-again Inv-loop μ-loop
+loop-again c = search needs
+
+-- src/lib.rt:208:1
+returns-3 : tie.Need-returns-3 Inv-loop μ-loop
+returns-3 c = search needs
+
+pub row-reaches-spec : {M : Type 1} → statement M
+row-reaches-spec =
+    tie.close
+    (tie.spec
+    Inv-loop
+    μ-loop
+    returns
+    loop-holds
+    mul-if2
+    shared-slice-read-if2
+    mul-if2-2
+    shared-slice-read-if2-2
+    returns-2
+    add-i
+    loop-less
+    loop-again
+    returns-3)
