@@ -11,7 +11,7 @@ use lib.ListN.{length, getD, take, drop, replicate, length-append, length-replic
 use lib.Seq.{drop-append-seam, drop-at}
 use borrow.Author.Tests.{leb-true, le-leb, eqb-true, eq-eqb}
 use Rattle.basics.specs.Lists.{tabulate-from}
-use Rattle.basics.proofs.Tests.{and-left, and-right, and-both}
+use Rattle.basics.proofs.Tests.{by-cases, clash, is-false, and-left, and-right, and-both}
 use Rattle.frontier.specs.declared.Frontier.{Frontier}
 use Rattle.frontier.specs.Entries.{Entry, rising-from}
 use Rattle.frontier.specs.Frontiers.{slot, slots, entries, all-zero, row-formed, well-formed, pack}
@@ -128,3 +128,21 @@ well-formed-pack xs t s h = well (pack xs t) (record {
     row-long f = rw (length-append, length-map xs f, length-replicate) (omega arith)
     row-zero : (f : Entry → ℕ) → all-zero (drop (length xs) (map f xs ++ replicate (16 - length xs) 0)) ≡ true
     row-zero f = rw (drop-at (map f xs) (replicate (16 - length xs) 0) (length xs) (length-map xs f)) (all-zero-replicate (16 - length xs))
+
+-- THE JUDGEMENT, in the order in which the code makes it
+pub not-short : (f : Frontier) → 16 < f .len → false ≡ well-formed f
+not-short f h = sym (is-false (well-formed f) (λ t. omega (arith, formed f t .short)))
+
+pub not-rising : (f : Frontier) → rising-from 0 (slots (f .axes) (f .epochs) (f .len) 0) ≡ false → false ≡ well-formed f
+unfolding entries
+not-rising f e = sym (is-false (well-formed f) (λ t. clash _ (formed f t .rises) e))
+
+pub not-zero : (f : Frontier) → all-zero (drop (f .len) (f .axes)) ≡ false → false ≡ well-formed f
+not-zero f e = sym (is-false (well-formed f) (λ t. clash _ (formed f t .zero-axes) e))
+
+pub judged : (f : Frontier) (r : Bool) → f .len ≤ 16 → length (f .axes) ≡ 16 → length (f .epochs) ≡ 16 → rising-from 0 (slots (f .axes) (f .epochs) (f .len) 0) ≡ true → all-zero (drop (f .len) (f .axes)) ≡ true → r ≡ all-zero (drop (f .len) (f .epochs)) → r ≡ well-formed f
+unfolding entries
+judged f r l a b s z e =
+    by-cases (all-zero (drop (f .len) (f .epochs)))
+    (λ t. e ∙ t ∙ sym (well f (record { short = l; rises = s; sixteen-axes = a; sixteen-epochs = b; zero-axes = z; zero-epochs = t })))
+    (λ t. e ∙ t ∙ sym (is-false (well-formed f) (λ u. clash _ (formed f u .zero-epochs) t)))

@@ -17,6 +17,7 @@ use Rattle.frontier.specs.Frontiers.{slot, slots, all-zero, pack}
 use Rattle.frontier.specs.Walks.{rest, nearer}
 use Rattle.frontier.proofs.Sorted.{Sorted, sorted}
 use Rattle.frontier.proofs.Exceeds.{exceeds-not-top}
+use Rattle.frontier.proofs.Cut.{cut-length}
 use Rattle.frontier.proofs.Slots.{rest-all, rest-more, rest-none, slots-length, slots-put}
 use Rattle.frontier.proofs.Pack.{repack, all-zero-replicate}
 use Rattle.frontier.proofs.Evict.{least-above, next-bound, bound-start, bound-end}
@@ -117,3 +118,11 @@ module _ (xs es : List ℕ) (n c : ℕ) where
   pub bounded-end : (b : Entry) (l : ℕ) → Bounded b xs es n c l → l ≤ c → cut c (slots xs es n 0) ≡ keep (λ x. exceeds x b) (slots xs es n 0)
   bounded-end b l w h =
       bound-end b c l (slots xs es n 0) (w .above) h (either (w .enough) (λ m. inl m) (λ e. inr (e ∙ sym (slots-length xs es n 0))))
+
+-- THE CUT of slots: what exceeds the bound fits, and is what the cut keeps
+pub cut-fits : (xs es : List ℕ) (n c : ℕ) (f : Entry → Bool) → rising-from 0 (slots xs es n 0) ≡ true → c ≤ 16 → cut c (slots xs es n 0) ≡ keep f (slots xs es n 0) → length (keep f (slots xs es n 0)) ≤ 16
+cut-fits xs es n c f r h e =
+    omega (arith, cut-length c 0 (slots xs es n 0) (sorted 0 (slots xs es n 0) r), ap length e)
+
+pub cut-packed : {r : Frontier} (ys zs : List Entry) (t u : Bool) → r ≡ pack ys t → zs ≡ ys → t ≡ u → r ≡ pack zs u
+cut-packed ys zs t u e q w = e ∙ ap (λ l. pack l t) (sym q) ∙ ap (pack zs) w

@@ -53,11 +53,6 @@ listed-if f a Absent = Absent
 abbrev pub both : (f g : Frontier) → List Entry
 both f g = union (entries f) (entries g)
 
--- what holds of every merge, refused or not
-pub record Merge-right (f g : Frontier) (capacity : ℕ) (r : Merged) : Type 0 where
-  pub formed : well-formed (r .frontier) ≡ true
-  pub commutes : r ≡ merge g f capacity
-
 -- what a merge hands back that is not refused
 pub record Merge-means (f g : Frontier) (capacity : ℕ) (r : Frontier) : Type 0 where
   -- "Merge takes the larger epoch of each axis"
@@ -71,6 +66,12 @@ pub record Merge-means (f g : Frontier) (capacity : ℕ) (r : Frontier) : Type 0
   pub idempotent : f ≡ g → f .len ≤ capacity → r ≡ f
   -- of three frontiers whose axes the capacity holds, in any grouping
   pub associates : (h : Frontier) → well-formed h ≡ true → length (union (both f g) (entries h)) ≤ capacity → merge r h capacity ≡ merge f (merge g h capacity .frontier) capacity
+
+-- what holds of every merge, refused or not
+pub record Merge-right (f g : Frontier) (capacity : ℕ) (r : Merged) : Type 0 where
+  pub formed : well-formed (r .frontier) ≡ true
+  pub commutes : r ≡ merge g f capacity
+  pub means : r .number ≡ 0 → Merge-means f g capacity (r .frontier)
 
 -- raising keeps completions: the axis at least at the epoch, and every other as it was
 abbrev pub raised : (full : ℕ → ℕ) → (axis epoch : ℕ) → (ℕ → ℕ)

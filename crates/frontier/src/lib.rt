@@ -7,7 +7,7 @@ ghost use mathlib.Core.Bool.{false, true};
 ghost use mathlib.Core.List.{[]};
 ghost use Prim.Native.Nat.{ℕ};
 ghost use Rattle.frontier.specs.Frontiers.{well-formed, pack, refusal, one-entry, merge, raise, answer, dominance};
-ghost use Rattle.frontier.specs.Meaning.{Completion, Looked, Merge-right, Merge-means, raised, Dominance-means};
+ghost use Rattle.frontier.specs.Meaning.{Completion, Looked, Merge-right, raised, Dominance-means};
 ghost use Rattle.frontier.specs.Rows.{row-reaches, reaching-row};
 
 // Slot i holds the entry (axes[i], epochs[i]) for i below len; the slots past len are zero. A tainted frontier has lost entries.
@@ -86,7 +86,6 @@ impl Frontier {
     pub fn merge(self, other: Self, capacity: u32) -> Merged
         ensures { λ r. ⌜ r ≡ merge self other capacity ⌝ }
         ensures { λ r. ⌜ Merge-right self other capacity r ⌝ }
-        ensures { λ r. ⌜ (r .number ≡ 0 → Merge-means self other capacity (r .frontier)) ⌝ }
     {
         if capacity < 1 {
             return refused(15);

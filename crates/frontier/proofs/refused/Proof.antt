@@ -1,3 +1,4 @@
+use Rattle.frontier.specs.Frontiers.{refusal}
 use borrow.Author.Needs.{needs}
 use Rattle.frontier.proofs.refused.Statement.{statement}
 use Rattle.frontier.proofs.refused.Tie as tie
@@ -11,7 +12,8 @@ empty-requires c κs = search needs
 
 -- src/lib.rt:168:1
 returns : tie.Need-returns
-returns c = search needs
+unfolding refusal
+returns c = rw (c .empty .ensures)
 
 pub refused-spec : {M : Type 1} → statement M
 refused-spec = tie.close (tie.spec empty-requires returns)

@@ -1,3 +1,5 @@
+use mathlib.Core.Path.{refl}
+use Rattle.frontier.specs.Frontiers.{pack}
 use borrow.Author.Needs.{needs}
 use Rattle.frontier.proofs.Frontier.empty.Statement.{statement}
 use Rattle.frontier.proofs.Frontier.empty.Tie as tie
@@ -6,7 +8,8 @@ use Rattle.frontier.proofs.Frontier.empty.Lts as lts
 
 -- src/lib.rt:45:5
 returns : tie.Need-returns
-returns c = search needs
+unfolding pack
+returns c = refl
 
 pub empty-spec : {M : Type 1} → statement M
 empty-spec = tie.close (tie.spec returns)

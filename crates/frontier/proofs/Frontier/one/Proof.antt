@@ -1,3 +1,7 @@
+use mathlib.Core.Path.{_∙_, ap}
+use mathlib.Core.Bool.{false}
+use Rattle.frontier.specs.Frontiers.{pack}
+use Rattle.frontier.proofs.Merge.{one-none, one-some}
 use borrow.Author.Needs.{needs}
 use Rattle.frontier.proofs.Frontier.one.Statement.{statement}
 use Rattle.frontier.proofs.Frontier.one.Tie as tie
@@ -11,7 +15,7 @@ empty-requires c κs = search needs
 
 -- src/lib.rt:152:13
 returns : tie.Need-returns
-returns c = search needs
+returns c = c .empty .ensures ∙ ap (λ xs. pack xs false) (one-none _ _ (c .before .if1 .taken))
 
 -- src/lib.rt:156:9
 array-write-axes : tie.Need-array-write-axes
@@ -23,7 +27,8 @@ array-write-epochs c = search needs
 
 -- src/lib.rt:148:5
 returns-2 : tie.Need-returns-2
-returns-2 c = search needs
+unfolding pack
+returns-2 c = one-some (c .before .args .axis) (c .before .args .epoch) (c .if1 .left)
 
 pub one-spec : {M : Type 1} → statement M
 one-spec =
