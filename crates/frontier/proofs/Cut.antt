@@ -92,8 +92,14 @@ least x [] = (x, record { inside = inl refl; under = λ y i. either i (λ e. rw 
 least x (y ∷ ys) =
     let w = least y ys in
     by-cases (exceeds (w .0) x)
-    (λ t. (x, record { inside = inl refl; under = λ z i. either i (λ e. rw e (exceeds-not-itself x))
-    (λ j. exceeds-one-way z x (exceeds-past (w .0) z x t (w .1 .under z j))) }))
+    (λ t. (
+      x,
+      record {
+        inside = inl refl;
+        under = λ z i. either i (λ e. rw e (exceeds-not-itself x))
+            (λ j. exceeds-one-way z x (exceeds-past (w .0) z x t (w .1 .under z j)));
+      },
+    ))
     (λ t. (w .0, record { inside = inr (w .1 .inside); under = λ z i. either i (λ e. rw e t) (λ j. w .1 .under z j) }))
 
 all-exceed : (m : Entry) (b : ℕ) (xs : List Entry) → Sorted b xs → m .axis < b → ((y : Entry) → In y xs → exceeds m y ≡ false) → length xs ≤ exceeding m xs
@@ -128,8 +134,11 @@ module _ (c b : ℕ) (xs : List Entry) (s : Sorted b xs) where
   pub cut-length : length (cut c xs) ≤ c
   unfolding cut
   cut-length =
-      few c b (cut c xs) sorted-cut (λ m i. omega (arith, exceeding-keep (λ x. ltb (exceeding x xs) c) m xs,
-      ltb-true (exceeding m xs) c (in-keep (λ x. ltb (exceeding x xs) c) m xs i)))
+      few c b (cut c xs) sorted-cut (λ m i. omega (
+        arith,
+        exceeding-keep (λ x. ltb (exceeding x xs) c) m xs,
+        ltb-true (exceeding m xs) c (in-keep (λ x. ltb (exceeding x xs) c) m xs i),
+      ))
 
   -- an entry is found after the cut exactly if it was there and fewer than the capacity exceed it
   pub find-cut : (a : ℕ) → find a (cut c xs) ≡ listed-if (λ x. ltb (exceeding x xs) c) a (find a xs)

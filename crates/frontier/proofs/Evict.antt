@@ -81,19 +81,22 @@ nearest b best (x ∷ xs) =
     (λ t. by-cases (exceeds best x)
     (λ u. rw (sym (nearer-found b x best t u))
     (let w = nearest b x xs in record {
-    from = either (w .from) (λ q. inr (inl q, rw q t)) (λ p. inr (inr (p .0), p .1));
-    not-best = is-false (exceeds (least-above b x xs) best) (λ v. clash (exceeds (least-above b x xs) x) (exceeds-chain (least-above b x xs) best x v u) (w .not-best));
-    under = λ y i e. either i (λ q. rw q (w .not-best)) (λ j. w .under y j e) }))
+      from = either (w .from) (λ q. inr (inl q, rw q t)) (λ p. inr (inr (p .0), p .1));
+      not-best = is-false (exceeds (least-above b x xs) best) (λ v. clash (exceeds (least-above b x xs) x) (exceeds-chain (least-above b x xs) best x v u) (w .not-best));
+      under = λ y i e. either i (λ q. rw q (w .not-best)) (λ j. w .under y j e);
+    }))
     (λ u. rw (sym (nearer-past b x best t u))
     (let w = nearest b best xs in record {
-    from = either (w .from) (λ q. inl q) (λ p. inr (inr (p .0), p .1));
-    not-best = w .not-best;
-    under = λ y i e. either i (λ q. rw q (is-false (exceeds (least-above b best xs) x) (λ v. clash (exceeds best x) (exceeds-past (least-above b best xs) best x v (w .not-best)) u))) (λ j. w .under y j e) })))
+      from = either (w .from) (λ q. inl q) (λ p. inr (inr (p .0), p .1));
+      not-best = w .not-best;
+      under = λ y i e. either i (λ q. rw q (is-false (exceeds (least-above b best xs) x) (λ v. clash (exceeds best x) (exceeds-past (least-above b best xs) best x v (w .not-best)) u))) (λ j. w .under y j e);
+    })))
     (λ t. rw (sym (nearer-below b x best t))
     (let w = nearest b best xs in record {
-    from = either (w .from) (λ q. inl q) (λ p. inr (inr (p .0), p .1));
-    not-best = w .not-best;
-    under = λ y i e. either i (λ q. clash (exceeds x b) (rw q at e) t) (λ j. w .under y j e) }))
+      from = either (w .from) (λ q. inl q) (λ p. inr (inr (p .0), p .1));
+      not-best = w .not-best;
+      under = λ y i e. either i (λ q. clash (exceeds x b) (rw q at e) t) (λ j. w .under y j e);
+    }))
 
 -- one entry fewer exceeds the least above a bound
 one-fewer : (b m : Entry) (c : ℕ) (xs : List Entry) → Sorted c xs → In m xs → exceeds m b ≡ true → ((y : Entry) → In y xs → exceeds y b ≡ true → exceeds m y ≡ false) → exceeding b xs ≡ exceeding m xs + 1
@@ -132,8 +135,11 @@ cut-by-bound b c xs e =
     keep-same (λ x. ltb (exceeding x xs) c) (λ x. exceeds x b) xs (λ x i.
     by-cases (exceeds x b)
     (λ t. lt-ltb (exceeding x xs) c (omega (arith, exceeding-less x b xs i t)) ∙ sym t)
-    (λ t. le-ltb (exceeding x xs) c (omega (arith, exceeding-mono b x xs (λ y j u.
-    is-true (exceeds y x) (λ v. clash (exceeds x b) (exceeds-past y x b u v) t)))) ∙ sym t))
+    (λ t. le-ltb (exceeding x xs) c (omega (
+      arith,
+      exceeding-mono b x xs (λ y j u.
+          is-true (exceeds y x) (λ v. clash (exceeds x b) (exceeds-past y x b u v) t)),
+    )) ∙ sym t))
 
 exceeding-most : (b : Entry) (xs : List Entry) → exceeding b xs ≤ length xs
 unfolding exceeding

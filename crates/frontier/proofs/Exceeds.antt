@@ -92,3 +92,10 @@ test-axis x b e = rw (le-ltb (b .epoch) (x .epoch) (omega arith), eq-eqb (b .epo
 pub test-epoch : (x b : Entry) → (b .epoch ≡ x .epoch → ⊥) → ltb (b .epoch) (x .epoch) ≡ exceeds x b
 unfolding exceeds
 test-epoch x b n = rw (ne-eqb (b .epoch) (x .epoch) n) (sym (or-none (ltb (b .epoch) (x .epoch))))
+
+-- a larger epoch of the same axis exceeds what the smaller does
+pub exceeds-raised : (y z b : Entry) → exceeds y b ≡ true → y .axis ≡ z .axis → y .epoch ≤ z .epoch → exceeds z b ≡ true
+exceeds-raised y z b e a l =
+    either (above y b e) (λ h. by-epoch z b (omega arith))
+    (λ h. by-cases (ltb (b .epoch) (z .epoch)) (λ t. by-epoch z b (ltb-true _ _ t))
+    (λ t. by-axis z b (omega (arith, ltb-false (b .epoch) (z .epoch) t)) (omega arith)))

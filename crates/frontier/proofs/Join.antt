@@ -76,6 +76,7 @@ module _ (xa xe ya ye : List ℕ) (xn yn i j : ℕ) (rx : rising-from 0 (slots x
     where
       listed-same : {k m : ℕ} → Listed k ≡ Listed m → k ≡ m
       listed-same e = cc
+
       listed-absent : {k : ℕ} → Listed k ≡ Absent → ⊥
       listed-absent e = let z : _≡_ {A = ℕ} 0 1 = cc in omega arith
 
@@ -92,15 +93,23 @@ module _ (xa xe ya ye axes epochs : List ℕ) (xn yn : ℕ) where
   pub join-none : length axes ≡ 32 → length epochs ≡ 32 → Join xa xe ya ye axes epochs xn yn 0 0 0
   unfolding slots Rattle.basics.specs.Lists.tabulate-from
   join-none p q = record {
-      left-in = zero-le; right-in = zero-le; few = zero-le; axes-32 = p; epochs-32 = q;
-      whole = rw (rest-all xa xe xn, rest-all ya ye yn) }
+    left-in = zero-le;
+    right-in = zero-le;
+    few = zero-le;
+    axes-32 = p;
+    epochs-32 = q;
+    whole = rw (rest-all xa xe xn, rest-all ya ye yn);
+  }
 
   pub join-more : (n i j a e p q : ℕ) → Join xa xe ya ye axes epochs xn yn n i j → n < 32 → p ≤ xn → q ≤ yn → i + j < p + q → union (rest xa xe xn i) (rest ya ye yn j) ≡ record { axis = a; epoch = e } ∷ union (rest xa xe xn p) (rest ya ye yn q) → Join xa xe ya ye (set axes n a) (set epochs n e) xn yn (n + 1) p q
   join-more n i j a e p q w h l r m step = record {
-      left-in = l; right-in = r; few = omega (arith, w .few);
-      axes-32 = length-set axes n a ∙ w .axes-32;
-      epochs-32 = length-set epochs n e ∙ w .epochs-32;
-      whole = rw (slots-put axes epochs n a e (omega (arith, w .axes-32)) (omega (arith, w .epochs-32)), append-assoc, ← step) (w .whole) }
+    left-in = l;
+    right-in = r;
+    few = omega (arith, w .few);
+    axes-32 = length-set axes n a ∙ w .axes-32;
+    epochs-32 = length-set epochs n e ∙ w .epochs-32;
+    whole = rw (slots-put axes epochs n a e (omega (arith, w .axes-32)) (omega (arith, w .epochs-32)), append-assoc, ← step) (w .whole);
+  }
 
   pub join-end : (n i j : ℕ) → Join xa xe ya ye axes epochs xn yn n i j → xn + yn ≤ i + j → slots axes epochs n 0 ≡ union (slots xa xe xn 0) (slots ya ye yn 0)
   unfolding union

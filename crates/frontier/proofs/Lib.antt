@@ -11,3 +11,6 @@ pub mod Trim
 pub mod RowSteps
 pub mod Merge
 pub mod Meaning
+pub mod Associate
+pub mod Dominates
+pub mod Lookups

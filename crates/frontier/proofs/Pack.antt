@@ -51,10 +51,11 @@ pub repack : (axes epochs : List ℕ) (n : ℕ) (t : Bool) → n ≤ 16 → leng
 unfolding pack slots slot
 repack axes epochs n t h la le za ze =
     λ i. record {
-    axes = row-of axes (λ e. e .axis) la za (tabulate-map (λ e. e .axis) n 0 (slot axes epochs)) i;
-    epochs = row-of epochs (λ e. e .epoch) le ze (tabulate-map (λ e. e .epoch) n 0 (slot axes epochs)) i;
-    len = sym (slots-length axes epochs n 0) i;
-    tainted = t }
+      axes = row-of axes (λ e. e .axis) la za (tabulate-map (λ e. e .axis) n 0 (slot axes epochs)) i;
+      epochs = row-of epochs (λ e. e .epoch) le ze (tabulate-map (λ e. e .epoch) n 0 (slot axes epochs)) i;
+      len = sym (slots-length axes epochs n 0) i;
+      tainted = t;
+    }
   where
     row-of : (row : List ℕ) (f : Entry → ℕ) → length row ≡ 16 → all-zero (drop n row) ≡ true → map f (tabulate-from n 0 (slot axes epochs)) ≡ tabulate-from n 0 (λ k. getD row k 0) → row ≡ map f (tabulate-from n 0 (slot axes epochs)) ++ replicate (16 - length (tabulate-from n 0 (slot axes epochs))) 0
     row-of row f l z e =
@@ -77,12 +78,13 @@ formed f e =
     let x = and-left (eqb (length (f .axes)) 16 && all-zero (drop (f .len) (f .axes))) _ q in
     let y = and-right (eqb (length (f .axes)) 16 && all-zero (drop (f .len) (f .axes))) _ q in
     record {
-    short = leb-true (f .len) 16 (and-left (leb (f .len) 16) _ e);
-    rises = and-left (rising-from 0 (entries f)) _ p;
-    sixteen-axes = eqb-true (length (f .axes)) 16 (and-left (eqb (length (f .axes)) 16) _ x);
-    sixteen-epochs = eqb-true (length (f .epochs)) 16 (and-left (eqb (length (f .epochs)) 16) _ y);
-    zero-axes = and-right (eqb (length (f .axes)) 16) _ x;
-    zero-epochs = and-right (eqb (length (f .epochs)) 16) _ y }
+      short = leb-true (f .len) 16 (and-left (leb (f .len) 16) _ e);
+      rises = and-left (rising-from 0 (entries f)) _ p;
+      sixteen-axes = eqb-true (length (f .axes)) 16 (and-left (eqb (length (f .axes)) 16) _ x);
+      sixteen-epochs = eqb-true (length (f .epochs)) 16 (and-left (eqb (length (f .epochs)) 16) _ y);
+      zero-axes = and-right (eqb (length (f .axes)) 16) _ x;
+      zero-epochs = and-right (eqb (length (f .epochs)) 16) _ y;
+    }
 
 pub well : (f : Frontier) → Formed f → well-formed f ≡ true
 unfolding well-formed row-formed
@@ -117,15 +119,17 @@ entries-pack xs t = unpacked xs (replicate (16 - length xs) 0) (replicate (16 - 
 pub well-formed-pack : (xs : List Entry) (t : Bool) → Sorted 0 xs → length xs ≤ 16 → well-formed (pack xs t) ≡ true
 unfolding pack
 well-formed-pack xs t s h = well (pack xs t) (record {
-    short = h;
-    rises = rw (entries-pack xs t) (rising 0 xs s);
-    sixteen-axes = row-long (λ e. e .axis);
-    sixteen-epochs = row-long (λ e. e .epoch);
-    zero-axes = row-zero (λ e. e .axis);
-    zero-epochs = row-zero (λ e. e .epoch) })
+  short = h;
+  rises = rw (entries-pack xs t) (rising 0 xs s);
+  sixteen-axes = row-long (λ e. e .axis);
+  sixteen-epochs = row-long (λ e. e .epoch);
+  zero-axes = row-zero (λ e. e .axis);
+  zero-epochs = row-zero (λ e. e .epoch);
+})
   where
     row-long : (f : Entry → ℕ) → length (map f xs ++ replicate (16 - length xs) 0) ≡ 16
     row-long f = rw (length-append, length-map xs f, length-replicate) (omega arith)
+
     row-zero : (f : Entry → ℕ) → all-zero (drop (length xs) (map f xs ++ replicate (16 - length xs) 0)) ≡ true
     row-zero f = rw (drop-at (map f xs) (replicate (16 - length xs) 0) (length xs) (length-map xs f)) (all-zero-replicate (16 - length xs))
 
@@ -146,3 +150,7 @@ judged f r l a b s z e =
     by-cases (all-zero (drop (f .len) (f .epochs)))
     (λ t. e ∙ t ∙ sym (well f (record { short = l; rises = s; sixteen-axes = a; sixteen-epochs = b; zero-axes = z; zero-epochs = t })))
     (λ t. e ∙ t ∙ sym (is-false (well-formed f) (λ u. clash _ (formed f u .zero-epochs) t)))
+
+-- two frontiers that the walks take
+pub both-fit : (f g : Frontier) → well-formed f ≡ true → well-formed g ≡ true → ((f .len ≤ 16) × (g .len ≤ 16)) × ((rising-from 0 (entries f) ≡ true) × (rising-from 0 (entries g) ≡ true))
+both-fit f g p q = ((formed f p .short, formed g q .short), (formed f p .rises, formed g q .rises))

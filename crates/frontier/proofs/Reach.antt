@@ -61,15 +61,16 @@ pub record Reach (xa xe ya ye : List ℕ) (xn yn i j : ℕ) : Type 0 where
 
 pub reach-none : (xa xe ya ye : List ℕ) (xn yn : ℕ) → Reach xa xe ya ye xn yn 0 0
 reach-none xa xe ya ye xn yn = record {
-    left-in = zero-le;
-    right-in = zero-le;
-    same = ap (reached (slots xa xe xn 0)) (rest-all ya ye yn);
-    ahead = λ a h. ap (find a) (rest-all xa xe xn) }
+  left-in = zero-le;
+  right-in = zero-le;
+  same = ap (reached (slots xa xe xn 0)) (rest-all ya ye yn);
+  ahead = λ a h. ap (find a) (rest-all xa xe xn);
+}
 
 -- the search from slot i came to slot k, and the lookup there said r
 module _ (xa xe ya ye : List ℕ) (xn yn i j k : ℕ) (rx : rising-from 0 (slots xa xe xn 0) ≡ true) (ry : rising-from 0 (slots ya ye yn 0) ≡ true)
-  (w : Reach xa xe ya ye xn yn i j) (l : j < yn) (came : rest xa xe xn k ≡ skip-below (getD ya j 0) (rest xa xe xn i))
-  (r : Lookup) (said : r ≡ first-listed (getD ya j 0) (rest xa xe xn k)) where
+    (w : Reach xa xe ya ye xn yn i j) (l : j < yn) (came : rest xa xe xn k ≡ skip-below (getD ya j 0) (rest xa xe xn i))
+    (r : Lookup) (said : r ≡ first-listed (getD ya j 0) (rest xa xe xn k)) where
   right-at : Sorted (floor ya j) (slot ya ye j ∷ rest ya ye yn (j + 1))
   right-at = rw (rest-more ya ye yn j l) at (sorted-rest ya ye yn j (w .right-in) (sorted 0 (slots ya ye yn 0) ry))
 
@@ -89,11 +90,12 @@ module _ (xa xe ya ye : List ℕ) (xn yn i j k : ℕ) (rx : rising-from 0 (slots
   pub reach-more : (e : ℕ) → r ≡ Listed e → getD ye j 0 ≤ e → k ≤ xn → Reach xa xe ya ye xn yn k (j + 1)
   unfolding slot
   reach-more e q h b = record {
-      left-in = b;
-      right-in = omega arith;
-      same = sym (reached-more (slots xa xe xn 0) ya ye yn j l e (looked ∙ q) h) ∙ w .same;
-      ahead = λ a m. let m′ : suc (getD ya j 0) ≤ a = next (rw (add-one j) at m) in
-      ap (find a) came ∙ find-skip a (getD ya j 0) (rest xa xe xn i) (omega arith) ∙ w .ahead a (omega (arith, right-at .0)) }
+    left-in = b;
+    right-in = omega arith;
+    same = sym (reached-more (slots xa xe xn 0) ya ye yn j l e (looked ∙ q) h) ∙ w .same;
+    ahead = λ a m. let m′ : suc (getD ya j 0) ≤ a = next (rw (add-one j) at m) in
+        ap (find a) came ∙ find-skip a (getD ya j 0) (rest xa xe xn i) (omega arith) ∙ w .ahead a (omega (arith, right-at .0));
+  }
     where
       next : {a : ℕ} → floor ya (suc j) ≤ a → suc (getD ya j 0) ≤ a
       next h = unfold floor in h

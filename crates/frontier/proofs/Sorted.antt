@@ -22,10 +22,11 @@ pub sorted : (b : ℕ) (xs : List Entry) → rising-from b xs ≡ true → Sorte
 unfolding rising-from
 sorted b [] e = tt
 sorted b (x ∷ xs) e =
-    let more = and-right (leb b (x .axis)) _ e in
-    (leb-true b (x .axis) (and-left (leb b (x .axis)) _ e),
-    ltb-true 0 (x .epoch) (and-left (ltb 0 (x .epoch)) _ more),
-    sorted (suc (x .axis)) xs (and-right (ltb 0 (x .epoch)) _ more))
+    let more = and-right (leb b (x .axis)) _ e in (
+      leb-true b (x .axis) (and-left (leb b (x .axis)) _ e),
+      ltb-true 0 (x .epoch) (and-left (ltb 0 (x .epoch)) _ more),
+      sorted (suc (x .axis)) xs (and-right (ltb 0 (x .epoch)) _ more),
+    )
 
 pub rising : (b : ℕ) (xs : List Entry) → Sorted b xs → rising-from b xs ≡ true
 unfolding rising-from

@@ -69,14 +69,22 @@ module _ (f : Entry → Bool) (axes epochs kept at : List ℕ) (len : ℕ) where
   pub trim-none : kept ≡ replicate 16 0 → at ≡ replicate 16 0 → Trim f axes epochs kept at len 0 0
   unfolding slots tabulate-from
   trim-none p q = rw (p, q) (record {
-      sixteen-axes = refl; sixteen-epochs = refl; zero-axes = all-zero-replicate 16; zero-epochs = all-zero-replicate 16;
-      whole = ap (keep f) (rest-all axes epochs len) })
+    sixteen-axes = refl;
+    sixteen-epochs = refl;
+    zero-axes = all-zero-replicate 16;
+    zero-epochs = all-zero-replicate 16;
+    whole = ap (keep f) (rest-all axes epochs len);
+  })
 
   pub trim-skip : (n i : ℕ) → Trim f axes epochs kept at len n i → i < len → f (slot axes epochs i) ≡ false → Trim f axes epochs kept at len n (i + 1)
   unfolding keep
   trim-skip n i w h e = record {
-      sixteen-axes = w .sixteen-axes; sixteen-epochs = w .sixteen-epochs; zero-axes = w .zero-axes; zero-epochs = w .zero-epochs;
-      whole = rw (rest-more axes epochs len i h, e) at (w .whole) }
+    sixteen-axes = w .sixteen-axes;
+    sixteen-epochs = w .sixteen-epochs;
+    zero-axes = w .zero-axes;
+    zero-epochs = w .zero-epochs;
+    whole = rw (rest-more axes epochs len i h, e) at (w .whole);
+  }
 
   kept-next : (n i : ℕ) → Trim f axes epochs kept at len n i → i < len → f (slot axes epochs i) ≡ true → slots kept at n 0 ++ (slot axes epochs i ∷ keep f (rest axes epochs len (i + 1))) ≡ keep f (slots axes epochs len 0)
   unfolding keep
@@ -88,11 +96,12 @@ module _ (f : Entry → Bool) (axes epochs kept at : List ℕ) (len : ℕ) where
   pub trim-more : (n i : ℕ) → Trim f axes epochs kept at len n i → i < len → f (slot axes epochs i) ≡ true → n < 16 → Trim f axes epochs (set kept n (getD axes i 0)) (set at n (getD epochs i 0)) len (n + 1) (i + 1)
   unfolding slot
   trim-more n i w h e r = record {
-      sixteen-axes = length-set kept n (getD axes i 0) ∙ w .sixteen-axes;
-      sixteen-epochs = length-set at n (getD epochs i 0) ∙ w .sixteen-epochs;
-      zero-axes = zero-past kept n (getD axes i 0) (omega (arith, w .sixteen-axes)) (w .zero-axes);
-      zero-epochs = zero-past at n (getD epochs i 0) (omega (arith, w .sixteen-epochs)) (w .zero-epochs);
-      whole = rw (slots-put kept at n (getD axes i 0) (getD epochs i 0) (omega (arith, w .sixteen-axes)) (omega (arith, w .sixteen-epochs)), append-assoc) (kept-next n i w h e) }
+    sixteen-axes = length-set kept n (getD axes i 0) ∙ w .sixteen-axes;
+    sixteen-epochs = length-set at n (getD epochs i 0) ∙ w .sixteen-epochs;
+    zero-axes = zero-past kept n (getD axes i 0) (omega (arith, w .sixteen-axes)) (w .zero-axes);
+    zero-epochs = zero-past at n (getD epochs i 0) (omega (arith, w .sixteen-epochs)) (w .zero-epochs);
+    whole = rw (slots-put kept at n (getD axes i 0) (getD epochs i 0) (omega (arith, w .sixteen-axes)) (omega (arith, w .sixteen-epochs)), append-assoc) (kept-next n i w h e);
+  }
 
   pub trim-end : (n i : ℕ) (t : Bool) → Trim f axes epochs kept at len n i → len ≤ i → length (keep f (slots axes epochs len 0)) ≤ 16 → record { axes = kept; epochs = at; len = n; tainted = t } ≡ pack (keep f (slots axes epochs len 0)) t
   unfolding keep
@@ -109,8 +118,9 @@ pub record Bounded (b : Entry) (xs es : List ℕ) (n c l : ℕ) : Type 0 where
 module _ (xs es : List ℕ) (n c : ℕ) where
   pub bounded-none : rising-from 0 (slots xs es n 0) ≡ true → Bounded (record { axis = 0; epoch = 0 }) xs es n c n
   bounded-none r = record {
-      above = bound-start 0 (slots xs es n 0) (sorted 0 (slots xs es n 0) r) ∙ slots-length xs es n 0;
-      enough = inr refl }
+    above = bound-start 0 (slots xs es n 0) (sorted 0 (slots xs es n 0) r) ∙ slots-length xs es n 0;
+    enough = inr refl;
+  }
 
   pub bounded-more : (b next : Entry) (l : ℕ) → Bounded b xs es n c l → c < l → exceeding b (slots xs es n 0) ≡ exceeding next (slots xs es n 0) + 1 → Bounded next xs es n c (l - 1)
   bounded-more b next l w h e = record { above = omega (arith, w .above); enough = inl (omega arith) }

@@ -40,10 +40,11 @@ well-formed f =
 -- the frontier of at most sixteen entries
 unfoldable pub pack : List Entry → (tainted : Bool) → Frontier
 pack xs tainted = record {
-    axes = map (λ x. x .axis) xs ++ replicate (16 - length xs) 0;
-    epochs = map (λ x. x .epoch) xs ++ replicate (16 - length xs) 0;
-    len = length xs;
-    tainted = tainted }
+  axes = map (λ x. x .axis) xs ++ replicate (16 - length xs) 0;
+  epochs = map (λ x. x .epoch) xs ++ replicate (16 - length xs) 0;
+  len = length xs;
+  tainted = tainted;
+}
 
 -- "A refusal hands back an empty untainted frontier"
 unfoldable pub refusal : (number : ℕ) → Merged

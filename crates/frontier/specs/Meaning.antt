@@ -13,7 +13,7 @@ use Rattle.frontier.specs.declared.Lookup.the-variants.{Listed, Absent}
 use Rattle.frontier.specs.declared.Dominance.{Dominance}
 use Rattle.frontier.specs.declared.Dominance.the-variants.{Yes, No, Unknown}
 use Rattle.frontier.specs.Entries.{Entry, In, find, values-of, epochs-under, union, exceeding}
-use Rattle.frontier.specs.Frontiers.{slot, entries, well-formed, merge, dominance, dominance-number, number-of}
+use Rattle.frontier.specs.Frontiers.{slot, entries, well-formed, pack, one-entry, merge, dominance-number, number-of}
 
 -- COMPLETIONS
 
@@ -64,8 +64,8 @@ pub record Merge-means (f g : Frontier) (capacity : ℕ) (r : Frontier) : Type 0
   -- nothing is lost that the taint does not tell of
   pub completions : (full other : ℕ → ℕ) → Completion f full → Completion g other → Completion r (λ axis. max (full axis) (other axis))
   pub idempotent : f ≡ g → f .len ≤ capacity → r ≡ f
-  -- of three frontiers whose axes the capacity holds, in any grouping
-  pub associates : (h : Frontier) → well-formed h ≡ true → length (union (both f g) (entries h)) ≤ capacity → merge r h capacity ≡ merge f (merge g h capacity .frontier) capacity
+  -- of three frontiers at one capacity, in any grouping; 01 claims it without eviction, and it holds with eviction too
+  pub associates : (h : Frontier) → well-formed h ≡ true → merge r h capacity ≡ merge f (merge g h capacity .frontier) capacity
 
 -- what holds of every merge, refused or not
 pub record Merge-right (f g : Frontier) (capacity : ℕ) (r : Merged) : Type 0 where
@@ -73,9 +73,14 @@ pub record Merge-right (f g : Frontier) (capacity : ℕ) (r : Merged) : Type 0 w
   pub commutes : r ≡ merge g f capacity
   pub means : r .number ≡ 0 → Merge-means f g capacity (r .frontier)
 
--- raising keeps completions: the axis at least at the epoch, and every other as it was
+-- the axis at least at the epoch, and every other as it was
 abbrev pub raised : (full : ℕ → ℕ) → (axis epoch : ℕ) → (ℕ → ℕ)
 raised full axis epoch a = max (full a) (cond (eqb axis a) epoch 0)
+
+-- what holds of every raise
+pub record Raise-right (f : Frontier) (axis epoch capacity : ℕ) (r : Merged) : Type 0 where
+  pub merged : Merge-right f (pack (one-entry axis epoch) false) capacity r
+  pub completions : r .number ≡ 0 → (full : ℕ → ℕ) → Completion f full → Completion (r .frontier) (raised full axis epoch)
 
 -- DOMINANCE
 

@@ -1,13 +1,18 @@
 // Sparse frontiers: vector clocks of at most sixteen entries (axis, epoch), with lookup, merge, raise and dominance; and the two lent rows.
 mod walks; // walks over the lent slots of one or two frontiers
 
-use walks::{cut_to, join, listed_at, reaches, rising, seek, zero_from};
+use walks::cut_to;
+use walks::join;
+use walks::listed_at;
+use walks::reaches;
+use walks::rising;
+use walks::seek;
+use walks::zero_from;
 ghost use mathlib.Core.Path.{_≡_};
-ghost use mathlib.Core.Bool.{false, true};
+ghost use mathlib.Core.Bool.{false};
 ghost use mathlib.Core.List.{[]};
-ghost use Prim.Native.Nat.{ℕ};
 ghost use Rattle.frontier.specs.Frontiers.{well-formed, pack, refusal, one-entry, merge, raise, answer, dominance};
-ghost use Rattle.frontier.specs.Meaning.{Completion, Looked, Merge-right, raised, Dominance-means};
+ghost use Rattle.frontier.specs.Meaning.{Looked, Merge-right, Raise-right, Dominance-means};
 ghost use Rattle.frontier.specs.Rows.{row-reaches, reaching-row};
 
 // Slot i holds the entry (axes[i], epochs[i]) for i below len; the slots past len are zero. A tainted frontier has lost entries.
@@ -116,7 +121,7 @@ impl Frontier {
     // One axis raised to an epoch: a merge with one entry, with the empty frontier for epoch 0.
     pub fn raise(self, axis: u64, epoch: u64, capacity: u32) -> Merged
         ensures { λ r. ⌜ r ≡ raise self axis epoch capacity ⌝ }
-        ensures { λ r. ⌜ (r .number ≡ 0 → (full : ℕ → ℕ) → Completion self full → Completion (r .frontier) (raised full axis epoch)) ⌝ }
+        ensures { λ r. ⌜ Raise-right self axis epoch capacity r ⌝ }
     {
         self.merge(Self::one(axis, epoch), capacity)
     }

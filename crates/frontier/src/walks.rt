@@ -1,5 +1,6 @@
 // Walks over the lent slots of one frontier or two: form, lookup, reach, union and cut.
-use crate::{Frontier, Lookup};
+use crate::Frontier;
+use crate::Lookup;
 ghost use mathlib.Core.Path.{_≡_};
 ghost use mathlib.Core.Bool.{true, _||_};
 ghost use mathlib.Core.List.{List, _∷_};
@@ -90,7 +91,13 @@ pub fn seek(axes: &[u64; 16], len: usize, from: usize, axis: u64) -> usize
 }
 
 // What slot `at` says of an axis: its epoch, if the slot is of that axis.
-pub fn listed_at<'a>(axes: &'a [u64; 16], epochs: &'a [u64; 16], len: usize, at: usize, axis: u64) -> Lookup
+pub fn listed_at<'a>(
+    axes: &'a [u64; 16],
+    epochs: &'a [u64; 16],
+    len: usize,
+    at: usize,
+    axis: u64,
+) -> Lookup
     requires { ⌜ len ≤ 16 ⌝ }
     ensures { λ r. ⌜ r ≡ first-listed axis (rest (now (axes .entry)) (now (epochs .entry)) len at) ⌝ }
 {
@@ -321,5 +328,11 @@ pub fn cut_to(both: Both, capacity: usize, tainted: bool) -> Frontier
 {
     let len = both.len;
     let bound = bound_of(&both.axes, &both.epochs, len, capacity);
-    trim(&both.axes, &both.epochs, len, bound, tainted | (capacity < len))
+    trim(
+        &both.axes,
+        &both.epochs,
+        len,
+        bound,
+        tainted | (capacity < len),
+    )
 }

@@ -1,3 +1,8 @@
+use mathlib.Core.Path.{_≡_, sym, _∙_}
+use borrow.Author.Tests.{not-true, not-false}
+use Rattle.frontier.specs.Frontiers.{entries}
+use Rattle.frontier.proofs.Pack.{both-fit}
+use Rattle.frontier.proofs.Dominates.{judged-left, judged-right, judged-answer, dominates-all}
 use borrow.Author.Needs.{needs}
 use Rattle.frontier.proofs.Frontier.dominates.Statement.{statement}
 use Rattle.frontier.proofs.Frontier.dominates.Tie as tie
@@ -13,7 +18,7 @@ well-formed-requires c κs = search needs
 
 -- src/lib.rt:131:13
 returns : tie.Need-returns
-returns c = search needs
+returns c = dominates-all _ _ _ (judged-left _ _ (sym (c .before .well-formed .ensures) ∙ not-true _ (c .if1 .taken)))
 
 -- src/lib.rt:133:13
 well-formed-requires-2 : tie.Need-well-formed-requires-2
@@ -21,11 +26,12 @@ well-formed-requires-2 c κs = search needs
 
 -- src/lib.rt:134:13
 returns-2 : tie.Need-returns-2
-returns-2 c = search needs
+returns-2 c = dominates-all _ _ _ (judged-right _ _ (sym (c .before .before .before .well-formed .ensures) ∙ not-false _ (c .before .before .if1 .left)) (sym (c .before .well-formed2 .ensures) ∙ not-true _ (c .if2 .taken)))
 
 -- src/lib.rt:136:13
 reaches-requires : tie.Need-reaches-requires
-reaches-requires c κs = search needs
+unfolding entries
+reaches-requires c κs = both-fit _ _ (sym (c .before .before .before .before .before .before .before .before .before .well-formed .ensures) ∙ not-false _ (c .before .before .before .before .before .before .before .before .if1 .left)) (sym (c .before .before .before .before .before .before .before .well-formed2 .ensures) ∙ not-false _ (c .before .before .before .before .before .before .if2 .left))
 
 -- src/lib.rt:144:9
 answer-of-requires : tie.Need-answer-of-requires
@@ -33,7 +39,8 @@ answer-of-requires c κs = search needs
 
 -- src/lib.rt:126:5
 returns-3 : tie.Need-returns-3
-returns-3 c = search needs
+unfolding entries
+returns-3 c = dominates-all _ _ _ (judged-answer _ _ (c .answer-of .ensures) (c .before .reaches .ensures) (sym (c .before .before .before .before .before .before .before .before .before .before .before .well-formed .ensures) ∙ not-false _ (c .before .before .before .before .before .before .before .before .before .before .if1 .left)) (sym (c .before .before .before .before .before .before .before .before .before .well-formed2 .ensures) ∙ not-false _ (c .before .before .before .before .before .before .before .before .if2 .left)))
 
 pub dominates-spec : {M : Type 1} → statement M
 dominates-spec =

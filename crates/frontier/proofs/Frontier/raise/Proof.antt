@@ -1,3 +1,4 @@
+use Rattle.frontier.proofs.Meaning.{raise-all, raise-of}
 use borrow.Author.Needs.{needs}
 use Rattle.frontier.proofs.Frontier.raise.Statement.{statement}
 use Rattle.frontier.proofs.Frontier.raise.Tie as tie
@@ -16,7 +17,7 @@ merge-requires c κs = search needs
 
 -- src/lib.rt:118:5
 returns : tie.Need-returns
-returns c = search needs
+returns c = raise-all _ _ _ _ _ (raise-of _ _ _ _ _ _ (c .merge .ensures .0) (c .before .one .ensures))
 
 pub raise-spec : {M : Type 1} → statement M
 raise-spec = tie.close (tie.spec one-requires merge-requires returns)
