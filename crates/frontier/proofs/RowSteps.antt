@@ -8,9 +8,10 @@ use native.Mathlib.Omega.{arith}
 use lib.Dec.{leb}
 use lib.ListN.{length, getD, drop}
 use lib.Seq.{drop-cons}
+use denote.Ref.{RefT}
 use borrow.Author.Tests.{le-leb, lt-leb}
-use Rattle.basics.proofs.Tests.{by-cases}
-use Rattle.frontier.specs.Rows.{row-reaches, reaching-row}
+use Rattle.basics.proofs.Tests.{by-cases, clash}
+use Rattle.frontier.specs.Rows.{row-reaches, reaching-row, As-it-lies}
 
 pub lengths-differ : (xs ys : List ℕ) → (length xs ≡ length ys → ⊥) → false ≡ row-reaches xs ys
 unfolding row-reaches
@@ -36,14 +37,25 @@ module _ (xs ys : List ℕ) (same : length xs ≡ length ys) (i : ℕ) where
       shorter : length xs ≤ i → length ys ≤ i
       shorter h = omega arith
 
-pub first-reaches : (xs ys : List ℕ) → row-reaches xs ys ≡ true → xs ≡ reaching-row xs ys
-unfolding reaching-row
-first-reaches xs ys e = rw e
+-- THE THREE ANSWERS
+module _ (first second : RefT (List ℕ)) where
+  pub first-reaches : row-reaches (first .now) (second .now) ≡ true → (first .now ≡ reaching-row (first .now) (second .now)) × As-it-lies first second first
+  unfolding reaching-row
+  first-reaches e = (rw e, record {
+      is-first = λ t. refl;
+      is-second = λ t u. clash (row-reaches (first .now) (second .now)) e t;
+      is-empty = λ t u. clash (row-reaches (first .now) (second .now)) e t })
 
-pub second-reaches : (xs ys : List ℕ) → row-reaches xs ys ≡ false → row-reaches ys xs ≡ true → ys ≡ reaching-row xs ys
-unfolding reaching-row
-second-reaches xs ys e f = rw (e, f)
+  pub second-reaches : row-reaches (first .now) (second .now) ≡ false → row-reaches (second .now) (first .now) ≡ true → (second .now ≡ reaching-row (first .now) (second .now)) × As-it-lies first second second
+  unfolding reaching-row
+  second-reaches e f = (rw (e, f), record {
+      is-first = λ t. clash (row-reaches (first .now) (second .now)) t e;
+      is-second = λ t u. refl;
+      is-empty = λ t u. clash (row-reaches (second .now) (first .now)) f u })
 
-pub none-reaches : (xs ys : List ℕ) → row-reaches xs ys ≡ false → row-reaches ys xs ≡ false → [] ≡ reaching-row xs ys
-unfolding reaching-row
-none-reaches xs ys e f = rw (e, f)
+  pub none-reaches : (r : RefT (List ℕ)) → r .ptr ≡ first .ptr → r .now ≡ [] → row-reaches (first .now) (second .now) ≡ false → row-reaches (second .now) (first .now) ≡ false → (r .now ≡ reaching-row (first .now) (second .now)) × As-it-lies first second r
+  unfolding reaching-row
+  none-reaches r p n e f = (rw (e, f) n, record {
+      is-first = λ t. clash (row-reaches (first .now) (second .now)) t e;
+      is-second = λ t u. clash (row-reaches (second .now) (first .now)) u f;
+      is-empty = λ t u. (p, n) })

@@ -13,7 +13,7 @@ ghost use mathlib.Core.Bool.{false};
 ghost use mathlib.Core.List.{[]};
 ghost use Rattle.frontier.specs.Frontiers.{well-formed, pack, refusal, one-entry, merge, raise, answer, dominance};
 ghost use Rattle.frontier.specs.Meaning.{Looked, Merge-right, Raise-right, Dominance-means};
-ghost use Rattle.frontier.specs.Rows.{row-reaches, reaching-row};
+ghost use Rattle.frontier.specs.Rows.{row-reaches, reaching-row, As-it-lies};
 
 // Slot i holds the entry (axes[i], epochs[i]) for i below len; the slots past len are zero. A tainted frontier has lost entries.
 pub struct Frontier {
@@ -198,6 +198,7 @@ fn answer_of(reached: bool, tainted: bool, other: bool) -> Dominance
 // the lengths differ, an empty part of the first.
 pub fn reaching<'a>(first: &'a [u64], second: &'a [u64]) -> &'a [u64]
     ensures { λ r. ⌜ now r ≡ reaching-row (now (first .entry)) (now (second .entry)) ⌝ }
+    ensures { λ r. ⌜ As-it-lies (first .entry) (second .entry) r ⌝ }
 {
     if row_reaches(first, second) {
         return first;

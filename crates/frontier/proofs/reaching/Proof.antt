@@ -1,4 +1,4 @@
-use mathlib.Core.Path.{_≡_, sym, _∙_}
+use mathlib.Core.Path.{_≡_, refl, sym, _∙_}
 use Rattle.frontier.proofs.RowSteps.{first-reaches, second-reaches, none-reaches}
 use borrow.Author.Needs.{needs}
 use Rattle.frontier.proofs.reaching.Statement.{statement}
@@ -29,7 +29,7 @@ slice-aggregate-result c = search needs
 
 -- src/lib.rt:195:1
 returns-3 : tie.Need-returns-3
-returns-3 c = none-reaches _ _ (sym (c .before .before .before .before .row-reaches .ensures) ∙ c .before .before .before .if1 .left) (sym (c .before .before .row-reaches2 .ensures) ∙ c .before .if2 .left)
+returns-3 c = none-reaches _ _ _ refl refl (sym (c .before .before .before .before .row-reaches .ensures) ∙ c .before .before .before .if1 .left) (sym (c .before .before .row-reaches2 .ensures) ∙ c .before .if2 .left)
 
 pub reaching-spec : {M : Type 1} → statement M
 reaching-spec =
