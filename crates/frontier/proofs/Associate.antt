@@ -4,7 +4,7 @@ use mathlib.Core.Path.{_≡_, refl, sym, ap, _∙_}
 use mathlib.Core.Bool.{Bool, true, false, _&&_, _||_, cond}
 use mathlib.Core.Logic.{_⊎_, inl, inr}
 use mathlib.Core.List.{List, [], _∷_}
-use Prim.Native.Nat.{ℕ, zero, suc, _+_, _-_, _≤_, _<_, zero-le, max}
+use Prim.Native.Nat.{ℕ, zero, suc, _+_, _-_, _≤_, _<_, zero-le, max, min}
 use native.Mathlib.Nat.{le-refl}
 use native.Mathlib.Omega.{arith}
 use lib.Dec.{ltb, leb, eqb}
@@ -120,6 +120,21 @@ bounds xs s (suc d) h =
     let t = top xs in
     let e = next-bound (w .0) (t .0) 0 xs s (λ y i. let k = t .1 y i in exceeds-not-top y (t .0) (k .0) (k .1)) (omega (arith, w .1)) in
     (least-above (w .0) (t .0) xs, omega (arith, w .1, e))
+
+-- exactly the capacity remain, where there are as many
+keep-length : (b : Entry) (xs : List Entry) → length (keep (Over b) xs) ≡ exceeding b xs
+unfolding keep exceeding
+keep-length b [] = refl
+keep-length b (x ∷ xs) = by-cases (exceeds x b) (λ t. rw t (omega (arith, keep-length b xs))) (λ t. rw t (omega (arith, keep-length b xs)))
+
+pub cut-fills : (c : ℕ) (xs : List Entry) → Sorted 0 xs → length (cut c xs) ≡ min c (length xs)
+cut-fills c xs s =
+    by-cases (ltb c (length xs))
+    (λ l. let h = ltb-true c (length xs) l in
+    let w = bounds xs s (length xs - c) (omega arith) in
+    let e : exceeding (w .0) xs ≡ c = omega (arith, w .1) in
+    ap length (cut-by-bound (w .0) c xs e) ∙ keep-length (w .0) xs ∙ e ∙ omega arith)
+    (λ l. ap length (cut-whole c xs (ltb-false c (length xs) l)) ∙ omega (arith, ltb-false c (length xs) l))
 
 -- THE LAW
 pub cut-first : (c : ℕ) (xs ys : List Entry) → Sorted 0 xs → Sorted 0 ys → cut c (union (cut c xs) ys) ≡ cut c (union xs ys)

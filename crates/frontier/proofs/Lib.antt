@@ -14,3 +14,4 @@ pub mod Meaning
 pub mod Associate
 pub mod Dominates
 pub mod Lookups
+pub mod Raising

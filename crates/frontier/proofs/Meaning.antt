@@ -18,7 +18,7 @@ use Rattle.frontier.specs.Meaning.{epoch-of, epoch-at, Completion, Over,
 use Rattle.frontier.proofs.Sorted.{Sorted, epoch-here, epoch-there, epoch-none, epoch-below, epoch-union, sorted-union, union-commutes, union-associates}
 use Rattle.frontier.proofs.Cut.{cut-whole, cut-length, find-cut, epoch-cut, sorted-cut}
 use Rattle.frontier.proofs.Pack.{entries-pack, sorted-entries, well-formed-pack, pack-entries}
-use Rattle.frontier.proofs.Associate.{cut-first, told-first}
+use Rattle.frontier.proofs.Associate.{cut-first, told-first, cut-fills}
 use Rattle.frontier.proofs.Merge.{Accepted, accepted, accepted-by, number-right, frontier-right, merge-formed, merge-commutes, joined-idempotent, joined-formed, or-commutes, sorted-one, short-one}
 
 -- what `||` tells where it is false
@@ -143,6 +143,7 @@ merge-right f g c r e = record {
     made-means a = record {
       larger = epoch-union 0 (entries f) (entries g) (sf f g c a) (sg f g c a);
       stays = λ x. ap (find x) (made-entries f g c a) ∙ find-cut c 0 (both f g) (su f g c a) x;
+      fills = ap length (made-entries f g c a) ∙ cut-fills c (both f g) (su f g c a);
       taint = made-tainted f g c a ∙ ap (λ b. (f .tainted || g .tainted) || b) (cut-told f g c a);
       completions = keeps f g c a;
       idempotent = λ q h. rw (sym q) (joined-idempotent f c (a .left) h);

@@ -3,7 +3,7 @@
 use mathlib.Core.Path.{_≡_}
 use mathlib.Core.Bool.{Bool, true, false, _||_, cond}
 use mathlib.Core.List.{List, [], _∷_}
-use Prim.Native.Nat.{ℕ, _≤_, _<_, max}
+use Prim.Native.Nat.{ℕ, _≤_, _<_, max, min}
 use lib.Dec.{ltb, eqb}
 use lib.ListN.{length}
 use Rattle.frontier.specs.declared.Frontier.{Frontier}
@@ -59,6 +59,8 @@ pub record Merge-means (f g : Frontier) (capacity : ℕ) (r : Frontier) : Type 0
   pub larger : (axis : ℕ) → epoch-at (both f g) axis ≡ max (epoch-at (entries f) axis) (epoch-at (entries g) axis)
   -- an entry stays exactly if fewer than the capacity exceed it
   pub stays : (axis : ℕ) → find axis (entries r) ≡ listed-if (λ x. ltb (exceeding x (both f g)) capacity) axis (find axis (both f g))
+  -- and as many stay as the capacity holds
+  pub fills : length (entries r) ≡ min capacity (length (both f g))
   -- tainted exactly if a side was or something was cut
   pub taint : r .tainted ≡ ((f .tainted || g .tainted) || ltb (length (entries r)) (length (both f g)))
   -- nothing is lost that the taint does not tell of

@@ -17,8 +17,8 @@ ghost use Rattle.frontier.specs.Rows.{row-reaches, reaching-row, As-it-l
 
 // Slot i holds the entry (axes[i], epochs[i]) for i below len; the slots past len are zero. A tainted frontier has lost entries.
 pub struct Frontier {
-    pub axes: [u64; 16],
-    pub epochs: [u64; 16],
+    pub axes: [u64; Frontier::SLOTS],
+    pub epochs: [u64; Frontier::SLOTS],
     pub len: usize,
     pub tainted: bool,
 }
@@ -46,13 +46,16 @@ pub enum Dominance {
 impl Frontier {
     pub const SLOTS: usize = 16;
 
+    // The largest capacity.
+    pub const MOST: u32 = 16;
+
     // The empty untainted frontier.
     pub fn empty() -> Self
         ensures { λ r. ⌜ r ≡ pack [] false ⌝ }
     {
         Self {
-            axes: [0; 16],
-            epochs: [0; 16],
+            axes: [0; Self::SLOTS],
+            epochs: [0; Self::SLOTS],
             len: 0,
             tainted: false,
         }
@@ -95,7 +98,7 @@ impl Frontier {
         if capacity < 1 {
             return refused(15);
         }
-        if 16 < capacity {
+        if Self::MOST < capacity {
             return refused(15);
         }
         if !self.well_formed() {
@@ -155,8 +158,8 @@ impl Frontier {
         if epoch == 0 {
             return Self::empty();
         }
-        let mut axes = [0u64; 16];
-        let mut epochs = [0u64; 16];
+        let mut axes = [0u64; Self::SLOTS];
+        let mut epochs = [0u64; Self::SLOTS];
         axes[0] = axis;
         epochs[0] = epoch;
         Self {

@@ -11,6 +11,9 @@ ghost use Rattle.frontier.specs.Entries.{rising-from, union, exceeds, ex
 ghost use Rattle.frontier.specs.Frontiers.{slots, all-zero, pack, reached};
 ghost use Rattle.frontier.specs.Walks.{rest, placed, skip-below, first-listed, nearer};
 
+// The axes or the epochs of a frontier.
+pub type Slots = [u64; Frontier::SLOTS];
+
 // The entries of two frontiers together, before the cut.
 pub struct Both {
     pub axes: [u64; 32],
@@ -33,7 +36,7 @@ pub struct Bound {
 }
 
 // Slot i has an epoch above 0, and its axis is above that of the slot before.
-fn in_place<'a>(axes: &'a [u64; 16], epochs: &'a [u64; 16], i: usize) -> bool
+fn in_place<'a>(axes: &'a Slots, epochs: &'a Slots, i: usize) -> bool
     requires { ⌜ i < 16 ⌝ }
     ensures { λ r. ⌜ r ≡ placed (now (axes .entry)) (now (epochs .entry)) i ⌝ }
 {
@@ -47,7 +50,7 @@ fn in_place<'a>(axes: &'a [u64; 16], epochs: &'a [u64; 16], i: usize) -> bool
 }
 
 // The axes rise and the epochs are above 0.
-pub fn rising<'a>(axes: &'a [u64; 16], epochs: &'a [u64; 16], len: usize) -> bool
+pub fn rising<'a>(axes: &'a Slots, epochs: &'a Slots, len: usize) -> bool
     requires { ⌜ len ≤ 16 ⌝ }
     ensures { λ r. ⌜ r ≡ rising-from 0 (slots (now (axes .entry)) (now (epochs .entry)) len 0) ⌝ }
 {
@@ -76,7 +79,7 @@ pub fn zero_from(row: &[u64], from: usize) -> bool
 }
 
 // The first slot from `from` on whose axis is not below the one sought, or the length.
-pub fn seek(axes: &[u64; 16], len: usize, from: usize, axis: u64) -> usize
+pub fn seek(axes: &Slots, len: usize, from: usize, axis: u64) -> usize
     requires { ⌜ (from ≤ len) × (len ≤ 16) ⌝ }
     ensures { λ r. ⌜ (r ≤ len) × ((es : List ℕ) → rest (now (axes .entry)) es len r ≡ skip-below axis (rest (now (axes .entry)) es len from)) ⌝ }
 {
@@ -91,13 +94,7 @@ pub fn seek(axes: &[u64; 16], len: usize, from: usize, axis: u64) -> usize
 }
 
 // What slot `at` says of an axis: its epoch, if the slot is of that axis.
-pub fn listed_at<'a>(
-    axes: &'a [u64; 16],
-    epochs: &'a [u64; 16],
-    len: usize,
-    at: usize,
-    axis: u64,
-) -> Lookup
+pub fn listed_at<'a>(axes: &'a Slots, epochs: &'a Slots, len: usize, at: usize, axis: u64) -> Lookup
     requires { ⌜ len ≤ 16 ⌝ }
     ensures { λ r. ⌜ r ≡ first-listed axis (rest (now (axes .entry)) (now (epochs .entry)) len at) ⌝ }
 {
@@ -112,11 +109,11 @@ pub fn listed_at<'a>(
 
 // Every entry of y is reached by x. An axis that x lacks is not.
 pub fn reaches<'a>(
-    xa: &'a [u64; 16],
-    xe: &'a [u64; 16],
+    xa: &'a Slots,
+    xe: &'a Slots,
     xn: usize,
-    ya: &'a [u64; 16],
-    ye: &'a [u64; 16],
+    ya: &'a Slots,
+    ye: &'a Slots,
     yn: usize,
 ) -> bool
     requires { ⌜ (xn ≤ 16) × (yn ≤ 16) ⌝ }
@@ -141,12 +138,12 @@ pub fn reaches<'a>(
 
 // The next entry of the union of x from slot i and y from slot j: the smaller axis, with the larger epoch where both list it.
 fn next<'a>(
-    xa: &'a [u64; 16],
-    xe: &'a [u64; 16],
+    xa: &'a Slots,
+    xe: &'a Slots,
     xn: usize,
     i: usize,
-    ya: &'a [u64; 16],
-    ye: &'a [u64; 16],
+    ya: &'a Slots,
+    ye: &'a Slots,
     yn: usize,
     j: usize,
 ) -> Step
@@ -205,11 +202,11 @@ fn larger(a: u64, b: u64) -> u64
 
 // The union of x and y.
 pub fn join<'a>(
-    xa: &'a [u64; 16],
-    xe: &'a [u64; 16],
+    xa: &'a Slots,
+    xe: &'a Slots,
     xn: usize,
-    ya: &'a [u64; 16],
-    ye: &'a [u64; 16],
+    ya: &'a Slots,
+    ye: &'a Slots,
     yn: usize,
 ) -> Both
     requires { ⌜ (xn ≤ 16) × (yn ≤ 16) ⌝ }
@@ -298,8 +295,8 @@ fn trim<'a>(axes: &'a [u64], epochs: &'a [u64], len: usize, bound: Bound, tainte
     requires { ⌜ length (keep (λ x. exceeds x (record { axis = bound .axis; epoch = bound .epoch })) (slots (now axes) (now epochs) len 0)) ≤ 16 ⌝ }
     ensures { λ r. ⌜ r ≡ pack (keep (λ x. exceeds x (record { axis = bound .axis; epoch = bound .epoch })) (slots (now (axes .entry)) (now (epochs .entry)) len 0)) tainted ⌝ }
 {
-    let mut kept = [0u64; 16];
-    let mut at = [0u64; 16];
+    let mut kept = [0u64; Frontier::SLOTS];
+    let mut at = [0u64; Frontier::SLOTS];
     let mut n: usize = 0;
     let mut i: usize = 0;
     while i < len {
