@@ -1,23 +1,23 @@
 -- A cut before a union changes nothing of the cut after it, so merges at one capacity may be grouped in any way, also where they evict: 01
 -- claims it only without eviction. Assumes nothing.
 use mathlib.Core.Path.{_≡_, refl, sym, ap, _∙_}
-use mathlib.Core.Bool.{Bool, true, false, _&&_, _||_, cond}
-use mathlib.Core.Logic.{_⊎_, inl, inr}
+use mathlib.Core.Bool.{Bool, true, false, _||_, cond}
+use mathlib.Core.Logic.{inl, inr}
 use mathlib.Core.List.{List, [], _∷_}
-use Prim.Native.Nat.{ℕ, zero, suc, _+_, _-_, _≤_, _<_, zero-le, max, min}
+use Prim.Native.Nat.{ℕ, zero, suc, _+_, _-_, _≤_, zero-le, max, min}
 use native.Mathlib.Nat.{le-refl}
 use native.Mathlib.Omega.{arith}
 use lib.Dec.{ltb, leb, eqb}
 use lib.ListN.{length}
-use borrow.Author.Tests.{ltb-true, ltb-false, leb-true, leb-false, lt-ltb, le-ltb, eqb-true, eqb-false}
+use borrow.Author.Tests.{ltb-true, ltb-false, leb-true, leb-false, lt-ltb, le-ltb, eqb-true}
 use Rattle.basics.proofs.Tests.{by-cases, clash, is-true, is-false, either}
 use Rattle.frontier.specs.declared.Lookup.{Lookup}
 use Rattle.frontier.specs.declared.Lookup.the-variants.{Listed, Absent}
 use Rattle.frontier.specs.Entries.{Entry, In, find, put, union, exceeds, exceeding, keep, cut}
 use Rattle.frontier.specs.Meaning.{epoch-of, epoch-at, listed-if}
-use Rattle.frontier.proofs.Sorted.{Sorted, same-entries, sorted-union, epoch-union, union-commutes, union-associates, union-longer}
+use Rattle.frontier.proofs.Sorted.{Sorted, same-entries, sorted-union, epoch-union, union-commutes, union-longer}
 use Rattle.frontier.proofs.Exceeds.{exceeds-chain, exceeds-past, exceeds-raised, exceeds-not-top}
-use Rattle.frontier.proofs.Cut.{sorted-keep, find-keep, cut-whole, sorted-cut}
+use Rattle.frontier.proofs.Cut.{sorted-keep, find-keep, cut-whole}
 use Rattle.frontier.proofs.Evict.{least-above, exceeding-mono, next-bound, cut-by-bound, bound-start}
 
 -- A UNION ONLY RAISES

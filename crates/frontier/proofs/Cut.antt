@@ -1,21 +1,21 @@
 -- The cut to a capacity: it keeps an entry exactly if fewer than `capacity` others exceed it, leaves at most `capacity`, and cuts exactly if
 -- there are more. Assumes nothing.
-use mathlib.Core.Path.{_≡_, refl, sym, ap, _∙_, subst}
-use mathlib.Core.Bool.{Bool, true, false, cond}
-use mathlib.Core.Logic.{_⊎_, inl, inr}
+use mathlib.Core.Path.{_≡_, refl, sym}
+use mathlib.Core.Bool.{Bool, true, false}
+use mathlib.Core.Logic.{inl, inr}
 use mathlib.Core.List.{List, [], _∷_}
-use Prim.Native.Nat.{ℕ, suc, _+_, _≤_, _<_, zero-le}
+use Prim.Native.Nat.{ℕ, suc, _≤_, _<_, zero-le}
 use native.Mathlib.Nat.{le-refl}
 use native.Mathlib.Omega.{arith}
 use lib.Dec.{ltb, eqb}
 use lib.ListN.{length}
-use borrow.Author.Tests.{ltb-true, lt-ltb, le-ltb, eqb-true, eqb-false, eq-eqb, ne-eqb}
-use Rattle.basics.proofs.Tests.{by-cases, clash, either}
+use borrow.Author.Tests.{ltb-true, lt-ltb, eqb-true, ne-eqb}
+use Rattle.basics.proofs.Tests.{by-cases, either}
 use Rattle.frontier.specs.declared.Lookup.{Lookup}
 use Rattle.frontier.specs.declared.Lookup.the-variants.{Listed, Absent}
 use Rattle.frontier.specs.Entries.{Entry, In, find, exceeds, exceeding, keep, cut}
 use Rattle.frontier.specs.Meaning.{epoch-of, epoch-at, listed-if}
-use Rattle.frontier.proofs.Sorted.{Sorted, lower, same-entry, epoch-none}
+use Rattle.frontier.proofs.Sorted.{Sorted, lower, same-entry}
 use Rattle.frontier.proofs.Exceeds.{exceeds-not-itself, exceeds-one-way, exceeds-or, exceeds-past}
 
 pub in-above : (b : ℕ) (x : Entry) (xs : List Entry) → Sorted b xs → In x xs → b ≤ x .axis

@@ -1,24 +1,19 @@
 -- The walk that joins two frontiers: the next entry of the union of what is left, and what is written so far. Assumes nothing.
-use mathlib.Core.Path.{_≡_, refl, sym, ap, _∙_}
-use mathlib.Core.Bool.{Bool, true, false, _&&_, cond}
-use mathlib.Core.List.{List, [], _∷_, _++_}
-use Prim.Native.Nat.{ℕ, zero, suc, _+_, _-_, _≤_, _<_, zero-le, max}
-use native.Mathlib.Nat.{le-refl}
-use native.Mathlib.Numerals.{add-one}
+use mathlib.Core.Path.{_≡_, sym, _∙_}
+use mathlib.Core.Bool.{true}
+use mathlib.Core.List.{List, [], _∷_, _++_, append-assoc, append-nil}
+use Prim.Native.Nat.{ℕ, suc, _+_, _-_, _≤_, _<_, zero-le, max}
 use native.Mathlib.Omega.{arith}
-use lib.Dec.{ltb, leb, eqb}
-use lib.ListN.{length, getD}
-use borrow.Author.Tests.{ltb-true, ltb-false, le-leb, lt-leb, eqb-true, eqb-false, eq-eqb, ne-eqb}
+use lib.Dec.{eqb}
+use lib.ListN.{length, getD, set, length-set}
+use borrow.Author.Tests.{eqb-true, eqb-false}
 use Rattle.basics.proofs.Tests.{by-cases}
-use Rattle.frontier.specs.declared.Lookup.{Lookup}
 use Rattle.frontier.specs.declared.Lookup.the-variants.{Listed, Absent}
-use Rattle.frontier.specs.Entries.{Entry, rising-from, union}
+use Rattle.frontier.specs.Entries.{rising-from, union}
 use Rattle.frontier.specs.Frontiers.{slot, slots}
 use Rattle.frontier.specs.Walks.{rest, floor, first-listed}
 use Rattle.frontier.proofs.Sorted.{Sorted, sorted, lower, union-left, union-right, union-both}
 use Rattle.frontier.proofs.Slots.{rest-all, rest-more, rest-none, sorted-rest, slots-put}
-use mathlib.Core.List.{append-assoc, append-nil}
-use lib.ListN.{set, length-set}
 
 -- TWO FRONTIERS: x from slot i on and y from slot j on
 module _ (xa xe ya ye : List ℕ) (xn yn i j : ℕ) (rx : rising-from 0 (slots xa xe xn 0) ≡ true) (ry : rising-from 0 (slots ya ye yn 0) ≡ true) where

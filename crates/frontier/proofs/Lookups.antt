@@ -1,19 +1,19 @@
 -- What a lookup promises: of a well-formed frontier every epoch listed under the axis, one or none; of any other what stands in a slot.
 -- Assumes nothing.
 use mathlib.Core.Path.{_≡_, refl, sym, ap, _∙_}
-use mathlib.Core.Bool.{Bool, true, false, cond}
+use mathlib.Core.Bool.{true}
 use mathlib.Core.List.{List, [], _∷_}
-use Prim.Native.Nat.{ℕ, suc, _+_, _≤_, _<_}
+use Prim.Native.Nat.{ℕ, suc, _≤_, _<_}
 use native.Mathlib.Omega.{arith}
 use lib.Dec.{ltb, eqb}
 use lib.ListN.{getD}
-use borrow.Author.Tests.{ltb-true, ltb-false, eqb-true, eqb-false, ne-eqb}
-use Rattle.basics.proofs.Tests.{by-cases, clash}
+use borrow.Author.Tests.{ltb-true, ltb-false, eqb-true, ne-eqb}
+use Rattle.basics.proofs.Tests.{by-cases}
 use Rattle.frontier.specs.declared.Frontier.{Frontier}
 use Rattle.frontier.specs.declared.Lookup.{Lookup}
 use Rattle.frontier.specs.declared.Lookup.the-variants.{Listed, Absent}
 use Rattle.frontier.specs.Entries.{Entry, find, values-of, epochs-under}
-use Rattle.frontier.specs.Frontiers.{slot, slots, entries, well-formed}
+use Rattle.frontier.specs.Frontiers.{slot, entries, well-formed}
 use Rattle.frontier.specs.Meaning.{Looked}
 use Rattle.frontier.specs.Walks.{rest, skip-below, first-listed}
 use Rattle.frontier.proofs.Sorted.{Sorted, same-entry}

@@ -1,25 +1,24 @@
 -- What merge and raise promise of their answers: completions are kept, and merges at one capacity are grouped in any way. Assumes nothing.
 use mathlib.Core.Path.{_≡_, refl, sym, ap, ap₂, _∙_}
-use mathlib.Core.Bool.{Bool, true, false, _&&_, _||_, cond}
-use mathlib.Core.Logic.{_⊎_, inl, inr}
-use mathlib.Core.List.{List, [], _∷_}
-use Prim.Native.Nat.{ℕ, suc, _+_, _≤_, _<_, zero-le, max}
+use mathlib.Core.Bool.{Bool, true, false, _||_, cond}
+use mathlib.Core.List.{List, []}
+use Prim.Native.Nat.{ℕ, max}
 use native.Mathlib.Nat.{le-refl}
 use native.Mathlib.Omega.{arith}
-use lib.Dec.{ltb, leb, eqb}
+use lib.Dec.{ltb, eqb}
 use lib.ListN.{length}
-use borrow.Author.Tests.{ltb-true, ltb-false, leb-true, leb-false, lt-ltb, le-ltb, le-leb, lt-leb, eqb-true, eqb-false, eq-eqb, ne-eqb}
-use Rattle.basics.proofs.Tests.{by-cases, clash, either, and-left, and-right, or-cases}
+use borrow.Author.Tests.{ltb-true, ltb-false, lt-ltb, le-ltb, eqb-true, eqb-false}
+use Rattle.basics.proofs.Tests.{by-cases, clash}
 use Rattle.frontier.specs.declared.Frontier.{Frontier}
 use Rattle.frontier.specs.declared.Merged.{Merged}
-use Rattle.frontier.specs.Entries.{Entry, In, find, union, exceeding, cut}
-use Rattle.frontier.specs.Frontiers.{entries, well-formed, pack, joined, merge-number, merge, one-entry, raise}
-use Rattle.frontier.specs.Meaning.{epoch-of, epoch-at, Completion, Over, both, Merge-means, Merge-right, raised, Raise-right}
-use Rattle.frontier.proofs.Sorted.{Sorted, epoch-here, epoch-there, epoch-none, epoch-below, epoch-union, sorted-union, union-commutes, union-associates}
-use Rattle.frontier.proofs.Cut.{cut-whole, cut-length, find-cut, epoch-cut, sorted-cut}
-use Rattle.frontier.proofs.Pack.{entries-pack, sorted-entries, well-formed-pack, pack-entries}
+use Rattle.frontier.specs.Entries.{Entry, find, union, cut}
+use Rattle.frontier.specs.Frontiers.{entries, well-formed, pack, joined, merge, one-entry, raise}
+use Rattle.frontier.specs.Meaning.{epoch-at, Completion, both, Merge-means, Merge-right, Raise-right}
+use Rattle.frontier.proofs.Sorted.{Sorted, epoch-here, epoch-there, epoch-none, epoch-union, sorted-union, union-commutes, union-associates}
+use Rattle.frontier.proofs.Cut.{cut-whole, cut-length, find-cut, epoch-cut}
+use Rattle.frontier.proofs.Pack.{entries-pack, sorted-entries}
 use Rattle.frontier.proofs.Associate.{cut-first, told-first, cut-fills}
-use Rattle.frontier.proofs.Merge.{Accepted, accepted, accepted-by, number-right, frontier-right, merge-formed, merge-commutes, joined-idempotent, joined-formed, or-commutes, sorted-one, short-one}
+use Rattle.frontier.proofs.Merge.{Accepted, accepted, accepted-by, number-right, frontier-right, merge-formed, merge-commutes, joined-idempotent, joined-formed}
 
 -- what `||` tells where it is false
 or-left-false : (a b : Bool) → (a || b) ≡ false → a ≡ false

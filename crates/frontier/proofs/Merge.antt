@@ -1,15 +1,15 @@
 -- The laws of merge and raise: the refusals in their order, well-formed results, commutative always, idempotent where the capacity holds it,
 -- associative where it holds all three, tainted exactly if a side was or something was cut. Assumes nothing.
-use mathlib.Core.Path.{_≡_, refl, sym, ap, ap₂, _∙_}
-use mathlib.Core.Bool.{Bool, true, false, _&&_, _||_, cond}
+use mathlib.Core.Path.{_≡_, refl, sym, ap, _∙_}
+use mathlib.Core.Bool.{Bool, true, false, _||_}
 use mathlib.Core.List.{List, [], _∷_}
-use Prim.Native.Nat.{ℕ, suc, _≤_, _<_, zero-le, max}
+use Prim.Native.Nat.{ℕ, _≤_, _<_, zero-le}
 use native.Mathlib.Nat.{le-refl}
 use native.Mathlib.Omega.{arith}
 use lib.Dec.{ltb, leb, eqb}
 use lib.ListN.{length}
-use borrow.Author.Tests.{ltb-true, ltb-false, leb-true, lt-ltb, le-ltb, le-leb, lt-leb, eqb-true, eqb-false, eq-eqb, ne-eqb}
-use Rattle.basics.proofs.Tests.{by-cases, clash, and-left, and-right, and-both}
+use borrow.Author.Tests.{leb-true, le-ltb, le-leb, lt-leb, eqb-true, eqb-false, eq-eqb, ne-eqb}
+use Rattle.basics.proofs.Tests.{by-cases}
 use Rattle.frontier.specs.declared.Frontier.{Frontier}
 use Rattle.frontier.specs.declared.Merged.{Merged}
 use Rattle.frontier.specs.Entries.{Entry, rising-from, union, cut}
@@ -17,7 +17,7 @@ use Rattle.frontier.specs.Frontiers.{slots, entries, well-formed, pack, 
 use Rattle.frontier.proofs.Sorted.{Sorted, rising, sorted-union, union-commutes, union-idempotent}
 use Rattle.frontier.proofs.Cut.{sorted-cut, cut-length, cut-whole}
 use Rattle.frontier.proofs.Slots.{slots-length}
-use Rattle.frontier.proofs.Pack.{pack-entries, entries-pack, sorted-entries, well-formed-pack}
+use Rattle.frontier.proofs.Pack.{pack-entries, sorted-entries, well-formed-pack}
 
 -- ONE ENTRY
 pub one-none : (a e : ℕ) → e ≡ 0 → [] ≡ one-entry a e

@@ -3,12 +3,12 @@
 use mathlib.Core.Path.{_≡_, refl, sym, ap, ap₂, _∙_}
 use mathlib.Core.Bool.{Bool, true, false, _&&_}
 use mathlib.Core.List.{List, [], _∷_, _++_, map}
-use Prim.Native.Nat.{ℕ, zero, suc, _+_, _-_, _≤_, _<_, zero-le}
-use native.Mathlib.Nat.{le-refl, le-of-suc-le-suc, not-suc-le-zero}
+use Prim.Native.Nat.{ℕ, zero, suc, _+_, _-_, _≤_, _<_}
+use native.Mathlib.Nat.{le-of-suc-le-suc, not-suc-le-zero}
 use native.Mathlib.Omega.{arith}
 use lib.Dec.{leb, eqb}
 use lib.ListN.{length, getD, take, drop, replicate, length-append, length-replicate, length-map, length-drop, take-append-drop}
-use lib.Seq.{drop-append-seam, drop-at}
+use lib.Seq.{drop-at}
 use borrow.Author.Tests.{leb-true, le-leb, eqb-true, eq-eqb}
 use Rattle.basics.specs.Lists.{tabulate-from}
 use Rattle.basics.proofs.Tests.{by-cases, clash, is-false, and-left, and-right, and-both}
@@ -16,7 +16,7 @@ use Rattle.frontier.specs.declared.Frontier.{Frontier}
 use Rattle.frontier.specs.Entries.{Entry, rising-from}
 use Rattle.frontier.specs.Frontiers.{slot, slots, entries, all-zero, row-formed, well-formed, pack}
 use Rattle.frontier.proofs.Sorted.{Sorted, sorted, rising}
-use Rattle.frontier.proofs.Slots.{tabulate-shift, tabulate-same, slots-length}
+use Rattle.frontier.proofs.Slots.{tabulate-shift, slots-length}
 
 -- ROWS
 tabulate-map : (f : Entry → ℕ) (n i : ℕ) (g : ℕ → Entry) → map f (tabulate-from n i g) ≡ tabulate-from n i (λ k. f (g k))

@@ -11,10 +11,10 @@ use lib.ListN.{length}
 use Rattle.basics.proofs.Tests.{by-cases}
 use Rattle.frontier.specs.declared.Frontier.{Frontier}
 use Rattle.frontier.specs.Entries.{Entry, put, union, cut}
-use Rattle.frontier.specs.Frontiers.{entries, well-formed, pack, joined, merge, one-entry, raise}
-use Rattle.frontier.proofs.Sorted.{Sorted, sorted-union, union-commutes, union-associates, union-none}
-use Rattle.frontier.proofs.Pack.{entries-pack, well-formed-pack, sorted-entries}
-use Rattle.frontier.proofs.Merge.{accepted, joined-whole, entries-length, sorted-one, short-one}
+use Rattle.frontier.specs.Frontiers.{entries, pack, joined, merge, one-entry, raise}
+use Rattle.frontier.proofs.Sorted.{Sorted, sorted-union, union-associates, union-none}
+use Rattle.frontier.proofs.Pack.{entries-pack, well-formed-pack}
+use Rattle.frontier.proofs.Merge.{accepted, joined-whole, sorted-one, short-one}
 
 tainted-pack : (xs : List Entry) (t : Bool) → pack xs t .tainted ≡ t
 unfolding pack

@@ -1,14 +1,14 @@
 -- Lists of entries with rising axes and epochs above 0: they are equal where they give each axis the same epoch, and union takes the larger
 -- epoch, so it is commutative, associative and idempotent. Assumes nothing.
 use mathlib.Core.Path.{_≡_, refl, sym, ap, ap₂, _∙_}
-use mathlib.Core.Bool.{Bool, true, false, cond}
+use mathlib.Core.Bool.{true}
 use mathlib.Core.List.{List, [], _∷_}
 use Prim.Native.Nat.{ℕ, suc, _≤_, _<_, max}
 use native.Mathlib.Nat.{le-refl}
 use native.Mathlib.Omega.{arith}
 use lib.Dec.{ltb, leb, eqb}
 use lib.ListN.{length}
-use borrow.Author.Tests.{ltb-true, ltb-false, leb-true, eqb-true, eqb-false, lt-ltb, le-ltb, le-leb, lt-leb, eq-eqb, ne-eqb}
+use borrow.Author.Tests.{ltb-true, ltb-false, leb-true, eqb-true, eqb-false, lt-ltb, le-ltb, le-leb, eq-eqb, ne-eqb}
 use Rattle.basics.proofs.Tests.{by-cases, and-left, and-right, and-both}
 use Rattle.frontier.specs.Entries.{Entry, rising-from, find, put, union}
 use Rattle.frontier.specs.Meaning.{epoch-of, epoch-at}

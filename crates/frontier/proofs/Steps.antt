@@ -1,24 +1,20 @@
 -- The steps of the walks over slots. Assumes nothing.
-use mathlib.Core.Path.{_≡_, refl, sym, ap, _∙_, subst}
-use mathlib.Core.Bool.{Bool, true, false, _&&_, cond}
-use mathlib.Core.List.{List, [], _∷_, _++_}
-use Prim.Native.Nat.{ℕ, zero, suc, _+_, _-_, _≤_, _<_, zero-le, max}
-use native.Mathlib.Nat.{le-refl, not-suc-le-zero}
+use mathlib.Core.Path.{_≡_, refl, sym, ap}
+use mathlib.Core.Bool.{Bool, true, false, _&&_}
+use mathlib.Core.List.{List}
+use Prim.Native.Nat.{ℕ, zero, suc, _+_, _-_, _≤_, _<_, zero-le}
 use native.Mathlib.Numerals.{add-one}
 use native.Mathlib.Omega.{arith}
-use lib.Dec.{ltb, leb, eqb}
+use lib.Dec.{ltb, leb}
 use lib.ListN.{length, getD, drop}
 use lib.Seq.{drop-cons}
-use borrow.Author.Tests.{ltb-true, ltb-false, le-ltb, lt-ltb, le-leb, lt-leb, eqb-true, eqb-false, eq-eqb, ne-eqb}
-use Rattle.basics.proofs.Tests.{by-cases, clash, and-left, and-right}
-use Rattle.frontier.specs.declared.Lookup.{Lookup}
+use borrow.Author.Tests.{le-ltb, lt-ltb, le-leb, eq-eqb, ne-eqb}
+use Rattle.basics.proofs.Tests.{by-cases, and-left, and-right}
 use Rattle.frontier.specs.declared.Lookup.the-variants.{Listed, Absent}
-use Rattle.frontier.specs.Entries.{Entry, rising-from, find, union}
+use Rattle.frontier.specs.Entries.{rising-from}
 use Rattle.frontier.specs.Frontiers.{slot, slots, all-zero}
 use Rattle.frontier.specs.Walks.{rest, floor, placed, skip-below, first-listed}
-use Rattle.frontier.proofs.Sorted.{Sorted, sorted, lower, union-left, union-right, union-both, put-front}
-use Rattle.frontier.proofs.Cut.{find-below}
-use Rattle.frontier.proofs.Slots.{rest-all, rest-more, rest-none, sorted-rest}
+use Rattle.frontier.proofs.Slots.{rest-all, rest-more, rest-none}
 
 -- FORM
 

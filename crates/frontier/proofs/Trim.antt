@@ -2,20 +2,20 @@
 use mathlib.Core.Path.{_≡_, refl, sym, ap, _∙_}
 use mathlib.Core.Bool.{Bool, true, false}
 use mathlib.Core.Logic.{_⊎_, inl, inr}
-use mathlib.Core.List.{List, [], _∷_, _++_, append-assoc, append-nil}
-use Prim.Native.Nat.{ℕ, zero, suc, _+_, _-_, _≤_, _<_, zero-le}
+use mathlib.Core.List.{List, _∷_, _++_, append-assoc, append-nil}
+use Prim.Native.Nat.{ℕ, zero, suc, _+_, _-_, _≤_, _<_}
 use native.Mathlib.Numerals.{add-one}
 use native.Mathlib.Omega.{arith}
 use lib.Dec.{eqb}
 use lib.ListN.{length, getD, drop, set, length-append, length-set, replicate}
 use lib.Seq.{drop-cons, drop-set-lt}
 use Rattle.basics.specs.Lists.{tabulate-from}
-use Rattle.basics.proofs.Tests.{by-cases, either, and-right}
+use Rattle.basics.proofs.Tests.{either, and-right}
 use Rattle.frontier.specs.declared.Frontier.{Frontier}
 use Rattle.frontier.specs.Entries.{Entry, In, rising-from, exceeds, exceeding, keep, cut}
 use Rattle.frontier.specs.Frontiers.{slot, slots, all-zero, pack}
 use Rattle.frontier.specs.Walks.{rest, nearer}
-use Rattle.frontier.proofs.Sorted.{Sorted, sorted}
+use Rattle.frontier.proofs.Sorted.{sorted}
 use Rattle.frontier.proofs.Exceeds.{exceeds-not-top}
 use Rattle.frontier.proofs.Cut.{cut-length}
 use Rattle.frontier.proofs.Slots.{rest-all, rest-more, rest-none, slots-length, slots-put}

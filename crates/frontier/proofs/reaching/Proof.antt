@@ -1,33 +1,25 @@
-use mathlib.Core.Path.{_≡_, refl, sym, _∙_}
-use Rattle.frontier.proofs.RowSteps.{first-reaches, second-reaches, none-reaches}
+-- `reaching` meets its contract: by the two tests. Assumes nothing.
+use mathlib.Core.Path.{refl, sym, _∙_}
 use borrow.Author.Needs.{needs}
+use Rattle.frontier.proofs.RowSteps.{first-reaches, second-reaches, none-reaches}
 use Rattle.frontier.proofs.reaching.Statement.{statement}
 use Rattle.frontier.proofs.reaching.Tie as tie
-use Rattle.frontier.proofs.reaching.Reads as reads
-use Rattle.frontier.proofs.reaching.Lts as lts
-use Rattle.frontier.proofs.row_reaches.Reads as row-reaches-reads
 
--- src/lib.rt:198:8
 row-reaches-requires : tie.Need-row-reaches-requires
 row-reaches-requires c κs = search needs
 
--- src/lib.rt:199:9
 returns : tie.Need-returns
 returns c = first-reaches _ _ (sym (c .before .row-reaches .ensures) ∙ c .if1 .taken)
 
--- src/lib.rt:201:8
 row-reaches-requires-2 : tie.Need-row-reaches-requires-2
 row-reaches-requires-2 c κs = search needs
 
--- src/lib.rt:202:9
 returns-2 : tie.Need-returns-2
 returns-2 c = second-reaches _ _ (sym (c .before .before .before .row-reaches .ensures) ∙ c .before .before .if1 .left) (sym (c .before .row-reaches2 .ensures) ∙ c .if2 .taken)
 
--- src/lib.rt:204:5
 slice-aggregate-result : tie.Need-slice-aggregate-result
 slice-aggregate-result c = search needs
 
--- src/lib.rt:195:1
 returns-3 : tie.Need-returns-3
 returns-3 c = none-reaches _ _ _ refl refl (sym (c .before .before .before .before .row-reaches .ensures) ∙ c .before .before .before .if1 .left) (sym (c .before .before .row-reaches2 .ensures) ∙ c .before .if2 .left)
 

@@ -1,16 +1,12 @@
-use Rattle.frontier.specs.Frontiers.{refusal}
+-- `refused` meets its contract: by computation. Assumes nothing.
 use borrow.Author.Needs.{needs}
+use Rattle.frontier.specs.Frontiers.{refusal}
 use Rattle.frontier.proofs.refused.Statement.{statement}
 use Rattle.frontier.proofs.refused.Tie as tie
-use Rattle.frontier.proofs.refused.Reads as reads
-use Rattle.frontier.proofs.refused.Lts as lts
-use Rattle.frontier.proofs.Frontier.empty.Reads as empty-reads
 
--- src/lib.rt:173:19
 empty-requires : tie.Need-empty-requires
 empty-requires c κs = search needs
 
--- src/lib.rt:168:1
 returns : tie.Need-returns
 unfolding refusal
 returns c = rw (c .empty .ensures)

@@ -1,15 +1,12 @@
-use Prim.Native.Nat.{ℕ, _+_, _-_, _≤_, _<_}
-use native.Mathlib.Omega.{arith}
+-- `row_reaches` meets its contract: the loop's invariant: the rest reaches exactly if the whole does. Assumes nothing.
+use Prim.Native.Nat.{_-_}
 use mathlib.Core.Path.{_≡_, refl, sym, _∙_}
-use mathlib.Core.List.{List}
 use lib.ListN.{length, drop}
+use borrow.Author.Needs.{needs}
 use Rattle.frontier.specs.Rows.{row-reaches}
 use Rattle.frontier.proofs.RowSteps.{lengths-differ, row-more, row-stop, row-end}
-use borrow.Author.Needs.{needs}
 use Rattle.frontier.proofs.row_reaches.Statement.{statement}
 use Rattle.frontier.proofs.row_reaches.Tie as tie
-use Rattle.frontier.proofs.row_reaches.Reads as reads
-use Rattle.frontier.proofs.row_reaches.Lts as lts
 
 abbrev Inv-loop : tie.InvT-loop
 Inv-loop first second i₀ i = row-reaches (drop i first) (drop i second) ≡ row-reaches first second
@@ -17,47 +14,36 @@ Inv-loop first second i₀ i = row-reaches (drop i first) (drop i second) ≡ ro
 abbrev μ-loop : tie.MeasureT-loop
 μ-loop first second i₀ i = length first - i
 
--- src/lib.rt:212:9
 returns : tie.Need-returns Inv-loop μ-loop
 returns c = lengths-differ _ _ (c .if1 .taken)
 
--- src/lib.rt:215:5
 loop-holds : tie.Need-loop-holds Inv-loop μ-loop
 loop-holds c = refl
 
--- src/lib.rt:216:12
 mul-if2 : tie.Need-mul-if2 Inv-loop μ-loop
 mul-if2 c = search needs
 
--- src/lib.rt:216:12
 shared-slice-read-if2 : tie.Need-shared-slice-read-if2 Inv-loop μ-loop
 shared-slice-read-if2 c = search needs
 
--- src/lib.rt:216:23
 mul-if2-2 : tie.Need-mul-if2-2 Inv-loop μ-loop
 mul-if2-2 c = search needs
 
--- src/lib.rt:216:23
 shared-slice-read-if2-2 : tie.Need-shared-slice-read-if2-2 Inv-loop μ-loop
 shared-slice-read-if2-2 c = search needs
 
--- src/lib.rt:217:13
 returns-2 : tie.Need-returns-2 Inv-loop μ-loop
 returns-2 c = sym (row-stop _ _ (c .before .before .before .before .before .if1 .left) _ (c .before .before .before .loop-test .taken) (c .if2 .taken)) ∙ c .before .before .before .before .loop .inv
 
--- src/lib.rt:219:9
 add-i : tie.Need-add-i Inv-loop μ-loop
 add-i c = search needs
 
--- src/lib.rt:215:5
 loop-less : tie.Need-loop-less Inv-loop μ-loop
 loop-less c = search needs
 
--- src/lib.rt:215:5
 loop-again : tie.Need-loop-again Inv-loop μ-loop
 loop-again c = sym (row-more _ _ (c .before .before .before .before .before .if1 .left) _ (c .before .before .before .loop-test .taken) (c .if2 .left)) ∙ c .before .before .before .before .loop .inv
 
--- src/lib.rt:208:1
 returns-3 : tie.Need-returns-3 Inv-loop μ-loop
 returns-3 c = sym (row-end _ _ (c .before .before .if1 .left) _ (c .loop-test .left)) ∙ c .before .loop .inv
 

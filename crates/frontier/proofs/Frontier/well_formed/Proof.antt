@@ -1,39 +1,29 @@
-use mathlib.Core.Path.{_≡_, sym, _∙_}
+-- `well_formed` meets its contract: the judgements in their order. Assumes nothing.
+use mathlib.Core.Path.{sym, _∙_}
 use borrow.Author.Tests.{not-true, not-false}
-use Rattle.frontier.proofs.Pack.{not-short, not-rising, not-zero, judged}
 use borrow.Author.Needs.{needs}
+use Rattle.frontier.proofs.Pack.{not-short, not-rising, not-zero, judged}
 use Rattle.frontier.proofs.Frontier.well_formed.Statement.{statement}
 use Rattle.frontier.proofs.Frontier.well_formed.Tie as tie
-use Rattle.frontier.proofs.Frontier.well_formed.Reads as reads
-use Rattle.frontier.proofs.Frontier.well_formed.Lts as lts
-use Rattle.frontier.proofs.walks.rising.Reads as rising-reads
-use Rattle.frontier.proofs.walks.zero_from.Reads as zero-from-reads
 
--- src/lib.rt:62:13
 returns : tie.Need-returns
 returns c = not-short _ (c .if1 .taken)
 
--- src/lib.rt:64:13
 rising-requires : tie.Need-rising-requires
 rising-requires c κs = search needs
 
--- src/lib.rt:65:13
 returns-2 : tie.Need-returns-2
 returns-2 c = not-rising _ (sym (c .before .rising .ensures) ∙ not-true _ (c .if2 .taken))
 
--- src/lib.rt:67:13
 zero-from-requires : tie.Need-zero-from-requires
 zero-from-requires c κs = search needs
 
--- src/lib.rt:68:13
 returns-3 : tie.Need-returns-3
 returns-3 c = not-zero _ (sym (c .before .zero-from .ensures) ∙ not-true _ (c .if3 .taken))
 
--- src/lib.rt:70:9
 zero-from-requires-2 : tie.Need-zero-from-requires-2
 zero-from-requires-2 c κs = search needs
 
--- src/lib.rt:57:5
 returns-4 : tie.Need-returns-4
 returns-4 c = judged _ _ (c .before .before .before .before .before .before .before .before .before .before .before .before .before .before .if1 .left) (search needs) (search needs) (sym (c .before .before .before .before .before .before .before .before .before .before .rising .ensures) ∙ not-false _ (c .before .before .before .before .before .before .before .before .before .if2 .left)) (sym (c .before .before .before .before .before .zero-from .ensures) ∙ not-false _ (c .before .before .before .before .if3 .left)) (c .zero-from2 .ensures)
 

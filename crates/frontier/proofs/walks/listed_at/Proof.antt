@@ -1,35 +1,27 @@
-use Rattle.frontier.proofs.Steps.{listed-none, listed-here, listed-other}
+-- `listed_at` meets its contract: by the slot that is looked at. Assumes nothing.
 use borrow.Author.Needs.{needs}
+use Rattle.frontier.proofs.Steps.{listed-none, listed-here, listed-other}
 use Rattle.frontier.proofs.walks.listed_at.Statement.{statement}
 use Rattle.frontier.proofs.walks.listed_at.Tie as tie
-use Rattle.frontier.proofs.walks.listed_at.Reads as reads
-use Rattle.frontier.proofs.walks.listed_at.Lts as lts
 
--- src/walks.rt:98:9
 returns : tie.Need-returns
 returns c = listed-none _ _ _ _ _ (c .if1 .taken)
 
--- src/walks.rt:100:8
 mul-if2 : tie.Need-mul-if2
 mul-if2 c = search needs
 
--- src/walks.rt:100:8
 element-copy-out-if2 : tie.Need-element-copy-out-if2
 element-copy-out-if2 c = search needs
 
--- src/walks.rt:101:31
 mul-t11 : tie.Need-mul-t11
 mul-t11 c = search needs
 
--- src/walks.rt:101:31
 element-copy-out-t14 : tie.Need-element-copy-out-t14
 element-copy-out-t14 c = search needs
 
--- src/walks.rt:101:9
 returns-2 : tie.Need-returns-2
 returns-2 c = listed-here _ _ _ _ _ (c .before .before .before .if1 .left) (c .before .if2 .taken)
 
--- src/walks.rt:93:1
 returns-3 : tie.Need-returns-3
 returns-3 c = listed-other _ _ _ _ _ (c .before .before .if1 .left) (c .if2 .left)
 

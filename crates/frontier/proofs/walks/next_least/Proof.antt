@@ -1,18 +1,14 @@
-use Prim.Native.Nat.{ℕ, _+_, _-_, _≤_, _<_}
+-- `next_least` meets its contract: the loop's invariant: the least above the bound of the rest, from the best so far, is that of the whole. Assumes nothing.
+use Prim.Native.Nat.{_-_, _≤_}
 use native.Mathlib.Omega.{arith}
-use mathlib.Core.Path.{_≡_, refl, sym, _∙_}
-use mathlib.Core.List.{List}
-use lib.ListN.{length, drop}
+use mathlib.Core.Path.{_≡_, _∙_}
+use borrow.Author.Needs.{needs}
 use Rattle.frontier.specs.Frontiers.{slot, slots}
 use Rattle.frontier.specs.Walks.{rest}
 use Rattle.frontier.proofs.Evict.{least-above}
 use Rattle.frontier.proofs.Trim.{least-none, least-more, least-right}
-use borrow.Author.Needs.{needs}
 use Rattle.frontier.proofs.walks.next_least.Statement.{statement}
 use Rattle.frontier.proofs.walks.next_least.Tie as tie
-use Rattle.frontier.proofs.walks.next_least.Reads as reads
-use Rattle.frontier.proofs.walks.next_least.Lts as lts
-use Rattle.frontier.proofs.walks.nearer_of.Reads as nearer-of-reads
 
 abbrev Inv-loop : tie.InvT-loop
 Inv-loop axes epochs len bound best₀ i₀ best i = (i ≤ len) × (least-above (record { axis = bound .axis; epoch = bound .epoch }) (record { axis = best .axis; epoch = best .epoch }) (rest axes epochs len i) ≡ least-above (record { axis = bound .axis; epoch = bound .epoch }) (record { axis = 18446744073709551615; epoch = 18446744073709551615 }) (slots axes epochs len 0))
@@ -20,44 +16,34 @@ Inv-loop axes epochs len bound best₀ i₀ best i = (i ≤ len) × (least-above
 abbrev μ-loop : tie.MeasureT-loop
 μ-loop axes epochs len bound best₀ i₀ best i = len - i
 
--- src/walks.rt:267:5
 loop-holds : tie.Need-loop-holds Inv-loop μ-loop
 loop-holds c = (search needs, least-none _ _ _ _ _)
 
--- src/walks.rt:268:33
 mul-nearer-of : tie.Need-mul-nearer-of Inv-loop μ-loop
 mul-nearer-of c = search needs
 
--- src/walks.rt:268:33
 shared-slice-read-nearer-of : tie.Need-shared-slice-read-nearer-of Inv-loop μ-loop
 shared-slice-read-nearer-of c = search needs
 
--- src/walks.rt:268:42
 mul-nearer-of-2 : tie.Need-mul-nearer-of-2 Inv-loop μ-loop
 mul-nearer-of-2 c = search needs
 
--- src/walks.rt:268:42
 shared-slice-read-nearer-of-2 : tie.Need-shared-slice-read-nearer-of-2 Inv-loop μ-loop
 shared-slice-read-nearer-of-2 c = search needs
 
--- src/walks.rt:268:9
 nearer-of-requires : tie.Need-nearer-of-requires Inv-loop μ-loop
 nearer-of-requires c κs = search needs
 
--- src/walks.rt:269:9
 add-i : tie.Need-add-i Inv-loop μ-loop
 add-i c = search needs
 
--- src/walks.rt:267:5
 loop-less : tie.Need-loop-less Inv-loop μ-loop
 loop-less c = search needs
 
--- src/walks.rt:267:5
 loop-again : tie.Need-loop-again Inv-loop μ-loop
 unfolding slot
 loop-again c = (search needs, least-more _ _ _ _ _ _ _ (c .before .before .before .loop-test .taken) (c .nearer-of .ensures) ∙ c .before .before .before .before .loop .inv .1)
 
--- src/walks.rt:257:1
 returns : tie.Need-returns Inv-loop μ-loop
 returns c = least-right _ _ _ _ _ _ (record { axis = 18446744073709551615; epoch = 18446744073709551615 }) (c .loop-test .left) (c .before .loop .inv .1) (c .before .before .before .before .pre .0 .2) (λ k. omega (arith, c .before .before .before .shared-slice-known .given k)) (λ k. omega (arith, c .before .before .shared-slice-known2 .given k)) (c .before .before .before .before .pre .1)
 

@@ -1,15 +1,12 @@
-use Prim.Native.Nat.{ℕ, _+_, _-_, _≤_, _<_}
-use native.Mathlib.Omega.{arith}
+-- `seek` meets its contract: the loop's invariant: what is skipped of the rest is what is skipped of the whole. Assumes nothing.
+use Prim.Native.Nat.{ℕ, _-_, _≤_}
 use mathlib.Core.Path.{_≡_, refl, sym, _∙_}
 use mathlib.Core.List.{List}
-use lib.ListN.{length, drop}
+use borrow.Author.Needs.{needs}
 use Rattle.frontier.specs.Walks.{rest, skip-below}
 use Rattle.frontier.proofs.Steps.{skip-more, skip-stop, skip-none}
-use borrow.Author.Needs.{needs}
 use Rattle.frontier.proofs.walks.seek.Statement.{statement}
 use Rattle.frontier.proofs.walks.seek.Tie as tie
-use Rattle.frontier.proofs.walks.seek.Reads as reads
-use Rattle.frontier.proofs.walks.seek.Lts as lts
 
 abbrev Inv-loop : tie.InvT-loop
 Inv-loop axes len from axis i₀ i = (i ≤ len) × ((es : List ℕ) → skip-below axis (rest axes es len i) ≡ skip-below axis (rest axes es len from))
@@ -17,35 +14,27 @@ Inv-loop axes len from axis i₀ i = (i ≤ len) × ((es : List ℕ) → skip-be
 abbrev μ-loop : tie.MeasureT-loop
 μ-loop axes len from axis i₀ i = len - i
 
--- src/walks.rt:83:5
 loop-holds : tie.Need-loop-holds Inv-loop μ-loop
 loop-holds c = (search needs, λ es. refl)
 
--- src/walks.rt:84:20
 mul-if1 : tie.Need-mul-if1 Inv-loop μ-loop
 mul-if1 c = search needs
 
--- src/walks.rt:84:20
 element-copy-out-if1 : tie.Need-element-copy-out-if1 Inv-loop μ-loop
 element-copy-out-if1 c = search needs
 
--- src/walks.rt:85:13
 returns : tie.Need-returns Inv-loop μ-loop
 returns c = (search needs, λ es. skip-stop _ es _ _ _ (c .before .before .loop-test .taken) (c .if1 .taken) ∙ c .before .before .before .loop .inv .1 es)
 
--- src/walks.rt:87:9
 add-i : tie.Need-add-i Inv-loop μ-loop
 add-i c = search needs
 
--- src/walks.rt:83:5
 loop-less : tie.Need-loop-less Inv-loop μ-loop
 loop-less c = search needs
 
--- src/walks.rt:83:5
 loop-again : tie.Need-loop-again Inv-loop μ-loop
 loop-again c = (search needs, λ es. sym (skip-more _ es _ _ _ (c .before .before .loop-test .taken) (c .if1 .left)) ∙ c .before .before .before .loop .inv .1 es)
 
--- src/walks.rt:78:1
 returns-2 : tie.Need-returns-2 Inv-loop μ-loop
 returns-2 c = (search needs, λ es. skip-none _ es _ _ _ (c .loop-test .left) ∙ c .before .loop .inv .1 es)
 
