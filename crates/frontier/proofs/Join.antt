@@ -1,19 +1,19 @@
 -- The walk that joins two frontiers: the next entry of the union of what is left, and what is written so far. Assumes nothing.
 use mathlib.Core.Path.{_≡_, sym, _∙_}
-use mathlib.Core.Bool.{true}
+use mathlib.Core.Bool.{Bool, true, _||_}
 use mathlib.Core.List.{List, [], _∷_, _++_, append-assoc, append-nil}
 use Prim.Native.Nat.{ℕ, suc, _+_, _-_, _≤_, _<_, zero-le, max}
 use native.Mathlib.Omega.{arith}
-use lib.Dec.{eqb}
+use lib.Dec.{eqb, ltb}
 use lib.ListN.{length, getD, set, length-set}
 use borrow.Author.Tests.{eqb-true, eqb-false}
 use Rattle.basics.proofs.Tests.{by-cases}
 use Rattle.frontier.specs.declared.Lookup.the-variants.{Listed, Absent}
-use Rattle.frontier.specs.Entries.{rising-from, union}
-use Rattle.frontier.specs.Frontiers.{slot, slots}
+use Rattle.frontier.specs.Entries.{rising-from, union, cut}
+use Rattle.frontier.specs.Frontiers.{slot, slots, pack, joined}
 use Rattle.frontier.specs.Walks.{rest, floor, first-listed}
-use Rattle.frontier.proofs.Sorted.{Sorted, sorted, lower, union-left, union-right, union-both}
-use Rattle.frontier.proofs.Slots.{rest-all, rest-more, rest-none, sorted-rest, slots-put}
+use Rattle.frontier.proofs.Sorted.{Sorted, sorted, rising, sorted-union, lower, union-left, union-right, union-both}
+use Rattle.frontier.proofs.Slots.{rest-all, rest-more, rest-none, sorted-rest, slots-put, slots-length}
 
 -- TWO FRONTIERS: x from slot i on and y from slot j on
 module _ (xa xe ya ye : List ℕ) (xn yn i j : ℕ) (rx : rising-from 0 (slots xa xe xn 0) ≡ true) (ry : rising-from 0 (slots ya ye yn 0) ≡ true) where
@@ -111,3 +111,16 @@ module _ (xa xe ya ye axes epochs : List ℕ) (xn yn : ℕ) where
   join-end n i j w h =
       sym (append-nil (slots axes epochs n 0))
       ∙ (rw (rest-none xa xe xn i (omega (arith, w .left-in, w .right-in)), rest-none ya ye yn j (omega (arith, w .left-in, w .right-in))) at (w .whole))
+
+  -- the whole union, as eviction takes it
+  pub join-fits : (n i j : ℕ) → Join xa xe ya ye axes epochs xn yn n i j → xn + yn ≤ i + j → rising-from 0 (slots xa xe xn 0) ≡ true → rising-from 0 (slots ya ye yn 0) ≡ true → xn ≤ 16 → yn ≤ 16 → (n ≤ length axes) × (n ≤ length epochs) × (rising-from 0 (slots axes epochs n 0) ≡ true)
+  join-fits n i j w h rx ry a b = (
+    omega (arith, w .few, w .left-in, w .right-in, w .axes-32),
+    omega (arith, w .few, w .left-in, w .right-in, w .epochs-32),
+    rw (join-end n i j w h) (rising 0 (union (slots xa xe xn 0) (slots ya ye yn 0))
+        (sorted-union 0 (slots xa xe xn 0) (slots ya ye yn 0) (sorted 0 (slots xa xe xn 0) rx) (sorted 0 (slots ya ye yn 0) ry))),
+  )
+
+  pub join-packed : (n i j c : ℕ) (t : Bool) → Join xa xe ya ye axes epochs xn yn n i j → xn + yn ≤ i + j → pack (cut c (slots axes epochs n 0)) (t || ltb c n) ≡ joined (slots xa xe xn 0) (slots ya ye yn 0) t c
+  unfolding joined
+  join-packed n i j c t w h = rw (← join-end n i j w h, slots-length axes epochs n 0)

@@ -12,9 +12,9 @@ use borrow.Author.Tests.{leb-true, le-ltb, le-leb, lt-leb, eqb-true, eqb-false, 
 use Rattle.basics.proofs.Tests.{by-cases}
 use Rattle.frontier.specs.declared.Frontier.{Frontier}
 use Rattle.frontier.specs.declared.Merged.{Merged}
-use Rattle.frontier.specs.Entries.{Entry, rising-from, union, cut}
-use Rattle.frontier.specs.Frontiers.{slots, entries, well-formed, pack, refusal, joined, merge-number, merge, one-entry, raise}
-use Rattle.frontier.proofs.Sorted.{Sorted, rising, sorted-union, union-commutes, union-idempotent}
+use Rattle.frontier.specs.Entries.{Entry, union, cut}
+use Rattle.frontier.specs.Frontiers.{entries, well-formed, pack, refusal, joined, merge-number, merge, one-entry, raise}
+use Rattle.frontier.proofs.Sorted.{Sorted, sorted-union, union-commutes, union-idempotent}
 use Rattle.frontier.proofs.Cut.{sorted-cut, cut-length, cut-whole}
 use Rattle.frontier.proofs.Slots.{slots-length}
 use Rattle.frontier.proofs.Pack.{pack-entries, sorted-entries, well-formed-pack}
@@ -57,6 +57,9 @@ module _ (f g : Frontier) (c : ℕ) where
   pub accepted : 1 ≤ c → c ≤ 16 → well-formed f ≡ true → well-formed g ≡ true → record { number = 0; frontier = joined (entries f) (entries g) (f .tainted || g .tainted) c } ≡ merge f g c
   unfolding merge merge-number
   accepted h l e q = rw (le-leb 1 c h, le-leb c 16 l, e, q)
+
+  pub merged : (m : Frontier) → 1 ≤ c → c ≤ 16 → well-formed f ≡ true → well-formed g ≡ true → m ≡ joined (entries f) (entries g) (f .tainted || g .tainted) c → record { number = 0; frontier = m } ≡ merge f g c
+  merged m h l p q e = ap (λ (k : Frontier). record { number = 0; frontier = k }) e ∙ accepted h l p q
 
   -- what number 0 tells
   pub record Accepted : Type 0 where
@@ -142,16 +145,3 @@ joined-whole xs ys t c h = rw (cut-whole c (union xs ys) h, le-ltb c (length (un
     or-none : (a : Bool) → (a || false) ≡ a
     or-none true = refl
     or-none false = refl
-
--- WHAT THE CODE MAKES: the union in slots, and its cut
-module _ (f g : Frontier) (c : ℕ) (axes epochs : List ℕ) (n : ℕ) (same : slots axes epochs n 0 ≡ union (entries f) (entries g))
-    (left : well-formed f ≡ true) (right : well-formed g ≡ true) where
-  pub union-rises : rising-from 0 (slots axes epochs n 0) ≡ true
-  union-rises = rw same (rising 0 (union (entries f) (entries g)) (sorted-union 0 (entries f) (entries g) (sorted-entries f left) (sorted-entries g right)))
-
-  pub merged : (m : Frontier) → 1 ≤ c → c ≤ 16 → m ≡ pack (cut c (slots axes epochs n 0)) ((f .tainted || g .tainted) || ltb c n) → record { number = 0; frontier = m } ≡ merge f g c
-  merged m h l e =
-      ap (λ (k : Frontier). record { number = 0; frontier = k }) (e ∙ whole) ∙ accepted f g c h l left right
-    where
-      whole : pack (cut c (slots axes epochs n 0)) ((f .tainted || g .tainted) || ltb c n) ≡ joined (entries f) (entries g) (f .tainted || g .tainted) c
-      whole = unfold joined in (rw (← same, slots-length axes epochs n 0) refl)

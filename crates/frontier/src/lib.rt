@@ -1,7 +1,6 @@
 // Sparse frontiers: vector clocks of at most sixteen entries (axis, epoch), with lookup, merge, raise and dominance; and the two lent rows.
 mod walks; // walks over the lent slots of one or two frontiers
 
-use walks::cut_to;
 use walks::join;
 use walks::listed_at;
 use walks::reaches;
@@ -107,17 +106,19 @@ impl Frontier {
         if !other.well_formed() {
             return refused(14);
         }
-        let both = join(
+        let frontier = join(
             &self.axes,
             &self.epochs,
             self.len,
             &other.axes,
             &other.epochs,
             other.len,
+            capacity as usize,
+            self.tainted | other.tainted,
         );
         Merged {
             number: 0,
-            frontier: cut_to(both, capacity as usize, self.tainted | other.tainted),
+            frontier,
         }
     }
 

@@ -8,18 +8,11 @@ ghost use Prim.Native.Nat.{ℕ, _+_, _≤_, _<_, max};
 ghost use lib.Dec.{ltb};
 ghost use lib.ListN.{length, drop};
 ghost use Rattle.frontier.specs.Entries.{rising-from, union, exceeds, exceeding, keep, cut};
-ghost use Rattle.frontier.specs.Frontiers.{slots, all-zero, pack, reached};
+ghost use Rattle.frontier.specs.Frontiers.{slots, all-zero, pack, joined, reached};
 ghost use Rattle.frontier.specs.Walks.{rest, placed, skip-below, first-listed, nearer};
 
 // The axes or the epochs of a frontier.
 pub type Slots = [u64; Frontier::SLOTS];
-
-// The entries of two frontiers together, before the cut.
-pub struct Both {
-    pub axes: [u64; 32],
-    pub epochs: [u64; 32],
-    pub len: usize,
-}
 
 // The next entry of a union, and where each side goes on.
 pub struct Step {
@@ -200,7 +193,7 @@ fn larger(a: u64, b: u64) -> u64
     if a < b { b } else { a }
 }
 
-// The union of x and y.
+// The union of x and y, cut to a capacity: tainted if something is cut.
 pub fn join<'a>(
     xa: &'a Slots,
     xe: &'a Slots,
@@ -208,10 +201,13 @@ pub fn join<'a>(
     ya: &'a Slots,
     ye: &'a Slots,
     yn: usize,
-) -> Both
+    capacity: usize,
+    tainted: bool,
+) -> Frontier
     requires { ⌜ (xn ≤ 16) × (yn ≤ 16) ⌝ }
     requires { ⌜ (rising-from 0 (slots (now xa) (now xe) xn 0) ≡ true) × (rising-from 0 (slots (now ya) (now ye) yn 0) ≡ true) ⌝ }
-    ensures { λ u. ⌜ (u .len ≤ 32) × (slots (u .axes) (u .epochs) (u .len) 0 ≡ union (slots (now (xa .entry)) (now (xe .entry)) xn 0) (slots (now (ya .entry)) (now (ye .entry)) yn 0)) ⌝ }
+    requires { ⌜ capacity ≤ 16 ⌝ }
+    ensures { λ r. ⌜ r ≡ joined (slots (now (xa .entry)) (now (xe .entry)) xn 0) (slots (now (ya .entry)) (now (ye .entry)) yn 0) tainted capacity ⌝ }
 {
     let mut axes = [0u64; 32];
     let mut epochs = [0u64; 32];
@@ -226,11 +222,8 @@ pub fn join<'a>(
         i = s.left;
         j = s.right;
     }
-    Both {
-        axes,
-        epochs,
-        len: n,
-    }
+    let bound = bound_of(&axes, &epochs, n, capacity);
+    trim(&axes, &epochs, n, bound, tainted | (capacity < n))
 }
 
 // Entry (axis, epoch) exceeds the bound: by its epoch, at equal epochs by its axis.
@@ -316,20 +309,4 @@ fn trim<'a>(axes: &'a [u64], epochs: &'a [u64], len: usize, bound: Bound, tainte
         len: n,
         tainted,
     }
-}
-
-// The union cut to a capacity, tainted if something is cut.
-pub fn cut_to(both: Both, capacity: usize, tainted: bool) -> Frontier
-    requires { ⌜ (both .len ≤ 32) × (capacity ≤ 16) × (rising-from 0 (slots (both .axes) (both .epochs) (both .len) 0) ≡ true) ⌝ }
-    ensures { λ r. ⌜ r ≡ pack (cut capacity (slots (both .axes) (both .epochs) (both .len) 0)) (tainted || ltb capacity (both .len)) ⌝ }
-{
-    let len = both.len;
-    let bound = bound_of(&both.axes, &both.epochs, len, capacity);
-    trim(
-        &both.axes,
-        &both.epochs,
-        len,
-        bound,
-        tainted | (capacity < len),
-    )
 }

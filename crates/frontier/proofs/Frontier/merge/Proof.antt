@@ -1,13 +1,20 @@
 -- `merge` meets its contract: the refusals in their order, then the union and its cut. Assumes nothing.
-use mathlib.Core.Path.{sym, _∙_}
+use mathlib.Core.Path.{_≡_, sym, _∙_}
+use mathlib.Core.Bool.{true}
 use borrow.Author.Tests.{not-true, not-false}
 use borrow.Author.Needs.{needs}
-use Rattle.frontier.specs.Frontiers.{entries}
+use Rattle.frontier.specs.Frontiers.{entries, well-formed}
 use Rattle.frontier.proofs.Pack.{both-fit}
-use Rattle.frontier.proofs.Merge.{refused-small, refused-large, refused-left, refused-right, union-rises, merged}
+use Rattle.frontier.proofs.Merge.{refused-small, refused-large, refused-left, refused-right, merged}
 use Rattle.frontier.proofs.Meaning.{merge-all}
 use Rattle.frontier.proofs.Frontier.merge.Statement.{statement}
 use Rattle.frontier.proofs.Frontier.merge.Tie as tie
+
+left-formed : (c : tie.Else3) → well-formed (c .before .before .before .before .args .t1) ≡ true
+left-formed c = sym (c .before .well-formed .ensures) ∙ not-false _ (c .if3 .left)
+
+right-formed : (c : tie.Else4) → well-formed (c .before .before .before .before .before .before .args .t2) ≡ true
+right-formed c = sym (c .before .well-formed2 .ensures) ∙ not-false _ (c .if4 .left)
 
 refused-requires : tie.Need-refused-requires
 refused-requires c κs = search needs
@@ -37,19 +44,15 @@ refused-requires-4 : tie.Need-refused-requires-4
 refused-requires-4 c κs = search needs
 
 returns-4 : tie.Need-returns-4
-returns-4 c = merge-all _ _ _ _ (c .refused4 .ensures ∙ refused-right _ _ _ (c .before .before .before .before .before .before .if1 .left) (c .before .before .before .before .before .if2 .left) (sym (c .before .before .before .before .well-formed .ensures) ∙ not-false _ (c .before .before .before .if3 .left)) (sym (c .before .before .well-formed2 .ensures) ∙ not-true _ (c .before .if4 .taken)))
+returns-4 c = merge-all _ _ _ _ (c .refused4 .ensures ∙ refused-right _ _ _ (c .before .before .before .before .before .before .if1 .left) (c .before .before .before .before .before .if2 .left) (left-formed (c .before .before .before)) (sym (c .before .before .well-formed2 .ensures) ∙ not-true _ (c .before .if4 .taken)))
 
 join-requires : tie.Need-join-requires
 unfolding entries
-join-requires c κs = both-fit _ _ (sym (c .before .before .before .before .before .before .before .before .before .well-formed .ensures) ∙ not-false _ (c .before .before .before .before .before .before .before .before .if3 .left)) (sym (c .before .before .before .before .before .before .before .well-formed2 .ensures) ∙ not-false _ (c .before .before .before .before .before .before .if4 .left))
-
-cut-to-requires : tie.Need-cut-to-requires
-unfolding entries
-cut-to-requires c κs = (c .join .ensures .0, c .before .before .before .before .before .before .before .before .before .before .before .if2 .left, union-rises _ _ (c .before .before .before .before .before .before .before .before .before .before .before .before .before .args .capacity) _ _ _ (c .join .ensures .1) (sym (c .before .before .before .before .before .before .before .before .before .before .well-formed .ensures) ∙ not-false _ (c .before .before .before .before .before .before .before .before .before .if3 .left)) (sym (c .before .before .before .before .before .before .before .before .well-formed2 .ensures) ∙ not-false _ (c .before .before .before .before .before .before .before .if4 .left)))
+join-requires c κs = let w = both-fit _ _ (left-formed (c .before .before .before .before .before .before .before .before)) (right-formed (c .before .before .before .before .before .before)) in (w .0, (w .1, c .before .before .before .before .before .before .before .before .before .before .if2 .left))
 
 returns-5 : tie.Need-returns-5
 unfolding entries
-returns-5 c = merge-all _ _ _ _ (merged _ _ _ _ _ _ (c .before .join .ensures .1) (sym (c .before .before .before .before .before .before .before .before .before .before .before .well-formed .ensures) ∙ not-false _ (c .before .before .before .before .before .before .before .before .before .before .if3 .left)) (sym (c .before .before .before .before .before .before .before .before .before .well-formed2 .ensures) ∙ not-false _ (c .before .before .before .before .before .before .before .before .if4 .left)) _ (c .before .before .before .before .before .before .before .before .before .before .before .before .before .if1 .left) (c .before .before .before .before .before .before .before .before .before .before .before .before .if2 .left) (c .cut-to .ensures))
+returns-5 c = merge-all _ _ _ _ (merged _ _ _ _ (c .before .before .before .before .before .before .before .before .before .before .before .before .if1 .left) (c .before .before .before .before .before .before .before .before .before .before .before .if2 .left) (left-formed (c .before .before .before .before .before .before .before .before .before)) (right-formed (c .before .before .before .before .before .before .before)) (c .join .ensures))
 
 pub merge-spec : {M : Type 1} → statement M
 merge-spec =
@@ -66,5 +69,4 @@ merge-spec =
     refused-requires-4
     returns-4
     join-requires
-    cut-to-requires
     returns-5)
