@@ -1,12 +1,11 @@
 // Sparse frontiers: vector clocks of at most sixteen entries (axis, epoch), with lookup, merge, raise and dominance; and the two lent rows.
 mod walks; // walks over the lent slots of one or two frontiers
 
+use walks::formed;
 use walks::join;
 use walks::listed_at;
 use walks::reaches;
-use walks::rising;
 use walks::seek;
-use walks::zero_from;
 ghost use mathlib.Core.Path.{_≡_};
 ghost use mathlib.Core.Bool.{false};
 ghost use mathlib.Core.List.{[]};
@@ -64,17 +63,7 @@ impl Frontier {
     pub fn well_formed(self) -> bool
         ensures { λ r. ⌜ r ≡ well-formed self ⌝ }
     {
-        let len = self.len;
-        if Self::SLOTS < len {
-            return false;
-        }
-        if !rising(&self.axes, &self.epochs, len) {
-            return false;
-        }
-        if !zero_from(&self.axes, len) {
-            return false;
-        }
-        zero_from(&self.epochs, len)
+        formed(&self.axes, &self.epochs, self.len)
     }
 
     // What the frontier says of an axis. An axis that is not listed is absent.
@@ -100,10 +89,10 @@ impl Frontier {
         if Self::MOST < capacity {
             return refused(15);
         }
-        if !self.well_formed() {
+        if !formed(&self.axes, &self.epochs, self.len) {
             return refused(14);
         }
-        if !other.well_formed() {
+        if !formed(&other.axes, &other.epochs, other.len) {
             return refused(14);
         }
         let frontier = join(
@@ -135,10 +124,10 @@ impl Frontier {
         ensures { λ r. ⌜ r ≡ dominance self other ⌝ }
         ensures { λ r. ⌜ Dominance-means self other r ⌝ }
     {
-        if !self.well_formed() {
+        if !formed(&self.axes, &self.epochs, self.len) {
             return Dominance::Refused(14);
         }
-        if !other.well_formed() {
+        if !formed(&other.axes, &other.epochs, other.len) {
             return Dominance::Refused(14);
         }
         let reached = reaches(

@@ -2,13 +2,13 @@
 use crate::Frontier;
 use crate::Lookup;
 ghost use mathlib.Core.Path.{_≡_};
-ghost use mathlib.Core.Bool.{true, _||_};
+ghost use mathlib.Core.Bool.{true, false};
 ghost use mathlib.Core.List.{List, _∷_};
 ghost use Prim.Native.Nat.{ℕ, _+_, _≤_, _<_, max};
 ghost use lib.Dec.{ltb};
 ghost use lib.ListN.{length, drop};
 ghost use Rattle.frontier.specs.Entries.{rising-from, union, exceeds, exceeding, keep, cut};
-ghost use Rattle.frontier.specs.Frontiers.{slots, all-zero, pack, joined, reached};
+ghost use Rattle.frontier.specs.Frontiers.{slots, all-zero, well-formed, pack, joined, reached};
 ghost use Rattle.frontier.specs.Walks.{rest, placed, skip-below, first-listed, nearer};
 
 // The axes or the epochs of a frontier.
@@ -43,7 +43,7 @@ fn in_place<'a>(axes: &'a Slots, epochs: &'a Slots, i: usize) -> bool
 }
 
 // The axes rise and the epochs are above 0.
-pub fn rising<'a>(axes: &'a Slots, epochs: &'a Slots, len: usize) -> bool
+fn rising<'a>(axes: &'a Slots, epochs: &'a Slots, len: usize) -> bool
     requires { ⌜ len ≤ 16 ⌝ }
     ensures { λ r. ⌜ r ≡ rising-from 0 (slots (now (axes .entry)) (now (epochs .entry)) len 0) ⌝ }
 {
@@ -58,17 +58,35 @@ pub fn rising<'a>(axes: &'a Slots, epochs: &'a Slots, len: usize) -> bool
 }
 
 // Every slot from `from` on is zero.
-pub fn zero_from(row: &[u64], from: usize) -> bool
+fn zero_from(row: &Slots, from: usize) -> bool
+    requires { ⌜ length (now row) ≡ 16 ⌝ }
     ensures { λ r. ⌜ r ≡ all-zero (drop from (now (row .entry))) ⌝ }
 {
     let mut i = from;
-    while i < row.len() {
+    while i < Frontier::SLOTS {
         if row[i] != 0 {
             return false;
         }
         i += 1;
     }
     true
+}
+
+// A frontier of these slots is well-formed.
+pub fn formed<'a>(axes: &'a Slots, epochs: &'a Slots, len: usize) -> bool
+    requires { ⌜ (length (now axes) ≡ 16) × (length (now epochs) ≡ 16) ⌝ }
+    ensures { λ r. ⌜ r ≡ well-formed (record { axes = now (axes .entry); epochs = now (epochs .entry); len = len; tainted = false }) ⌝ }
+{
+    if Frontier::SLOTS < len {
+        return false;
+    }
+    if !rising(axes, epochs, len) {
+        return false;
+    }
+    if !zero_from(axes, len) {
+        return false;
+    }
+    zero_from(epochs, len)
 }
 
 // The first slot from `from` on whose axis is not below the one sought, or the length.
