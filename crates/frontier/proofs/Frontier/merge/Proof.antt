@@ -1,18 +1,14 @@
-use mathlib.Core.Path.{_≡_, sym, ap, _∙_}
+-- `merge` meets its contract: the refusals in their order, then the union and its cut. Assumes nothing.
+use mathlib.Core.Path.{_≡_, sym, _∙_}
 use mathlib.Core.Bool.{true}
 use borrow.Author.Tests.{not-true, not-false}
+use borrow.Author.Needs.{needs}
 use Rattle.frontier.specs.Frontiers.{entries, well-formed}
 use Rattle.frontier.proofs.Pack.{both-fit}
 use Rattle.frontier.proofs.Merge.{refused-small, refused-large, refused-left, refused-right, merged}
 use Rattle.frontier.proofs.Meaning.{merge-all}
-use borrow.Author.Needs.{needs}
 use Rattle.frontier.proofs.Frontier.merge.Statement.{statement}
 use Rattle.frontier.proofs.Frontier.merge.Tie as tie
-use Rattle.frontier.proofs.Frontier.merge.Reads as reads
-use Rattle.frontier.proofs.Frontier.merge.Lts as lts
-use Rattle.frontier.proofs.refused.Reads as refused-reads
-use Rattle.frontier.proofs.walks.formed.Reads as formed-reads
-use Rattle.frontier.proofs.walks.join.Reads as join-reads
 
 left-formed : (c : tie.Else3) → well-formed (c .before .before .before .before .before .before .before .args .t1) ≡ true
 unfolding well-formed entries
@@ -22,54 +18,42 @@ right-formed : (c : tie.Else4) → well-formed (c .before .before .before .befor
 unfolding well-formed entries
 right-formed c = sym (c .before .formed2 .ensures) ∙ not-false _ (c .if4 .left)
 
--- src/lib.rt:87:13
 refused-requires : tie.Need-refused-requires
 refused-requires c κs = search needs
 
--- src/lib.rt:87:13
 returns : tie.Need-returns
 returns c = merge-all _ _ _ _ (c .refused .ensures ∙ refused-small _ _ _ (c .before .if1 .taken))
 
--- src/lib.rt:90:13
 refused-requires-2 : tie.Need-refused-requires-2
 refused-requires-2 c κs = search needs
 
--- src/lib.rt:90:13
 returns-2 : tie.Need-returns-2
 returns-2 c = merge-all _ _ _ _ (c .refused2 .ensures ∙ refused-large _ _ _ (c .before .if2 .taken))
 
--- src/lib.rt:92:13
 formed-requires : tie.Need-formed-requires
 formed-requires c κs = search needs
 
--- src/lib.rt:93:13
 refused-requires-3 : tie.Need-refused-requires-3
 refused-requires-3 c κs = search needs
 
--- src/lib.rt:93:13
 returns-3 : tie.Need-returns-3
 unfolding well-formed entries
 returns-3 c = merge-all _ _ _ _ (c .refused3 .ensures ∙ refused-left _ _ _ (c .before .before .before .before .before .before .before .if1 .left) (c .before .before .before .before .before .before .if2 .left) (sym (c .before .before .formed .ensures) ∙ not-true _ (c .before .if3 .taken)))
 
--- src/lib.rt:95:13
 formed-requires-2 : tie.Need-formed-requires-2
 formed-requires-2 c κs = search needs
 
--- src/lib.rt:96:13
 refused-requires-4 : tie.Need-refused-requires-4
 refused-requires-4 c κs = search needs
 
--- src/lib.rt:96:13
 returns-4 : tie.Need-returns-4
 unfolding well-formed entries
 returns-4 c = merge-all _ _ _ _ (c .refused4 .ensures ∙ refused-right _ _ _ (c .before .before .before .before .before .before .before .before .before .before .before .before .if1 .left) (c .before .before .before .before .before .before .before .before .before .before .before .if2 .left) (left-formed (c .before .before .before .before .before .before)) (sym (c .before .before .formed2 .ensures) ∙ not-true _ (c .before .if4 .taken)))
 
--- src/lib.rt:98:13
 join-requires : tie.Need-join-requires
 unfolding entries
 join-requires c κs = let w = both-fit _ _ (left-formed (c .before .before .before .before .before .before .before .before .before .before .before)) (right-formed (c .before .before .before .before .before .before)) in (w .0, (w .1, c .before .before .before .before .before .before .before .before .before .before .before .before .before .before .before .before .if2 .left))
 
--- src/lib.rt:82:5
 returns-5 : tie.Need-returns-5
 unfolding entries
 returns-5 c = merge-all _ _ _ _ (merged _ _ _ _ (c .before .before .before .before .before .before .before .before .before .before .before .before .before .before .before .before .before .before .if1 .left) (c .before .before .before .before .before .before .before .before .before .before .before .before .before .before .before .before .before .if2 .left) (left-formed (c .before .before .before .before .before .before .before .before .before .before .before .before)) (right-formed (c .before .before .before .before .before .before .before)) (c .join .ensures))

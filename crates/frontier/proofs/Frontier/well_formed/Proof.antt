@@ -1,16 +1,12 @@
-use Rattle.frontier.specs.Frontiers.{entries, well-formed}
+-- `well_formed` meets its contract: the taint does not matter. Assumes nothing.
 use borrow.Author.Needs.{needs}
+use Rattle.frontier.specs.Frontiers.{entries, well-formed}
 use Rattle.frontier.proofs.Frontier.well_formed.Statement.{statement}
 use Rattle.frontier.proofs.Frontier.well_formed.Tie as tie
-use Rattle.frontier.proofs.Frontier.well_formed.Reads as reads
-use Rattle.frontier.proofs.Frontier.well_formed.Lts as lts
-use Rattle.frontier.proofs.walks.formed.Reads as formed-reads
 
--- src/lib.rt:66:9
 formed-requires : tie.Need-formed-requires
 formed-requires c κs = search needs
 
--- src/lib.rt:63:5
 returns : tie.Need-returns
 unfolding well-formed entries
 returns c = c .formed .ensures

@@ -1,15 +1,13 @@
-use Prim.Native.Nat.{ℕ, _+_, _-_, _≤_, _<_}
+-- `zero_from` meets its contract: the loop's invariant: the rest is zero exactly if the whole is. Assumes nothing.
+use Prim.Native.Nat.{_-_}
 use native.Mathlib.Omega.{arith}
 use mathlib.Core.Path.{_≡_, refl, sym, _∙_}
-use mathlib.Core.List.{List}
-use lib.ListN.{length, drop}
+use lib.ListN.{drop}
+use borrow.Author.Needs.{needs}
 use Rattle.frontier.specs.Frontiers.{all-zero}
 use Rattle.frontier.proofs.Steps.{zero-more, zero-stop, zero-end}
-use borrow.Author.Needs.{needs}
 use Rattle.frontier.proofs.walks.zero_from.Statement.{statement}
 use Rattle.frontier.proofs.walks.zero_from.Tie as tie
-use Rattle.frontier.proofs.walks.zero_from.Reads as reads
-use Rattle.frontier.proofs.walks.zero_from.Lts as lts
 
 abbrev Inv-loop : tie.InvT-loop
 Inv-loop row from i₀ i = all-zero (drop i row) ≡ all-zero (drop from row)
@@ -17,35 +15,27 @@ Inv-loop row from i₀ i = all-zero (drop i row) ≡ all-zero (drop from row)
 abbrev μ-loop : tie.MeasureT-loop
 μ-loop row from i₀ i = 16 - i
 
--- src/walks.rt:66:5
 loop-holds : tie.Need-loop-holds Inv-loop μ-loop
 loop-holds c = refl
 
--- src/walks.rt:67:12
 mul-if1 : tie.Need-mul-if1 Inv-loop μ-loop
 mul-if1 c = search needs
 
--- src/walks.rt:67:12
 element-copy-out-if1 : tie.Need-element-copy-out-if1 Inv-loop μ-loop
 element-copy-out-if1 c = search needs
 
--- src/walks.rt:68:13
 returns : tie.Need-returns Inv-loop μ-loop
 returns c = sym (zero-stop (c .before .before .before .before .args .row .now) (c .before .before .before .loop .i) (omega (arith, c .before .before .before .before .pre, c .before .before .loop-test .taken)) (c .if1 .taken)) ∙ c .before .before .before .loop .inv
 
--- src/walks.rt:70:9
 add-i : tie.Need-add-i Inv-loop μ-loop
 add-i c = search needs
 
--- src/walks.rt:66:5
 loop-less : tie.Need-loop-less Inv-loop μ-loop
 loop-less c = search needs
 
--- src/walks.rt:66:5
 loop-again : tie.Need-loop-again Inv-loop μ-loop
 loop-again c = sym (zero-more (c .before .before .before .before .args .row .now) (c .before .before .before .loop .i) (omega (arith, c .before .before .before .before .pre, c .before .before .loop-test .taken)) (c .if1 .left)) ∙ c .before .before .before .loop .inv
 
--- src/walks.rt:61:1
 returns-2 : tie.Need-returns-2 Inv-loop μ-loop
 returns-2 c = sym (zero-end (c .before .before .args .row .now) (c .before .loop .i) (omega (arith, c .before .before .pre, c .loop-test .left))) ∙ c .before .loop .inv
 
