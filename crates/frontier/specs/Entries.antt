@@ -1,0 +1,68 @@
+-- Lists of entries (axis, epoch): their form, lookup, union with the larger epoch, and the cut to a capacity. Assumes nothing: these are definitions.
+use mathlib.Core.Path.{_≡_}
+use mathlib.Core.Bool.{Bool, true, false, _&&_, _||_, cond}
+use mathlib.Core.Logic.{_⊎_}
+use mathlib.Core.List.{List, [], _∷_}
+use Prim.Native.Nat.{ℕ, suc, _+_, max}
+use lib.Dec.{ltb, leb, eqb}
+use Rattle.frontier.specs.declared.Lookup.{Lookup}
+use Rattle.frontier.specs.declared.Lookup.the-variants.{Listed, Absent}
+
+pub record Entry : Type 0 where
+  pub axis : ℕ
+  pub epoch : ℕ
+
+-- x is one of the entries
+abbrev pub In : Entry → List Entry → Type 0
+In x [] = ⊥
+In x (y ∷ ys) = (x ≡ y) ⊎ In x ys
+
+-- "axes rising, epochs above 0": the first axis is at least `least`, each later one above the one before it
+unfoldable pub rising-from : (least : ℕ) → List Entry → Bool
+rising-from least [] = true
+rising-from least (x ∷ xs) = leb least (x .axis) && (ltb 0 (x .epoch) && rising-from (suc (x .axis)) xs)
+
+-- "An axis not listed counts as absent, never as met"
+unfoldable pub find : (axis : ℕ) → List Entry → Lookup
+find a [] = Absent
+find a (x ∷ xs) = cond (eqb (x .axis) a) (Listed (x .epoch)) (find a xs)
+
+-- the values of a lookup: the epoch, if there is one
+unfoldable pub values-of : Lookup → List ℕ
+values-of (Listed e) = e ∷ []
+values-of Absent = []
+
+-- every epoch that is listed under an axis
+unfoldable pub epochs-under : (axis : ℕ) → List Entry → List ℕ
+epochs-under a [] = []
+epochs-under a (x ∷ xs) = cond (eqb (x .axis) a) (x .epoch ∷ epochs-under a xs) (epochs-under a xs)
+
+-- "Merge takes the larger epoch of each axis": of one entry and a list with rising axes
+unfoldable pub put : Entry → List Entry → List Entry
+put x [] = x ∷ []
+put x (y ∷ ys) =
+    cond (ltb (x .axis) (y .axis)) (x ∷ y ∷ ys)
+    (cond (eqb (x .axis) (y .axis)) (record { axis = x .axis; epoch = max (x .epoch) (y .epoch) } ∷ ys)
+    (y ∷ put x ys))
+
+-- and of two lists
+unfoldable pub union : (xs ys : List Entry) → List Entry
+union [] ys = ys
+union (x ∷ xs) ys = put x (union xs ys)
+
+-- "the entries with the largest epochs stay, of equal epochs the larger axis": y goes before x
+unfoldable pub exceeds : (y x : Entry) → Bool
+exceeds y x = ltb (x .epoch) (y .epoch) || (eqb (x .epoch) (y .epoch) && ltb (x .axis) (y .axis))
+
+-- how many entries exceed x
+unfoldable pub exceeding : (x : Entry) → List Entry → ℕ
+exceeding x [] = 0
+exceeding x (y ∷ ys) = cond (exceeds y x) 1 0 + exceeding x ys
+
+unfoldable pub keep : (Entry → Bool) → List Entry → List Entry
+keep f [] = []
+keep f (x ∷ xs) = cond (f x) (x ∷ keep f xs) (keep f xs)
+
+-- "if more than the capacity remain": an entry is kept exactly if fewer than `capacity` others exceed it
+unfoldable pub cut : (capacity : ℕ) → List Entry → List Entry
+cut capacity xs = keep (λ x. ltb (exceeding x xs) capacity) xs

@@ -1,0 +1,105 @@
+-- Frontiers as the code has them: their entries and form, merge, raise and dominance with their numbers. Assumes nothing: these are definitions.
+use mathlib.Core.Bool.{Bool, true, false, _&&_, _||_, cond}
+use mathlib.Core.List.{List, [], _∷_, _++_, map}
+use Prim.Native.Nat.{ℕ, _-_}
+use lib.Dec.{ltb, leb, eqb}
+use lib.ListN.{length, getD, drop, replicate}
+use Rattle.basics.specs.Lists.{tabulate-from}
+use Rattle.frontier.specs.declared.Frontier.{Frontier}
+use Rattle.frontier.specs.declared.Merged.{Merged}
+use Rattle.frontier.specs.declared.Lookup.{Lookup}
+use Rattle.frontier.specs.declared.Lookup.the-variants.{Listed, Absent}
+use Rattle.frontier.specs.declared.Dominance.{Dominance}
+use Rattle.frontier.specs.declared.Dominance.the-variants.{Yes, No, Unknown, Refused}
+use Rattle.frontier.specs.Entries.{Entry, rising-from, find, put, union, cut}
+
+-- what stands in slot i
+unfoldable pub slot : (axes epochs : List ℕ) → ℕ → Entry
+slot axes epochs i = record { axis = getD axes i 0; epoch = getD epochs i 0 }
+
+-- slots i, i + 1, .. of which there are n
+unfoldable pub slots : (axes epochs : List ℕ) → (n i : ℕ) → List Entry
+slots axes epochs n i = tabulate-from n i (slot axes epochs)
+
+unfoldable pub entries : Frontier → List Entry
+entries f = slots (f .axes) (f .epochs) (f .len) 0
+
+unfoldable pub all-zero : List ℕ → Bool
+all-zero [] = true
+all-zero (x ∷ xs) = eqb x 0 && all-zero xs
+
+-- sixteen slots, "slots past the length zero"
+unfoldable pub row-formed : (len : ℕ) → List ℕ → Bool
+row-formed len row = eqb (length row) 16 && all-zero (drop len row)
+
+-- "At most sixteen entries (axis, epoch), axes rising, epochs above 0, slots past the length zero, and a taint flag"
+unfoldable pub well-formed : Frontier → Bool
+well-formed f =
+    leb (f .len) 16 && (rising-from 0 (entries f) && (row-formed (f .len) (f .axes) && row-formed (f .len) (f .epochs)))
+
+-- the frontier of at most sixteen entries
+unfoldable pub pack : List Entry → (tainted : Bool) → Frontier
+pack xs tainted = record {
+  axes = map (λ x. x .axis) xs ++ replicate (16 - length xs) 0;
+  epochs = map (λ x. x .epoch) xs ++ replicate (16 - length xs) 0;
+  len = length xs;
+  tainted = tainted;
+}
+
+-- "A refusal hands back an empty untainted frontier"
+unfoldable pub refusal : (number : ℕ) → Merged
+refusal number = record { number = number; frontier = pack [] false }
+
+-- two lists joined, cut and marked: "if more than the capacity remain .. the result is tainted. It is also tainted if either side was"
+unfoldable pub joined : (xs ys : List Entry) → (tainted : Bool) → (capacity : ℕ) → Frontier
+joined xs ys tainted capacity = pack (cut capacity (union xs ys)) (tainted || ltb capacity (length (union xs ys)))
+
+-- "Check 15 first, then 14 for the left, then the right"
+unfoldable pub merge-number : (f g : Frontier) → (capacity : ℕ) → ℕ
+merge-number f g capacity =
+    cond (leb 1 capacity && leb capacity 16) (cond (well-formed f) (cond (well-formed g) 0 14) 14) 15
+
+unfoldable pub merge : (f g : Frontier) → (capacity : ℕ) → Merged
+merge f g capacity =
+    cond (eqb (merge-number f g capacity) 0)
+    (record { number = 0; frontier = joined (entries f) (entries g) (f .tainted || g .tainted) capacity })
+    (refusal (merge-number f g capacity))
+
+-- "Raising an axis is a merge with one entry, and with the empty frontier for epoch 0"
+unfoldable pub one-entry : (axis epoch : ℕ) → List Entry
+one-entry a e = cond (eqb e 0) [] (record { axis = a; epoch = e } ∷ [])
+
+unfoldable pub raise : Frontier → (axis epoch capacity : ℕ) → Merged
+raise f a e capacity = merge f (pack (one-entry a e) false) capacity
+
+-- an entry is reached if its axis is listed with at least its epoch
+unfoldable pub met : Lookup → (epoch : ℕ) → Bool
+met (Listed e) n = leb n e
+met Absent n = false
+
+-- "All entries of G reached by F"
+unfoldable pub reached : (xs ys : List Entry) → Bool
+reached xs [] = true
+reached xs (y ∷ ys) = met (find (y .axis) xs) (y .epoch) && reached xs ys
+
+-- "yes if G is untainted, else unknown. Some entry not reached: no if F is untainted, else unknown"
+unfoldable pub answer : (all-reached f-tainted g-tainted : Bool) → Dominance
+answer true f-tainted false = Yes
+answer true f-tainted true = Unknown
+answer false false g-tainted = No
+answer false true g-tainted = Unknown
+
+unfoldable pub dominance-number : (f g : Frontier) → ℕ
+dominance-number f g = cond (well-formed f) (cond (well-formed g) 0 14) 14
+
+unfoldable pub dominance : (f g : Frontier) → Dominance
+dominance f g =
+    cond (eqb (dominance-number f g) 0) (answer (reached (entries f) (entries g)) (f .tainted) (g .tainted))
+    (Refused (dominance-number f g))
+
+-- 01's number of each answer: 0 for an answer, the refusal's number in its stead
+unfoldable pub number-of : Dominance → ℕ
+number-of Yes = 0
+number-of No = 0
+number-of Unknown = 0
+number-of (Refused n) = n

@@ -1,0 +1,5 @@
+pub mod Entries
+pub mod Frontiers
+pub mod Meaning
+pub mod Rows
+pub mod Walks

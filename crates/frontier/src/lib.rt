@@ -1,0 +1,220 @@
+// Sparse frontiers: vector clocks of at most sixteen entries (axis, epoch), with lookup, merge, raise and dominance; and the two lent rows.
+mod walks; // walks over the lent slots of one or two frontiers
+
+use walks::formed;
+use walks::join;
+use walks::listed_at;
+use walks::reaches;
+use walks::seek;
+ghost use mathlib.Core.Path.{_≡_};
+ghost use mathlib.Core.Bool.{false};
+ghost use mathlib.Core.List.{[]};
+ghost use Rattle.frontier.specs.Frontiers.{well-formed, pack, refusal, one-entry, merge, raise, answer, dominance};
+ghost use Rattle.frontier.specs.Meaning.{Looked, Merge-right, Raise-right, Dominance-means};
+ghost use Rattle.frontier.specs.Rows.{row-reaches, reaching-row, As-it-lies};
+
+// Slot i holds the entry (axes[i], epochs[i]) for i below len; the slots past len are zero. A tainted frontier has lost entries.
+pub struct Frontier {
+    pub axes: [u64; Frontier::SLOTS],
+    pub epochs: [u64; Frontier::SLOTS],
+    pub len: usize,
+    pub tainted: bool,
+}
+
+// What a frontier says of an axis: its epoch, or nothing.
+pub enum Lookup {
+    Listed(u64),
+    Absent,
+}
+
+// A merge's number and frontier: empty and untainted where the number is a refusal's.
+pub struct Merged {
+    pub number: u32,
+    pub frontier: Frontier,
+}
+
+// Whether one frontier dominates another, or the refusal's number.
+pub enum Dominance {
+    Yes,
+    No,
+    Unknown,
+    Refused(u32),
+}
+
+impl Frontier {
+    pub const SLOTS: usize = 16;
+
+    // The largest capacity.
+    pub const MOST: u32 = 16;
+
+    // The empty untainted frontier.
+    pub fn empty() -> Self
+        ensures { λ r. ⌜ r ≡ pack [] false ⌝ }
+    {
+        Self {
+            axes: [0; Self::SLOTS],
+            epochs: [0; Self::SLOTS],
+            len: 0,
+            tainted: false,
+        }
+    }
+
+    // Axes rise, epochs are above 0, slots past the length are zero. Anything else is refusal 14.
+    pub fn well_formed(self) -> bool
+        ensures { λ r. ⌜ r ≡ well-formed self ⌝ }
+    {
+        formed(&self.axes, &self.epochs, self.len)
+    }
+
+    // What the frontier says of an axis. An axis that is not listed is absent.
+    pub fn lookup(self, axis: u64) -> Lookup
+        ensures { λ r. ⌜ Looked self axis r ⌝ }
+    {
+        let len = self.len;
+        if Self::SLOTS < len {
+            return Lookup::Absent;
+        }
+        let at = seek(&self.axes, len, 0, axis);
+        listed_at(&self.axes, &self.epochs, len, at, axis)
+    }
+
+    // The larger epoch of each axis, cut to the capacity.
+    pub fn merge(self, other: Self, capacity: u32) -> Merged
+        ensures { λ r. ⌜ r ≡ merge self other capacity ⌝ }
+        ensures { λ r. ⌜ Merge-right self other capacity r ⌝ }
+    {
+        if capacity < 1 {
+            return refused(15);
+        }
+        if Self::MOST < capacity {
+            return refused(15);
+        }
+        if !formed(&self.axes, &self.epochs, self.len) {
+            return refused(14);
+        }
+        if !formed(&other.axes, &other.epochs, other.len) {
+            return refused(14);
+        }
+        let frontier = join(
+            &self.axes,
+            &self.epochs,
+            self.len,
+            &other.axes,
+            &other.epochs,
+            other.len,
+            capacity as usize,
+            self.tainted | other.tainted,
+        );
+        Merged {
+            number: 0,
+            frontier,
+        }
+    }
+
+    // One axis raised to an epoch: a merge with one entry, with the empty frontier for epoch 0.
+    pub fn raise(self, axis: u64, epoch: u64, capacity: u32) -> Merged
+        ensures { λ r. ⌜ r ≡ raise self axis epoch capacity ⌝ }
+        ensures { λ r. ⌜ Raise-right self axis epoch capacity r ⌝ }
+    {
+        self.merge(Self::one(axis, epoch), capacity)
+    }
+
+    // Whether every entry of the other is reached, as far as the taints let it be known.
+    pub fn dominates(self, other: Self) -> Dominance
+        ensures { λ r. ⌜ r ≡ dominance self other ⌝ }
+        ensures { λ r. ⌜ Dominance-means self other r ⌝ }
+    {
+        if !formed(&self.axes, &self.epochs, self.len) {
+            return Dominance::Refused(14);
+        }
+        if !formed(&other.axes, &other.epochs, other.len) {
+            return Dominance::Refused(14);
+        }
+        let reached = reaches(
+            &self.axes,
+            &self.epochs,
+            self.len,
+            &other.axes,
+            &other.epochs,
+            other.len,
+        );
+        answer_of(reached, self.tainted, other.tainted)
+    }
+
+    // The frontier of one entry; of none for epoch 0.
+    fn one(axis: u64, epoch: u64) -> Self
+        ensures { λ r. ⌜ r ≡ pack (one-entry axis epoch) false ⌝ }
+    {
+        if epoch == 0 {
+            return Self::empty();
+        }
+        let mut axes = [0u64; Self::SLOTS];
+        let mut epochs = [0u64; Self::SLOTS];
+        axes[0] = axis;
+        epochs[0] = epoch;
+        Self {
+            axes,
+            epochs,
+            len: 1,
+            tainted: false,
+        }
+    }
+}
+
+// A refused merge hands back the empty untainted frontier.
+fn refused(number: u32) -> Merged
+    ensures { λ r. ⌜ r ≡ refusal number ⌝ }
+{
+    Merged {
+        number,
+        frontier: Frontier::empty(),
+    }
+}
+
+// All reached is yes, unless the other lost entries; not all reached is no, unless this one did.
+fn answer_of(reached: bool, tainted: bool, other: bool) -> Dominance
+    ensures { λ r. ⌜ r ≡ answer reached tainted other ⌝ }
+{
+    if reached {
+        if other {
+            return Dominance::Unknown;
+        }
+        return Dominance::Yes;
+    }
+    if tainted {
+        return Dominance::Unknown;
+    }
+    Dominance::No
+}
+
+// Of two lent rows of epochs, the one that reaches the other in every place, as it lies: the first where they are equal. If neither does, or
+// the lengths differ, an empty part of the first.
+pub fn reaching<'a>(first: &'a [u64], second: &'a [u64]) -> &'a [u64]
+    ensures { λ r. ⌜ now r ≡ reaching-row (now (first .entry)) (now (second .entry)) ⌝ }
+    ensures { λ r. ⌜ As-it-lies (first .entry) (second .entry) r ⌝ }
+{
+    if row_reaches(first, second) {
+        return first;
+    }
+    if row_reaches(second, first) {
+        return second;
+    }
+    &first[..0]
+}
+
+// The rows are equally long, and the first is at least the second in every place.
+fn row_reaches(first: &[u64], second: &[u64]) -> bool
+    ensures { λ r. ⌜ r ≡ row-reaches (now (first .entry)) (now (second .entry)) ⌝ }
+{
+    if first.len() != second.len() {
+        return false;
+    }
+    let mut i: usize = 0;
+    while i < first.len() {
+        if first[i] < second[i] {
+            return false;
+        }
+        i += 1;
+    }
+    true
+}

@@ -1,0 +1,330 @@
+// Walks over the lent slots of one frontier or two: form, lookup, reach, union and cut.
+use crate::Frontier;
+use crate::Lookup;
+ghost use mathlib.Core.Path.{_≡_};
+ghost use mathlib.Core.Bool.{true, false};
+ghost use mathlib.Core.List.{List, _∷_};
+ghost use Prim.Native.Nat.{ℕ, _+_, _≤_, _<_, max};
+ghost use lib.Dec.{ltb};
+ghost use lib.ListN.{length, drop};
+ghost use Rattle.frontier.specs.Entries.{rising-from, union, exceeds, exceeding, keep, cut};
+ghost use Rattle.frontier.specs.Frontiers.{slots, all-zero, well-formed, pack, joined, reached};
+ghost use Rattle.frontier.specs.Walks.{rest, placed, skip-below, first-listed, nearer};
+
+// The axes or the epochs of a frontier.
+pub type Slots = [u64; Frontier::SLOTS];
+
+// The next entry of a union, and where each side goes on.
+pub struct Step {
+    pub axis: u64,
+    pub epoch: u64,
+    pub left: usize,
+    pub right: usize,
+}
+
+// An entry that the kept ones exceed.
+pub struct Bound {
+    pub axis: u64,
+    pub epoch: u64,
+}
+
+// Slot i has an epoch above 0, and its axis is above that of the slot before.
+fn in_place<'a>(axes: &'a Slots, epochs: &'a Slots, i: usize) -> bool
+    requires { ⌜ i < 16 ⌝ }
+    ensures { λ r. ⌜ r ≡ placed (now (axes .entry)) (now (epochs .entry)) i ⌝ }
+{
+    if epochs[i] == 0 {
+        return false;
+    }
+    if i == 0 {
+        return true;
+    }
+    axes[i - 1] < axes[i]
+}
+
+// The axes rise and the epochs are above 0.
+fn rising<'a>(axes: &'a Slots, epochs: &'a Slots, len: usize) -> bool
+    requires { ⌜ len ≤ 16 ⌝ }
+    ensures { λ r. ⌜ r ≡ rising-from 0 (slots (now (axes .entry)) (now (epochs .entry)) len 0) ⌝ }
+{
+    let mut i: usize = 0;
+    while i < len {
+        if !in_place(axes, epochs, i) {
+            return false;
+        }
+        i += 1;
+    }
+    true
+}
+
+// Every slot from `from` on is zero.
+fn zero_from(row: &Slots, from: usize) -> bool
+    requires { ⌜ length (now row) ≡ 16 ⌝ }
+    ensures { λ r. ⌜ r ≡ all-zero (drop from (now (row .entry))) ⌝ }
+{
+    let mut i = from;
+    while i < Frontier::SLOTS {
+        if row[i] != 0 {
+            return false;
+        }
+        i += 1;
+    }
+    true
+}
+
+// A frontier of these slots is well-formed.
+pub fn formed<'a>(axes: &'a Slots, epochs: &'a Slots, len: usize) -> bool
+    requires { ⌜ (length (now axes) ≡ 16) × (length (now epochs) ≡ 16) ⌝ }
+    ensures { λ r. ⌜ r ≡ well-formed (record { axes = now (axes .entry); epochs = now (epochs .entry); len = len; tainted = false }) ⌝ }
+{
+    if Frontier::SLOTS < len {
+        return false;
+    }
+    if !rising(axes, epochs, len) {
+        return false;
+    }
+    if !zero_from(axes, len) {
+        return false;
+    }
+    zero_from(epochs, len)
+}
+
+// The first slot from `from` on whose axis is not below the one sought, or the length.
+pub fn seek(axes: &Slots, len: usize, from: usize, axis: u64) -> usize
+    requires { ⌜ (from ≤ len) × (len ≤ 16) ⌝ }
+    ensures { λ r. ⌜ (r ≤ len) × ((es : List ℕ) → rest (now (axes .entry)) es len r ≡ skip-below axis (rest (now (axes .entry)) es len from)) ⌝ }
+{
+    let mut i = from;
+    while i < len {
+        if axis <= axes[i] {
+            return i;
+        }
+        i += 1;
+    }
+    i
+}
+
+// What slot `at` says of an axis: its epoch, if the slot is of that axis.
+pub fn listed_at<'a>(axes: &'a Slots, epochs: &'a Slots, len: usize, at: usize, axis: u64) -> Lookup
+    requires { ⌜ len ≤ 16 ⌝ }
+    ensures { λ r. ⌜ r ≡ first-listed axis (rest (now (axes .entry)) (now (epochs .entry)) len at) ⌝ }
+{
+    if len <= at {
+        return Lookup::Absent;
+    }
+    if axes[at] == axis {
+        return Lookup::Listed(epochs[at]);
+    }
+    Lookup::Absent
+}
+
+// Every entry of y is reached by x. An axis that x lacks is not.
+pub fn reaches<'a>(
+    xa: &'a Slots,
+    xe: &'a Slots,
+    xn: usize,
+    ya: &'a Slots,
+    ye: &'a Slots,
+    yn: usize,
+) -> bool
+    requires { ⌜ (xn ≤ 16) × (yn ≤ 16) ⌝ }
+    requires { ⌜ (rising-from 0 (slots (now xa) (now xe) xn 0) ≡ true) × (rising-from 0 (slots (now ya) (now ye) yn 0) ≡ true) ⌝ }
+    ensures { λ r. ⌜ r ≡ reached (slots (now (xa .entry)) (now (xe .entry)) xn 0) (slots (now (ya .entry)) (now (ye .entry)) yn 0) ⌝ }
+{
+    let mut i: usize = 0;
+    let mut j: usize = 0;
+    while j < yn {
+        let axis = ya[j];
+        i = seek(xa, xn, i, axis);
+        let Lookup::Listed(epoch) = listed_at(xa, xe, xn, i, axis) else {
+            return false;
+        };
+        if epoch < ye[j] {
+            return false;
+        }
+        j += 1;
+    }
+    true
+}
+
+// The next entry of the union of x from slot i and y from slot j: the smaller axis, with the larger epoch where both list it.
+fn next<'a>(
+    xa: &'a Slots,
+    xe: &'a Slots,
+    xn: usize,
+    i: usize,
+    ya: &'a Slots,
+    ye: &'a Slots,
+    yn: usize,
+    j: usize,
+) -> Step
+    requires { ⌜ (xn ≤ 16) × (yn ≤ 16) × (i ≤ xn) × (j ≤ yn) × (i + j < xn + yn) ⌝ }
+    requires { ⌜ (rising-from 0 (slots (now xa) (now xe) xn 0) ≡ true) × (rising-from 0 (slots (now ya) (now ye) yn 0) ≡ true) ⌝ }
+    ensures { λ s. ⌜ (s .left ≤ xn) × (s .right ≤ yn) × (i + j < s .left + s .right) ⌝ }
+    ensures { λ s. ⌜ union (rest (now (xa .entry)) (now (xe .entry)) xn i) (rest (now (ya .entry)) (now (ye .entry)) yn j) ≡ record { axis = s .axis; epoch = s .epoch } ∷ union (rest (now (xa .entry)) (now (xe .entry)) xn (s .left)) (rest (now (ya .entry)) (now (ye .entry)) yn (s .right)) ⌝ }
+{
+    if xn <= i {
+        return Step {
+            axis: ya[j],
+            epoch: ye[j],
+            left: i,
+            right: j + 1,
+        };
+    }
+    let axis = xa[i];
+    let epoch = xe[i];
+    if yn <= j {
+        return Step {
+            axis,
+            epoch,
+            left: i + 1,
+            right: j,
+        };
+    }
+    if ya[j] < axis {
+        return Step {
+            axis: ya[j],
+            epoch: ye[j],
+            left: i,
+            right: j + 1,
+        };
+    }
+    let Lookup::Listed(other) = listed_at(ya, ye, yn, j, axis) else {
+        return Step {
+            axis,
+            epoch,
+            left: i + 1,
+            right: j,
+        };
+    };
+    Step {
+        axis,
+        epoch: larger(epoch, other),
+        left: i + 1,
+        right: j + 1,
+    }
+}
+
+fn larger(a: u64, b: u64) -> u64
+    ensures { λ r. ⌜ r ≡ max a b ⌝ }
+{
+    if a < b { b } else { a }
+}
+
+// The union of x and y, cut to a capacity: tainted if something is cut.
+pub fn join<'a>(
+    xa: &'a Slots,
+    xe: &'a Slots,
+    xn: usize,
+    ya: &'a Slots,
+    ye: &'a Slots,
+    yn: usize,
+    capacity: usize,
+    tainted: bool,
+) -> Frontier
+    requires { ⌜ (xn ≤ 16) × (yn ≤ 16) ⌝ }
+    requires { ⌜ (rising-from 0 (slots (now xa) (now xe) xn 0) ≡ true) × (rising-from 0 (slots (now ya) (now ye) yn 0) ≡ true) ⌝ }
+    requires { ⌜ capacity ≤ 16 ⌝ }
+    ensures { λ r. ⌜ r ≡ joined (slots (now (xa .entry)) (now (xe .entry)) xn 0) (slots (now (ya .entry)) (now (ye .entry)) yn 0) tainted capacity ⌝ }
+{
+    let mut axes = [0u64; 32];
+    let mut epochs = [0u64; 32];
+    let mut n: usize = 0;
+    let mut i: usize = 0;
+    let mut j: usize = 0;
+    while i + j < xn + yn {
+        let s = next(xa, xe, xn, i, ya, ye, yn, j);
+        axes[n] = s.axis;
+        epochs[n] = s.epoch;
+        n += 1;
+        i = s.left;
+        j = s.right;
+    }
+    let bound = bound_of(&axes, &epochs, n, capacity);
+    trim(&axes, &epochs, n, bound, tainted | (capacity < n))
+}
+
+// Entry (axis, epoch) exceeds the bound: by its epoch, at equal epochs by its axis.
+fn above(axis: u64, epoch: u64, bound: Bound) -> bool
+    ensures { λ r. ⌜ r ≡ exceeds (record { axis = axis; epoch = epoch }) (record { axis = bound .axis; epoch = bound .epoch }) ⌝ }
+{
+    if bound.epoch == epoch {
+        return bound.axis < axis;
+    }
+    bound.epoch < epoch
+}
+
+// The entry, if it lies between the bound and the best so far; else the best.
+fn nearer_of(bound: Bound, axis: u64, epoch: u64, best: Bound) -> Bound
+    ensures { λ r. ⌜ record { axis = r .axis; epoch = r .epoch } ≡ nearer (record { axis = bound .axis; epoch = bound .epoch }) (record { axis = axis; epoch = epoch }) (record { axis = best .axis; epoch = best .epoch }) ⌝ }
+{
+    if !above(axis, epoch, bound) {
+        return best;
+    }
+    let entry = Bound { axis, epoch };
+    if !above(best.axis, best.epoch, entry) {
+        return best;
+    }
+    entry
+}
+
+// The least entry above the bound: one entry fewer exceeds it.
+fn next_least<'a>(axes: &'a [u64], epochs: &'a [u64], len: usize, bound: Bound) -> Bound
+    requires { ⌜ (len ≤ length (now axes)) × (len ≤ length (now epochs)) × (rising-from 0 (slots (now axes) (now epochs) len 0) ≡ true) ⌝ }
+    requires { ⌜ 0 < exceeding (record { axis = bound .axis; epoch = bound .epoch }) (slots (now axes) (now epochs) len 0) ⌝ }
+    ensures { λ r. ⌜ exceeding (record { axis = bound .axis; epoch = bound .epoch }) (slots (now (axes .entry)) (now (epochs .entry)) len 0) ≡ exceeding (record { axis = r .axis; epoch = r .epoch }) (slots (now (axes .entry)) (now (epochs .entry)) len 0) + 1 ⌝ }
+{
+    let mut best = Bound {
+        axis: 18446744073709551615,
+        epoch: 18446744073709551615,
+    };
+    let mut i: usize = 0;
+    while i < len {
+        best = nearer_of(bound, axes[i], epochs[i], best);
+        i += 1;
+    }
+    best
+}
+
+// The bound that the entries kept at a capacity exceed.
+fn bound_of<'a>(axes: &'a [u64], epochs: &'a [u64], len: usize, capacity: usize) -> Bound
+    requires { ⌜ (len ≤ length (now axes)) × (len ≤ length (now epochs)) × (rising-from 0 (slots (now axes) (now epochs) len 0) ≡ true) ⌝ }
+    ensures { λ r. ⌜ cut capacity (slots (now (axes .entry)) (now (epochs .entry)) len 0) ≡ keep (λ x. exceeds x (record { axis = r .axis; epoch = r .epoch })) (slots (now (axes .entry)) (now (epochs .entry)) len 0) ⌝ }
+{
+    let mut bound = Bound { axis: 0, epoch: 0 };
+    let mut left = len;
+    while capacity < left {
+        bound = next_least(axes, epochs, len, bound);
+        left -= 1;
+    }
+    bound
+}
+
+// The entries above the bound, as a frontier.
+fn trim<'a>(axes: &'a [u64], epochs: &'a [u64], len: usize, bound: Bound, tainted: bool) -> Frontier
+    requires { ⌜ (len ≤ length (now axes)) × (len ≤ length (now epochs)) ⌝ }
+    requires { ⌜ length (keep (λ x. exceeds x (record { axis = bound .axis; epoch = bound .epoch })) (slots (now axes) (now epochs) len 0)) ≤ 16 ⌝ }
+    ensures { λ r. ⌜ r ≡ pack (keep (λ x. exceeds x (record { axis = bound .axis; epoch = bound .epoch })) (slots (now (axes .entry)) (now (epochs .entry)) len 0)) tainted ⌝ }
+{
+    let mut kept = [0u64; Frontier::SLOTS];
+    let mut at = [0u64; Frontier::SLOTS];
+    let mut n: usize = 0;
+    let mut i: usize = 0;
+    while i < len {
+        let axis = axes[i];
+        let epoch = epochs[i];
+        i += 1;
+        if !above(axis, epoch, bound) {
+            continue;
+        }
+        kept[n] = axis;
+        at[n] = epoch;
+        n += 1;
+    }
+    Frontier {
+        axes: kept,
+        epochs: at,
+        len: n,
+        tainted,
+    }
+}
