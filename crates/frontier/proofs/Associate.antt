@@ -13,11 +13,11 @@ use borrow.Author.Tests.{ltb-true, ltb-false, leb-true, leb-false, lt-ltb, le-lt
 use Rattle.basics.proofs.Tests.{by-cases, clash, is-true, is-false, either}
 use Rattle.frontier.specs.declared.Lookup.{Lookup}
 use Rattle.frontier.specs.declared.Lookup.the-variants.{Listed, Absent}
-use Rattle.frontier.specs.Entries.{Entry, In, find, put, union, exceeds, exceeding, keep, cut}
+use Rattle.frontier.specs.Entries.{Entry, find, put, union, exceeds, exceeding, keep, cut}
 use Rattle.frontier.specs.Meaning.{epoch-of, epoch-at, listed-if}
 use Rattle.frontier.proofs.Sorted.{Sorted, same-entries, sorted-union, epoch-union, union-commutes, union-longer}
 use Rattle.frontier.proofs.Exceeds.{exceeds-chain, exceeds-past, exceeds-raised, exceeds-not-top}
-use Rattle.frontier.proofs.Cut.{sorted-keep, find-keep, cut-whole}
+use Rattle.frontier.proofs.Cut.{In, sorted-keep, find-keep, cut-whole}
 use Rattle.frontier.proofs.Evict.{least-above, exceeding-mono, next-bound, cut-by-bound, bound-start}
 
 -- A UNION ONLY RAISES

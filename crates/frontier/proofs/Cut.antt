@@ -2,7 +2,7 @@
 -- there are more. Assumes nothing.
 use mathlib.Core.Path.{_≡_, refl, sym}
 use mathlib.Core.Bool.{Bool, true, false}
-use mathlib.Core.Logic.{inl, inr}
+use mathlib.Core.Logic.{_⊎_, inl, inr}
 use mathlib.Core.List.{List, [], _∷_}
 use Prim.Native.Nat.{ℕ, suc, _≤_, _<_, zero-le}
 use native.Mathlib.Nat.{le-refl}
@@ -13,10 +13,15 @@ use borrow.Author.Tests.{ltb-true, lt-ltb, eqb-true, ne-eqb}
 use Rattle.basics.proofs.Tests.{by-cases, either}
 use Rattle.frontier.specs.declared.Lookup.{Lookup}
 use Rattle.frontier.specs.declared.Lookup.the-variants.{Listed, Absent}
-use Rattle.frontier.specs.Entries.{Entry, In, find, exceeds, exceeding, keep, cut}
+use Rattle.frontier.specs.Entries.{Entry, find, exceeds, exceeding, keep, cut}
 use Rattle.frontier.specs.Meaning.{epoch-of, epoch-at, listed-if}
 use Rattle.frontier.proofs.Sorted.{Sorted, lower, same-entry}
 use Rattle.frontier.proofs.Exceeds.{exceeds-not-itself, exceeds-one-way, exceeds-or, exceeds-past}
+
+-- x is one of the entries
+abbrev pub In : Entry → List Entry → Type 0
+In x [] = ⊥
+In x (y ∷ ys) = (x ≡ y) ⊎ In x ys
 
 pub in-above : (b : ℕ) (x : Entry) (xs : List Entry) → Sorted b xs → In x xs → b ≤ x .axis
 in-above b x [] s i = absurd i

@@ -11,11 +11,11 @@ use lib.Dec.{ltb}
 use lib.ListN.{length}
 use borrow.Author.Tests.{lt-ltb, le-ltb}
 use Rattle.basics.proofs.Tests.{by-cases, clash, is-true, is-false, either}
-use Rattle.frontier.specs.Entries.{Entry, In, exceeds, exceeding, keep, cut}
+use Rattle.frontier.specs.Entries.{Entry, exceeds, exceeding, keep, cut}
 use Rattle.frontier.specs.Walks.{nearer}
 use Rattle.frontier.proofs.Sorted.{Sorted}
 use Rattle.frontier.proofs.Exceeds.{exceeds-not-itself, exceeds-chain, exceeds-or, exceeds-past, exceeds-same, exceeds-zero}
-use Rattle.frontier.proofs.Cut.{in-above, keep-all, cut-whole}
+use Rattle.frontier.proofs.Cut.{In, in-above, keep-all, cut-whole}
 
 -- COUNTS OF TWO BOUNDS
 pub exceeding-same : (b m : Entry) (xs : List Entry) → ((y : Entry) → In y xs → exceeds y b ≡ exceeds y m) → exceeding b xs ≡ exceeding m xs

@@ -12,12 +12,12 @@ use lib.Seq.{drop-cons, drop-set-lt}
 use Rattle.basics.specs.Lists.{tabulate-from}
 use Rattle.basics.proofs.Tests.{either, and-right}
 use Rattle.frontier.specs.declared.Frontier.{Frontier}
-use Rattle.frontier.specs.Entries.{Entry, In, rising-from, exceeds, exceeding, keep, cut}
+use Rattle.frontier.specs.Entries.{Entry, rising-from, exceeds, exceeding, keep, cut}
 use Rattle.frontier.specs.Frontiers.{slot, slots, all-zero, pack}
 use Rattle.frontier.specs.Walks.{rest, nearer}
 use Rattle.frontier.proofs.Sorted.{sorted}
 use Rattle.frontier.proofs.Exceeds.{exceeds-not-top}
-use Rattle.frontier.proofs.Cut.{cut-length}
+use Rattle.frontier.proofs.Cut.{In, cut-length}
 use Rattle.frontier.proofs.Slots.{rest-all, rest-more, rest-none, slots-length, slots-put}
 use Rattle.frontier.proofs.Pack.{repack, all-zero-replicate}
 use Rattle.frontier.proofs.Evict.{least-above, next-bound, bound-start, bound-end}

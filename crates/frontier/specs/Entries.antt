@@ -1,7 +1,5 @@
 -- Lists of entries (axis, epoch): their form, lookup, union with the larger epoch, and the cut to a capacity. Assumes nothing: these are definitions.
-use mathlib.Core.Path.{_≡_}
 use mathlib.Core.Bool.{Bool, true, false, _&&_, _||_, cond}
-use mathlib.Core.Logic.{_⊎_}
 use mathlib.Core.List.{List, [], _∷_}
 use Prim.Native.Nat.{ℕ, suc, _+_, max}
 use lib.Dec.{ltb, leb, eqb}
@@ -11,11 +9,6 @@ use Rattle.frontier.specs.declared.Lookup.the-variants.{Listed, Absent}
 pub record Entry : Type 0 where
   pub axis : ℕ
   pub epoch : ℕ
-
--- x is one of the entries
-abbrev pub In : Entry → List Entry → Type 0
-In x [] = ⊥
-In x (y ∷ ys) = (x ≡ y) ⊎ In x ys
 
 -- "axes rising, epochs above 0": the first axis is at least `least`, each later one above the one before it
 unfoldable pub rising-from : (least : ℕ) → List Entry → Bool

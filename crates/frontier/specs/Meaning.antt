@@ -12,7 +12,7 @@ use Rattle.frontier.specs.declared.Lookup.{Lookup}
 use Rattle.frontier.specs.declared.Lookup.the-variants.{Listed, Absent}
 use Rattle.frontier.specs.declared.Dominance.{Dominance}
 use Rattle.frontier.specs.declared.Dominance.the-variants.{Yes, No, Unknown}
-use Rattle.frontier.specs.Entries.{Entry, In, find, values-of, epochs-under, union, exceeding}
+use Rattle.frontier.specs.Entries.{Entry, find, values-of, epochs-under, union, exceeding}
 use Rattle.frontier.specs.Frontiers.{slot, entries, well-formed, pack, one-entry, merge, dominance-number, number-of}
 
 -- COMPLETIONS

@@ -42,6 +42,7 @@ pub enum Dominance {
 }
 
 impl Frontier {
+    // The slots of a frontier.
     pub const SLOTS: usize = 16;
 
     // The largest capacity.

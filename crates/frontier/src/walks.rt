@@ -5,7 +5,6 @@ ghost use mathlib.Core.Path.{_≡_};
 ghost use mathlib.Core.Bool.{true, false};
 ghost use mathlib.Core.List.{List, _∷_};
 ghost use Prim.Native.Nat.{ℕ, _+_, _≤_, _<_, max};
-ghost use lib.Dec.{ltb};
 ghost use lib.ListN.{length, drop};
 ghost use Rattle.frontier.specs.Entries.{rising-from, union, exceeds, exceeding, keep, cut};
 ghost use Rattle.frontier.specs.Frontiers.{slots, all-zero, well-formed, pack, joined, reached};
@@ -205,6 +204,7 @@ fn next<'a>(
     }
 }
 
+// The larger of two epochs.
 fn larger(a: u64, b: u64) -> u64
     ensures { λ r. ⌜ r ≡ max a b ⌝ }
 {
