@@ -13,7 +13,8 @@ use borrow.Author.Tests.{ltb-true, ltb-false, leb-true, leb-false, lt-ltb, le-lt
 use Rattle.basics.proofs.Tests.{by-cases, clash, is-true, is-false, either}
 use Rattle.frontier.specs.declared.Lookup.{Lookup}
 use Rattle.frontier.specs.declared.Lookup.the-variants.{Listed, Absent}
-use Rattle.frontier.specs.Entries.{Entry, find, put, union, exceeds, exceeding, keep, cut}
+use Rattle.basics.specs.Lists.{filter}
+use Rattle.frontier.specs.Entries.{Entry, find, put, union, exceeds, exceeding, cut}
 use Rattle.frontier.specs.Meaning.{epoch-of, epoch-at, listed-if}
 use Rattle.frontier.proofs.Sorted.{Sorted, same-entries, sorted-union, epoch-union, union-commutes, union-longer}
 use Rattle.frontier.proofs.Exceeds.{exceeds-chain, exceeds-past, exceeds-raised, exceeds-not-top}
@@ -41,20 +42,20 @@ exceeding-union b (x ∷ xs) ys = omega (arith, exceeding-union b xs ys, exceedi
 abbrev Over : Entry → Entry → Bool
 Over b x = exceeds x b
 
-above-count : (b : Entry) (xs : List Entry) → exceeding b (keep (Over b) xs) ≡ exceeding b xs
-unfolding keep exceeding
+above-count : (b : Entry) (xs : List Entry) → exceeding b (filter (Over b) xs) ≡ exceeding b xs
+unfolding filter exceeding
 above-count b [] = refl
 above-count b (x ∷ xs) = by-cases (exceeds x b) (λ t. rw (t, t, above-count b xs)) (λ t. rw t (above-count b xs ∙ omega arith))
 
-above-kept : (x b : Entry) (xs : List Entry) → exceeds x b ≡ true → exceeding x (keep (Over b) xs) ≡ exceeding x xs
-unfolding keep exceeding
+above-kept : (x b : Entry) (xs : List Entry) → exceeds x b ≡ true → exceeding x (filter (Over b) xs) ≡ exceeding x xs
+unfolding filter exceeding
 above-kept x b [] e = refl
 above-kept x b (y ∷ ys) e =
     by-cases (exceeds y b) (λ t. rw (t, above-kept x b ys e))
     (λ t. rw (t, is-false (exceeds y x) (λ u. clash (exceeds y b) (exceeds-chain y x b u e) t)) (above-kept x b ys e ∙ omega arith))
 
-keep-keep : (p q r : Entry → Bool) (xs : List Entry) → ((x : Entry) → In x xs → q x ≡ true → p x ≡ r x) → ((x : Entry) → In x xs → q x ≡ false → p x ≡ false) → keep p xs ≡ keep r (keep q xs)
-unfolding keep
+keep-keep : (p q r : Entry → Bool) (xs : List Entry) → ((x : Entry) → In x xs → q x ≡ true → p x ≡ r x) → ((x : Entry) → In x xs → q x ≡ false → p x ≡ false) → filter p xs ≡ filter r (filter q xs)
+unfolding filter
 keep-keep p q r [] h k = refl
 keep-keep p q r (x ∷ xs) h k =
     by-cases (q x)
@@ -63,10 +64,10 @@ keep-keep p q r (x ∷ xs) h k =
     (λ t. rw (t, k x (inl refl) t) (keep-keep p q r xs (λ y i. h y (inr i)) (λ y i. k y (inr i))))
 
 -- where the capacity is filled above a bound, nothing else is kept
-cut-above : (c : ℕ) (b : Entry) (xs : List Entry) → c ≤ exceeding b xs → cut c xs ≡ cut c (keep (Over b) xs)
+cut-above : (c : ℕ) (b : Entry) (xs : List Entry) → c ≤ exceeding b xs → cut c xs ≡ cut c (filter (Over b) xs)
 unfolding cut
 cut-above c b xs h =
-    keep-keep (λ x. ltb (exceeding x xs) c) (Over b) (λ x. ltb (exceeding x (keep (Over b) xs)) c) xs
+    keep-keep (λ x. ltb (exceeding x xs) c) (Over b) (λ x. ltb (exceeding x (filter (Over b) xs)) c) xs
     (λ x i t. ap (λ k. ltb k c) (sym (above-kept x b xs t)))
     (λ x i t. le-ltb (exceeding x xs) c (omega (arith, exceeding-mono b x xs (λ y j u. is-true (exceeds y x) (λ v. clash (exceeds x b) (exceeds-past y x b u v) t)))))
 
@@ -76,7 +77,7 @@ unfolding epoch-of listed-if
 epoch-if f a (Listed e) = by-cases (f (record { axis = a; epoch = e })) (λ t. rw t) (λ t. rw t)
 epoch-if f a Absent = by-cases (f (record { axis = a; epoch = 0 })) (λ t. rw t) (λ t. rw t)
 
-epoch-kept : (f : Entry → Bool) (xs : List Entry) → Sorted 0 xs → (a : ℕ) → epoch-at (keep f xs) a ≡ cond (f (record { axis = a; epoch = epoch-at xs a })) (epoch-at xs a) 0
+epoch-kept : (f : Entry → Bool) (xs : List Entry) → Sorted 0 xs → (a : ℕ) → epoch-at (filter f xs) a ≡ cond (f (record { axis = a; epoch = epoch-at xs a })) (epoch-at xs a) 0
 unfolding epoch-at
 epoch-kept f xs s a = ap epoch-of (find-keep f 0 a xs s) ∙ epoch-if f a (find a xs)
 
@@ -94,15 +95,15 @@ larger-above b a x y =
         rw (m, z, t, is-false (exceeds (record { axis = a; epoch = y }) b) (λ u. clash (exceeds (record { axis = a; epoch = x }) b) (exceeds-raised (record { axis = a; epoch = y }) (record { axis = a; epoch = x }) b u refl (leb-true y x l)) t)))
         (λ l. let m : max x y ≡ y = omega (arith, leb-false y x l) in rw (m, z))
 
-above-union : (b : Entry) (xs ys : List Entry) → Sorted 0 xs → Sorted 0 ys → keep (Over b) (union xs ys) ≡ keep (Over b) (union (keep (Over b) xs) ys)
+above-union : (b : Entry) (xs ys : List Entry) → Sorted 0 xs → Sorted 0 ys → filter (Over b) (union xs ys) ≡ filter (Over b) (union (filter (Over b) xs) ys)
 above-union b xs ys s t =
-    let k : Sorted 0 (keep (Over b) xs) = sorted-keep (Over b) 0 xs s in
-    same-entries 0 (keep (Over b) (union xs ys)) (keep (Over b) (union (keep (Over b) xs) ys))
-    (sorted-keep (Over b) 0 (union xs ys) (sorted-union 0 xs ys s t)) (sorted-keep (Over b) 0 (union (keep (Over b) xs) ys) (sorted-union 0 (keep (Over b) xs) ys k t))
+    let k : Sorted 0 (filter (Over b) xs) = sorted-keep (Over b) 0 xs s in
+    same-entries 0 (filter (Over b) (union xs ys)) (filter (Over b) (union (filter (Over b) xs) ys))
+    (sorted-keep (Over b) 0 (union xs ys) (sorted-union 0 xs ys s t)) (sorted-keep (Over b) 0 (union (filter (Over b) xs) ys) (sorted-union 0 (filter (Over b) xs) ys k t))
     (λ a. epoch-kept (Over b) (union xs ys) (sorted-union 0 xs ys s t) a
     ∙ rw (epoch-union 0 xs ys s t a) (larger-above b a (epoch-at xs a) (epoch-at ys a)
-    ∙ sym (epoch-kept (Over b) (union (keep (Over b) xs) ys) (sorted-union 0 (keep (Over b) xs) ys k t) a
-    ∙ rw (epoch-union 0 (keep (Over b) xs) ys k t a, epoch-kept (Over b) xs s a) refl)))
+    ∙ sym (epoch-kept (Over b) (union (filter (Over b) xs) ys) (sorted-union 0 (filter (Over b) xs) ys k t) a
+    ∙ rw (epoch-union 0 (filter (Over b) xs) ys k t a, epoch-kept (Over b) xs s a) refl)))
 
 -- A BOUND FOR EACH CAPACITY
 top : (xs : List Entry) → (t : Entry) × ((y : Entry) → In y xs → (y .axis ≤ t .axis) × (y .epoch ≤ t .epoch))
@@ -122,8 +123,8 @@ bounds xs s (suc d) h =
     (least-above (w .0) (t .0) xs, omega (arith, w .1, e))
 
 -- exactly the capacity remain, where there are as many
-keep-length : (b : Entry) (xs : List Entry) → length (keep (Over b) xs) ≡ exceeding b xs
-unfolding keep exceeding
+keep-length : (b : Entry) (xs : List Entry) → length (filter (Over b) xs) ≡ exceeding b xs
+unfolding filter exceeding
 keep-length b [] = refl
 keep-length b (x ∷ xs) = by-cases (exceeds x b) (λ t. rw t (omega (arith, keep-length b xs))) (λ t. rw t (omega (arith, keep-length b xs)))
 
@@ -144,9 +145,9 @@ cut-first c xs ys s t =
     let w = bounds xs s (length xs - c) (omega arith) in
     let b = w .0 in
     let e : exceeding b xs ≡ c = omega (arith, w .1) in
-    let k : Sorted 0 (keep (Over b) xs) = sorted-keep (Over b) 0 xs s in
+    let k : Sorted 0 (filter (Over b) xs) = sorted-keep (Over b) 0 xs s in
     ap (λ zs. cut c (union zs ys)) (cut-by-bound b c xs e)
-    ∙ cut-above c b (union (keep (Over b) xs) ys) (filled b (keep (Over b) xs) k (above-count b xs ∙ e))
+    ∙ cut-above c b (union (filter (Over b) xs) ys) (filled b (filter (Over b) xs) k (above-count b xs ∙ e))
     ∙ ap (cut c) (sym (above-union b xs ys s t))
     ∙ sym (cut-above c b (union xs ys) (filled b xs s e)))
     (λ l. ap (λ zs. cut c (union zs ys)) (cut-whole c xs (ltb-false c (length xs) l)))

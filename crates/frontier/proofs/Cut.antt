@@ -13,7 +13,8 @@ use borrow.Author.Tests.{ltb-true, lt-ltb, eqb-true, ne-eqb}
 use Rattle.basics.proofs.Tests.{by-cases, either}
 use Rattle.frontier.specs.declared.Lookup.{Lookup}
 use Rattle.frontier.specs.declared.Lookup.the-variants.{Listed, Absent}
-use Rattle.frontier.specs.Entries.{Entry, find, exceeds, exceeding, keep, cut}
+use Rattle.basics.specs.Lists.{filter}
+use Rattle.frontier.specs.Entries.{Entry, find, exceeds, exceeding, cut}
 use Rattle.frontier.specs.Meaning.{epoch-of, epoch-at, listed-if}
 use Rattle.frontier.proofs.Sorted.{Sorted, lower, same-entry}
 use Rattle.frontier.proofs.Exceeds.{exceeds-not-itself, exceeds-one-way, exceeds-or, exceeds-past}
@@ -28,37 +29,37 @@ in-above b x [] s i = absurd i
 in-above b x (y ∷ ys) s i = either i (λ e. rw e (s .0)) (λ j. omega (arith, in-above (suc (y .axis)) x ys (s .2) j))
 
 -- KEEPING
-pub keep-all : (f : Entry → Bool) (xs : List Entry) → ((x : Entry) → In x xs → f x ≡ true) → keep f xs ≡ xs
-unfolding keep
+pub keep-all : (f : Entry → Bool) (xs : List Entry) → ((x : Entry) → In x xs → f x ≡ true) → filter f xs ≡ xs
+unfolding filter
 keep-all f [] h = refl
 keep-all f (x ∷ xs) h = rw (h x (inl refl), keep-all f xs (λ y i. h y (inr i)))
 
-pub in-keep : (f : Entry → Bool) (m : Entry) (xs : List Entry) → In m (keep f xs) → f m ≡ true
-unfolding keep
+pub in-keep : (f : Entry → Bool) (m : Entry) (xs : List Entry) → In m (filter f xs) → f m ≡ true
+unfolding filter
 in-keep f m [] i = absurd i
 in-keep f m (x ∷ xs) i =
-    by-cases (f x) (λ t. let i′ : In m (x ∷ keep f xs) = rw t at i in either i′ (λ e. rw e t) (λ j. in-keep f m xs j))
+    by-cases (f x) (λ t. let i′ : In m (x ∷ filter f xs) = rw t at i in either i′ (λ e. rw e t) (λ j. in-keep f m xs j))
     (λ t. in-keep f m xs (rw t at i))
 
-pub sorted-keep : (f : Entry → Bool) (b : ℕ) (xs : List Entry) → Sorted b xs → Sorted b (keep f xs)
-unfolding keep
+pub sorted-keep : (f : Entry → Bool) (b : ℕ) (xs : List Entry) → Sorted b xs → Sorted b (filter f xs)
+unfolding filter
 sorted-keep f b [] s = tt
 sorted-keep f b (x ∷ xs) s =
     by-cases (f x) (λ t. rw t (s .0, s .1, sorted-keep f (suc (x .axis)) xs (s .2)))
-    (λ t. rw t (lower (suc (x .axis)) b (keep f xs) (omega arith) (sorted-keep f (suc (x .axis)) xs (s .2))))
+    (λ t. rw t (lower (suc (x .axis)) b (filter f xs) (omega arith) (sorted-keep f (suc (x .axis)) xs (s .2))))
 
 pub find-below : (b a : ℕ) (xs : List Entry) → Sorted b xs → a < b → find a xs ≡ Absent
 unfolding find
 find-below b a [] s h = refl
 find-below b a (x ∷ xs) s h = rw (ne-eqb (x .axis) a (λ q. omega arith)) (find-below (suc (x .axis)) a xs (s .2) (omega arith))
 
-pub find-keep : (f : Entry → Bool) (b a : ℕ) (xs : List Entry) → Sorted b xs → find a (keep f xs) ≡ listed-if f a (find a xs)
-unfolding find keep listed-if
+pub find-keep : (f : Entry → Bool) (b a : ℕ) (xs : List Entry) → Sorted b xs → find a (filter f xs) ≡ listed-if f a (find a xs)
+unfolding find filter listed-if
 find-keep f b a [] s = refl
 find-keep f b a (x ∷ xs) s =
     by-cases (eqb (x .axis) a)
     (λ t. let e : record { axis = a; epoch = x .epoch } ≡ x = same-entry (sym (eqb-true (x .axis) a t)) refl in
-    rw (t, e) (by-cases (f x) (λ k. rw (k, t)) (λ k. rw k (find-below (suc (x .axis)) a (keep f xs) (sorted-keep f (suc (x .axis)) xs (s .2)) (omega (arith, eqb-true (x .axis) a t))))))
+    rw (t, e) (by-cases (f x) (λ k. rw (k, t)) (λ k. rw k (find-below (suc (x .axis)) a (filter f xs) (sorted-keep f (suc (x .axis)) xs (s .2)) (omega (arith, eqb-true (x .axis) a t))))))
     (λ t. rw t (by-cases (f x) (λ k. rw (k, t) (find-keep f (suc (x .axis)) a xs (s .2))) (λ k. rw k (find-keep f (suc (x .axis)) a xs (s .2)))))
 
 epoch-if : (f : Entry → Bool) (a : ℕ) (l : Lookup) → epoch-of (listed-if f a l) ≤ epoch-of l
@@ -66,7 +67,7 @@ unfolding epoch-of listed-if
 epoch-if f a (Listed e) = by-cases (f (record { axis = a; epoch = e })) (λ t. rw t (le-refl e)) (λ t. rw t zero-le)
 epoch-if f a Absent = zero-le
 
-pub epoch-keep : (f : Entry → Bool) (b a : ℕ) (xs : List Entry) → Sorted b xs → epoch-at (keep f xs) a ≤ epoch-at xs a
+pub epoch-keep : (f : Entry → Bool) (b a : ℕ) (xs : List Entry) → Sorted b xs → epoch-at (filter f xs) a ≤ epoch-at xs a
 unfolding epoch-at
 epoch-keep f b a xs s = rw (find-keep f b a xs s) (epoch-if f a (find a xs))
 
@@ -82,8 +83,8 @@ exceeding-lt x (y ∷ ys) i =
     exceeding-le x [] = zero-le
     exceeding-le x (y ∷ ys) = by-cases (exceeds y x) (λ t. rw t (omega (arith, exceeding-le x ys))) (λ t. rw t (omega (arith, exceeding-le x ys)))
 
-exceeding-keep : (f : Entry → Bool) (m : Entry) (xs : List Entry) → exceeding m (keep f xs) ≤ exceeding m xs
-unfolding keep exceeding
+exceeding-keep : (f : Entry → Bool) (m : Entry) (xs : List Entry) → exceeding m (filter f xs) ≤ exceeding m xs
+unfolding filter exceeding
 exceeding-keep f m [] = zero-le
 exceeding-keep f m (x ∷ xs) = by-cases (f x) (λ t. rw t (omega (arith, exceeding-keep f m xs))) (λ t. rw t (omega (arith, exceeding-keep f m xs)))
 

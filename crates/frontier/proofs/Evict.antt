@@ -11,7 +11,8 @@ use lib.Dec.{ltb}
 use lib.ListN.{length}
 use borrow.Author.Tests.{lt-ltb, le-ltb}
 use Rattle.basics.proofs.Tests.{by-cases, clash, is-true, is-false, either}
-use Rattle.frontier.specs.Entries.{Entry, exceeds, exceeding, keep, cut}
+use Rattle.basics.specs.Lists.{filter}
+use Rattle.frontier.specs.Entries.{Entry, exceeds, exceeding, cut}
 use Rattle.frontier.specs.Walks.{nearer}
 use Rattle.frontier.proofs.Sorted.{Sorted}
 use Rattle.frontier.proofs.Exceeds.{exceeds-not-itself, exceeds-chain, exceeds-or, exceeds-past, exceeds-same, exceeds-zero}
@@ -124,12 +125,12 @@ next-bound b top c xs s h p =
     (λ i. one-fewer b (least-above b top xs) c xs s (i .0) (i .1) (w .under))
 
 -- THE CUT BY A BOUND
-keep-same : (f g : Entry → Bool) (xs : List Entry) → ((x : Entry) → In x xs → f x ≡ g x) → keep f xs ≡ keep g xs
-unfolding keep
+keep-same : (f g : Entry → Bool) (xs : List Entry) → ((x : Entry) → In x xs → f x ≡ g x) → filter f xs ≡ filter g xs
+unfolding filter
 keep-same f g [] h = refl
 keep-same f g (x ∷ xs) h = rw (h x (inl refl), keep-same f g xs (λ y i. h y (inr i)))
 
-pub cut-by-bound : (b : Entry) (c : ℕ) (xs : List Entry) → exceeding b xs ≡ c → cut c xs ≡ keep (λ x. exceeds x b) xs
+pub cut-by-bound : (b : Entry) (c : ℕ) (xs : List Entry) → exceeding b xs ≡ c → cut c xs ≡ filter (λ x. exceeds x b) xs
 unfolding cut
 cut-by-bound b c xs e =
     keep-same (λ x. ltb (exceeding x xs) c) (λ x. exceeds x b) xs (λ x i.
@@ -160,7 +161,7 @@ unfolding exceeding
 bound-start c [] s = refl
 bound-start c (x ∷ xs) s = rw (exceeds-zero x (s .1)) (omega (arith, bound-start (suc (x .axis)) xs (s .2)))
 
-pub bound-end : (b : Entry) (c l : ℕ) (xs : List Entry) → exceeding b xs ≡ l → l ≤ c → (c ≤ l) ⊎ (l ≡ length xs) → cut c xs ≡ keep (λ x. exceeds x b) xs
+pub bound-end : (b : Entry) (c l : ℕ) (xs : List Entry) → exceeding b xs ≡ l → l ≤ c → (c ≤ l) ⊎ (l ≡ length xs) → cut c xs ≡ filter (λ x. exceeds x b) xs
 bound-end b c l xs e h w =
     either w (λ m. cut-by-bound b c xs (omega arith))
     (λ q. cut-whole c xs (omega arith) ∙ sym (keep-all (λ x. exceeds x b) xs (all-above b xs (e ∙ q))))

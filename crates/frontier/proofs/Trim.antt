@@ -12,7 +12,8 @@ use lib.Seq.{drop-cons, drop-set-lt}
 use Rattle.basics.specs.Lists.{tabulate-from}
 use Rattle.basics.proofs.Tests.{either, and-right}
 use Rattle.frontier.specs.declared.Frontier.{Frontier}
-use Rattle.frontier.specs.Entries.{Entry, rising-from, exceeds, exceeding, keep, cut}
+use Rattle.basics.specs.Lists.{filter}
+use Rattle.frontier.specs.Entries.{Entry, rising-from, exceeds, exceeding, cut}
 use Rattle.frontier.specs.Frontiers.{slot, slots, all-zero, pack}
 use Rattle.frontier.specs.Walks.{rest, nearer}
 use Rattle.frontier.proofs.Sorted.{sorted}
@@ -57,7 +58,7 @@ pub record Trim (f : Entry → Bool) (axes epochs kept at : List ℕ) (len n i :
   pub sixteen-epochs : length at ≡ 16
   pub zero-axes : all-zero (drop n kept) ≡ true
   pub zero-epochs : all-zero (drop n at) ≡ true
-  pub whole : slots kept at n 0 ++ keep f (rest axes epochs len i) ≡ keep f (slots axes epochs len 0)
+  pub whole : slots kept at n 0 ++ filter f (rest axes epochs len i) ≡ filter f (slots axes epochs len 0)
 
 zero-past : (row : List ℕ) (n v : ℕ) → n < length row → all-zero (drop n row) ≡ true → all-zero (drop (n + 1) (set row n v)) ≡ true
 unfolding all-zero
@@ -73,11 +74,11 @@ module _ (f : Entry → Bool) (axes epochs kept at : List ℕ) (len : ℕ) where
     sixteen-epochs = refl;
     zero-axes = all-zero-replicate 16;
     zero-epochs = all-zero-replicate 16;
-    whole = ap (keep f) (rest-all axes epochs len);
+    whole = ap (filter f) (rest-all axes epochs len);
   })
 
   pub trim-skip : (n i : ℕ) → Trim f axes epochs kept at len n i → i < len → f (slot axes epochs i) ≡ false → Trim f axes epochs kept at len n (i + 1)
-  unfolding keep
+  unfolding filter
   trim-skip n i w h e = record {
     sixteen-axes = w .sixteen-axes;
     sixteen-epochs = w .sixteen-epochs;
@@ -86,11 +87,11 @@ module _ (f : Entry → Bool) (axes epochs kept at : List ℕ) (len : ℕ) where
     whole = rw (rest-more axes epochs len i h, e) at (w .whole);
   }
 
-  kept-next : (n i : ℕ) → Trim f axes epochs kept at len n i → i < len → f (slot axes epochs i) ≡ true → slots kept at n 0 ++ (slot axes epochs i ∷ keep f (rest axes epochs len (i + 1))) ≡ keep f (slots axes epochs len 0)
-  unfolding keep
+  kept-next : (n i : ℕ) → Trim f axes epochs kept at len n i → i < len → f (slot axes epochs i) ≡ true → slots kept at n 0 ++ (slot axes epochs i ∷ filter f (rest axes epochs len (i + 1))) ≡ filter f (slots axes epochs len 0)
+  unfolding filter
   kept-next n i w h e = rw (rest-more axes epochs len i h, e) at (w .whole)
 
-  pub trim-room : (n i : ℕ) → Trim f axes epochs kept at len n i → i < len → f (slot axes epochs i) ≡ true → length (keep f (slots axes epochs len 0)) ≤ 16 → n < 16
+  pub trim-room : (n i : ℕ) → Trim f axes epochs kept at len n i → i < len → f (slot axes epochs i) ≡ true → length (filter f (slots axes epochs len 0)) ≤ 16 → n < 16
   trim-room n i w h e l = omega (arith, rw (length-append, slots-length kept at n 0) at (ap length (kept-next n i w h e)))
 
   pub trim-more : (n i : ℕ) → Trim f axes epochs kept at len n i → i < len → f (slot axes epochs i) ≡ true → n < 16 → Trim f axes epochs (set kept n (getD axes i 0)) (set at n (getD epochs i 0)) len (n + 1) (i + 1)
@@ -103,10 +104,10 @@ module _ (f : Entry → Bool) (axes epochs kept at : List ℕ) (len : ℕ) where
     whole = rw (slots-put kept at n (getD axes i 0) (getD epochs i 0) (omega (arith, w .sixteen-axes)) (omega (arith, w .sixteen-epochs)), append-assoc) (kept-next n i w h e);
   }
 
-  pub trim-end : (n i : ℕ) (t : Bool) → Trim f axes epochs kept at len n i → len ≤ i → length (keep f (slots axes epochs len 0)) ≤ 16 → record { axes = kept; epochs = at; len = n; tainted = t } ≡ pack (keep f (slots axes epochs len 0)) t
-  unfolding keep
+  pub trim-end : (n i : ℕ) (t : Bool) → Trim f axes epochs kept at len n i → len ≤ i → length (filter f (slots axes epochs len 0)) ≤ 16 → record { axes = kept; epochs = at; len = n; tainted = t } ≡ pack (filter f (slots axes epochs len 0)) t
+  unfolding filter
   trim-end n i t w h l =
-      let e : slots kept at n 0 ≡ keep f (slots axes epochs len 0) = sym (append-nil (slots kept at n 0)) ∙ (rw (rest-none axes epochs len i h) at (w .whole)) in
+      let e : slots kept at n 0 ≡ filter f (slots axes epochs len 0) = sym (append-nil (slots kept at n 0)) ∙ (rw (rest-none axes epochs len i h) at (w .whole)) in
       repack kept at n t (omega (arith, slots-length kept at n 0, ap length e)) (w .sixteen-axes) (w .sixteen-epochs) (w .zero-axes) (w .zero-epochs)
       ∙ ap (λ l. pack l t) e
 
@@ -125,12 +126,12 @@ module _ (xs es : List ℕ) (n c : ℕ) where
   pub bounded-more : (b next : Entry) (l : ℕ) → Bounded b xs es n c l → c < l → exceeding b (slots xs es n 0) ≡ exceeding next (slots xs es n 0) + 1 → Bounded next xs es n c (l - 1)
   bounded-more b next l w h e = record { above = omega (arith, w .above); enough = inl (omega arith) }
 
-  pub bounded-end : (b : Entry) (l : ℕ) → Bounded b xs es n c l → l ≤ c → cut c (slots xs es n 0) ≡ keep (λ x. exceeds x b) (slots xs es n 0)
+  pub bounded-end : (b : Entry) (l : ℕ) → Bounded b xs es n c l → l ≤ c → cut c (slots xs es n 0) ≡ filter (λ x. exceeds x b) (slots xs es n 0)
   bounded-end b l w h =
       bound-end b c l (slots xs es n 0) (w .above) h (either (w .enough) (λ m. inl m) (λ e. inr (e ∙ sym (slots-length xs es n 0))))
 
 -- THE CUT of slots: what exceeds the bound fits, and is what the cut keeps
-pub cut-fits : (xs es : List ℕ) (n c : ℕ) (f : Entry → Bool) → rising-from 0 (slots xs es n 0) ≡ true → c ≤ 16 → cut c (slots xs es n 0) ≡ keep f (slots xs es n 0) → length (keep f (slots xs es n 0)) ≤ 16
+pub cut-fits : (xs es : List ℕ) (n c : ℕ) (f : Entry → Bool) → rising-from 0 (slots xs es n 0) ≡ true → c ≤ 16 → cut c (slots xs es n 0) ≡ filter f (slots xs es n 0) → length (filter f (slots xs es n 0)) ≤ 16
 cut-fits xs es n c f r h e =
     omega (arith, cut-length c 0 (slots xs es n 0) (sorted 0 (slots xs es n 0) r), ap length e)
 

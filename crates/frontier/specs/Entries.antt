@@ -3,6 +3,7 @@ use mathlib.Core.Bool.{Bool, true, false, _&&_, _||_, cond}
 use mathlib.Core.List.{List, [], _∷_}
 use Prim.Native.Nat.{ℕ, suc, _+_, max}
 use lib.Dec.{ltb, leb, eqb}
+use Rattle.basics.specs.Lists.{filter}
 use Rattle.frontier.specs.declared.Lookup.{Lookup}
 use Rattle.frontier.specs.declared.Lookup.the-variants.{Listed, Absent}
 
@@ -52,10 +53,6 @@ unfoldable pub exceeding : (x : Entry) → List Entry → ℕ
 exceeding x [] = 0
 exceeding x (y ∷ ys) = cond (exceeds y x) 1 0 + exceeding x ys
 
-unfoldable pub keep : (Entry → Bool) → List Entry → List Entry
-keep f [] = []
-keep f (x ∷ xs) = cond (f x) (x ∷ keep f xs) (keep f xs)
-
 -- "if more than the capacity remain": an entry is kept exactly if fewer than `capacity` others exceed it
 unfoldable pub cut : (capacity : ℕ) → List Entry → List Entry
-cut capacity xs = keep (λ x. ltb (exceeding x xs) capacity) xs
+cut capacity xs = filter (λ x. ltb (exceeding x xs) capacity) xs

@@ -6,7 +6,8 @@ ghost use mathlib.Core.Bool.{true, false};
 ghost use mathlib.Core.List.{List, _∷_};
 ghost use Prim.Native.Nat.{ℕ, _+_, _≤_, _<_, max};
 ghost use lib.ListN.{length, drop};
-ghost use Rattle.frontier.specs.Entries.{rising-from, union, exceeds, exceeding, keep, cut};
+ghost use Rattle.basics.specs.Lists.{filter};
+ghost use Rattle.frontier.specs.Entries.{rising-from, union, exceeds, exceeding, cut};
 ghost use Rattle.frontier.specs.Frontiers.{slots, all-zero, well-formed, pack, joined, reached};
 ghost use Rattle.frontier.specs.Walks.{rest, placed, skip-below, first-listed, nearer};
 
@@ -289,7 +290,7 @@ fn next_least<'a>(axes: &'a [u64], epochs: &'a [u64], len: usize, bound: Bound) 
 // The bound that the entries kept at a capacity exceed.
 fn bound_of<'a>(axes: &'a [u64], epochs: &'a [u64], len: usize, capacity: usize) -> Bound
     requires { ⌜ (len ≤ length (now axes)) × (len ≤ length (now epochs)) × (rising-from 0 (slots (now axes) (now epochs) len 0) ≡ true) ⌝ }
-    ensures { λ r. ⌜ cut capacity (slots (now (axes .entry)) (now (epochs .entry)) len 0) ≡ keep (λ x. exceeds x (record { axis = r .axis; epoch = r .epoch })) (slots (now (axes .entry)) (now (epochs .entry)) len 0) ⌝ }
+    ensures { λ r. ⌜ cut capacity (slots (now (axes .entry)) (now (epochs .entry)) len 0) ≡ filter (λ x. exceeds x (record { axis = r .axis; epoch = r .epoch })) (slots (now (axes .entry)) (now (epochs .entry)) len 0) ⌝ }
 {
     let mut bound = Bound { axis: 0, epoch: 0 };
     let mut left = len;
@@ -303,8 +304,8 @@ fn bound_of<'a>(axes: &'a [u64], epochs: &'a [u64], len: usize, capacity: usize)
 // The entries above the bound, as a frontier.
 fn trim<'a>(axes: &'a [u64], epochs: &'a [u64], len: usize, bound: Bound, tainted: bool) -> Frontier
     requires { ⌜ (len ≤ length (now axes)) × (len ≤ length (now epochs)) ⌝ }
-    requires { ⌜ length (keep (λ x. exceeds x (record { axis = bound .axis; epoch = bound .epoch })) (slots (now axes) (now epochs) len 0)) ≤ 16 ⌝ }
-    ensures { λ r. ⌜ r ≡ pack (keep (λ x. exceeds x (record { axis = bound .axis; epoch = bound .epoch })) (slots (now (axes .entry)) (now (epochs .entry)) len 0)) tainted ⌝ }
+    requires { ⌜ length (filter (λ x. exceeds x (record { axis = bound .axis; epoch = bound .epoch })) (slots (now axes) (now epochs) len 0)) ≤ 16 ⌝ }
+    ensures { λ r. ⌜ r ≡ pack (filter (λ x. exceeds x (record { axis = bound .axis; epoch = bound .epoch })) (slots (now (axes .entry)) (now (epochs .entry)) len 0)) tainted ⌝ }
 {
     let mut kept = [0u64; Frontier::SLOTS];
     let mut at = [0u64; Frontier::SLOTS];

@@ -1,8 +1,14 @@
--- The small plans that 01 judges by hand, each with its answer. Assumes nothing: these are definitions.
-use mathlib.Core.Bool.{cond}
+-- The small plans and frontiers that 01 judges by hand, T1 to T13, each with its answer. Assumes nothing: these are definitions.
+use mathlib.Core.Bool.{true, false, cond}
 use mathlib.Core.List.{List, [], _∷_, _++_, map, flatten}
 use Prim.Native.Nat.{ℕ, _-_}
 use lib.ListN.{length, replicate}
+use Rattle.frontier.specs.Entries.{Entry}
+use Rattle.frontier.specs.Frontiers.{pack, merge, dominance}
+use Rattle.frontier.specs.declared.Frontier.{Frontier}
+use Rattle.frontier.specs.declared.Merged.{Merged}
+use Rattle.frontier.specs.declared.Dominance.{Dominance}
+use Rattle.frontier.specs.declared.Dominance.the-variants.{No, Unknown}
 use Rattle.plan_format.specs.Refusal.{given}
 use Rattle.plan_format.specs.Grammar.{digits}
 use Rattle.plan_format.specs.Stored.{plan-in}
@@ -31,27 +37,42 @@ unfoldable pub plan : (axes owners sizes : List ℕ) → (operations : List (Lis
 plan axes owners sizes operations =
     section 1 (map (λ a. digits 8 a) axes) ++ section 1 (map (λ o. o ∷ []) owners) ++ section 2 (map (λ b. digits 4 b) sizes) ++ section 2 operations
 
--- ---- answers
+-- ---- questions and answers
+pub data Question : Type 0 where
+  check : (bytes : List ℕ) → Question
+  merge-of : (f g : Frontier) → (capacity : ℕ) → Question
+  dominance-of : (f g : Frontier) → Question
+
 pub data Answer : Type 0 where
   passed : (run ready rows : List ℕ) → Answer
   refused : (number place : ℕ) → Answer
+  merged : Merged → Answer
+  dominates : Dominance → Answer
 
 -- rows of few columns, filled up with zeros to sixteen
 unfoldable pub wide : List (List ℕ) → List ℕ
 wide rs = flatten (map (λ r. r ++ replicate (16 - length r) 0) rs)
 
-unfoldable pub judge : (bytes : List ℕ) → Answer
-judge bs =
+unfoldable pub checked : (bytes : List ℕ) → Answer
+checked bs =
     let f = check-outcome bs 1000 1000 .refusal in
     let p = plan-in bs in
     cond (given f) (refused (f .number) (f .place)) (passed (standard p) (ready-numbers p [] (standard p)) (rows p))
 
+unfoldable pub judge : Question → Answer
+judge (check bs) = checked bs
+judge (merge-of f g k) = merged (merge f g k)
+judge (dominance-of f g) = dominates (dominance f g)
+
 pub record Case : Type 0 where
-  pub stored : List ℕ
+  pub question : Question
   pub answer : Answer
 
-unfoldable pub case : List ℕ → Answer → Case
-case bs a = record { stored = bs; answer = a }
+unfoldable pub asked : Question → Answer → Case
+asked q a = record { question = q; answer = a }
+
+unfoldable pub case : (bytes : List ℕ) → Answer → Case
+case bs a = asked (check bs) a
 
 -- ---- the cases, in 01's order
 -- T1: six zero bytes: passed, empty run; five: 1 at 4; seven: 3 at 6
@@ -133,6 +154,22 @@ t11 =
     case (plan (1 ∷ 2 ∷ []) [] (64 ∷ [])
     (operation 0 [] [] (use-of 0 ∷ []) ∷ operation 1 [] [] (free-of 0 ∷ []) ∷ [])) (refused 11 0) ∷ []
 
+-- T12: axes A<B<C, capacity 2: merge of {A:5, B:3} and {B:7, C:4} is {A:5, B:7}, tainted
+unfoldable pub entry : (axis epoch : ℕ) → Entry
+entry a e = record { axis = a; epoch = e }
+
+unfoldable pub t12 : List Case
+t12 =
+    asked (merge-of (pack (entry 1 5 ∷ entry 2 3 ∷ []) false) (pack (entry 2 7 ∷ entry 3 4 ∷ []) false) 2)
+    (merged (record { number = 0; frontier = pack (entry 1 5 ∷ entry 2 7 ∷ []) true })) ∷ []
+
+-- T13: {A:5, B:7} over {A:3, C:4}: no; unknown if the left is tainted. {A:5} over tainted {A:3}: unknown
+unfoldable pub t13 : List Case
+t13 =
+    asked (dominance-of (pack (entry 1 5 ∷ entry 2 7 ∷ []) false) (pack (entry 1 3 ∷ entry 3 4 ∷ []) false)) (dominates No)
+    ∷ asked (dominance-of (pack (entry 1 5 ∷ entry 2 7 ∷ []) true) (pack (entry 1 3 ∷ entry 3 4 ∷ []) false)) (dominates Unknown)
+    ∷ asked (dominance-of (pack (entry 1 5 ∷ []) false) (pack (entry 1 3 ∷ []) true)) (dominates Unknown) ∷ []
+
 -- a signal of 2^64−1 is allowed; any later one on that semaphore is 7
 unfoldable pub greatest-signal : List Case
 greatest-signal =
@@ -143,4 +180,4 @@ greatest-signal =
 
 unfoldable pub cases : List Case
 cases =
-    t1 ++ t2 ++ first-17 ++ t3 ++ t4 ++ t5 ++ t6 ++ t7 ++ t8 ++ t9 ++ t10 ++ t11 ++ greatest-signal
+    t1 ++ t2 ++ first-17 ++ t3 ++ t4 ++ t5 ++ t6 ++ t7 ++ t8 ++ t9 ++ t10 ++ t11 ++ t12 ++ t13 ++ greatest-signal
