@@ -1,12 +1,11 @@
 -- The four sections of a list: what the checks ask of the numbers read is what the writer took from the list. Assumes nothing.
 use mathlib.Core.Path.{_≡_, refl, sym, ap, _∙_}
 use mathlib.Core.List.{List, [], _∷_, _++_}
-use Prim.Native.Nat.{ℕ, zero, suc, _+_, _≤_, _<_}
+use Prim.Native.Nat.{ℕ, zero, suc}
 use native.Mathlib.Omega.{arith}
-use lib.ListN.{length, getD, take, drop}
+use lib.ListN.{getD, take}
 use lib.Seq.{length-take-le}
-use Rattle.plan_format.specs.Refusal.{none-given}
-use Rattle.plan_format.specs.Grammar.{Grammar, field, seq, counted, numbers, Scan, scan, read-by, Spelling, spell-by, times, spell-field}
+use Rattle.plan_format.specs.Grammar.{Grammar, field, counted, numbers, Scan, scan, read-by, Spelling, spell-by, times, spell-field}
 use Rattle.plan_format.specs.Form.{first-form, queue-count, any-number, new-axis, a-queue, operation, plan-grammar}
 use Rattle.plan_reader.specs.Reading.{limited, axis-field, size-field, operation-below}
 use Rattle.plan_reader.proofs.Alike.{Alike, field-alike, seq-alike, counted-alike, nothing-alike, alike-from}

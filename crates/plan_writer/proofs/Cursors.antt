@@ -1,17 +1,16 @@
 -- What cursors write, put together: one thing after another, a count and its things, a loop that stops at a refusal. Assumes nothing.
 use mathlib.Core.Path.{_≡_, refl, sym, ap, _∙_}
-use mathlib.Core.Bool.{cond}
-use mathlib.Core.List.{List, [], _∷_}
-use Prim.Native.Nat.{ℕ, zero, suc, _+_, _-_, _*_, _≤_, _<_}
+use mathlib.Core.List.{List}
+use Prim.Native.Nat.{ℕ, zero, suc, _+_, _*_, _≤_}
 use native.Mathlib.Nat.{mul-le-mul-left, mul-suc}
 use native.Mathlib.Numerals.{add-one}
 use native.Mathlib.Omega.{arith}
-use lib.Dec.{ltb, eqb}
+use lib.Dec.{eqb}
 use lib.ListN.{length, getD, take, drop}
 use borrow.Author.Tests.{eqb-true, eqb-false}
 use Rattle.basics.proofs.Tests.{by-cases}
 use Rattle.plan_format.specs.Refusal.{given}
-use Rattle.plan_format.specs.Grammar.{Check, Grammar, field, seq, counted, nothing, numbers, Scan, scan, read-field, last-got, times, count-check, read-by, Spelling, spell-field, spell-by}
+use Rattle.plan_format.specs.Grammar.{Grammar, seq, counted, nothing, numbers, Scan, scan, times, count-check, read-by, Spelling, spell-field, spell-by}
 use Rattle.plan_reader.specs.Reading.{limited}
 use Rattle.plan_reader.proofs.Grammars.{repeat, read-after, read-counted, repeat-stops, field-same, times-last}
 use Rattle.plan_reader.proofs.Cursors.{count-limited}

@@ -1,18 +1,18 @@
 -- One field of a list, where there is no fault: missing, refused by its check, too wide, or kept and spelled. Assumes nothing.
 use mathlib.Core.Path.{_≡_, refl, sym, ap, _∙_}
-use mathlib.Core.Bool.{Bool, true, false, cond}
+use mathlib.Core.Bool.{true, cond}
 use mathlib.Core.List.{List, [], _∷_, _++_}
-use Prim.Native.Nat.{ℕ, _+_, _-_, _≤_, _<_, _^_}
+use Prim.Native.Nat.{ℕ, _+_, _≤_, _<_, _^_}
 use native.Mathlib.Nat.{add-zero}
 use native.Mathlib.Numerals.{add-one}
 use native.Mathlib.Omega.{arith}
-use lib.Dec.{ltb, eqb}
+use lib.Dec.{eqb}
 use lib.ListN.{length, getD, take, drop, length-drop}
 use lib.Seq.{drop-drop, take-suc, getD-drop}
 use borrow.Author.Tests.{lt-ltb, le-ltb, ne-eqb, eqb-true, eqb-false}
 use Rattle.basics.proofs.Tests.{by-cases}
-use Rattle.plan_format.specs.Refusal.{Refusal, refusal, none-given, given}
-use Rattle.plan_format.specs.Grammar.{Check, Grammar, field, digits, numbers, Scan, scan, refused, field-number, read-field, last-got, read-by, Spelling, spell-field, spell-by}
+use Rattle.plan_format.specs.Refusal.{refusal, none-given, given}
+use Rattle.plan_format.specs.Grammar.{Check, Grammar, field, numbers, Scan, scan, refused, field-number, read-field, last-got, read-by, spell-field, spell-by}
 use Rattle.plan_reader.specs.Reading.{limited}
 use Rattle.plan_reader.proofs.Grammars.{given-number, read-after, last-snoc}
 use Rattle.plan_writer.specs.declared.cursor.Cursor.{Cursor}
