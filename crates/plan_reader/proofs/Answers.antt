@@ -32,15 +32,15 @@ numbers-read {bs} {r} {nums} s e t n few =
       few = few;
     }
 
-ended-given : (s : Scan) → given (s .fault) ≡ true → ended s ≡ s
+pub ended-given : (s : Scan) → given (s .fault) ≡ true → ended s ≡ s
 unfolding ended
 ended-given s e = rw e
 
-ended-none : (rest : List ℕ) (at : ℕ) (got : List ℕ) → length rest ≡ 0 → ended (scan rest at got none-given) ≡ scan rest at got none-given
+pub ended-none : (rest : List ℕ) (at : ℕ) (got : List ℕ) → length rest ≡ 0 → ended (scan rest at got none-given) ≡ scan rest at got none-given
 unfolding ended scan given none-given
 ended-none rest at got e = rw (eq-eqb (length rest) 0 e)
 
-ended-more : (rest : List ℕ) (at : ℕ) (got : List ℕ) → (length rest ≡ 0 → ⊥) → ended (scan rest at got none-given) ≡ scan rest at got (refusal 3 at)
+pub ended-more : (rest : List ℕ) (at : ℕ) (got : List ℕ) → (length rest ≡ 0 → ⊥) → ended (scan rest at got none-given) ≡ scan rest at got (refusal 3 at)
 unfolding ended scan given none-given refused
 ended-more rest at got z = rw (ne-eqb (length rest) 0 z)
 
@@ -86,7 +86,7 @@ module _ (f : Refusal) (got : List ℕ) {told : Told} (t : Tells f (length got) 
   clean : told .number ≡ 0 → given f ≡ false
   clean z = given-none f (sym (t .number) ∙ z)
 
-  answer-long : told .number ≡ 0 → told .answer ≡ length got
+  pub answer-long : told .number ≡ 0 → told .answer ≡ length got
   answer-long z = rw (clean z) at (t .answer-is)
 
   pub not-read : (told .number ≡ 0 → ⊥) → Fills (or-else f (room-for (length got) (length room))) got told room room

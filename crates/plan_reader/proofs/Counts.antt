@@ -15,16 +15,16 @@ use Rattle.plan_reader.proofs.Alike.{Alike, field-alike, seq-alike, cou
 use Rattle.plan_reader.proofs.Follows.{Section, section}
 
 -- the number that stands behind a front of the numbers read
-number-at : (nums : List ℕ) (k i : ℕ) (front : List ℕ) (v : ℕ) (rest : List ℕ) → take k nums ≡ front ++ (v ∷ rest) → length front ≡ i → getD nums i 0 ≡ v
+pub number-at : (nums : List ℕ) (k i : ℕ) (front : List ℕ) (v : ℕ) (rest : List ℕ) → take k nums ≡ front ++ (v ∷ rest) → length front ≡ i → getD nums i 0 ≡ v
 number-at nums k i front v rest e l =
     sym (getD-take k nums i 0 (omega (arith, length-take k nums, ap length e, length-append front (v ∷ rest))))
     ∙ ap (λ (xs : List ℕ). getD xs i 0) e ∙ getD-at front v rest 0 i l
 
 -- the counts of every list that begins so
-record Counts (got : List ℕ) (queues semaphores buffers : ℕ) : Type 0 where
-  queues-are : (rest : List ℕ) → queue-count (got ++ rest) ≡ queues
-  semaphores-are : (rest : List ℕ) → semaphore-count (got ++ rest) ≡ semaphores
-  buffers-are : (rest : List ℕ) → buffer-count (got ++ rest) ≡ buffers
+pub record Counts (got : List ℕ) (queues semaphores buffers : ℕ) : Type 0 where
+  pub queues-are : (rest : List ℕ) → queue-count (got ++ rest) ≡ queues
+  pub semaphores-are : (rest : List ℕ) → semaphore-count (got ++ rest) ≡ semaphores
+  pub buffers-are : (rest : List ℕ) → buffer-count (got ++ rest) ≡ buffers
 
 semaphore-at : (q m : ℕ) (axes owners : List ℕ) → length axes ≡ q → (rest : List ℕ) → semaphore-count (((q ∷ axes) ++ (m ∷ owners)) ++ rest) ≡ m
 unfolding queue-count semaphore-count
@@ -40,11 +40,11 @@ buffer-at q m b axes owners sizes lq lm rest =
     (getD-at front b (sizes ++ rest) 0 (2 + q + m) (omega (arith, length-append (q ∷ axes) (m ∷ owners))))
 
 -- the grammars of the sections, with the counts known
-owners-alike : (got : List ℕ) (q : ℕ) → ((rest : List ℕ) → queue-count (got ++ rest) ≡ q) → Alike got (counted 0 64 1 (field 1 a-queue)) (counted 0 64 1 (field 1 (limited q 4)))
+pub owners-alike : (got : List ℕ) (q : ℕ) → ((rest : List ℕ) → queue-count (got ++ rest) ≡ q) → Alike got (counted 0 64 1 (field 1 a-queue)) (counted 0 64 1 (field 1 (limited q 4)))
 unfolding a-queue below limited
 owners-alike got q e = counted-alike (field-alike (λ rest v. ap (λ (n : ℕ). cond (ltb v n) 0 4) (e rest)))
 
-operations-alike : {got : List ℕ} {q m b : ℕ} → Counts got q m b → Alike got (counted 0 1024 2 (operation first-form)) (counted 0 1024 2 (operation-below q m b))
+pub operations-alike : {got : List ℕ} {q m b : ℕ} → Counts got q m b → Alike got (counted 0 1024 2 (operation first-form)) (counted 0 1024 2 (operation-below q m b))
 unfolding operation operation-below point point-below mark mark-below part first-form a-queue a-semaphore a-buffer a-kind below limited
 operations-alike {got} {q} {m} {b} k =
     let limit : (f : List ℕ → ℕ) (n : ℕ) → ((rest : List ℕ) → f (got ++ rest) ≡ n) → (rest : List ℕ) (v : ℕ) → _≡_ {A = ℕ} (cond (ltb v (f (got ++ rest))) 0 4) (cond (ltb v n) 0 4) = λ f n e rest v. ap (λ (x : ℕ). cond (ltb v x) 0 4) (e rest) in
@@ -56,7 +56,7 @@ operations-alike {got} {q} {m} {b} k =
     (seq-alike (counted-alike points)
     (counted-alike (seq-alike (field-alike (limit buffer-count b (k .buffers-are))) (field-alike (λ rest v. refl))))))))
 
-counts-of : {got₁ got₂ got₃ : List ℕ} {q m b : ℕ} (axes owners sizes : List ℕ) → got₁ ≡ q ∷ axes → got₂ ≡ got₁ ++ (m ∷ owners) → got₃ ≡ got₂ ++ (b ∷ sizes) → length axes ≡ q → length owners ≡ m → Counts got₃ q m b
+pub counts-of : {got₁ got₂ got₃ : List ℕ} {q m b : ℕ} (axes owners sizes : List ℕ) → got₁ ≡ q ∷ axes → got₂ ≡ got₁ ++ (m ∷ owners) → got₃ ≡ got₂ ++ (b ∷ sizes) → length axes ≡ q → length owners ≡ m → Counts got₃ q m b
 unfolding queue-count
 counts-of {got₁} {got₂} {got₃} {q} {m} {b} axes owners sizes e₁ e₂ e₃ lq lm =
     let front = (q ∷ axes) ++ (m ∷ owners) in
