@@ -61,9 +61,6 @@ module _ (p : Plan) (sound : Sound p) (queue rows : List ℕ) (queues-shown : Qu
   unfolding late
   late-right i g a b = rw (lt-ltb g 1024 (omega (arith, sound .few-operations)), ordered-right i g a b)
 
-  pub late-itself : (i : ℕ) → i < count p → late queue rows i i ≡ false
-  late-itself i a = late-right i i a a ∙ ap (λ (b : Bool). not b) (itself p i)
-
   pub late-nothing : (i : ℕ) → late queue rows i 1024 ≡ false
   unfolding late
   late-nothing i = rw (le-ltb 1024 1024 (omega arith))

@@ -78,28 +78,38 @@ module _ {queue rows mark operation : List ℕ} {n many : ℕ} where
       let e : many - k ≡ many = omega arith in
       b .answer ∙ rw (e, z)
 
-  module _ {free next : List ℕ} {lowest k m i g : ℕ} {t : Bool} (b : Backward queue rows mark operation n many free lowest k) (more : 0 < k)
-      (m-is : m ≡ getD mark (k - 1) 0) (i-is : i ≡ getD operation (k - 1) 0) (next-is : next ≡ noted (mark-of m i) free)
-      (g-is : g ≡ getD next (m / 2) 0) (t-is : t ≡ late queue rows i g) where
+  module _ {free : List ℕ} {lowest k m i : ℕ} (b : Backward queue rows mark operation n many free lowest k) (more : 0 < k)
+      (m-is : m ≡ getD mark (k - 1) 0) (i-is : i ≡ getD operation (k - 1) 0) where
     here : shown-from mark operation (many - (k - 1)) (k - 1) ≡ mark-of m i ∷ shown-from mark operation (many - k) k
     here =
         let e : k - 1 + 1 ≡ k = omega arith in
         rw (m-is, i-is) (shown-next mark operation many (k - 1) (omega (arith, b .inside)) ∙ rw e)
 
-    table-is : next ≡ next-frees (mark-of m i ∷ shown-from mark operation (many - k) k)
-    unfolding next-frees
-    table-is = next-is ∙ ap (λ (f : List ℕ). noted (mark-of m i) f) (b .table)
+    -- a free is noted
+    pub backward-free : m % 2 ≡ 1 → {next : List ℕ} → next ≡ noted (mark-of m i) free → Backward queue rows mark operation n many next lowest (k - 1)
+    unfolding next-frees first-late
+    backward-free odd e = record {
+      inside = omega (arith, b .inside);
+      table = rw here (e ∙ ap (λ (f : List ℕ). noted (mark-of m i) f) (b .table));
+      answer = rw (here, eq-eqb (m % 2) 1 odd) (b .answer);
+    }
 
-    tested : late queue rows i (getD (next-frees (mark-of m i ∷ shown-from mark operation (many - k) k)) (m / 2) 0) ≡ t
-    tested = sym (t-is ∙ ap (λ (z : ℕ). late queue rows i z) (g-is ∙ ap (λ (f : List ℕ). getD f (m / 2) 0) table-is))
+    -- a use is tested
+    module _ (even : m % 2 ≡ 1 → ⊥) {g : ℕ} {t : Bool} (g-is : g ≡ getD free (m / 2) 0) (t-is : t ≡ late queue rows i g) where
+      table-same : free ≡ next-frees (mark-of m i ∷ shown-from mark operation (many - k) k)
+      unfolding next-frees
+      table-same = noted-use m i free even ∙ ap (λ (f : List ℕ). noted (mark-of m i) f) (b .table)
 
-    pub backward-late : t ≡ true → Backward queue rows mark operation n many next i (k - 1)
-    unfolding first-late
-    backward-late h = record { inside = omega (arith, b .inside); table = rw here table-is; answer = rw (here, tested, h) }
+      tested : late queue rows i (getD (next-frees (mark-of m i ∷ shown-from mark operation (many - k) k)) (m / 2) 0) ≡ t
+      tested = sym (t-is ∙ ap (λ (z : ℕ). late queue rows i z) (g-is ∙ ap (λ (f : List ℕ). getD f (m / 2) 0) table-same))
 
-    pub backward-fine : t ≡ false → Backward queue rows mark operation n many next lowest (k - 1)
-    unfolding first-late
-    backward-fine h = record { inside = omega (arith, b .inside); table = rw here table-is; answer = rw (here, tested, h) (b .answer) }
+      pub backward-late : t ≡ true → Backward queue rows mark operation n many free i (k - 1)
+      unfolding first-late
+      backward-late h = record { inside = omega (arith, b .inside); table = rw here table-same; answer = rw (here, ne-eqb (m % 2) 1 even, tested, h) }
+
+      pub backward-fine : t ≡ false → Backward queue rows mark operation n many free lowest (k - 1)
+      unfolding first-late
+      backward-fine h = record { inside = omega (arith, b .inside); table = rw here table-same; answer = rw (here, ne-eqb (m % 2) 1 even, tested, h) (b .answer) }
 
 -- ---- marks of later holdings, from the first mark to the last
 pub record Forward (queue rows mark operation : List ℕ) (n many : ℕ) (free : List ℕ) (k : ℕ) : Type 0 where

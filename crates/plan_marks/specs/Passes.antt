@@ -61,9 +61,12 @@ module _ (queue rows : List ℕ) where
   unfoldable pub early : (free i : ℕ) → Bool
   early g i = ltb g 1024 && (eqb g i || not (ordered g i))
 
+  -- the operation of the first use that is late, and of the first mark that is early; n where there is none
   unfoldable pub first-late : (n : ℕ) → List Marked → ℕ
   first-late n [] = n
-  first-late n (m ∷ ms) = cond (late (m .by) (getD (next-frees (m ∷ ms)) (m .buffer) 0)) (m .by) (first-late n ms)
+  first-late n (m ∷ ms) =
+      cond (eqb (m .kind) 1) (first-late n ms)
+      (cond (late (m .by) (getD (next-frees (m ∷ ms)) (m .buffer) 0)) (m .by) (first-late n ms))
 
   unfoldable pub first-early : (n : ℕ) → (free : List ℕ) → List Marked → ℕ
   first-early n free [] = n

@@ -49,8 +49,9 @@ fn uses(
         k -= 1;
         let m = read(mark, k);
         let i = read(mop, k);
-        note(&mut free, m, i);
-        if late(queue, rows, i, freed(&free, m / 2)) {
+        if m % 2 == 1 {
+            note(&mut free, m, i);
+        } else if late(queue, rows, i, freed(&free, m / 2)) {
             lowest = i;
         }
     }
