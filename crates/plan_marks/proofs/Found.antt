@@ -205,13 +205,15 @@ module _ (p : Plan) (sound : Sound p) (few : length (p .sizes) ≤ 256) (f : Lis
       (λ m. omega (arith, b .asked, unmet-least forced 0 (count p) us a (uses-rising (plan-marks p) 0 (marks-rising p)) m (b .unforced)))
       (λ m. omega (arith, b .asked, unmet-least forced 0 (count p) rs a (reuses-rising (plan-marks p) none-yet 0 (marks-rising p)) m (b .unforced)))))
 
-pub broken-found : (p : Plan) (n many : ℕ) (queue mark operation rows : List ℕ) → Shown p n many queue mark operation rows →
-    min (first-late queue rows n (shown-from mark operation many 0)) (first-early queue rows n no-frees (shown-from mark operation many 0)) ≡ place-or n (broken p)
-broken-found p n many queue mark operation rows c =
+pub broken-found : (p : Plan) (n many cut : ℕ) (queue mark operation rows : List ℕ) → cut ≡ min many 4096 → Shown p n many queue mark operation rows →
+    min (first-late queue rows n (shown-from mark operation cut 0)) (first-early queue rows n no-frees (shown-from mark operation cut 0)) ≡ place-or n (broken p)
+broken-found p n many cut queue mark operation rows least c =
     let known = marks-known p (c .sound) in
+    let all : cut ≡ many = omega (arith, c .marks-shown .few) in
     rw (
+      all,
       ← c .many,
-      marks-shown p many mark operation (c .sound) (c .marks-shown),
+      marks-shown p many mark operation (c .sound) (c .few-buffers) (c .marks-shown),
       uses-found p (c .sound) (c .few-buffers) (c .run) (c .full) queue rows (c .queues-shown) (c .rows-shown) (count p) (plan-marks p) known,
       reuses-found p (c .sound) (c .few-buffers) (c .run) (c .full) queue rows (c .queues-shown) (c .rows-shown) (count p) (plan-marks p) no-frees none-yet shows-none (λ b. tt) known,
     )

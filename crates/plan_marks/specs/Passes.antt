@@ -29,12 +29,12 @@ pub record Shown (p : Plan) (n marks : ℕ) (queue mark operation rows : List �
   pub run : List ℕ
   pub full : is-full p run ≡ true
 
--- a mark as it stands in the columns, and the marks of the columns from a place on
+-- a mark of the columns, and the marks from a place on; numbers are cut to their bits, which changes none in range
 abbrev pub mark-of : (mark operation : ℕ) → Marked
 mark-of m i = record { by = i; buffer = m / 2; kind = m % 2 }
 
 abbrev pub shown-from : (mark operation : List ℕ) → (many k : ℕ) → List Marked
-shown-from ms is many k = tabulate-from many k (λ k. mark-of (getD ms k 0) (getD is k 0))
+shown-from ms is many k = tabulate-from many k (λ k. mark-of (getD ms k 0 % 512) (getD is k 0 % 1024))
 
 -- the table with a mark's operation at its buffer where it is a free; 1,024 stands for no free
 unfoldable pub noted : Marked → (free : List ℕ) → List ℕ
@@ -51,7 +51,7 @@ next-frees (m ∷ ms) = noted m (next-frees ms)
 module _ (queue rows : List ℕ) where
   -- i is j or before j, by their rows
   unfoldable pub ordered : (i j : ℕ) → Bool
-  ordered i j = leb (getD rows (16 * i + getD queue i 0) 0) (getD rows (16 * j + getD queue i 0) 0)
+  ordered i j = let q = getD queue i 0 % 16 in leb (getD rows (16 * i + q) 0) (getD rows (16 * j + q) 0)
 
   -- a use by i is not forced to come no later than a free
   unfoldable pub late : (i free : ℕ) → Bool
