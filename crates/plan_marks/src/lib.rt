@@ -128,9 +128,10 @@ fn note(free: &mut [u16; 256], m: usize, i: usize)
     requires { ⌜ (m < 512) × (i < 1024) ⌝ }
     ensures { λ _. ⌜ now (free .exit) ≡ noted (mark-of m i) (now (free .entry)) ⌝ }
 {
-    if m % 2 == 1 {
-        free[m / 2] = i as u16;
+    if m % 2 == 0 {
+        return;
     }
+    free[m / 2] = i as u16;
 }
 
 fn wide(x: u16) -> usize
