@@ -1,33 +1,12 @@
 -- Two passes over the marks of a plan, with a table of frees by buffer: uses against the free of their own holding, from the last mark to
 -- the first, and marks against the free before their holding. Assumes nothing: these are definitions.
-use mathlib.Core.Path.{_≡_}
-use mathlib.Core.Bool.{Bool, true, _&&_, _||_, not, cond}
+use mathlib.Core.Bool.{Bool, _&&_, _||_, not, cond}
 use mathlib.Core.List.{List, [], _∷_}
-use mathlib.Core.Option.{Option, none, some}
-use Prim.Native.Nat.{ℕ, _+_, _*_, _/_, _%_, _≤_, _<_}
+use Prim.Native.Nat.{ℕ, _+_, _*_, _/_, _%_}
 use lib.Dec.{ltb, leb, eqb}
-use lib.ListN.{length, getD, set, replicate}
+use lib.ListN.{getD, set, replicate}
 use Rattle.basics.specs.Lists.{tabulate-from}
-use Rattle.plan_format.specs.Plan.{Plan, count}
-use Rattle.plan_format.specs.Sound.{Sound}
-use Rattle.plan_order.specs.Runs.{is-full}
-use Rattle.plan_columns.specs.Columns.{Queue-column, Marked, Mark-columns, Row-columns}
-
--- the operation that is found, or n where there is none
-unfoldable pub place-or : (n : ℕ) → Option ℕ → ℕ
-place-or n none = n
-place-or n (some i) = i
-
--- a plan with a full run, shown by columns
-pub record Shown (p : Plan) (n marks : ℕ) (queue mark operation rows : List ℕ) : Type 0 where
-  pub sound : Sound p
-  pub many : count p ≡ n
-  pub few-buffers : length (p .sizes) ≤ 256
-  pub queues-shown : Queue-column p queue
-  pub marks-shown : Mark-columns p marks mark operation
-  pub rows-shown : Row-columns p (λ j. j < count p) rows
-  pub run : List ℕ
-  pub full : is-full p run ≡ true
+use Rattle.plan_columns.specs.Columns.{Marked}
 
 -- a mark of the columns, and the marks from a place on; numbers are cut to their bits, which changes none in range
 abbrev pub mark-of : (mark operation : ℕ) → Marked
