@@ -11,7 +11,8 @@ use Rattle.plan_format.specs.Form.{first-form}
 use Rattle.plan_format.specs.Plan.{Point, Operation, Plan, no-operation, count, op, operations-in}
 use Rattle.plan_order.specs.Precedence.{Signal, plan-signals}
 use Rattle.plan_columns.specs.Columns.{no-point, no-signal, Marked, no-mark, plan-marks, Queue-column, wait-at, Wait-columns, Signal-columns, Mark-columns}
-use Rattle.plan_columns.specs.Filling.{Part, parts, queue-part, wait-semaphore-part, wait-value-part, signal-semaphore-part, signal-value-part, signal-operation-part, mark-part, mark-operation-part, Limits, Shown}
+use Rattle.plan_columns.specs.Shown.{Limits, Shown}
+use Rattle.plan_columns.specs.Filling.{Part, parts, queue-part, wait-semaphore-part, wait-value-part, signal-semaphore-part, signal-value-part, signal-operation-part, mark-part, mark-operation-part}
 use Rattle.plan_columns.proofs.Operations.{Fits, here, operations-long}
 use Rattle.plan_columns.proofs.Lists.{joined, joined-few, joined-long, joined-at, parts-map, signals-long, marked-long, three-waits, its-signals, its-marks, code-of, signals-joined, marks-joined, queue-same, wait-semaphore-same, wait-value-same, signal-semaphore-same, signal-value-same, signal-operation-same, mark-same, mark-operation-same}
 use Rattle.plan_columns.proofs.Parts.{Column, column-end, column-count, Filling}

@@ -3,14 +3,11 @@
 use mathlib.Core.Path.{_≡_}
 use mathlib.Core.Bool.{cond}
 use mathlib.Core.List.{List, [], _∷_, _++_}
-use Prim.Native.Nat.{ℕ, zero, suc, _+_, _*_, _%_, _≤_, _<_}
+use Prim.Native.Nat.{ℕ, zero, suc, _+_, _*_, _%_}
 use lib.Dec.{ltb}
 use lib.ListN.{length, getD}
 use lib.Seq.{sets}
 use Rattle.basics.specs.Lists.{tabulate-from}
-use Rattle.plan_format.specs.Plan.{Plan, count, op, queues}
-use Rattle.plan_format.specs.Sound.{In-range}
-use Rattle.plan_columns.specs.Columns.{Queue-column, Wait-columns, Signal-columns, Mark-columns}
 
 -- the number of each of three waits, 0 in place of one that is missing
 abbrev pub three : (many : ℕ) → (number : ℕ → ℕ) → (j : ℕ) → ℕ
@@ -120,22 +117,3 @@ pub record Added (numbers : List ℕ) (i at signals marks : ℕ) (queue wsem wva
   pub next : at′ ≡ next-at numbers at
   pub more-signals : signals′ ≡ signals + signal-count numbers at
   pub more-marks : marks′ ≡ marks + mark-count numbers at
-
--- ---- plans
--- the limits of a read plan
-pub record Limits (p : Plan) : Type 0 where
-  pub few-queues : queues p ≤ 16
-  pub few-semaphores : length (p .owners) ≤ 64
-  pub few-buffers : length (p .sizes) ≤ 256
-  pub few-operations : count p ≤ 1024
-  pub in-range : (i : ℕ) → i < count p → In-range p (op p i)
-  pub few-waits : (i : ℕ) → i < count p → length (op p i .waits) ≤ 3
-  pub few-signals : (i : ℕ) → i < count p → length (op p i .signals) ≤ 2
-  pub few-marks : (i : ℕ) → i < count p → length (op p i .marks) ≤ 4
-
--- columns that show a plan, and how many signals and marks it has
-pub record Shown (p : Plan) (signals marks : ℕ) (queue wsem wval ssem sval sop mark mop : List ℕ) : Type 0 where
-  pub queues-shown : Queue-column p queue
-  pub waits-shown : Wait-columns p wsem wval
-  pub signals-shown : Signal-columns p signals ssem sval sop
-  pub marks-shown : Mark-columns p marks mark mop

@@ -1,15 +1,15 @@
 // Columns of a plan: flat arrays that the passes of the check read, filled from the numbers of a read plan.
 ghost use mathlib.Core.Path.{_≡_};
 ghost use mathlib.Core.Bool.{cond};
-ghost use mathlib.Core.List.{_∷_, []};
-ghost use Prim.Native.Nat.{ℕ, _+_, _*_, _%_, _<_, _≤_, min};
+ghost use Prim.Native.Nat.{ℕ, _*_, _%_, _<_, _≤_, min};
 ghost use lib.Dec.{ltb};
 ghost use lib.ListN.{length, getD, take, drop};
 ghost use lib.Seq.{sets};
 ghost use Rattle.plan_format.specs.Form.{first-form};
 ghost use Rattle.plan_format.specs.Plan.{Plan, operations-in, queues};
 ghost use Rattle.plan_columns.specs.Columns.{Owner-column};
-ghost use Rattle.plan_columns.specs.Filling.{owner-numbers, wait-semaphores, wait-values, signal-semaphores, signal-values, mark-codes, repeated, Added, Limits, Shown};
+ghost use Rattle.plan_columns.specs.Shown.{Limits, Shown};
+ghost use Rattle.plan_columns.specs.Filling.{owner-numbers, wait-semaphores, wait-values, signal-semaphores, signal-values, mark-codes, repeated, Added};
 
 // How many signals and marks a plan has.
 pub struct Filled {

@@ -9,7 +9,7 @@ use native.Mathlib.Omega.{arith}
 use lib.Dec.{ltb, eqb}
 use lib.ListN.{length, getD, set, length-set, length-replicate, getD-replicate}
 use lib.Seq.{getD-set-same, getD-set-other}
-use borrow.Author.Tests.{ltb-true, ltb-false, eqb-true, eqb-false, eq-eqb}
+use borrow.Author.Tests.{ltb-true, ltb-false, eqb-true, eqb-false}
 use Rattle.basics.proofs.Tests.{by-cases, by-option, clash, either}
 use Rattle.plan_format.specs.Plan.{Plan, count}
 use Rattle.plan_format.specs.Sound.{Sound}
@@ -18,9 +18,10 @@ use Rattle.plan_order.specs.Runs.{is-full}
 use Rattle.plan_order.specs.Holdings.{is-free, freed-by, free-after, Ask, use-asks, later-asks, asked-of, met, all-asks, broken}
 use Rattle.plan_order.proofs.Keeping.{asked-marks, all-asks-has, broken-some, broken-none}
 use Rattle.plan_columns.specs.Columns.{Queue-column, Marked, plan-marks, Row-columns}
-use Rattle.plan_marks.specs.Passes.{place-or, Shown, shown-from, noted, no-frees, next-frees, late, early, first-late, first-early}
+use Rattle.plan_marks.specs.Shown.{place-or, Shown}
+use Rattle.plan_marks.specs.Passes.{shown-from, noted, no-frees, next-frees, late, early, first-late, first-early}
 use Rattle.plan_marks.proofs.Marks.{Each, Known, marks-known, Rising, marks-rising, marks-shown}
-use Rattle.plan_marks.proofs.Order.{late-right, late-itself, late-nothing, early-nothing, early-right}
+use Rattle.plan_marks.proofs.Order.{late-right, late-nothing, early-nothing, early-right}
 use Rattle.plan_marks.proofs.Asks.{place, of-buffer, after, of-uses, of-reuses, none-yet, all-asks-split, uses-all, reuses-all, uses-rising, reuses-rising}
 
 -- ---- the first of a list that is not met
@@ -120,20 +121,16 @@ module _ (p : Plan) (sound : Sound p) (few : length (p .sizes) ≤ 256) (f : Lis
   inside-freed (m ∷ ms) k b = rw (freed-after m ms b) (inside-after (λ b. freed-by (of-buffer b ms)) m (k .0 .by) (inside-freed ms (k .1)) b)
 
   -- ---- uses
-  freed-own : (m : Marked) (ms : List Marked) → is-free (place m) ≡ true → freed-by (of-buffer (m .buffer) (m ∷ ms)) ≡ some (m .by)
-  unfolding of-buffer freed-by
-  freed-own m ms t = rw (eq-eqb (m .buffer) (m .buffer) refl, t)
+  free-first : (m : Marked) (o : Option ℕ) (n : ℕ) → is-free (place m) ≡ true → first-unmet forced n (use-asks (place m) o) ≡ n
+  unfolding first-unmet use-asks
+  free-first m none n t = refl
+  free-first m (some g) n t = rw t
 
-  use-first : (m : Marked) (o : Option ℕ) (n : ℕ) → m .by < count p → Inside o → (is-free (place m) ≡ true → o ≡ some (m .by)) →
+  use-first : (m : Marked) (o : Option ℕ) (n : ℕ) → m .by < count p → Inside o → is-free (place m) ≡ false →
       first-unmet forced n (use-asks (place m) o) ≡ cond (late queue rows (m .by) (code o)) (m .by) n
   unfolding first-unmet use-asks code
-  use-first m none n a b own = rw (late-nothing p sound queue rows queues-shown rows-shown (m .by))
-  use-first m (some g) n a b own =
-      by-cases (is-free (place m))
-      (λ t. let same : some g ≡ some (m .by) = own t in
-      let e : g ≡ m .by = cc in
-      rw (t, e, late-itself p sound queue rows queues-shown rows-shown (m .by) a))
-      (λ t. rw (t, late-right p sound queue rows queues-shown rows-shown (m .by) g a b) (one (at-or-before p (m .by) g) refl))
+  use-first m none n a b t = rw (late-nothing p sound queue rows queues-shown rows-shown (m .by))
+  use-first m (some g) n a b t = rw (t, late-right p sound queue rows queues-shown rows-shown (m .by) g a b) (one (at-or-before p (m .by) g) refl)
     where
       one : (t : Bool) → at-or-before p (m .by) g ≡ t → cond (forced (record { first = m .by; then = g; same-allowed = true })) n (asked-of (record { first = m .by; then = g; same-allowed = true })) ≡ cond (not (at-or-before p (m .by) g)) (m .by) n
       one true e = unfold met asked-of at-or-before in (rw e)
@@ -147,13 +144,16 @@ module _ (p : Plan) (sound : Sound p) (few : length (p .sizes) ≤ 256) (f : Lis
       record { size = s .size; frees = λ b l. s .frees b l ∙ ap (λ (o : Option ℕ). code o) (sym (freed-after m ms b)) }
 
   uses-found : (n : ℕ) (ms : List Marked) → Each (Known p) ms → first-late queue rows n ms ≡ first-unmet forced n (of-uses ms)
-  unfolding first-late of-uses first-unmet
+  unfolding first-late of-uses first-unmet is-free
   uses-found n [] k = refl
   uses-found n (m ∷ ms) k =
       let o = freed-by (of-buffer (m .buffer) (m ∷ ms)) in
-      rw (frees-shown (m ∷ ms) k .frees (m .buffer) (omega (arith, k .0 .buffer)), uses-found n ms (k .1))
-      (sym (unmet-append forced n (use-asks (place m) o) (of-uses ms)
-      ∙ use-first m o (first-unmet forced n (of-uses ms)) (k .0 .by) (inside-freed (m ∷ ms) k (m .buffer)) (freed-own m ms)))
+      let rest = first-unmet forced n (of-uses ms) in
+      let split = unmet-append forced n (use-asks (place m) o) (of-uses ms) in
+      by-cases (eqb (m .kind) 1)
+      (λ t. rw (t, uses-found n ms (k .1)) (sym (split ∙ free-first m o rest t)))
+      (λ t. rw (t, frees-shown (m ∷ ms) k .frees (m .buffer) (omega (arith, k .0 .buffer)), uses-found n ms (k .1))
+      (sym (split ∙ use-first m o rest (k .0 .by) (inside-freed (m ∷ ms) k (m .buffer)) t)))
 
   -- ---- marks of later holdings
   reuse-first : (m : Marked) (o : Option ℕ) (n : ℕ) → m .by < count p → Inside o →
@@ -206,13 +206,15 @@ module _ (p : Plan) (sound : Sound p) (few : length (p .sizes) ≤ 256) (f : Lis
       (λ m. omega (arith, b .asked, unmet-least forced 0 (count p) us a (uses-rising (plan-marks p) 0 (marks-rising p)) m (b .unforced)))
       (λ m. omega (arith, b .asked, unmet-least forced 0 (count p) rs a (reuses-rising (plan-marks p) none-yet 0 (marks-rising p)) m (b .unforced)))))
 
-pub broken-found : (p : Plan) (n many : ℕ) (queue mark operation rows : List ℕ) → Shown p n many queue mark operation rows →
-    min (first-late queue rows n (shown-from mark operation many 0)) (first-early queue rows n no-frees (shown-from mark operation many 0)) ≡ place-or n (broken p)
-broken-found p n many queue mark operation rows c =
+pub broken-found : (p : Plan) (n many cut : ℕ) (queue mark operation rows : List ℕ) → cut ≡ min many 4096 → Shown p n many queue mark operation rows →
+    min (first-late queue rows n (shown-from mark operation cut 0)) (first-early queue rows n no-frees (shown-from mark operation cut 0)) ≡ place-or n (broken p)
+broken-found p n many cut queue mark operation rows least c =
     let known = marks-known p (c .sound) in
+    let all : cut ≡ many = omega (arith, c .marks-shown .few) in
     rw (
+      all,
       ← c .many,
-      marks-shown p many mark operation (c .sound) (c .marks-shown),
+      marks-shown p many mark operation (c .sound) (c .few-buffers) (c .marks-shown),
       uses-found p (c .sound) (c .few-buffers) (c .run) (c .full) queue rows (c .queues-shown) (c .rows-shown) (count p) (plan-marks p) known,
       reuses-found p (c .sound) (c .few-buffers) (c .run) (c .full) queue rows (c .queues-shown) (c .rows-shown) (count p) (plan-marks p) no-frees none-yet shows-none (λ b. tt) known,
     )

@@ -80,18 +80,21 @@ unfolding plan-marks
 marks-rising p = rising-from 0 (p .operations)
 
 -- ---- the columns show the marks
-same-mark : (x : Marked) (m i : ℕ) → m ≡ 2 * x .buffer + x .kind → i ≡ x .by → x .kind < 2 → mark-of m i ≡ x
-same-mark x m i e f l =
-    let b : m / 2 ≡ x .buffer = omega arith in
-    let k : m % 2 ≡ x .kind = omega arith in
-    λ j. record { by = f j; buffer = b j; kind = k j }
+same-mark : (x : Marked) (m i : ℕ) → m ≡ 2 * x .buffer + x .kind → i ≡ x .by → x .buffer < 256 → x .kind < 2 → x .by < 1024 → mark-of (m % 512) (i % 1024) ≡ x
+same-mark x m i e f l h u =
+    let o : i % 1024 ≡ x .by = omega arith in
+    let b : m % 512 / 2 ≡ x .buffer = omega arith in
+    let k : m % 512 % 2 ≡ x .kind = omega arith in
+    λ j. record { by = o j; buffer = b j; kind = k j }
 
-pub marks-shown : (p : Plan) (many : ℕ) (mark operation : List ℕ) → Sound p → Mark-columns p many mark operation → shown-from mark operation many 0 ≡ plan-marks p
-marks-shown p many mark operation sound c =
-    let f : ℕ → Marked = λ k. mark-of (getD mark k 0) (getD operation k 0) in
+pub marks-shown : (p : Plan) (many : ℕ) (mark operation : List ℕ) → Sound p → length (p .sizes) ≤ 256 → Mark-columns p many mark operation →
+    shown-from mark operation many 0 ≡ plan-marks p
+marks-shown p many mark operation sound few c =
+    let f : ℕ → Marked = λ k. mark-of (getD mark k 0 % 512) (getD operation k 0 % 1024) in
     let long = tabulate-length f many 0 in
     ext-getD no-mark (tabulate-from many 0 f) (plan-marks p) (long ∙ c .all) (λ k l.
     let b : k < many = omega (arith, long) in
+    let m = each-at (Known p) (plan-marks p) (marks-known p sound) k (omega (arith, c .all)) in
     tabulate-at f many 0 k no-mark b ∙ ap f (zero-add k)
     ∙ same-mark (getD (plan-marks p) k no-mark) (getD mark k 0) (getD operation k 0) (c .marks k b) (c .operations k b)
-    (each-at (Known p) (plan-marks p) (marks-known p sound) k (omega (arith, c .all)) .kind))
+    (omega (arith, m .buffer)) (m .kind) (omega (arith, m .by, sound .few-operations)))

@@ -2,11 +2,12 @@
 use mathlib.Core.Path.{_≡_, refl, sym, ap, _∙_, subst}
 use mathlib.Core.Bool.{Bool, true, false, _&&_, not}
 use mathlib.Core.List.{List}
-use Prim.Native.Nat.{ℕ, _≤_, _<_}
+use Prim.Native.Nat.{ℕ, _%_, _≤_, _<_}
 use native.Mathlib.Nat.{le-trans}
 use native.Mathlib.Omega.{arith}
 use lib.Dec.{leb, eqb}
 use borrow.Author.Tests.{leb-true, le-leb, lt-ltb, le-ltb, eqb-true, eq-eqb}
+use lib.ListN.{getD}
 use Rattle.basics.proofs.Tests.{by-cases, clash, is-false, and-left, and-right, and-both, or-cases, or-left, or-right, either}
 use Rattle.basics.proofs.Tallies.{tally-mono}
 use Rattle.plan_format.specs.Plan.{Plan, count, op}
@@ -54,15 +55,13 @@ module _ (p : Plan) (sound : Sound p) (queue rows : List ℕ) (queues-shown : Qu
       let low : op p i .queue < 16 = omega (arith, sound .in-range i a .queue, sound .few-queues) in
       let own = rows-shown i (op p i .queue) a low ∙ row-at p i (op p i .queue) low in
       let other = rows-shown j (op p i .queue) b low ∙ row-at p j (op p i .queue) low in
-      rw (queues-shown i a, own, other) (entries-tell p i j a)
+      let column : getD queue i 0 % 16 ≡ op p i .queue = omega (arith, queues-shown i a) in
+      rw (column, own, other) (entries-tell p i j a)
 
   -- a use and the free of its holding
   pub late-right : (i g : ℕ) → i < count p → g < count p → late queue rows i g ≡ not (at-or-before p i g)
   unfolding late
   late-right i g a b = rw (lt-ltb g 1024 (omega (arith, sound .few-operations)), ordered-right i g a b)
-
-  pub late-itself : (i : ℕ) → i < count p → late queue rows i i ≡ false
-  late-itself i a = late-right i i a a ∙ ap (λ (b : Bool). not b) (itself p i)
 
   pub late-nothing : (i : ℕ) → late queue rows i 1024 ≡ false
   unfolding late

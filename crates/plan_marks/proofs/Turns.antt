@@ -12,10 +12,9 @@ use Rattle.basics.specs.Lists.{tabulate-from}
 use Rattle.plan_marks.specs.Passes.{mark-of, shown-from, noted, no-frees, next-frees, ordered, late, early, first-late, first-early}
 
 -- ---- the table
-pub noted-free : (m i : ℕ) (free : List ℕ) → i < 65536 → m % 2 ≡ 1 → set free (m / 2) (i % 65536) ≡ noted (mark-of m i) free
+pub noted-free : (m i : ℕ) (free : List ℕ) → m % 2 ≡ 1 → set free (m / 2) i ≡ noted (mark-of m i) free
 unfolding noted
-noted-free m i free b e =
-    let s : i % 65536 ≡ i = omega arith in rw (eq-eqb (m % 2) 1 e, s)
+noted-free m i free e = rw (eq-eqb (m % 2) 1 e)
 
 pub noted-use : (m i : ℕ) (free : List ℕ) → (m % 2 ≡ 1 → ⊥) → free ≡ noted (mark-of m i) free
 unfolding noted
@@ -23,9 +22,9 @@ noted-use m i free e = rw (ne-eqb (m % 2) 1 e)
 
 -- ---- tests
 module _ (queue rows : List ℕ) where
-  pub ordered-is : (i j q a b : ℕ) → q ≡ getD queue i 0 → a ≡ getD rows (16 * i + q) 0 → b ≡ getD rows (16 * j + q) 0 → leb a b ≡ ordered queue rows i j
+  pub ordered-is : (i j x a b : ℕ) → x ≡ getD queue i 0 → a ≡ getD rows (16 * i + x % 16) 0 → b ≡ getD rows (16 * j + x % 16) 0 → leb a b ≡ ordered queue rows i j
   unfolding ordered
-  ordered-is i j q a b e f g = rw (f, g, e)
+  ordered-is i j x a b e f g = rw (f, g, e)
 
   pub late-free : (i g : ℕ) (r : Bool) → g < 1024 → r ≡ ordered queue rows i g → not r ≡ late queue rows i g
   unfolding late
@@ -54,7 +53,7 @@ module _ (mark operation : List ℕ) where
   shown-none many k l = let e : many - k ≡ 0 = omega arith in rw e
 
   pub shown-next : (many k : ℕ) → k < many →
-      shown-from mark operation (many - k) k ≡ mark-of (getD mark k 0) (getD operation k 0) ∷ shown-from mark operation (many - (k + 1)) (k + 1)
+      shown-from mark operation (many - k) k ≡ mark-of (getD mark k 0 % 512) (getD operation k 0 % 1024) ∷ shown-from mark operation (many - (k + 1)) (k + 1)
   unfolding tabulate-from
   shown-next many k l = let e : many - k ≡ suc (many - (k + 1)) = omega arith in rw (e, add-one k)
 
@@ -78,28 +77,38 @@ module _ {queue rows mark operation : List ℕ} {n many : ℕ} where
       let e : many - k ≡ many = omega arith in
       b .answer ∙ rw (e, z)
 
-  module _ {free next : List ℕ} {lowest k m i g : ℕ} {t : Bool} (b : Backward queue rows mark operation n many free lowest k) (more : 0 < k)
-      (m-is : m ≡ getD mark (k - 1) 0) (i-is : i ≡ getD operation (k - 1) 0) (next-is : next ≡ noted (mark-of m i) free)
-      (g-is : g ≡ getD next (m / 2) 0) (t-is : t ≡ late queue rows i g) where
+  module _ {free : List ℕ} {lowest k m i : ℕ} (b : Backward queue rows mark operation n many free lowest k) (more : 0 < k)
+      (m-is : m ≡ getD mark (k - 1) 0 % 512) (i-is : i ≡ getD operation (k - 1) 0 % 1024) where
     here : shown-from mark operation (many - (k - 1)) (k - 1) ≡ mark-of m i ∷ shown-from mark operation (many - k) k
     here =
         let e : k - 1 + 1 ≡ k = omega arith in
         rw (m-is, i-is) (shown-next mark operation many (k - 1) (omega (arith, b .inside)) ∙ rw e)
 
-    table-is : next ≡ next-frees (mark-of m i ∷ shown-from mark operation (many - k) k)
-    unfolding next-frees
-    table-is = next-is ∙ ap (λ (f : List ℕ). noted (mark-of m i) f) (b .table)
+    -- a free is noted
+    pub backward-free : m % 2 ≡ 1 → {next : List ℕ} → next ≡ noted (mark-of m i) free → Backward queue rows mark operation n many next lowest (k - 1)
+    unfolding next-frees first-late
+    backward-free odd e = record {
+      inside = omega (arith, b .inside);
+      table = rw here (e ∙ ap (λ (f : List ℕ). noted (mark-of m i) f) (b .table));
+      answer = rw (here, eq-eqb (m % 2) 1 odd) (b .answer);
+    }
 
-    tested : late queue rows i (getD (next-frees (mark-of m i ∷ shown-from mark operation (many - k) k)) (m / 2) 0) ≡ t
-    tested = sym (t-is ∙ ap (λ (z : ℕ). late queue rows i z) (g-is ∙ ap (λ (f : List ℕ). getD f (m / 2) 0) table-is))
+    -- a use is tested
+    module _ (even : m % 2 ≡ 1 → ⊥) {g : ℕ} {t : Bool} (g-is : g ≡ getD free (m / 2) 0) (t-is : t ≡ late queue rows i g) where
+      table-same : free ≡ next-frees (mark-of m i ∷ shown-from mark operation (many - k) k)
+      unfolding next-frees
+      table-same = noted-use m i free even ∙ ap (λ (f : List ℕ). noted (mark-of m i) f) (b .table)
 
-    pub backward-late : t ≡ true → Backward queue rows mark operation n many next i (k - 1)
-    unfolding first-late
-    backward-late h = record { inside = omega (arith, b .inside); table = rw here table-is; answer = rw (here, tested, h) }
+      tested : late queue rows i (getD (next-frees (mark-of m i ∷ shown-from mark operation (many - k) k)) (m / 2) 0) ≡ t
+      tested = sym (t-is ∙ ap (λ (z : ℕ). late queue rows i z) (g-is ∙ ap (λ (f : List ℕ). getD f (m / 2) 0) table-same))
 
-    pub backward-fine : t ≡ false → Backward queue rows mark operation n many next lowest (k - 1)
-    unfolding first-late
-    backward-fine h = record { inside = omega (arith, b .inside); table = rw here table-is; answer = rw (here, tested, h) (b .answer) }
+      pub backward-late : t ≡ true → Backward queue rows mark operation n many free i (k - 1)
+      unfolding first-late
+      backward-late h = record { inside = omega (arith, b .inside); table = rw here table-same; answer = rw (here, ne-eqb (m % 2) 1 even, tested, h) }
+
+      pub backward-fine : t ≡ false → Backward queue rows mark operation n many free lowest (k - 1)
+      unfolding first-late
+      backward-fine h = record { inside = omega (arith, b .inside); table = rw here table-same; answer = rw (here, ne-eqb (m % 2) 1 even, tested, h) (b .answer) }
 
 -- ---- marks of later holdings, from the first mark to the last
 pub record Forward (queue rows mark operation : List ℕ) (n many : ℕ) (free : List ℕ) (k : ℕ) : Type 0 where
@@ -117,7 +126,7 @@ module _ {queue rows mark operation : List ℕ} {n many : ℕ} where
   forward-end {k} l b = rw (shown-none mark operation many k l) at (b .rest)
 
   module _ {free : List ℕ} {k m i g : ℕ} {t : Bool} (b : Forward queue rows mark operation n many free k) (more : k < many)
-      (m-is : m ≡ getD mark k 0) (i-is : i ≡ getD operation k 0) (g-is : g ≡ getD free (m / 2) 0) (t-is : t ≡ early queue rows g i) where
+      (m-is : m ≡ getD mark k 0 % 512) (i-is : i ≡ getD operation k 0 % 1024) (g-is : g ≡ getD free (m / 2) 0) (t-is : t ≡ early queue rows g i) where
     first : shown-from mark operation (many - k) k ≡ mark-of m i ∷ shown-from mark operation (many - (k + 1)) (k + 1)
     first = rw (m-is, i-is) (shown-next mark operation many k more)
 

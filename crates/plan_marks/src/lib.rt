@@ -1,11 +1,11 @@
 // Broken marks, refusal 11: marks of which keeping asks what "before" does not force. Two passes over the marks, each with a table of
 // frees: a use against the next free of its buffer, a mark against the last free before it. In a table 1,024 stands for no free.
 ghost use mathlib.Core.Path.{_≡_};
-ghost use Prim.Native.Nat.{_<_, min};
-ghost use lib.ListN.{getD};
+ghost use Prim.Native.Nat.{_<_, _≤_, min};
 ghost use Rattle.plan_format.specs.Plan.{Plan};
 ghost use Rattle.plan_order.specs.Holdings.{broken as broken-mark};
-ghost use Rattle.plan_marks.specs.Passes.{place-or, Shown, mark-of, shown-from, noted, no-frees, ordered as is-ordered, late as is-late, early as is-early, first-late, first-early};
+ghost use Rattle.plan_marks.specs.Shown.{place-or, Shown};
+ghost use Rattle.plan_marks.specs.Passes.{mark-of, shown-from, noted, no-frees, ordered as is-ordered, late as is-late, early as is-early, first-late, first-early};
 
 // The lowest operation with a broken mark; n where there is none.
 pub fn broken(
@@ -19,8 +19,9 @@ pub fn broken(
     ensures { λ r. ⌜ ((p : Plan) → Shown p n marks (now (queue .entry)) (now (mark .entry)) (now (mop .entry)) (now (rows .entry)) → r ≡ place-or n (broken-mark p)) ⌝ }
 {
     let none = n as usize;
-    let a = uses(none, marks, queue, mark, mop, rows);
-    let b = reuses(none, marks, queue, mark, mop, rows);
+    let many = lower(marks, 4096);
+    let a = uses(none, many, queue, mark, mop, rows);
+    let b = reuses(none, many, queue, mark, mop, rows);
     lower(a, b)
 }
 
@@ -40,6 +41,7 @@ fn uses(
     mop: &[u16; 4096],
     rows: &[u16; 16416],
 ) -> usize
+    requires { ⌜ marks ≤ 4096 ⌝ }
     ensures { λ r. ⌜ r ≡ first-late (now (queue .entry)) (now (rows .entry)) n (shown-from (now (mark .entry)) (now (mop .entry)) marks 0) ⌝ }
 {
     let mut free = [1024u16; 256];
@@ -47,10 +49,11 @@ fn uses(
     let mut k = marks;
     while 0 < k {
         k -= 1;
-        let m = read(mark, k);
-        let i = read(mop, k);
-        note(&mut free, m, i);
-        if late(queue, rows, i, freed(&free, m / 2)) {
+        let m = wide(mark[k]) % 512;
+        let i = wide(mop[k]) % 1024;
+        if m % 2 == 1 {
+            note(&mut free, m, i);
+        } else if late(queue, rows, i, wide(free[m / 2])) {
             lowest = i;
         }
     }
@@ -66,14 +69,15 @@ fn reuses(
     mop: &[u16; 4096],
     rows: &[u16; 16416],
 ) -> usize
+    requires { ⌜ marks ≤ 4096 ⌝ }
     ensures { λ r. ⌜ r ≡ first-early (now (queue .entry)) (now (rows .entry)) n no-frees (shown-from (now (mark .entry)) (now (mop .entry)) marks 0) ⌝ }
 {
     let mut free = [1024u16; 256];
     let mut k = 0;
     while k < marks {
-        let m = read(mark, k);
-        let i = read(mop, k);
-        if early(queue, rows, freed(&free, m / 2), i) {
+        let m = wide(mark[k]) % 512;
+        let i = wide(mop[k]) % 1024;
+        if early(queue, rows, wide(free[m / 2]), i) {
             return i;
         }
         note(&mut free, m, i);
@@ -84,7 +88,7 @@ fn reuses(
 
 // Whether a use by i isn't forced to come no later than a free.
 fn late(queue: &[u16; 1024], rows: &[u16; 16416], i: usize, free: usize) -> bool
-    requires { ⌜ i < 65536 ⌝ }
+    requires { ⌜ i < 1024 ⌝ }
     ensures { λ r. ⌜ r ≡ is-late (now (queue .entry)) (now (rows .entry)) i free ⌝ }
 {
     if free < 1024 {
@@ -96,7 +100,7 @@ fn late(queue: &[u16; 1024], rows: &[u16; 16416], i: usize, free: usize) -> bool
 
 // Whether a mark by i isn't forced to come after a free.
 fn early(queue: &[u16; 1024], rows: &[u16; 16416], free: usize, i: usize) -> bool
-    requires { ⌜ i < 65536 ⌝ }
+    requires { ⌜ i < 1024 ⌝ }
     ensures { λ r. ⌜ r ≡ is-early (now (queue .entry)) (now (rows .entry)) free i ⌝ }
 {
     if free < 1024 {
@@ -111,35 +115,29 @@ fn early(queue: &[u16; 1024], rows: &[u16; 16416], free: usize, i: usize) -> boo
 
 // Whether i is j or before j, by the column of i's queue in their rows.
 fn ordered(queue: &[u16; 1024], rows: &[u16; 16416], i: usize, j: usize) -> bool
-    requires { ⌜ (i < 65536) × (j < 65536) ⌝ }
+    requires { ⌜ (i < 1024) × (j < 1024) ⌝ }
     ensures { λ r. ⌜ r ≡ is-ordered (now (queue .entry)) (now (rows .entry)) i j ⌝ }
 {
-    let q = read(queue, i);
-    let own = read(rows, 16 * i + q);
-    let other = read(rows, 16 * j + q);
+    let q = wide(queue[i]) % 16;
+    let own = wide(rows[16 * i + q]);
+    let other = wide(rows[16 * j + q]);
     own <= other
 }
 
 // Notes a free, an odd mark, at its buffer.
 fn note(free: &mut [u16; 256], m: usize, i: usize)
-    requires { ⌜ i < 65536 ⌝ }
+    requires { ⌜ (m < 512) × (i < 1024) ⌝ }
     ensures { λ _. ⌜ now (free .exit) ≡ noted (mark-of m i) (now (free .entry)) ⌝ }
 {
-    if m % 2 == 1 {
-        cells::put16(free, m / 2, i);
+    if m % 2 == 0 {
+        return;
     }
+    free[m / 2] = i as u16;
 }
 
-// The free noted at a buffer.
-fn freed(free: &[u16; 256], buffer: usize) -> usize
-    ensures { λ r. ⌜ r ≡ getD (now (free .entry)) buffer 0 ⌝ }
+// A number of sixteen bits, to compute with.
+fn wide(x: u16) -> usize
+    ensures { λ r. ⌜ r ≡ x ⌝ }
 {
-    cells::get16(free, buffer)
-}
-
-// The number at a place, 0 past the end.
-fn read(a: &[u16], i: usize) -> usize
-    ensures { λ r. ⌜ (r ≡ getD (now (a .entry)) i 0) × (r < 65536) ⌝ }
-{
-    cells::get16(a, i)
+    x as usize
 }

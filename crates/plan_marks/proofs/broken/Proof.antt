@@ -6,21 +6,25 @@ use Rattle.plan_marks.proofs.Found.{broken-found}
 use Rattle.plan_marks.proofs.broken.Statement.{statement}
 use Rattle.plan_marks.proofs.broken.Tie as tie
 
+lower-requires : tie.Need-lower-requires
+lower-requires c κs = search needs
+
 uses-requires : tie.Need-uses-requires
 uses-requires c κs = search needs
 
 reuses-requires : tie.Need-reuses-requires
 reuses-requires c κs = search needs
 
-lower-requires : tie.Need-lower-requires
-lower-requires c κs = search needs
+lower-requires-2 : tie.Need-lower-requires-2
+lower-requires-2 c κs = search needs
 
 returns : tie.Need-returns
 returns c =
     λ p shown.
-    c .lower .ensures
+    c .lower2 .ensures
     ∙ ap₂ (λ (a b : ℕ). min a b) (c .before .before .uses .ensures) (c .before .reuses .ensures)
-    ∙ broken-found p _ _ _ _ _ _ shown
+    ∙ broken-found p _ _ _ _ _ _ _ (c .before .before .before .lower .ensures) shown
 
 pub broken-spec : {M : Type 1} → statement M
-broken-spec = tie.close (tie.spec uses-requires reuses-requires lower-requires returns)
+broken-spec =
+    tie.close (tie.spec lower-requires uses-requires reuses-requires lower-requires-2 returns)

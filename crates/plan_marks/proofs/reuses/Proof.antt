@@ -1,5 +1,6 @@
 -- `plan_marks::reuses` goes from the first mark to the last: the answer from here is that of the whole. Assumes nothing.
-use Prim.Native.Nat.{_-_}
+use mathlib.Core.Path.{ap}
+use Prim.Native.Nat.{ℕ, _-_, _%_}
 use borrow.Author.Needs.{needs}
 use Rattle.plan_marks.proofs.Turns.{Forward, forward-none, forward-end, forward-early, forward-fine}
 use Rattle.plan_marks.proofs.reuses.Statement.{statement}
@@ -14,20 +15,38 @@ abbrev μ-loop : tie.MeasureT-loop
 loop-holds : tie.Need-loop-holds Inv-loop μ-loop
 loop-holds c = forward-none
 
-read-requires : tie.Need-read-requires Inv-loop μ-loop
-read-requires c κs = search needs
+mul-wide : tie.Need-mul-wide Inv-loop μ-loop
+mul-wide c = search needs
 
-read-requires-2 : tie.Need-read-requires-2 Inv-loop μ-loop
-read-requires-2 c κs = search needs
+element-copy-out-wide : tie.Need-element-copy-out-wide Inv-loop μ-loop
+element-copy-out-wide c = search needs
 
-freed-requires : tie.Need-freed-requires Inv-loop μ-loop
-freed-requires c κs = search needs
+wide-requires : tie.Need-wide-requires Inv-loop μ-loop
+wide-requires c κs = search needs
+
+mul-wide-2 : tie.Need-mul-wide-2 Inv-loop μ-loop
+mul-wide-2 c = search needs
+
+element-copy-out-wide-2 : tie.Need-element-copy-out-wide-2 Inv-loop μ-loop
+element-copy-out-wide-2 c = search needs
+
+wide-requires-2 : tie.Need-wide-requires-2 Inv-loop μ-loop
+wide-requires-2 c κs = search needs
+
+mul-wide-3 : tie.Need-mul-wide-3 Inv-loop μ-loop
+mul-wide-3 c = search needs
+
+array-read-wide : tie.Need-array-read-wide Inv-loop μ-loop
+array-read-wide c = search needs
+
+wide-requires-3 : tie.Need-wide-requires-3 Inv-loop μ-loop
+wide-requires-3 c κs = search needs
 
 early-requires : tie.Need-early-requires Inv-loop μ-loop
 early-requires c κs = search needs
 
 returns : tie.Need-returns Inv-loop μ-loop
-returns c = forward-early (c .before .before .before .before .before .before .before .before .before .loop .inv) (c .before .before .before .before .before .before .before .before .loop-test .taken) (c .before .before .before .before .before .before .read .ensures .0) (c .before .before .before .before .read2 .ensures .0) (c .before .before .freed .ensures) (c .before .early .ensures) (c .if1 .taken)
+returns c = forward-early (c .before .before .before .before .before .before .before .before .loop .inv) (c .before .before .before .before .before .before .before .loop-test .taken) (ap (λ (z : ℕ). z % 512) (c .before .before .before .before .before .wide .ensures)) (ap (λ (z : ℕ). z % 1024) (c .before .before .before .wide2 .ensures)) (c .before .before .wide3 .ensures) (c .before .early .ensures) (c .if1 .taken)
 
 note-requires : tie.Need-note-requires Inv-loop μ-loop
 note-requires c κs = search needs
@@ -39,7 +58,7 @@ loop-less : tie.Need-loop-less Inv-loop μ-loop
 loop-less c = search needs
 
 loop-again : tie.Need-loop-again Inv-loop μ-loop
-loop-again c = forward-fine (c .before .before .before .before .before .before .before .before .before .before .before .loop .inv) (c .before .before .before .before .before .before .before .before .before .before .loop-test .taken) (c .before .before .before .before .before .before .before .before .read .ensures .0) (c .before .before .before .before .before .before .read2 .ensures .0) (c .before .before .before .before .freed .ensures) (c .before .before .before .early .ensures) (c .before .before .if1 .left) (c .note .ensures)
+loop-again c = forward-fine (c .before .before .before .before .before .before .before .before .before .before .loop .inv) (c .before .before .before .before .before .before .before .before .before .loop-test .taken) (ap (λ (z : ℕ). z % 512) (c .before .before .before .before .before .before .before .wide .ensures)) (ap (λ (z : ℕ). z % 1024) (c .before .before .before .before .before .wide2 .ensures)) (c .before .before .before .before .wide3 .ensures) (c .before .before .before .early .ensures) (c .before .before .if1 .left) (c .note .ensures)
 
 returns-2 : tie.Need-returns-2 Inv-loop μ-loop
 returns-2 c = forward-end (c .loop-test .left) (c .before .loop .inv)
@@ -51,9 +70,15 @@ reuses-spec =
     Inv-loop
     μ-loop
     loop-holds
-    read-requires
-    read-requires-2
-    freed-requires
+    mul-wide
+    element-copy-out-wide
+    wide-requires
+    mul-wide-2
+    element-copy-out-wide-2
+    wide-requires-2
+    mul-wide-3
+    array-read-wide
+    wide-requires-3
     early-requires
     returns
     note-requires

@@ -1,0 +1,27 @@
+-- What is asked of the columns of a plan, and what is answered. Assumes nothing: these are definitions.
+use mathlib.Core.Path.{_≡_}
+use mathlib.Core.Bool.{true}
+use mathlib.Core.List.{List}
+use mathlib.Core.Option.{Option, none, some}
+use Prim.Native.Nat.{ℕ, _≤_, _<_}
+use lib.ListN.{length}
+use Rattle.plan_format.specs.Plan.{Plan, count}
+use Rattle.plan_format.specs.Sound.{Sound}
+use Rattle.plan_order.specs.Runs.{is-full}
+use Rattle.plan_columns.specs.Columns.{Queue-column, Mark-columns, Row-columns}
+
+-- the operation that is found, or n where there is none
+unfoldable pub place-or : (n : ℕ) → Option ℕ → ℕ
+place-or n none = n
+place-or n (some i) = i
+
+-- a plan with a full run, shown by columns
+pub record Shown (p : Plan) (n marks : ℕ) (queue mark operation rows : List ℕ) : Type 0 where
+  pub sound : Sound p
+  pub many : count p ≡ n
+  pub few-buffers : length (p .sizes) ≤ 256
+  pub queues-shown : Queue-column p queue
+  pub marks-shown : Mark-columns p marks mark operation
+  pub rows-shown : Row-columns p (λ j. j < count p) rows
+  pub run : List ℕ
+  pub full : is-full p run ≡ true
