@@ -20,3 +20,7 @@ pub mod VerdictMeaning
 pub mod ReadyMeaning
 pub mod StandardMeaning
 pub mod RowsMeaning
+pub mod LeftMeaning
+pub mod RoomMeaning
+pub mod OutcomeMeaning
+pub mod QuestionMeaning
