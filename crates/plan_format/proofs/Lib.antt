@@ -28,3 +28,5 @@ pub mod RulesFirst
 pub mod RulesMeaning
 pub mod ChecksMeaning
 pub mod RoomMeaning
+pub mod Stopping
+pub mod ReadingMeaning

@@ -13,6 +13,8 @@ use Rattle.plan_format.specs.Grammar.{Grammar, field, seq, counted, noth
 use Rattle.plan_format.specs.Form.{first-form, queue-count, semaphore-count, buffer-count, any-number, below, new-axis, a-queue, a-semaphore, a-buffer, a-kind, point, mark, part, operation, plan-grammar, scanned-by}
 use Rattle.plan_format.specs.Stored.{scanned, listed, plan-in, plan-refusal}
 use Rattle.plan_format.specs.Sound.{rules-refusal}
+use Rattle.plan_format.specs.Meaning.{Plan-refusal-means}
+use Rattle.plan_format.proofs.Judged.{other-given, or-else-first, or-else-second}
 use Rattle.plan_format.proofs.RulesMeaning.{rules-mean}
 
 cond-has : {A : Type 0} (Q : A → Type 0) (b : Bool) (x y : A) → Q x → Q y → Q (cond b x y)
@@ -122,3 +124,15 @@ plan-eight bs =
     to-eight n (inr (inl e)) = omega arith
     to-eight n (inr (inr (inl e))) = omega arith
     to-eight n (inr (inr (inr e))) = omega arith
+
+-- 1 to 5 first, then 6 to 8
+pub plan-refusal-means : (bs : List ℕ) → Plan-refusal-means bs (plan-refusal bs)
+unfolding plan-refusal
+plan-refusal-means bs =
+    let a = scanned bs .fault in
+    let b = rules-refusal (plan-in bs) in
+    record {
+      reading-first = λ h. or-else-first a b (other-given a h);
+      then-rules = λ e. rw (or-else-second a b e) (rules-mean (plan-in bs));
+      only = plan-eight bs;
+    }

@@ -3,13 +3,15 @@
 use mathlib.Core.Path.{_≡_}
 use mathlib.Core.Bool.{true, false}
 use mathlib.Core.Logic.{_⊎_, _↔_}
-use mathlib.Core.List.{List}
-use Prim.Native.Nat.{ℕ, _≤_, _<_}
-use lib.ListN.{length, getD}
+use mathlib.Core.List.{List, [], _∷_, _++_}
+use Prim.Native.Nat.{ℕ, zero, suc, _+_, _≤_, _<_}
+use lib.ListN.{length, getD, drop}
 use Rattle.plan_format.specs.Refusal.{Refusal}
-use Rattle.plan_format.specs.Grammar.{Source, count-check}
-use Rattle.plan_format.specs.Form.{any-number, new-axis, a-queue, a-semaphore, a-buffer, a-kind, queue-count, semaphore-count, buffer-count}
+use Rattle.plan_format.specs.Grammar.{Grammar, field, seq, counted, nothing, Source, Scan, count-check}
+use Rattle.plan_format.specs.Form.{first-form, plan-grammar, any-number, new-axis, a-queue, a-semaphore, a-buffer, a-kind, queue-count, semaphore-count, buffer-count}
 use Rattle.plan_format.specs.Plan.{Point, Plan, op}
+use Rattle.plan_format.specs.Stored.{scanned, plan-in}
+use Rattle.plan_format.specs.declared.Told.{Told}
 
 -- the number and the place of a refusal
 abbrev pub Refuses : Refusal → (number place : ℕ) → Type 0
@@ -52,6 +54,64 @@ pub record Field-means (S : Source) (width : ℕ) (check : ℕ → ℕ) (rest : 
   pub judged : S .wide width ≤ length rest → (check (S .front width rest) ≡ 0 → ⊥) → n ≡ check (S .front width rest)
   pub too-wide : S .wide width ≤ length rest → check (S .front width rest) ≡ 0 → S .fits width (S .front width rest) ≡ false → n ≡ 4
   pub passed : S .wide width ≤ length rest → check (S .front width rest) ≡ 0 → S .fits width (S .front width rest) ≡ true → n ≡ 0
+
+-- ---- 1 to 5 of a whole reading: the first fault in reading order
+-- a reading on its way, without a fault: what is left, the place, the numbers got
+pub record Cursor : Type 0 where
+  pub rest : List ℕ
+  pub place : ℕ
+  pub got : List ℕ
+
+-- a field is taken: it is not cut short, is judged 0, and its bytes can hold it
+pub record Takes-field (S : Source) (width : ℕ) (check : ℕ → ℕ) (a b : Cursor) : Type 0 where
+  pub long : S .wide width ≤ length (a .rest)
+  pub passes : check (S .front width (a .rest)) ≡ 0
+  pub fits : S .fits width (S .front width (a .rest)) ≡ true
+  pub next : b ≡ record {
+    rest = drop (S .wide width) (a .rest);
+    place = a .place + S .wide width;
+    got = a .got ++ (S .front width (a .rest) ∷ []);
+  }
+
+-- a reading stops at a field, with the field's number
+pub record Stops-field (S : Source) (width : ℕ) (check : ℕ → ℕ) (a b : Cursor) (n : ℕ) : Type 0 where
+  pub here : b ≡ a
+  pub given : n ≡ 0 → ⊥
+  pub why : Field-means S width check (a .rest) n
+
+abbrev pub Repeated : (R : Cursor → Cursor → Type 0) → (k : ℕ) → (a b : Cursor) → Type 0
+Repeated R zero a b = b ≡ a
+Repeated R (suc k) a b = (c : Cursor) × R a c × Repeated R k c b
+
+-- every field of a grammar is taken, one after another; a count is followed by so many entries
+abbrev pub Reads : Source → Grammar → (a b : Cursor) → Type 0
+Reads S (field w c) a b = Takes-field S w (λ v. c (a .got) v) a b
+Reads S (seq g h) a b = (c : Cursor) × Reads S g a c × Reads S h c b
+Reads S (counted l m w g) a b =
+    (c : Cursor) × Takes-field S w (λ v. count-check l m v) a c × Repeated (λ x y. Reads S g x y) (S .front w (a .rest)) c b
+Reads S nothing a b = b ≡ a
+
+-- a reading takes what comes before some field of a grammar and stops there
+abbrev pub Stops : Source → Grammar → (a b : Cursor) → (n : ℕ) → Type 0
+Stops S (field w c) a b n = Stops-field S w (λ v. c (a .got) v) a b n
+Stops S (seq g h) a b n = Stops S g a b n ⊎ ((c : Cursor) × Reads S g a c × Stops S h c b n)
+Stops S (counted l m w g) a b n =
+    Stops-field S w (λ v. count-check l m v) a b n ⊎
+    ((c d : Cursor) × (j : ℕ) × Takes-field S w (λ v. count-check l m v) a c × (j < S .front w (a .rest)) × Repeated (λ x y. Reads S g x y) j c d ×
+    Stops S g d b n)
+Stops S nothing a b n = ⊥
+
+abbrev pub start : List ℕ → Cursor
+start xs = record { rest = xs; place = 0; got = [] }
+
+-- 01: "Numbers 1 to 5 come from the first fault met in that reading order"; "3: bytes follow the last section, first such byte"
+pub record Reading-means (S : Source) (xs : List ℕ) (s : Scan) : Type 0 where
+  pub fault :
+      (n i : ℕ) → (n ≡ 0 → ⊥) → Refuses (s .fault) n i ↔ ((b : Cursor) × (b .place ≡ i) ×
+      (Stops S (plan-grammar first-form) (start xs) b n ⊎ ((n ≡ 3) × Reads S (plan-grammar first-form) (start xs) b × (0 < length (b .rest)))))
+  pub none : Refuses (s .fault) 0 0 ↔ ((b : Cursor) × Reads S (plan-grammar first-form) (start xs) b × (length (b .rest) ≡ 0) × (s .got ≡ b .got))
+  pub only : s .fault .number ≤ 5
+  pub inside : s .fault .place ≤ length xs
 
 -- ---- 6 to 8
 abbrev pub signal-at : Plan → (i k : ℕ) → Point
@@ -119,3 +179,19 @@ pub record Rules-mean (p : Plan) (f : Refusal) : Type 0 where
   pub eight : (i : ℕ) → (Refuses f 8 i) ↔ Unmet-wait p i
   pub none : (Refuses f 0 0) ↔ (Signals-good p × ((i k : ℕ) → Too-high p i k → ⊥))
   pub only : (f .number ≡ 0) ⊎ ((f .number ≡ 6) ⊎ ((f .number ≡ 7) ⊎ (f .number ≡ 8)))
+
+-- 01: "Numbers 1 to 5 come from the first fault ..  Then 6 and 7 ..; then 8 likewise"
+pub record Plan-refusal-means (bytes : List ℕ) (f : Refusal) : Type 0 where
+  pub reading-first : (scanned bytes .fault .number ≡ 0 → ⊥) → f ≡ scanned bytes .fault
+  pub then-rules : scanned bytes .fault .number ≡ 0 → Rules-mean (plan-in bytes) f
+  pub only : f .number ≤ 8
+
+-- ---- what is handed back by reader and writer
+-- 01: "A success hands back 0 and, beside it, the length. A refusal leaves the room untouched; past the length nothing is touched."
+pub record Filled (new : List ℕ) (r : Told) (room room-now : List ℕ) : Type 0 where
+  pub refused : (r .number ≡ 0 → ⊥) → room-now ≡ room
+  pub length-told : r .number ≡ 0 → r .answer ≡ length new
+  pub place-told : r .number ≡ 0 → r .place ≡ 0
+  pub long : r .number ≡ 0 → length room-now ≡ length room
+  pub holds : r .number ≡ 0 → (k : ℕ) → k < length new → getD room-now k 0 ≡ getD new k 0
+  pub past : r .number ≡ 0 → (k : ℕ) → length new ≤ k → getD room-now k 0 ≡ getD room k 0

@@ -1,14 +1,14 @@
 -- What is left in table and list, place by place: the old numbers, zeros, or the rows and the run. Assumes nothing.
 use mathlib.Core.Path.{_≡_, refl, sym, ap, _∙_, subst}
 use mathlib.Core.Bool.{true}
-use mathlib.Core.List.{List, [], _++_}
-use Prim.Native.Nat.{ℕ, _+_, _*_, _-_, _≤_, _<_}
+use mathlib.Core.List.{List, []}
+use Prim.Native.Nat.{ℕ, _+_, _*_, _≤_, _<_}
 use native.Mathlib.Nat.{le-refl}
 use native.Mathlib.Omega.{arith}
 use lib.ListN.{length, getD, take, drop, replicate, length-replicate, getD-replicate}
-use lib.Seq.{take-length, take-append-le, getD-append-add, getD-drop}
+use lib.Seq.{take-length, take-append-le}
 use Rattle.basics.specs.Lists.{in-front}
-use Rattle.basics.proofs.Fronts.{front-length, front-at}
+use Rattle.basics.proofs.Fronts.{front-length, front-at, front-past}
 use Rattle.order.proofs.Turns.{run-take}
 use Rattle.plan_format.specs.Plan.{Plan, count, op, queues}
 use Rattle.plan_order.specs.Check.{untouched, zeros, rows-and-run, left-in, table-left, list-left}
@@ -23,18 +23,10 @@ use Rattle.plan_order.proofs.ReadyMeaning.{number-ready-means, list-len
 use Rattle.plan_order.proofs.StandardMeaning.{standard-means}
 
 -- ---- past what is written
-front-past : (new old : List ℕ) (i : ℕ) → length new ≤ i → getD (in-front new old) i 0 ≡ getD old i 0
-unfolding in-front
-front-past new old i l =
-    let k = i - length new in
-    let e : i ≡ length new + k = omega arith in
-    ap (λ (z : ℕ). getD (new ++ drop (length new) old) z 0) e ∙ getD-append-add new (drop (length new) old) k 0
-    ∙ getD-drop (length new) old k 0 ∙ ap (λ (z : ℕ). getD old z 0) (sym e)
-
 front-kept : (k : ℕ) (new old : List ℕ) → length new ≡ k → Past-kept k old (in-front new old)
 front-kept k new old e = record {
   long = λ l. front-length new old (omega arith);
-  past = λ i l. front-past new old i (omega arith);
+  past = λ i l. front-past new old i 0 (omega arith);
 }
 
 -- the first k places are those of what is written

@@ -10,7 +10,7 @@ use Rattle.order.specs.Runs.{step-of}
 use Rattle.plan_format.specs.Refusal.{Refusal}
 use Rattle.plan_format.specs.Plan.{Point, Mark, Plan, count, op, queues}
 use Rattle.plan_format.specs.Stored.{plan-in}
-use Rattle.plan_format.specs.Meaning.{Refuses}
+use Rattle.plan_format.specs.Meaning.{Refuses, signal-at}
 use Rattle.plan_order.specs.Precedence.{Before}
 use Rattle.plan_order.specs.Holdings.{Placed, buffer-marks}
 use Rattle.plan_order.specs.Check.{Outcome, Leaves, rows-and-run, check-outcome}
@@ -93,14 +93,11 @@ pub record Lowest-in-no-run (p : Plan) (j : ℕ) : Type 0 where
 
 -- 01: "A run raises a semaphore in order if each signal of that semaphore in the run, by step and then in list order, is above 0 and
 -- above every earlier one."
-abbrev pub own-signal : Plan → (i n : ℕ) → Point
-own-signal p i n = getD (op p i .signals) n (record { semaphore = 0; value = 0 })
-
 pub record Raises-means (p : Plan) (r : List ℕ) : Type 0 where
   pub above-zero : (k s v : ℕ) → k < length r → Signals p (getD r k 0) s v → 0 < v
   pub above-earlier-step : (k l s u v : ℕ) → k < l → l < length r → Signals p (getD r k 0) s u → Signals p (getD r l 0) s v → u < v
   pub above-earlier-in-list : (k m n : ℕ) → k < length r → m < n → n < length (op p (getD r k 0) .signals) →
-      own-signal p (getD r k 0) m .semaphore ≡ own-signal p (getD r k 0) n .semaphore → own-signal p (getD r k 0) m .value < own-signal p (getD r k 0) n .value
+      signal-at p (getD r k 0) m .semaphore ≡ signal-at p (getD r k 0) n .semaphore → signal-at p (getD r k 0) m .value < signal-at p (getD r k 0) n .value
 
 -- ---- holdings
 abbrev pub mark-at : List Placed → (k : ℕ) → Placed
