@@ -1,11 +1,11 @@
 -- A list written over the front of another, element by element. Assumes nothing.
 use mathlib.Core.Path.{_≡_, refl, sym, ap, _∙_}
-use mathlib.Core.List.{List, [], _∷_, append-assoc}
-use Prim.Native.Nat.{ℕ, suc, _+_, _≤_, _<_}
+use mathlib.Core.List.{List, [], _∷_, _++_, append-assoc}
+use Prim.Native.Nat.{ℕ, suc, _+_, _-_, _≤_, _<_}
 use native.Mathlib.Numerals.{add-one}
 use native.Mathlib.Omega.{arith}
 use lib.ListN.{length, getD, set, take, drop, length-append, length-drop, List·getD-append}
-use lib.Seq.{length-take-le, take-suc, drop-cons, set-at, take-all}
+use lib.Seq.{length-take-le, take-suc, drop-cons, set-at, take-all, getD-append-add, getD-drop}
 use Rattle.basics.specs.Lists.{in-front}
 
 module _ {A : Type 0} (new old : List A) where
@@ -36,3 +36,11 @@ module _ {A : Type 0} (new old : List A) where
   pub front-at : (k : ℕ) (d : A) → k < length new → getD (in-front new old) k d ≡ getD new k d
   unfolding in-front
   front-at k d l = List·getD-append new (drop (length new) old) d k l
+
+  pub front-past : (k : ℕ) (d : A) → length new ≤ k → getD (in-front new old) k d ≡ getD old k d
+  unfolding in-front
+  front-past k d l =
+      let j = k - length new in
+      let e : k ≡ length new + j = omega arith in
+      ap (λ (z : ℕ). getD (new ++ drop (length new) old) z d) e ∙ getD-append-add new (drop (length new) old) j d
+      ∙ getD-drop (length new) old j d ∙ ap (λ (z : ℕ). getD old z d) (sym e)

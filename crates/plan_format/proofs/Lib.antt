@@ -22,3 +22,11 @@ pub mod Making
 pub mod Largest
 pub mod Prefix
 pub mod Widths
+pub mod Numbers
+pub mod Heights
+pub mod RulesFirst
+pub mod RulesMeaning
+pub mod ChecksMeaning
+pub mod RoomMeaning
+pub mod Stopping
+pub mod ReadingMeaning

@@ -5,3 +5,4 @@ pub mod Plan
 pub mod Sound
 pub mod Stored
 pub mod Promise
+pub mod Meaning

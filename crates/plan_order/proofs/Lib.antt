@@ -21,3 +21,7 @@ pub mod ReadyMeaning
 pub mod StandardMeaning
 pub mod RowsMeaning
 pub mod RunListed
+pub mod LeftMeaning
+pub mod RoomMeaning
+pub mod OutcomeMeaning
+pub mod QuestionMeaning

@@ -4,7 +4,7 @@ use mathlib.Core.Bool.{Bool, true, false, false≢true}
 use mathlib.Core.Logic.{_↔_}
 use mathlib.Core.List.{List, [], _∷_, _++_, List·Memᴰ, List·Memᴰ·head, List·Memᴰ·not-nil, Memᴰ·append-right}
 use mathlib.Core.Option.{Option, none, some}
-use Prim.Native.Nat.{ℕ}
+use Prim.Native.Nat.{ℕ, zero, suc}
 use native.Mathlib.Omega.{arith}
 use lib.Dec.{ltb, eqb}
 use borrow.Author.Tests.{ltb-true, ltb-false, eqb-true, eqb-false}
@@ -13,8 +13,8 @@ use Rattle.basics.proofs.Tests.{by-cases, by-option, clash, is-false}
 use Rattle.basics.proofs.Searches.{all-gives, all-by, all-fails, all-no, highest-some, highest-none}
 use Rattle.plan_format.specs.Plan.{Plan, count, op}
 use Rattle.plan_order.specs.Holdings.{Placed, is-free, buffer-marks}
-use Rattle.plan_order.specs.Reuse.{last-on, seen-by, last-mark, verdict-on, verdict}
-use Rattle.plan_order.specs.Meaning.{Last-on, Seen, Last-mark, When}
+use Rattle.plan_order.specs.Reuse.{number-of, last-on, seen-by, last-mark, verdict-on, verdict}
+use Rattle.plan_order.specs.Meaning.{Last-on, Seen, Last-mark, When, Verdict-table}
 use Rattle.plan_order.specs.declared.Verdict.{Verdict}
 use Rattle.plan_order.specs.declared.Verdict.the-variants.{Fresh, Reusable, Held, NotOrdered, StrayUse}
 use Rattle.plan_order.proofs.Precedence.{at-or-means}
@@ -77,6 +77,25 @@ unfolding last-mark
 none-last [] e = refl
 none-last (n ∷ []) e = absurd (let z : _≡_ {A = ℕ} 0 1 = cc in omega arith)
 none-last (n ∷ n′ ∷ ms) e = absurd (let z = none-last (n′ ∷ ms) e in let z : _≡_ {A = ℕ} 0 1 = cc in omega arith)
+
+-- ---- no two verdicts have one number
+verdict-of : ℕ → Verdict
+verdict-of zero = Fresh
+verdict-of (suc zero) = Reusable
+verdict-of (suc (suc zero)) = Held
+verdict-of (suc (suc (suc zero))) = NotOrdered
+verdict-of (suc (suc (suc (suc n)))) = StrayUse
+
+of-number : (v : Verdict) → verdict-of (number-of v) ≡ v
+unfolding verdict-of number-of
+of-number Fresh = refl
+of-number Reusable = refl
+of-number Held = refl
+of-number NotOrdered = refl
+of-number StrayUse = refl
+
+number-one : (u v : Verdict) → number-of u ≡ number-of v → u ≡ v
+number-one u v e = sym (of-number u) ∙ ap verdict-of e ∙ of-number v
 
 -- ---- the table
 module _ (p : Plan) (q b : ℕ) where
@@ -150,3 +169,17 @@ module _ (p : Plan) (q b : ℕ) where
   -- 01, the table of verdicts
   pub verdict-means : (v : Verdict) → (verdict p q b ≡ v) ↔ When p q b v
   verdict-means v = ((λ e. subst (λ (z : Verdict). When p q b z) e table), when-is v)
+
+  -- the numbers of verdicts
+  pub verdict-table : Verdict-table p q b (number-of (verdict p q b))
+  unfolding number-of
+  verdict-table = record {
+    fresh = numbered Fresh;
+    reusable = numbered Reusable;
+    held = numbered Held;
+    not-ordered = numbered NotOrdered;
+    stray-use = numbered StrayUse;
+  }
+    where
+      numbered : (v : Verdict) → (number-of (verdict p q b) ≡ number-of v) ↔ When p q b v
+      numbered v = ((λ e. verdict-means v .0 (number-one (verdict p q b) v e)), (λ w. ap number-of (verdict-means v .1 w)))

@@ -1,15 +1,19 @@
 -- What the definitions say, by quantifiers over positions, marks, signals and chains. The laws *-means of proofs/ show each the same as its definition.
 -- Assumes nothing: these are definitions.
 use mathlib.Core.Path.{_≡_}
-use mathlib.Core.Logic.{_⊎_}
+use mathlib.Core.Logic.{_⊎_, _↔_}
 use mathlib.Core.List.{List, [], _∷_, _++_, List·Memᴰ}
-use Prim.Native.Nat.{ℕ, suc, _≤_, _<_}
+use Prim.Native.Nat.{ℕ, suc, _+_, _*_, _≤_, _<_}
 use lib.ListN.{length, getD, take}
-use Rattle.basics.specs.Places.{Among}
+use Rattle.basics.specs.Places.{Among, Counts}
 use Rattle.order.specs.Runs.{step-of}
+use Rattle.plan_format.specs.Refusal.{Refusal}
 use Rattle.plan_format.specs.Plan.{Point, Mark, Plan, count, op, queues}
+use Rattle.plan_format.specs.Stored.{plan-in}
+use Rattle.plan_format.specs.Meaning.{Refuses, signal-at}
 use Rattle.plan_order.specs.Precedence.{Before}
 use Rattle.plan_order.specs.Holdings.{Placed, buffer-marks}
+use Rattle.plan_order.specs.Check.{Outcome, Leaves, rows-and-run, check-outcome}
 use Rattle.plan_order.specs.declared.Verdict.{Verdict}
 use Rattle.plan_order.specs.declared.Verdict.the-variants.{Fresh, Reusable, Held, NotOrdered, StrayUse}
 
@@ -89,14 +93,11 @@ pub record Lowest-in-no-run (p : Plan) (j : ℕ) : Type 0 where
 
 -- 01: "A run raises a semaphore in order if each signal of that semaphore in the run, by step and then in list order, is above 0 and
 -- above every earlier one."
-abbrev pub own-signal : Plan → (i n : ℕ) → Point
-own-signal p i n = getD (op p i .signals) n (record { semaphore = 0; value = 0 })
-
 pub record Raises-means (p : Plan) (r : List ℕ) : Type 0 where
   pub above-zero : (k s v : ℕ) → k < length r → Signals p (getD r k 0) s v → 0 < v
   pub above-earlier-step : (k l s u v : ℕ) → k < l → l < length r → Signals p (getD r k 0) s u → Signals p (getD r l 0) s v → u < v
   pub above-earlier-in-list : (k m n : ℕ) → k < length r → m < n → n < length (op p (getD r k 0) .signals) →
-      own-signal p (getD r k 0) m .semaphore ≡ own-signal p (getD r k 0) n .semaphore → own-signal p (getD r k 0) m .value < own-signal p (getD r k 0) n .value
+      signal-at p (getD r k 0) m .semaphore ≡ signal-at p (getD r k 0) n .semaphore → signal-at p (getD r k 0) m .value < signal-at p (getD r k 0) n .value
 
 -- ---- holdings
 abbrev pub mark-at : List Placed → (k : ℕ) → Placed
@@ -176,3 +177,63 @@ When p q b Reusable = (m : Placed) × Last-mark p b m × (m .kind ≡ 1) × ((i 
 When p q b StrayUse = (m : Placed) × Last-mark p b m × (m .kind ≡ 1) × Seen p q (m .by) × ((i : ℕ) × Marked p b i × (Seen p q i → ⊥))
 -- "otherwise, also for a queue with no operations"
 When p q b NotOrdered = (m : Placed) × Last-mark p b m × (m .kind ≡ 1) × (Seen p q (m .by) → ⊥)
+
+-- 01: "0 fresh, 1 reusable, 2 held, 3 not ordered, 4 stray use"; n is the number handed back
+pub record Verdict-table (p : Plan) (q b n : ℕ) : Type 0 where
+  pub fresh : (n ≡ 0) ↔ When p q b Fresh
+  pub reusable : (n ≡ 1) ↔ When p q b Reusable
+  pub held : (n ≡ 2) ↔ When p q b Held
+  pub not-ordered : (n ≡ 3) ↔ When p q b NotOrdered
+  pub stray-use : (n ≡ 4) ↔ When p q b StrayUse
+
+-- an outcome by its number, its place and what it leaves
+abbrev pub Gives : Outcome → (number place : ℕ) → Leaves → Type 0
+Gives o n i l = Refuses (o .refusal) n i × (o .leaves ≡ l)
+
+-- 01: "The plan is checked first", "then 12; then 13", "place the number asked", "any answer, and 12, 13 .. leave the rows and the run there"
+pub record Question-means (bytes : List ℕ) (q b table list : ℕ) (o : Outcome) : Type 0 where
+  pub plan-first : (check-outcome bytes table list .refusal .number ≡ 0 → ⊥) → o ≡ check-outcome bytes table list
+  pub no-queue : check-outcome bytes table list .refusal .number ≡ 0 → queues (plan-in bytes) ≤ q → Gives o 12 q rows-and-run
+  pub no-buffer : check-outcome bytes table list .refusal .number ≡ 0 → q < queues (plan-in bytes) → length (plan-in bytes .sizes) ≤ b → Gives o 13 b rows-and-run
+  pub answered : check-outcome bytes table list .refusal .number ≡ 0 → q < queues (plan-in bytes) → b < length (plan-in bytes .sizes) → Gives o 0 0 rows-and-run
+  -- "exactly if"
+  pub twelve : (o .refusal .number ≡ 12) ↔ ((check-outcome bytes table list .refusal .number ≡ 0) × (queues (plan-in bytes) ≤ q))
+  pub thirteen : (o .refusal .number ≡ 13) ↔
+      ((check-outcome bytes table list .refusal .number ≡ 0) × (q < queues (plan-in bytes)) × (length (plan-in bytes .sizes) ≤ b))
+
+-- ---- room
+-- 01: "9: lent table under 16 numbers for each operation, or lent run list under two for each; length needed", "table before list"
+pub record Room-means (n table list : ℕ) (f : Refusal) : Type 0 where
+  pub table-short : table < 16 * n → Refuses f 9 (16 * n)
+  pub list-short : 16 * n ≤ table → list < 2 * n → Refuses f 9 (2 * n)
+  pub enough : 16 * n ≤ table → 2 * n ≤ list → Refuses f 0 0
+
+-- ---- what is left in table and list
+-- 01: "Numbers past those are never touched."
+pub record Past-kept (k : ℕ) (old now : List ℕ) : Type 0 where
+  pub long : k ≤ length old → length now ≡ length old
+  pub past : (i : ℕ) → k ≤ i → getD now i 0 ≡ getD old i 0
+
+-- 01: "10 and 11 leave zeros in the first 16 × n numbers of the table and the first 2 × n of the list"
+pub record Zeros-left (k : ℕ) (old now : List ℕ) : Type 0 where
+  pub kept : Past-kept k old now
+  pub zero-at : (i : ℕ) → i < k → getD now i 0 ≡ 0
+
+-- 01: "Sixteen numbers for each operation j. Column q is the number of operations on queue q that are j or before j"
+pub record Rows-left (p : Plan) (old now : List ℕ) : Type 0 where
+  pub kept : Past-kept (16 * count p) old now
+  pub entry : (j q : ℕ) → j < count p → q < 16 → Counts (In-column p j q) (getD now (16 * j + q) 0)
+
+-- 01: "The run list holds the n positions in run order, then the n ready numbers", "the number ready before each step"
+pub record Run-left (p : Plan) (old now : List ℕ) : Type 0 where
+  pub kept : Past-kept (2 * count p) old now
+  pub run : Standard-means p (take (count p) now)
+  pub full : Full-means p (take (count p) now)
+  pub ready : (k : ℕ) → k < count p → Counts (Ready-queue p (take k now)) (getD now (count p + k) 0)
+
+-- 01: "Refusals 1 to 9 leave table and list untouched. 10 and 11 leave zeros .. A pass, any answer, and 12, 13, 15 and 21 leave the rows
+-- and the run there"; n is the number handed back
+pub record Left-by-number (p : Plan) (n : ℕ) (table table-now list list-now : List ℕ) : Type 0 where
+  pub untouched : 1 ≤ n → n ≤ 9 → (table-now ≡ table) × (list-now ≡ list)
+  pub zeros : 10 ≤ n → n ≤ 11 → Zeros-left (16 * count p) table table-now × Zeros-left (2 * count p) list list-now
+  pub rows-and-run : (n ≡ 0) ⊎ (12 ≤ n) → Rows-left p table table-now × Run-left p list list-now

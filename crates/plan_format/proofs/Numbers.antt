@@ -1,0 +1,138 @@
+-- No number is given on other grounds: which numbers a reading's fault can have. Assumes nothing.
+use mathlib.Core.Path.{_≡_}
+use mathlib.Core.Bool.{Bool, true, false, _||_, cond}
+use mathlib.Core.Logic.{_⊎_, inl, inr}
+use mathlib.Core.List.{List, [], _∷_, _++_}
+use Prim.Native.Nat.{ℕ, zero, suc, _+_, _*_, _≤_}
+use native.Mathlib.Omega.{arith}
+use lib.Dec.{ltb, eqb}
+use lib.ListN.{length, drop}
+use Rattle.basics.specs.Lists.{member}
+use Rattle.plan_format.specs.Refusal.{Refusal, refusal, none-given, given, or-else}
+use Rattle.plan_format.specs.Grammar.{Grammar, field, seq, counted, nothing, Source, Scan, bytes, numbers, scan, refused, field-number, read-field, last-got, times, count-check, read-by, ended}
+use Rattle.plan_format.specs.Form.{first-form, queue-count, semaphore-count, buffer-count, any-number, below, new-axis, a-queue, a-semaphore, a-buffer, a-kind, point, mark, part, operation, plan-grammar, scanned-by}
+use Rattle.plan_format.specs.Stored.{scanned, listed, plan-in, plan-refusal}
+use Rattle.plan_format.specs.Sound.{rules-refusal}
+use Rattle.plan_format.specs.Meaning.{Plan-refusal-means}
+use Rattle.plan_format.proofs.Judged.{other-given, or-else-first, or-else-second}
+use Rattle.plan_format.proofs.RulesMeaning.{rules-mean}
+
+cond-has : {A : Type 0} (Q : A → Type 0) (b : Bool) (x y : A) → Q x → Q y → Q (cond b x y)
+cond-has Q true x y h g = h
+cond-has Q false x y h g = g
+
+-- every check of a grammar answers a number with a property
+abbrev All-checks : (P : ℕ → Type 0) → Grammar → Type 0
+All-checks P (field w c) = (got : List ℕ) (v : ℕ) → P (c got v)
+All-checks P (seq g h) = All-checks P g × All-checks P h
+All-checks P (counted l m w g) = All-checks P g
+All-checks P nothing = Unit {0}
+
+abbrev Fault-has : (P : ℕ → Type 0) → Scan → Type 0
+Fault-has P s = P (s .fault .number)
+
+-- 0, a field cut short, a count, a number too wide for its bytes: so has the fault's number it
+module _ (P : ℕ → Type 0) (p0 : P 0) (p1 : P 1) (p2 : P 2) (p4 : P 4) (S : Source) where
+  number-has : (w : ℕ) (c : ℕ → ℕ) (r : List ℕ) → ((v : ℕ) → P (c v)) → P (field-number S w c r)
+  unfolding field-number
+  number-has w c r h =
+      let v = S .front w r in
+      cond-has P (ltb (length r) (S .wide w)) 1 (cond (eqb (c v) 0) (cond (S .fits w v) 0 4) (c v)) p1
+      (cond-has P (eqb (c v) 0) (cond (S .fits w v) 0 4) (c v) (cond-has P (S .fits w v) 0 4 p0 p4) (h v))
+
+  field-has : (w : ℕ) (c : ℕ → ℕ) (s : Scan) → ((v : ℕ) → P (c v)) → Fault-has P s → Fault-has P (read-field S w c s)
+  unfolding read-field refused refusal scan
+  field-has w c s h e =
+      let n = field-number S w c (s .rest) in
+      let v = S .front w (s .rest) in
+      let on = scan (drop (S .wide w) (s .rest)) (s .place + S .wide w) (s .got ++ (v ∷ [])) (s .fault) in
+      cond-has (Fault-has P) (given (s .fault)) s (cond (eqb n 0) on (refused n s)) e
+      (cond-has (Fault-has P) (eqb n 0) on (refused n s) e (number-has w c (s .rest) h))
+
+  times-has : (k : ℕ) (f : Scan → Scan) → ((s : Scan) → Fault-has P s → Fault-has P (f s)) → (s : Scan) → Fault-has P s → Fault-has P (times k f s)
+  unfolding times
+  times-has zero f h s e = e
+  times-has (suc k) f h s e = times-has k f h (f s) (h s e)
+
+  read-has : (g : Grammar) → All-checks P g → (s : Scan) → Fault-has P s → Fault-has P (read-by S g s)
+  unfolding read-by
+  read-has (field w c) h s e = field-has w (λ v. c (s .got) v) s (λ v. h (s .got) v) e
+  read-has (seq g k) h s e = read-has k (h .1) (read-by S g s) (read-has g (h .0) s e)
+  read-has (counted l m w g) h s e =
+      let t = read-field S w (λ v. count-check l m v) s in
+      let f = field-has w (λ v. count-check l m v) s (λ v. unfold count-check in (cond-has P (ltb v l || ltb m v) 2 0 p2 p0)) e in
+      cond-has (Fault-has P) (given (t .fault)) t (times (last-got t) (λ u. read-by S g u) t) f
+      (times-has (last-got t) (λ u. read-by S g u) (read-has g h) t f)
+  read-has nothing h s e = e
+
+  ended-has : P 3 → (s : Scan) → Fault-has P s → Fault-has P (ended s)
+  unfolding ended refused refusal scan
+  ended-has p3 s e = cond-has (Fault-has P) (given (s .fault) || eqb (length (s .rest)) 0) s (refused 3 s) e p3
+
+-- ---- 0 to 5 for a plan
+abbrev To-five : ℕ → Type 0
+To-five n = n ≤ 5
+
+below-five : (limit v : ℕ) → To-five (below limit v)
+unfolding below
+below-five l v = cond-has To-five (ltb v l) 0 4 (omega arith) (omega arith)
+
+any-five : (g : List ℕ) (v : ℕ) → To-five (any-number g v)
+unfolding any-number
+any-five g v = omega arith
+
+point-five : All-checks To-five (point first-form)
+unfolding point a-semaphore
+point-five = ((λ g v. below-five (semaphore-count g) v), any-five)
+
+grammar-five : All-checks To-five (plan-grammar first-form)
+unfolding plan-grammar operation part mark first-form new-axis a-queue a-buffer a-kind
+grammar-five =
+    let queue : (g : List ℕ) (v : ℕ) → To-five (below (queue-count g) v) = λ g v. below-five (queue-count g) v in (
+      (λ g v. cond-has To-five (member v (drop 1 g)) 5 0 (omega arith) (omega arith)),
+      (queue, (any-five, (queue, (tt, (point-five, (point-five, ((λ g v. below-five (buffer-count g) v), (λ g v. below-five 2 v)))))))),
+    )
+
+-- 1 to 5 of a reader, and of a writer
+pub fault-five : (S : Source) (xs : List ℕ) → scanned-by S first-form xs .fault .number ≤ 5
+unfolding scanned-by none-given scan
+fault-five S xs =
+    let k = S .leads * length (first-form .lead) in
+    let s = scan (drop k xs) k [] none-given in
+    let four : To-five 4 = omega arith in
+    ended-has To-five (omega arith) (omega arith) (omega arith) four S (omega arith) (read-by S (plan-grammar first-form) s)
+    (read-has To-five (omega arith) (omega arith) (omega arith) four S (plan-grammar first-form) grammar-five s (omega arith))
+
+pub scanned-five : (bs : List ℕ) → scanned bs .fault .number ≤ 5
+unfolding scanned
+scanned-five bs = fault-five bytes bs
+
+pub listed-five : (xs : List ℕ) → listed xs .fault .number ≤ 5
+unfolding listed
+listed-five xs = fault-five numbers xs
+
+-- ---- 0 to 8 for a stored plan
+pub plan-eight : (bs : List ℕ) → plan-refusal bs .number ≤ 8
+unfolding plan-refusal or-else
+plan-eight bs =
+    let a = scanned bs .fault in
+    let b = rules-refusal (plan-in bs) in
+    cond-has (λ (f : Refusal). f .number ≤ 8) (given a) a b (omega (arith, scanned-five bs)) (to-eight (b .number) (rules-mean (plan-in bs) .only))
+  where
+    to-eight : (n : ℕ) → (n ≡ 0) ⊎ ((n ≡ 6) ⊎ ((n ≡ 7) ⊎ (n ≡ 8))) → n ≤ 8
+    to-eight n (inl e) = omega arith
+    to-eight n (inr (inl e)) = omega arith
+    to-eight n (inr (inr (inl e))) = omega arith
+    to-eight n (inr (inr (inr e))) = omega arith
+
+-- 1 to 5 first, then 6 to 8
+pub plan-refusal-means : (bs : List ℕ) → Plan-refusal-means bs (plan-refusal bs)
+unfolding plan-refusal
+plan-refusal-means bs =
+    let a = scanned bs .fault in
+    let b = rules-refusal (plan-in bs) in
+    record {
+      reading-first = λ h. or-else-first a b (other-given a h);
+      then-rules = λ e. rw (or-else-second a b e) (rules-mean (plan-in bs));
+      only = plan-eight bs;
+    }

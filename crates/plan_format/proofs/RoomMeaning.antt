@@ -1,0 +1,85 @@
+-- Room: 9 exactly if it is too short, and only after the faults of a reading. Assumes nothing.
+use mathlib.Core.Path.{_≡_, refl, sym, ap, _∙_}
+use mathlib.Core.Bool.{Bool, false, cond}
+use mathlib.Core.List.{List}
+use Prim.Native.Nat.{ℕ, _≤_}
+use native.Mathlib.Omega.{arith}
+use lib.Dec.{ltb, eqb}
+use lib.ListN.{length, getD}
+use borrow.Author.Tests.{ltb-true, ltb-false, lt-ltb, le-ltb, eqb-true, eqb-false}
+use Rattle.basics.specs.Lists.{in-front}
+use Rattle.basics.proofs.Tests.{by-cases}
+use Rattle.basics.proofs.Fronts.{front-length, front-at, front-past}
+use Rattle.plan_format.specs.Refusal.{Refusal, refusal, none-given, given, or-else}
+use Rattle.plan_format.specs.Stored.{scanned, listed, spelled, room-for, read-refusal, write-refusal, Fills, Read-says, Write-says}
+use Rattle.plan_format.specs.declared.Told.{Told}
+use Rattle.plan_format.specs.Meaning.{Room-for-means, Room-after, Filled}
+use Rattle.plan_format.proofs.Judged.{zero-not-given, other-given, or-else-first, or-else-second, or-else-none}
+use Rattle.plan_format.proofs.Numbers.{scanned-five, listed-five}
+
+pub room-for-means : (needed room : ℕ) → Room-for-means needed room (room-for needed room)
+unfolding room-for refusal none-given
+room-for-means n k = record {
+  short = λ h. rw (lt-ltb k n h) (refl, refl);
+  enough = λ h. rw (le-ltb k n h) (refl, refl);
+}
+
+-- after a fault up to 5
+room-after : (a : Refusal) (needed room : ℕ) → a .number ≤ 5 → Room-after a needed room (or-else a (room-for needed room))
+room-after a n k five =
+    let b = room-for n k in
+    let m = room-for-means n k in
+    record {
+      fault-first = λ h. or-else-first a b (other-given a h);
+      then-room = λ e. let same = or-else-second a b e in record {
+        short = λ h. rw same (m .short h);
+        enough = λ h. rw same (m .enough h);
+      };
+      nine = λ e. by-cases (eqb (a .number) 0)
+          (λ t. let z = eqb-true (a .number) 0 t in (
+            z,
+            by-cases (ltb k n) (λ u. ltb-true k n u) (λ u.
+                absurd (omega (arith, ap (λ (f : Refusal). f .number) (or-else-second a b z), m .enough (ltb-false k n u) .0))),
+          ))
+          (λ f. absurd (omega (arith, ap (λ (g : Refusal). g .number) (or-else-first a b (other-given a (eqb-false (a .number) 0 f))))));
+    }
+
+pub read-room : (bs : List ℕ) (room : ℕ) → Room-after (scanned bs .fault) (length (scanned bs .got)) room (read-refusal bs room)
+unfolding read-refusal
+read-room bs k = room-after (scanned bs .fault) (length (scanned bs .got)) k (scanned-five bs)
+
+pub write-room : (xs : List ℕ) (room : ℕ) → Room-after (listed xs .fault) (length (spelled xs)) room (write-refusal xs room)
+unfolding write-refusal
+write-room xs k = room-after (listed xs .fault) (length (spelled xs)) k (listed-five xs)
+
+-- ---- what is handed back and left
+module _ (fault : Refusal) (new : List ℕ) (r : Told) (o x : List ℕ) where
+  filled : Room-after fault (length new) (length o) (or-else fault (room-for (length new) (length o))) →
+      Fills (or-else fault (room-for (length new) (length o))) new r o x → Filled new r o x
+  unfolding Fills
+  filled m w =
+      let f = or-else fault (room-for (length new) (length o)) in
+      let t = w .0 in
+      let zero-of : r .number ≡ 0 → f .number ≡ 0 = λ z. sym (t .number) ∙ z in
+      let none-of : r .number ≡ 0 → given f ≡ false = λ z. zero-not-given f (zero-of z) in
+      let front : r .number ≡ 0 → x ≡ in-front new o = λ z. w .1 ∙ ap (λ (b : Bool). cond b o (in-front new o)) (none-of z) in
+      let fault-none : r .number ≡ 0 → fault .number ≡ 0 = λ z. or-else-none fault (room-for (length new) (length o)) (zero-of z) .0 in
+      let fits : r .number ≡ 0 → length new ≤ length o = λ z. by-cases (ltb (length o) (length new))
+      (λ u. absurd (let n : f .number ≡ 9 = m .then-room (fault-none z) .short (ltb-true (length o) (length new) u) .0 in omega (arith, zero-of z)))
+      (λ u. ltb-false (length o) (length new) u) in
+      record {
+        refused = λ h. w .1 ∙ ap (λ (b : Bool). cond b o (in-front new o)) (other-given f (λ z. h (t .number ∙ z)));
+        length-told = λ z. t .answer-is ∙ ap (λ (b : Bool). cond b 0 (length new)) (none-of z);
+        place-told = λ z. t .place ∙ m .then-room (fault-none z) .enough (fits z) .1;
+        long = λ z. ap (λ (y : List ℕ). length y) (front z) ∙ front-length new o (fits z);
+        holds = λ z k l. ap (λ (y : List ℕ). getD y k 0) (front z) ∙ front-at new o k 0 l;
+        past = λ z k l. ap (λ (y : List ℕ). getD y k 0) (front z) ∙ front-past new o k 0 l;
+      }
+
+pub read-filled : (bs : List ℕ) (r : Told) (o x : List ℕ) → Read-says bs r o x → Filled (scanned bs .got) r o x
+unfolding Read-says read-refusal
+read-filled bs r o x w = filled (scanned bs .fault) (scanned bs .got) r o x (read-room bs (length o)) w
+
+pub write-filled : (xs : List ℕ) (r : Told) (o x : List ℕ) → Write-says xs r o x → Filled (spelled xs) r o x
+unfolding Write-says write-refusal
+write-filled xs r o x w = filled (listed xs .fault) (spelled xs) r o x (write-room xs (length o)) w

@@ -1,0 +1,207 @@
+-- Refusals 6 to 8 come from the first signal, or else the first wait, that breaks a rule. Assumes nothing.
+use mathlib.Core.Path.{_≡_, refl, sym, ap, _∙_, subst}
+use mathlib.Core.Bool.{true, cond, false≢true}
+use mathlib.Core.Logic.{inl, inr}
+use mathlib.Core.List.{List, [], _∷_, _++_}
+use Prim.Native.Nat.{ℕ, zero, suc, _<_, max}
+use native.Mathlib.Nat.{not-suc-le-zero, le-of-suc-le-suc}
+use native.Mathlib.Omega.{arith}
+use lib.Dec.{ltb, leb, eqb}
+use lib.ListN.{length, getD, take, drop, List·getD-eq-default}
+use lib.Seq.{take-suc}
+use borrow.Author.Tests.{ltb-true, ltb-false, leb-true, leb-false, lt-ltb, eqb-true, eqb-false, eq-eqb}
+use Rattle.basics.proofs.Tests.{by-cases, clash, and-right, and-both, or-cases, or-left, or-right, either}
+use Rattle.plan_format.specs.Refusal.{Refusal, refusal, none-given}
+use Rattle.plan_format.specs.Plan.{Point, Operation, Plan, no-operation, op}
+use Rattle.plan_format.specs.Sound.{highest-in, highest, owns, signals-number, signals-refusal, too-high, any-too-high, waits-refusal}
+use Rattle.plan_format.specs.Meaning.{signal-at, wait-at, Is-signal, Owned, Rising, First, Bad-owner, Not-rising, Signals-good, Too-high}
+use Rattle.plan_format.proofs.Heights.{begins, ends, owns-means, Over, over-in, in-over, over-highest, highest-over, over-taken, taken-over, all-taken, taken-all, highest-more}
+
+abbrev pub no-point : Point
+no-point = record { semaphore = 0; value = 0 }
+
+module _ (p : Plan) where
+  abbrev Good : (i k : ℕ) → Type 0
+  Good i k = Owned p i k × Rising p i k
+
+  -- past the last operation there is no signal
+  signal-inside : (i k : ℕ) → Is-signal p i k → i < length (p .operations)
+  unfolding op
+  signal-inside i k h =
+      by-cases (ltb i (length (p .operations))) (λ t. ltb-true i (length (p .operations)) t)
+      (λ f. absurd (not-suc-le-zero (subst (λ (o : Operation). k < length (o .signals))
+      (List·getD-eq-default (p .operations) no-operation (ltb-false i (length (p .operations)) f)) h)))
+
+  -- ---- rising: above the highest before
+  module _ (i k : ℕ) where
+    abbrev height : ℕ
+    height =
+        max (highest (signal-at p i k .semaphore) (take i (p .operations))) (highest-in (signal-at p i k .semaphore) (take k (op p i .signals)))
+
+    over-rises : height < signal-at p i k .value → Rising p i k
+    unfolding op
+    over-rises h =
+        let s = signal-at p i k .semaphore in
+        let v = signal-at p i k .value in
+        let a = highest-over s v (take i (p .operations)) (omega arith) in
+        let b = in-over s v (take k (op p i .signals)) (omega arith) in
+        rises-by (a .0) (all-taken s v (p .operations) i (a .1)) (over-taken s v (op p i .signals) k (b .1))
+      where
+        rises-by : 0 < signal-at p i k .value →
+            ((j : ℕ) → j < i → Over (signal-at p i k .semaphore) (signal-at p i k .value) (op p j .signals)) →
+            ((l : ℕ) → l < k → Is-signal p i l → signal-at p i l .semaphore ≡ signal-at p i k .semaphore → signal-at p i l .value < signal-at p i k .value) →
+            Rising p i k
+        rises-by z a b = record {
+          above-zero = z;
+          above-earlier = λ j l g w e. either w (λ lower. a j lower l g e)
+              (λ same. subst (λ (m : ℕ). signal-at p m l .value < signal-at p i k .value) (sym (same .0))
+              (b l (same .1) (subst (λ (m : ℕ). Is-signal p m l) (same .0) g) (ap (λ (m : ℕ). signal-at p m l .semaphore) (sym (same .0)) ∙ e)));
+        }
+
+    rises-over : Rising p i k → height < signal-at p i k .value
+    unfolding op
+    rises-over r =
+        let s = signal-at p i k .semaphore in
+        let v = signal-at p i k .value in
+        let a = over-highest s v (take i (p .operations)) (r .above-zero)
+        (taken-all s v (p .operations) i (λ j lower l g. r .above-earlier j l g (inl lower))) in
+        let b = over-in s v (take k (op p i .signals)) (r .above-zero)
+        (taken-over s v (op p i .signals) k (λ l lower g. r .above-earlier i l g (inr (refl, lower)))) in
+        omega arith
+
+  -- ---- one operation's signals
+  data Own-says (i n : ℕ) : Type 0 where
+    own-good : n ≡ 0 → ((l : ℕ) → Is-signal p i l → Good i l) → Own-says i n
+    own-six : n ≡ 6 → (k : ℕ) → Is-signal p i k → (Owned p i k → ⊥) → ((l : ℕ) → l < k → Good i l) → Own-says i n
+    own-seven : n ≡ 7 → (k : ℕ) → Is-signal p i k → Owned p i k → (Rising p i k → ⊥) → ((l : ℕ) → l < k → Good i l) → Own-says i n
+
+  module _ (i : ℕ) where
+    height-is : (k : ℕ) (x : Point) (own : List Point) → signal-at p i k ≡ x → highest-in (x .semaphore) own ≡ highest-in (x .semaphore) (take k (op p i .signals)) →
+        max (highest (x .semaphore) (take i (p .operations))) (highest-in (x .semaphore) own) ≡ height i k
+    height-is k x own here e =
+        ap (λ (n : ℕ). max (highest (x .semaphore) (take i (p .operations))) n) e
+        ∙ ap (λ (z : Point). max (highest (z .semaphore) (take i (p .operations))) (highest-in (z .semaphore) (take k (op p i .signals)))) (sym here)
+
+    good-more : (k : ℕ) → ((l : ℕ) → l < k → Good i l) → Good i k → (l : ℕ) → l < suc k → Good i l
+    good-more k h g l a =
+        by-cases (eqb l k) (λ t. subst (λ (z : ℕ). Good i z) (sym (eqb-true l k t)) g) (λ f. h l (omega (arith, eqb-false l k f)))
+
+    -- from place k on; `own` are the signals before it
+    number-says : (k : ℕ) (own xs : List Point) → drop k (op p i .signals) ≡ xs → ((s : ℕ) → highest-in s own ≡ highest-in s (take k (op p i .signals))) →
+        ((l : ℕ) → l < k → Good i l) → Own-says i (signals-number p (op p i .queue) (take i (p .operations)) own xs)
+    unfolding signals-number
+    number-says k own [] e o good = own-good refl (λ l h. good l (omega (arith, ends (op p i .signals) k e)))
+    number-says k own (x ∷ xs) e o good =
+        let w = begins no-point (op p i .signals) k x xs e in
+        let s = x .semaphore in
+        let q = op p i .queue in
+        let high = max (highest s (take i (p .operations))) (highest-in s own) in
+        let same : high ≡ height i k = height-is k x own (w .here) (o s) in
+        let value : signal-at p i k .value ≡ x .value = ap (λ (z : Point). z .value) (w .here) in
+        let owner : Owned p i k ≡ ((s < length (p .owners)) × (getD (p .owners) s 0 ≡ q)) =
+        ap (λ (z : Point). (z .semaphore < length (p .owners)) × (getD (p .owners) (z .semaphore) 0 ≡ q)) (w .here) in
+        by-cases (owns p q s)
+        (λ t. let mine : Owned p i k = subst (λ (A : Type 0). A) (sym owner) (owns-means p q s .0 t) in
+        by-cases (leb (x .value) high)
+        (λ u. rw (t, u) (own-seven refl k (w .inside) mine (λ r. omega (arith, rises-over i k r, leb-true (x .value) high u)) good))
+        (λ u. rw (t, u) (number-says (suc k) (x ∷ own) xs (w .on) (λ z. highest-more z (op p i .signals) own k x (w .inside) (w .here) (o z))
+        (good-more k good (mine, over-rises i k (omega (arith, leb-false (x .value) high u)))))))
+        (λ f. rw f (own-six refl k (w .inside) (λ m. clash (owns p q s) (owns-means p q s .1 (subst (λ (A : Type 0). A) owner m)) f) good))
+
+  -- ---- all operations' signals
+  pub data Signals-say (f : Refusal) : Type 0 where
+    signals-good : f ≡ none-given → Signals-good p → Signals-say f
+    signals-six : (i k : ℕ) → f ≡ refusal 6 i → Bad-owner p i k → Signals-say f
+    signals-seven : (i k : ℕ) → f ≡ refusal 7 i → Not-rising p i k → Signals-say f
+
+  first-by : (i k : ℕ) → ((j l : ℕ) → j < i → Is-signal p j l → Good j l) → ((l : ℕ) → l < k → Good i l) → First p i k
+  first-by i k lower own j l g w =
+      either w (λ a. lower j l a g) (λ a. subst (λ (z : ℕ). Good z l) (sym (a .0)) (own l (a .1)))
+
+  signals-step : (i n : ℕ) (rest : Refusal) → ((j l : ℕ) → j < i → Is-signal p j l → Good j l) → Own-says i n →
+      (((l : ℕ) → Is-signal p i l → Good i l) → Signals-say rest) → Signals-say (cond (eqb n 0) rest (refusal n i))
+  signals-step i n rest lower (own-good e h) on = rw (eq-eqb n 0 e) (on h)
+  signals-step i n rest lower (own-six e k g bad own) on =
+      rw e (signals-six i k refl (record { signal = g; not-owned = bad; first = first-by i k lower own }))
+  signals-step i n rest lower (own-seven e k g mine low own) on =
+      rw e (signals-seven i k refl (record { signal = g; owned = mine; not-rising = low; first = first-by i k lower own }))
+
+  lower-more : (i : ℕ) → ((j l : ℕ) → j < i → Is-signal p j l → Good j l) → ((l : ℕ) → Is-signal p i l → Good i l) →
+      (j l : ℕ) → j < suc i → Is-signal p j l → Good j l
+  lower-more i lower own j l a g =
+      by-cases (eqb j i) (λ t. let e = eqb-true j i t in subst (λ (z : ℕ). Good z l) (sym e) (own l (subst (λ (z : ℕ). Is-signal p z l) e g)))
+      (λ f. lower j l (omega (arith, eqb-false j i f)) g)
+
+  signals-say : (i : ℕ) (os : List Operation) → drop i (p .operations) ≡ os → ((j l : ℕ) → j < i → Is-signal p j l → Good j l) →
+      Signals-say (signals-refusal i p (take i (p .operations)) os)
+  unfolding signals-refusal op
+  signals-say i [] e good = signals-good refl (λ j l g. good j l (omega (arith, ends (p .operations) i e, signal-inside j l g)) g)
+  signals-say i (o ∷ os) e good =
+      let w = begins no-operation (p .operations) i o os e in
+      let before = take i (p .operations) in
+      subst (λ (z : Operation). Signals-say (signals-refusal i p before (z ∷ os))) (w .here)
+      (signals-step i (signals-number p (op p i .queue) before [] (op p i .signals)) (signals-refusal (suc i) p (before ++ (op p i ∷ [])) os) good
+      (number-says i 0 [] (op p i .signals) refl (λ s. refl) (λ l a. absurd (not-suc-le-zero a)))
+      (λ own. subst (λ (z : List Operation). Signals-say (signals-refusal (suc i) p z os)) (take-suc (p .operations) i no-operation (w .inside))
+      (signals-say (suc i) os (w .on) (lower-more i good own))))
+
+  -- ---- waits
+  high-too : (i k : ℕ) → k < length (op p i .waits) → too-high p (wait-at p i k) ≡ true → Too-high p i k
+  unfolding too-high op
+  high-too i k inside h =
+      let w = wait-at p i k in
+      let high = highest (w .semaphore) (p .operations) in
+      let over = highest-over (w .semaphore) (w .value) (p .operations)
+      (ltb-true high (w .value) (and-right (ltb 0 (w .value)) (ltb high (w .value)) h)) in
+      record { wait = inside; above-zero = over .0; above-all = over .1 }
+
+  too-is-high : (i k : ℕ) → Too-high p i k → too-high p (wait-at p i k) ≡ true
+  unfolding too-high op
+  too-is-high i k t =
+      let w = wait-at p i k in
+      and-both (ltb 0 (w .value)) (ltb (highest (w .semaphore) (p .operations)) (w .value)) (lt-ltb 0 (w .value) (t .above-zero))
+      (lt-ltb (highest (w .semaphore) (p .operations)) (w .value) (over-highest (w .semaphore) (w .value) (p .operations) (t .above-zero) (t .above-all)))
+
+  any-gives : (ws : List Point) → any-too-high p ws ≡ true → (k : ℕ) × (k < length ws) × (too-high p (getD ws k no-point) ≡ true)
+  unfolding any-too-high
+  any-gives [] h = absurd (false≢true h)
+  any-gives (w ∷ ws) h =
+      either (or-cases (too-high p w) (any-too-high p ws) h) (λ t. (0, omega arith, t))
+      (λ t. let r = any-gives ws t in (suc (r .0), omega (arith, r .1), r .2))
+
+  any-by : (ws : List Point) (k : ℕ) → k < length ws → too-high p (getD ws k no-point) ≡ true → any-too-high p ws ≡ true
+  unfolding any-too-high
+  any-by [] k a h = absurd (not-suc-le-zero a)
+  any-by (w ∷ ws) zero a h = or-left (too-high p w) (any-too-high p ws) h
+  any-by (w ∷ ws) (suc k) a h = or-right (too-high p w) (any-too-high p ws) (any-by ws k (le-of-suc-le-suc a) h)
+
+  pub data Waits-say (f : Refusal) : Type 0 where
+    waits-good : f ≡ none-given → ((i k : ℕ) → Too-high p i k → ⊥) → Waits-say f
+    waits-eight : (i k : ℕ) → f ≡ refusal 8 i → Too-high p i k → ((j l : ℕ) → j < i → Too-high p j l → ⊥) → Waits-say f
+
+  wait-inside : (i k : ℕ) → Too-high p i k → i < length (p .operations)
+  unfolding op
+  wait-inside i k t =
+      by-cases (ltb i (length (p .operations))) (λ a. ltb-true i (length (p .operations)) a)
+      (λ f. absurd (not-suc-le-zero (subst (λ (o : Operation). k < length (o .waits))
+      (List·getD-eq-default (p .operations) no-operation (ltb-false i (length (p .operations)) f)) (t .wait))))
+
+  waits-say : (i : ℕ) (os : List Operation) → drop i (p .operations) ≡ os → ((j l : ℕ) → j < i → Too-high p j l → ⊥) → Waits-say (waits-refusal i p os)
+  unfolding waits-refusal op
+  waits-say i [] e low = waits-good refl (λ j l t. low j l (omega (arith, ends (p .operations) i e, wait-inside j l t)) t)
+  waits-say i (o ∷ os) e low =
+      let w = begins no-operation (p .operations) i o os e in
+      let same : any-too-high p (op p i .waits) ≡ any-too-high p (o .waits) = ap (λ (z : Operation). any-too-high p (z .waits)) (w .here) in
+      by-cases (any-too-high p (o .waits))
+      (λ t. let r = any-gives (op p i .waits) (same ∙ t) in rw t (waits-eight i (r .0) refl (high-too i (r .0) (r .1) (r .2)) low))
+      (λ f. rw f (waits-say (suc i) os (w .on) (λ j l a h. by-cases (eqb j i)
+      (λ t. let here : Too-high p i l = subst (λ (z : ℕ). Too-high p z l) (eqb-true j i t) h in
+      clash (any-too-high p (op p i .waits)) (any-by (op p i .waits) l (here .wait) (too-is-high i l here)) (same ∙ f))
+      (λ g. low j l (omega (arith, eqb-false j i g)) h))))
+
+  -- ---- of a whole plan
+  pub plan-signals-say : Signals-say (signals-refusal 0 p [] (p .operations))
+  plan-signals-say = signals-say 0 (p .operations) refl (λ j l a. absurd (not-suc-le-zero a))
+
+  pub plan-waits-say : Waits-say (waits-refusal 0 p (p .operations))
+  plan-waits-say = waits-say 0 (p .operations) refl (λ j l a. absurd (not-suc-le-zero a))

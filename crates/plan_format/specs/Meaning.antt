@@ -1,0 +1,197 @@
+-- What the refusals of stored plans say, by quantifiers. The laws *-means of proofs/ show each the same as its definition.
+-- Assumes nothing: these are definitions.
+use mathlib.Core.Path.{_≡_}
+use mathlib.Core.Bool.{true, false}
+use mathlib.Core.Logic.{_⊎_, _↔_}
+use mathlib.Core.List.{List, [], _∷_, _++_}
+use Prim.Native.Nat.{ℕ, zero, suc, _+_, _≤_, _<_}
+use lib.ListN.{length, getD, drop}
+use Rattle.plan_format.specs.Refusal.{Refusal}
+use Rattle.plan_format.specs.Grammar.{Grammar, field, seq, counted, nothing, Source, Scan, count-check}
+use Rattle.plan_format.specs.Form.{first-form, plan-grammar, any-number, new-axis, a-queue, a-semaphore, a-buffer, a-kind, queue-count, semaphore-count, buffer-count}
+use Rattle.plan_format.specs.Plan.{Point, Plan, op}
+use Rattle.plan_format.specs.Stored.{scanned, plan-in}
+use Rattle.plan_format.specs.declared.Told.{Told}
+
+-- the number and the place of a refusal
+abbrev pub Refuses : Refusal → (number place : ℕ) → Type 0
+Refuses f n i = (f .number ≡ n) × (f .place ≡ i)
+
+-- ---- room
+-- 01: "too little room is 9 with the length needed"
+pub record Room-for-means (needed room : ℕ) (f : Refusal) : Type 0 where
+  pub short : room < needed → Refuses f 9 needed
+  pub enough : needed ≤ room → Refuses f 0 0
+
+-- 01: "After those, for reader and writer alike, too little room is 9 with the length needed."
+pub record Room-after (fault : Refusal) (needed room : ℕ) (f : Refusal) : Type 0 where
+  pub fault-first : (fault .number ≡ 0 → ⊥) → f ≡ fault
+  pub then-room : fault .number ≡ 0 → Room-for-means needed room f
+  pub nine : (f .number ≡ 9) → (fault .number ≡ 0) × (room < needed)
+
+-- ---- 2, 4 and 5: a field's number is n exactly if what is said of it holds, else 0
+pub record Given-when (answer n : ℕ) (P : Type 0) : Type 0 where
+  pub yes : P → answer ≡ n
+  pub otherwise : (P → ⊥) → answer ≡ 0
+
+-- 01: "5: an axis appears twice"; the numbers read before an axis are the count and the earlier axes
+abbrev pub Earlier-axis : (got : List ℕ) → (v : ℕ) → Type 0
+Earlier-axis g v = (k : ℕ) × (1 ≤ k) × (k < length g) × (getD g k 0 ≡ v)
+
+-- 01: "2: a count is over its limit. 4: owner, queue, semaphore or buffer not in its list, or kind above 1. 5: an axis appears twice"
+pub record Checks-mean (got : List ℕ) (v : ℕ) : Type 0 where
+  pub count : (least most : ℕ) → Given-when (count-check least most v) 2 ((v < least) ⊎ (most < v))
+  pub queue : Given-when (a-queue got v) 4 (queue-count got ≤ v)
+  pub semaphore : Given-when (a-semaphore got v) 4 (semaphore-count got ≤ v)
+  pub buffer : Given-when (a-buffer got v) 4 (buffer-count got ≤ v)
+  pub kind : Given-when (a-kind got v) 4 (1 < v)
+  pub axis : Given-when (new-axis got v) 5 (Earlier-axis got v)
+  pub any : any-number got v ≡ 0
+
+-- 01: "each field judged as soon as it is read. A field that is cut short is 1 whatever it holds"; what its bytes cannot hold is 4
+pub record Field-means (S : Source) (width : ℕ) (check : ℕ → ℕ) (rest : List ℕ) (n : ℕ) : Type 0 where
+  pub cut-short : length rest < S .wide width → n ≡ 1
+  pub judged : S .wide width ≤ length rest → (check (S .front width rest) ≡ 0 → ⊥) → n ≡ check (S .front width rest)
+  pub too-wide : S .wide width ≤ length rest → check (S .front width rest) ≡ 0 → S .fits width (S .front width rest) ≡ false → n ≡ 4
+  pub passed : S .wide width ≤ length rest → check (S .front width rest) ≡ 0 → S .fits width (S .front width rest) ≡ true → n ≡ 0
+
+-- ---- 1 to 5 of a whole reading: the first fault in reading order
+-- a reading on its way, without a fault: what is left, the place, the numbers got
+pub record Cursor : Type 0 where
+  pub rest : List ℕ
+  pub place : ℕ
+  pub got : List ℕ
+
+-- a field is taken: it is not cut short, is judged 0, and its bytes can hold it
+pub record Takes-field (S : Source) (width : ℕ) (check : ℕ → ℕ) (a b : Cursor) : Type 0 where
+  pub long : S .wide width ≤ length (a .rest)
+  pub passes : check (S .front width (a .rest)) ≡ 0
+  pub fits : S .fits width (S .front width (a .rest)) ≡ true
+  pub next : b ≡ record {
+    rest = drop (S .wide width) (a .rest);
+    place = a .place + S .wide width;
+    got = a .got ++ (S .front width (a .rest) ∷ []);
+  }
+
+-- a reading stops at a field, with the field's number
+pub record Stops-field (S : Source) (width : ℕ) (check : ℕ → ℕ) (a b : Cursor) (n : ℕ) : Type 0 where
+  pub here : b ≡ a
+  pub given : n ≡ 0 → ⊥
+  pub why : Field-means S width check (a .rest) n
+
+abbrev pub Repeated : (R : Cursor → Cursor → Type 0) → (k : ℕ) → (a b : Cursor) → Type 0
+Repeated R zero a b = b ≡ a
+Repeated R (suc k) a b = (c : Cursor) × R a c × Repeated R k c b
+
+-- every field of a grammar is taken, one after another; a count is followed by so many entries
+abbrev pub Reads : Source → Grammar → (a b : Cursor) → Type 0
+Reads S (field w c) a b = Takes-field S w (λ v. c (a .got) v) a b
+Reads S (seq g h) a b = (c : Cursor) × Reads S g a c × Reads S h c b
+Reads S (counted l m w g) a b =
+    (c : Cursor) × Takes-field S w (λ v. count-check l m v) a c × Repeated (λ x y. Reads S g x y) (S .front w (a .rest)) c b
+Reads S nothing a b = b ≡ a
+
+-- a reading takes what comes before some field of a grammar and stops there
+abbrev pub Stops : Source → Grammar → (a b : Cursor) → (n : ℕ) → Type 0
+Stops S (field w c) a b n = Stops-field S w (λ v. c (a .got) v) a b n
+Stops S (seq g h) a b n = Stops S g a b n ⊎ ((c : Cursor) × Reads S g a c × Stops S h c b n)
+Stops S (counted l m w g) a b n =
+    Stops-field S w (λ v. count-check l m v) a b n ⊎
+    ((c d : Cursor) × (j : ℕ) × Takes-field S w (λ v. count-check l m v) a c × (j < S .front w (a .rest)) × Repeated (λ x y. Reads S g x y) j c d ×
+    Stops S g d b n)
+Stops S nothing a b n = ⊥
+
+abbrev pub start : List ℕ → Cursor
+start xs = record { rest = xs; place = 0; got = [] }
+
+-- 01: "Numbers 1 to 5 come from the first fault met in that reading order"; "3: bytes follow the last section, first such byte"
+pub record Reading-means (S : Source) (xs : List ℕ) (s : Scan) : Type 0 where
+  pub fault :
+      (n i : ℕ) → (n ≡ 0 → ⊥) → Refuses (s .fault) n i ↔ ((b : Cursor) × (b .place ≡ i) ×
+      (Stops S (plan-grammar first-form) (start xs) b n ⊎ ((n ≡ 3) × Reads S (plan-grammar first-form) (start xs) b × (0 < length (b .rest)))))
+  pub none : Refuses (s .fault) 0 0 ↔ ((b : Cursor) × Reads S (plan-grammar first-form) (start xs) b × (length (b .rest) ≡ 0) × (s .got ≡ b .got))
+  pub only : s .fault .number ≤ 5
+  pub inside : s .fault .place ≤ length xs
+
+-- ---- 6 to 8
+abbrev pub signal-at : Plan → (i k : ℕ) → Point
+signal-at p i k = getD (op p i .signals) k (record { semaphore = 0; value = 0 })
+
+abbrev pub wait-at : Plan → (i k : ℕ) → Point
+wait-at p i k = getD (op p i .waits) k (record { semaphore = 0; value = 0 })
+
+-- operation i has a signal at place k of its list
+abbrev pub Is-signal : Plan → (i k : ℕ) → Type 0
+Is-signal p i k = k < length (op p i .signals)
+
+-- 01: "in operation order and list order"
+abbrev pub Earlier : (j l i k : ℕ) → Type 0
+Earlier j l i k = (j < i) ⊎ ((j ≡ i) × (l < k))
+
+-- 01: "Only the owner queue signals"
+abbrev pub Owned : Plan → (i k : ℕ) → Type 0
+Owned p i k = (signal-at p i k .semaphore < length (p .owners)) × (getD (p .owners) (signal-at p i k .semaphore) 0 ≡ op p i .queue)
+
+-- 01: "In plan order, and in list order inside one operation, each signal of a semaphore is higher than the one before and above 0."
+pub record Rising (p : Plan) (i k : ℕ) : Type 0 where
+  pub above-zero : 0 < signal-at p i k .value
+  pub above-earlier :
+      (j l : ℕ) → Is-signal p j l → Earlier j l i k → signal-at p j l .semaphore ≡ signal-at p i k .semaphore →
+      signal-at p j l .value < signal-at p i k .value
+
+-- every earlier signal is neither 6 nor 7
+abbrev pub First : Plan → (i k : ℕ) → Type 0
+First p i k = (j l : ℕ) → Is-signal p j l → Earlier j l i k → Owned p j l × Rising p j l
+
+-- 01: "6: signal by a queue that isn't the owner", "6 first for one signal"
+pub record Bad-owner (p : Plan) (i k : ℕ) : Type 0 where
+  pub signal : Is-signal p i k
+  pub not-owned : Owned p i k → ⊥
+  pub first : First p i k
+
+-- 01: "7: signal not higher than the last, or 0"
+pub record Not-rising (p : Plan) (i k : ℕ) : Type 0 where
+  pub signal : Is-signal p i k
+  pub owned : Owned p i k
+  pub not-rising : Rising p i k → ⊥
+  pub first : First p i k
+
+-- no signal is 6 or 7
+abbrev pub Signals-good : Plan → Type 0
+Signals-good p = (j l : ℕ) → Is-signal p j l → Owned p j l × Rising p j l
+
+-- 01: "8: wait above the highest signal of its semaphore, and above 0"
+pub record Too-high (p : Plan) (i k : ℕ) : Type 0 where
+  pub wait : k < length (op p i .waits)
+  pub above-zero : 0 < wait-at p i k .value
+  pub above-all : (j l : ℕ) → Is-signal p j l → signal-at p j l .semaphore ≡ wait-at p i k .semaphore → signal-at p j l .value < wait-at p i k .value
+
+-- 01: "then 8 likewise"
+pub record Unmet-wait (p : Plan) (i : ℕ) : Type 0 where
+  pub signals-good : Signals-good p
+  pub too-high : (k : ℕ) × Too-high p i k
+  pub lowest : (j l : ℕ) → j < i → Too-high p j l → ⊥
+
+-- refusals 6 to 8, and none
+pub record Rules-mean (p : Plan) (f : Refusal) : Type 0 where
+  pub six : (i : ℕ) → (Refuses f 6 i) ↔ ((k : ℕ) × Bad-owner p i k)
+  pub seven : (i : ℕ) → (Refuses f 7 i) ↔ ((k : ℕ) × Not-rising p i k)
+  pub eight : (i : ℕ) → (Refuses f 8 i) ↔ Unmet-wait p i
+  pub none : (Refuses f 0 0) ↔ (Signals-good p × ((i k : ℕ) → Too-high p i k → ⊥))
+  pub only : (f .number ≡ 0) ⊎ ((f .number ≡ 6) ⊎ ((f .number ≡ 7) ⊎ (f .number ≡ 8)))
+
+-- 01: "Numbers 1 to 5 come from the first fault ..  Then 6 and 7 ..; then 8 likewise"
+pub record Plan-refusal-means (bytes : List ℕ) (f : Refusal) : Type 0 where
+  pub reading-first : (scanned bytes .fault .number ≡ 0 → ⊥) → f ≡ scanned bytes .fault
+  pub then-rules : scanned bytes .fault .number ≡ 0 → Rules-mean (plan-in bytes) f
+  pub only : f .number ≤ 8
+
+-- ---- what is handed back by reader and writer
+-- 01: "A success hands back 0 and, beside it, the length. A refusal leaves the room untouched; past the length nothing is touched."
+pub record Filled (new : List ℕ) (r : Told) (room room-now : List ℕ) : Type 0 where
+  pub refused : (r .number ≡ 0 → ⊥) → room-now ≡ room
+  pub length-told : r .number ≡ 0 → r .answer ≡ length new
+  pub place-told : r .number ≡ 0 → r .place ≡ 0
+  pub long : r .number ≡ 0 → length room-now ≡ length room
+  pub holds : r .number ≡ 0 → (k : ℕ) → k < length new → getD room-now k 0 ≡ getD new k 0
+  pub past : r .number ≡ 0 → (k : ℕ) → length new ≤ k → getD room-now k 0 ≡ getD room k 0
