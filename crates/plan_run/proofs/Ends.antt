@@ -19,7 +19,7 @@ use Rattle.plan_columns.specs.Columns.{Queue-column, Row-columns}
 use Rattle.plan_run.specs.Words.{has}
 use Rattle.plan_run.specs.Queues.{First, found, absent, Chained, Looked}
 use Rattle.plan_run.specs.Run.{Shown, Cleared, Rows-of, Listed, Ran}
-use Rattle.plan_run.specs.State.{Head, waiting, finished, Last, unused, Places, Watch, Going, Tables}
+use Rattle.plan_run.specs.State.{Head, waiting, finished, Last, unused, Places, Watch, Going, Tables, Prepared}
 use Rattle.plan_run.proofs.Words.{has-none, has-all}
 use Rattle.plan_run.proofs.Sources.{source-small}
 use Rattle.plan_run.proofs.Watches.{noted-by}
@@ -63,32 +63,30 @@ module _ (p : Plan) (n : ℕ) (queue source head next : List ℕ) (shown : Shown
       ran-long = ap length ran-is ∙ length-set {A = ℕ} (replicate 1025 0) 1024 1 ∙ length-replicate {A = ℕ} 1025 0;
     }
 
-    first-watch :
-        (clear : List ℕ) → clear ≡ replicate 1025 0 → (ready : ℕ) (waiter : List ℕ) → Looked 65535 0 head source ran clear ready waiter →
-        Watch source head ran waiter ready
-    first-watch clear e ready waiter looked = record {
+    first-watch : (ready : ℕ) (waiter : List ℕ) → Looked 65535 0 head source ran (replicate 1025 0) ready waiter → Watch source head ran waiter ready
+    first-watch ready waiter looked = record {
       readies = λ k l. looked .readies k l ∙ rw (has-none k, has-all 16 k l);
-      noted = λ k l h f. noted-by 65535 0 head source ran clear ready waiter looked k l (has-all 16 k l)
+      noted = λ k l h f. noted-by 65535 0 head source ran (replicate 1025 0) ready waiter looked k l (has-all 16 k l)
           (λ m b. source-small p n queue source shown (getD head k 0) m (head-inside p [] k (getD head k 0) (first-places .heads k l) h) b) h f;
-      long = looked .long ∙ ap length e ∙ length-replicate {A = ℕ} 1025 0;
+      long = looked .long ∙ length-replicate {A = ℕ} 1025 0;
     }
 
 pub started :
-    (p : Plan) (n : ℕ) (queue source head next rows list : List ℕ) → Shown p n queue source → Cleared rows → Chained queue 0 n head next →
-    (prev ran clear : List ℕ) → prev ≡ replicate 16 1024 → ran ≡ set (replicate 1025 0) 1024 1 → clear ≡ replicate 1025 0 →
-    (ready : ℕ) (waiter : List ℕ) → Looked 65535 0 head source ran clear ready waiter →
-    Going p n 0 source head prev ran waiter ready rows list list
+    (p : Plan) (n : ℕ) (queue source head next ran waiter : List ℕ) (ready : ℕ) (rows list prev : List ℕ) → Shown p n queue source → Cleared rows →
+    Prepared queue n source head next ran waiter ready → prev ≡ replicate 16 1024 → Going p n 0 source head prev ran waiter ready rows list list
 unfolding standard member Row-columns
-started p n queue source head next rows list shown cleared chained prev ran clear pe re ce ready waiter looked = record {
-  run = [];
-  many = refl;
-  left = ap (λ (x : ℕ). greedy (λ r. Rattle.plan_order.specs.Runs.next p r) x []) (let e : n - 0 ≡ count p = omega (arith, shown .many) in e);
-  places = first-places p n queue source head next shown chained prev ran pe re;
-  watch = first-watch p n queue source head next shown chained prev ran pe re clear ce ready waiter looked;
-  filled = record { ran = λ i k m l. member-nil i m; others = λ i k b f l. cleared .zeros (16 * i + k) };
-  rows-long = cleared .long;
-  listed = record { steps = λ k l. absurd (not-suc-le-zero l); readies = λ k l. absurd (not-suc-le-zero l); past = refl; long = refl };
-}
+started p n queue source head next ran waiter ready rows list prev shown cleared prepared prev-is =
+    let chained = prepared .chained in
+    record {
+      run = [];
+      many = refl;
+      left = ap (λ (x : ℕ). greedy (λ r. Rattle.plan_order.specs.Runs.next p r) x []) (let e : n - 0 ≡ count p = omega (arith, shown .many) in e);
+      places = first-places p n queue source head next shown chained prev ran prev-is (prepared .ran-is);
+      watch = first-watch p n queue source head next shown chained prev ran prev-is (prepared .ran-is) ready waiter (prepared .looked);
+      filled = record { ran = λ i k m l. member-nil i m; others = λ i k b f l. cleared .zeros (16 * i + k) };
+      rows-long = cleared .long;
+      listed = record { steps = λ k l. absurd (not-suc-le-zero l); readies = λ k l. absurd (not-suc-le-zero l); past = refl; long = refl };
+    }
 
 -- ---- the whole list
 module _ (p : Plan) where
