@@ -11,6 +11,7 @@ use borrow.Author.Tests.{ltb-true, ltb-false}
 use Rattle.basics.specs.Lists.{member, in-front}
 use Rattle.basics.proofs.Tests.{by-cases}
 use Rattle.basics.proofs.Members.{member-nil}
+use Rattle.basics.proofs.Places.{replicate-at}
 use Rattle.order.specs.Greedy.{greedy}
 use Rattle.order.proofs.Runs.{runs-nil}
 use Rattle.plan_format.specs.Plan.{Plan, count}
@@ -27,16 +28,18 @@ use Rattle.plan_run.proofs.Readies.{empty-next}
 use Rattle.plan_run.proofs.Listings.{greedy-stays}
 use Rattle.plan_run.proofs.Turns.{head-inside}
 
-zeros-at : (m k : ℕ) → getD {A = ℕ} (replicate m 0) k 0 ≡ 0
-zeros-at zero k = refl
-zeros-at (suc m) zero = refl
-zeros-at (suc m) (suc k) = zeros-at m k
+-- rows as an array of zeros
+pub cleared-by : (rows : List ℕ) → rows ≡ replicate 16416 0 → Cleared rows
+cleared-by rows e = record {
+  long = ap length e ∙ length-replicate {A = ℕ} 16416 0;
+  zeros = λ k. ap (λ (x : List ℕ). getD x k 0) e ∙ replicate-at 16416 0 k;
+}
 
 pub tables-are : (queue : List ℕ) (n : ℕ) (head next unit : List ℕ) → Chained queue 0 n head next → unit ≡ set (replicate 32 0) 16 1 → Tables queue n next unit
 tables-are queue n head next unit chained e = record {
   nexts = λ i l b. chained .nexts i zero-le l b;
   one = ap (λ (x : List ℕ). getD x 16 0) e;
-  zeros = λ k ne. ap (λ (x : List ℕ). getD x k 0) e ∙ getD-set-other (replicate 32 0) 16 k 1 0 ne ∙ zeros-at 32 k;
+  zeros = λ k ne. ap (λ (x : List ℕ). getD x k 0) e ∙ getD-set-other (replicate 32 0) 16 k 1 0 ne ∙ replicate-at 32 0 k;
 }
 
 -- ---- the beginning
@@ -55,7 +58,7 @@ module _ (p : Plan) (n : ℕ) (queue source head next : List ℕ) (shown : Shown
       a-run = runs-nil (count p) (enabled p) [];
       heads = λ q l. first-head q (getD head q 0) (chained .heads q l);
       lasts = λ q l. subst (λ (x : ℕ). Last p [] q x) (sym (ap (λ (x : List ℕ). getD x q 0) prev-is ∙ getD-replicate 16 q 1024 0 l)) (unused (λ k m e. member-nil k m));
-      has-run = λ j l. ap (λ (x : List ℕ). getD x j 0) ran-is ∙ getD-set-other (replicate 1025 0) 1024 j 1 0 (λ z. absurd (omega arith)) ∙ zeros-at 1025 j;
+      has-run = λ j l. ap (λ (x : List ℕ). getD x j 0) ran-is ∙ getD-set-other (replicate 1025 0) 1024 j 1 0 (λ z. absurd (omega arith)) ∙ replicate-at 1025 0 j;
       none-run = ap (λ (x : List ℕ). getD x 1024 0) ran-is
           ∙ getD-set-same (replicate 1025 0) 1024 1 0 (let h : 1024 < length (replicate {A = ℕ} 1025 0) = omega (arith, length-replicate {A = ℕ} 1025 0) in h);
       head-long = chained .head-long;

@@ -24,8 +24,12 @@ same-length : tie.Need-same-length
 same-length c = search needs
 
 returns-2 : tie.Need-returns-2
-returns-2 c = λ p shown cleared room.
-    c .before .before .all .ensures p _ shown cleared room (record { chained = c .before .before .before .before .before .before .before .before .before .before .before .before .before .chain .ensures; ran-is = refl; looked = c .before .before .before .before .before .before .before .before .before .wake .ensures .1 })
+returns-2 c =
+    let steps = c .before .before in
+    let woken = steps .before .before .before .before .before .before .before in
+    let chained = woken .before .before .before .before in
+    λ p shown cleared room.
+    steps .all .ensures p _ shown cleared room (record { chained = chained .chain .ensures; ran-is = refl; looked = woken .wake .ensures .1 })
 
 pub run-spec : {M : Type 1} → statement M
 run-spec =

@@ -3,7 +3,7 @@
 use borrow.Author.Needs.{needs}
 use Rattle.plan_run.proofs.steps.all.Statement.{statement}
 use Rattle.plan_run.proofs.steps.all.Tie as tie
-use mathlib.Core.Path.{_≡_, refl, _∙_}
+use mathlib.Core.Path.{_≡_, refl}
 use mathlib.Core.List.{List}
 use Prim.Native.Nat.{ℕ, _-_, _*_, _≤_, _<_}
 use native.Mathlib.Omega.{arith}
@@ -41,12 +41,10 @@ returns c = λ p queue shown cleared room prepared.
     ended-early p _ queue _ shown _ _ _ _ _ _ _ _ _ room (c .before .before .loop .inv .3 p queue shown cleared room prepared) (c .if1 .taken)
 
 turn-requires : tie.Need-turn-requires Inv-loop μ-loop
-turn-requires c κs = (
-  omega (arith, c .before .before .before .before .before .before .before .if1 .left),
-  c .before .before .before .before .before .before .before .before .before .loop .inv .1,
-  c .before .before .before .before .before .before .before .before .loop-test .taken,
-  c .before .before .before .before .before .before .before .before .before .before .before .pre .1,
-)
+turn-requires c κs =
+    let test = c .before .before .before .before .before .before .before in
+    let top = test .before .before in
+    (omega (arith, test .if1 .left), top .loop .inv .1, test .before .loop-test .taken, top .before .before .pre .1)
 
 add-i : tie.Need-add-i Inv-loop μ-loop
 add-i c = search needs
@@ -55,13 +53,16 @@ loop-less : tie.Need-loop-less Inv-loop μ-loop
 loop-less c = search needs
 
 loop-again : tie.Need-loop-again Inv-loop μ-loop
-loop-again c = (
-  omega (arith, c .before .before .before .before .before .before .before .before .before .before .before .loop-test .taken),
-  c .before .before .turn .ensures .0,
-  c .before .before .turn .kept .1 .1 .1 .1 .1 .1 .1 .1 .1 .1 .1 .0 ∙ c .before .before .before .before .before .before .before .before .before .before .before .before .loop .inv .2,
-  λ p queue shown cleared room prepared.
-      c .before .before .turn .ensures .1 p queue _ shown (tables-are queue _ _ _ _ (prepared .chained) refl) room (c .before .before .before .before .before .before .before .before .before .before .before .before .loop .inv .3 p queue shown cleared room prepared),
-)
+loop-again c =
+    let turned = c .before .before in
+    let test = turned .before .before .before .before .before .before .before .before .before in
+    let top = test .before in (
+      omega (arith, test .loop-test .taken),
+      turned .turn .ensures .0,
+      omega (arith, turned .turn .kept .1 .1 .1 .1 .1 .1 .1 .1 .1 .1 .1 .0, top .loop .inv .2),
+      λ p queue shown cleared room prepared.
+          turned .turn .ensures .1 p queue _ shown (tables-are queue _ _ _ _ (prepared .chained) refl) room (top .loop .inv .3 p queue shown cleared room prepared),
+    )
 
 same-length-2 : tie.Need-same-length-2 Inv-loop μ-loop
 same-length-2 c = search needs
