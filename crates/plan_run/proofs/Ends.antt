@@ -11,6 +11,7 @@ use borrow.Author.Tests.{ltb-true, ltb-false}
 use Rattle.basics.specs.Lists.{member, in-front}
 use Rattle.basics.proofs.Tests.{by-cases}
 use Rattle.basics.proofs.Members.{member-nil}
+use Rattle.basics.proofs.Places.{replicate-at}
 use Rattle.order.specs.Greedy.{greedy}
 use Rattle.order.proofs.Runs.{runs-nil}
 use Rattle.plan_format.specs.Plan.{Plan, count}
@@ -19,7 +20,7 @@ use Rattle.plan_columns.specs.Columns.{Queue-column, Row-columns}
 use Rattle.plan_run.specs.Words.{has}
 use Rattle.plan_run.specs.Queues.{First, found, absent, Chained, Looked}
 use Rattle.plan_run.specs.Run.{Shown, Cleared, Rows-of, Listed, Ran}
-use Rattle.plan_run.specs.State.{Head, waiting, finished, Last, unused, Places, Watch, Going, Tables}
+use Rattle.plan_run.specs.State.{Head, waiting, finished, Last, unused, Places, Watch, Going, Tables, Prepared}
 use Rattle.plan_run.proofs.Words.{has-none, has-all}
 use Rattle.plan_run.proofs.Sources.{source-small}
 use Rattle.plan_run.proofs.Watches.{noted-by}
@@ -27,16 +28,18 @@ use Rattle.plan_run.proofs.Readies.{empty-next}
 use Rattle.plan_run.proofs.Listings.{greedy-stays}
 use Rattle.plan_run.proofs.Turns.{head-inside}
 
-zeros-at : (m k : ℕ) → getD {A = ℕ} (replicate m 0) k 0 ≡ 0
-zeros-at zero k = refl
-zeros-at (suc m) zero = refl
-zeros-at (suc m) (suc k) = zeros-at m k
+-- rows as an array of zeros
+pub cleared-by : (rows : List ℕ) → rows ≡ replicate 16416 0 → Cleared rows
+cleared-by rows e = record {
+  long = ap length e ∙ length-replicate {A = ℕ} 16416 0;
+  zeros = λ k. ap (λ (x : List ℕ). getD x k 0) e ∙ replicate-at 16416 0 k;
+}
 
 pub tables-are : (queue : List ℕ) (n : ℕ) (head next unit : List ℕ) → Chained queue 0 n head next → unit ≡ set (replicate 32 0) 16 1 → Tables queue n next unit
 tables-are queue n head next unit chained e = record {
   nexts = λ i l b. chained .nexts i zero-le l b;
   one = ap (λ (x : List ℕ). getD x 16 0) e;
-  zeros = λ k ne. ap (λ (x : List ℕ). getD x k 0) e ∙ getD-set-other (replicate 32 0) 16 k 1 0 ne ∙ zeros-at 32 k;
+  zeros = λ k ne. ap (λ (x : List ℕ). getD x k 0) e ∙ getD-set-other (replicate 32 0) 16 k 1 0 ne ∙ replicate-at 32 0 k;
 }
 
 -- ---- the beginning
@@ -55,7 +58,7 @@ module _ (p : Plan) (n : ℕ) (queue source head next : List ℕ) (shown : Shown
       a-run = runs-nil (count p) (enabled p) [];
       heads = λ q l. first-head q (getD head q 0) (chained .heads q l);
       lasts = λ q l. subst (λ (x : ℕ). Last p [] q x) (sym (ap (λ (x : List ℕ). getD x q 0) prev-is ∙ getD-replicate 16 q 1024 0 l)) (unused (λ k m e. member-nil k m));
-      has-run = λ j l. ap (λ (x : List ℕ). getD x j 0) ran-is ∙ getD-set-other (replicate 1025 0) 1024 j 1 0 (λ z. absurd (omega arith)) ∙ zeros-at 1025 j;
+      has-run = λ j l. ap (λ (x : List ℕ). getD x j 0) ran-is ∙ getD-set-other (replicate 1025 0) 1024 j 1 0 (λ z. absurd (omega arith)) ∙ replicate-at 1025 0 j;
       none-run = ap (λ (x : List ℕ). getD x 1024 0) ran-is
           ∙ getD-set-same (replicate 1025 0) 1024 1 0 (let h : 1024 < length (replicate {A = ℕ} 1025 0) = omega (arith, length-replicate {A = ℕ} 1025 0) in h);
       head-long = chained .head-long;
@@ -63,32 +66,30 @@ module _ (p : Plan) (n : ℕ) (queue source head next : List ℕ) (shown : Shown
       ran-long = ap length ran-is ∙ length-set {A = ℕ} (replicate 1025 0) 1024 1 ∙ length-replicate {A = ℕ} 1025 0;
     }
 
-    first-watch :
-        (clear : List ℕ) → clear ≡ replicate 1025 0 → (ready : ℕ) (waiter : List ℕ) → Looked 65535 0 head source ran clear ready waiter →
-        Watch source head ran waiter ready
-    first-watch clear e ready waiter looked = record {
+    first-watch : (ready : ℕ) (waiter : List ℕ) → Looked 65535 0 head source ran (replicate 1025 0) ready waiter → Watch source head ran waiter ready
+    first-watch ready waiter looked = record {
       readies = λ k l. looked .readies k l ∙ rw (has-none k, has-all 16 k l);
-      noted = λ k l h f. noted-by 65535 0 head source ran clear ready waiter looked k l (has-all 16 k l)
+      noted = λ k l h f. noted-by 65535 0 head source ran (replicate 1025 0) ready waiter looked k l (has-all 16 k l)
           (λ m b. source-small p n queue source shown (getD head k 0) m (head-inside p [] k (getD head k 0) (first-places .heads k l) h) b) h f;
-      long = looked .long ∙ ap length e ∙ length-replicate {A = ℕ} 1025 0;
+      long = looked .long ∙ length-replicate {A = ℕ} 1025 0;
     }
 
 pub started :
-    (p : Plan) (n : ℕ) (queue source head next rows list : List ℕ) → Shown p n queue source → Cleared rows → Chained queue 0 n head next →
-    (prev ran clear : List ℕ) → prev ≡ replicate 16 1024 → ran ≡ set (replicate 1025 0) 1024 1 → clear ≡ replicate 1025 0 →
-    (ready : ℕ) (waiter : List ℕ) → Looked 65535 0 head source ran clear ready waiter →
-    Going p n 0 source head prev ran waiter ready rows list list
+    (p : Plan) (n : ℕ) (queue source head next ran waiter : List ℕ) (ready : ℕ) (rows list prev : List ℕ) → Shown p n queue source → Cleared rows →
+    Prepared queue n source head next ran waiter ready → prev ≡ replicate 16 1024 → Going p n 0 source head prev ran waiter ready rows list list
 unfolding standard member Row-columns
-started p n queue source head next rows list shown cleared chained prev ran clear pe re ce ready waiter looked = record {
-  run = [];
-  many = refl;
-  left = ap (λ (x : ℕ). greedy (λ r. Rattle.plan_order.specs.Runs.next p r) x []) (let e : n - 0 ≡ count p = omega (arith, shown .many) in e);
-  places = first-places p n queue source head next shown chained prev ran pe re;
-  watch = first-watch p n queue source head next shown chained prev ran pe re clear ce ready waiter looked;
-  filled = record { ran = λ i k m l. member-nil i m; others = λ i k b f l. cleared .zeros (16 * i + k) };
-  rows-long = cleared .long;
-  listed = record { steps = λ k l. absurd (not-suc-le-zero l); readies = λ k l. absurd (not-suc-le-zero l); past = refl; long = refl };
-}
+started p n queue source head next ran waiter ready rows list prev shown cleared prepared prev-is =
+    let chained = prepared .chained in
+    record {
+      run = [];
+      many = refl;
+      left = ap (λ (x : ℕ). greedy (λ r. Rattle.plan_order.specs.Runs.next p r) x []) (let e : n - 0 ≡ count p = omega (arith, shown .many) in e);
+      places = first-places p n queue source head next shown chained prev ran prev-is (prepared .ran-is);
+      watch = first-watch p n queue source head next shown chained prev ran prev-is (prepared .ran-is) ready waiter (prepared .looked);
+      filled = record { ran = λ i k m l. member-nil i m; others = λ i k b f l. cleared .zeros (16 * i + k) };
+      rows-long = cleared .long;
+      listed = record { steps = λ k l. absurd (not-suc-le-zero l); readies = λ k l. absurd (not-suc-le-zero l); past = refl; long = refl };
+    }
 
 -- ---- the whole list
 module _ (p : Plan) where

@@ -3,13 +3,13 @@ use mathlib.Core.Path.{_≡_}
 use mathlib.Core.Bool.{true, false, cond}
 use mathlib.Core.List.{List}
 use Prim.Native.Nat.{ℕ, suc, _+_, _-_, _*_, _%_, _≤_, _<_, min}
-use lib.ListN.{length, getD, set}
+use lib.ListN.{length, getD, set, replicate}
 use Rattle.basics.specs.Lists.{member}
 use Rattle.order.specs.Greedy.{greedy}
 use Rattle.plan_format.specs.Plan.{Plan, count, op}
 use Rattle.plan_order.specs.Runs.{is-run, next, standard}
 use Rattle.plan_run.specs.Words.{has}
-use Rattle.plan_run.specs.Queues.{First, can-go}
+use Rattle.plan_run.specs.Queues.{First, Chained, can-go, Looked}
 use Rattle.plan_run.specs.Merge.{Merged}
 use Rattle.plan_run.specs.Run.{Rows-of, Listed}
 
@@ -69,6 +69,12 @@ pub record Tables (queue : List ℕ) (n : ℕ) (next unit : List ℕ) : Type 0 w
   pub nexts : (i : ℕ) → i < n → getD queue i 0 < 16 → First queue (getD queue i 0) (suc i) n (getD next i 0)
   pub one : getD unit 16 0 ≡ 1
   pub zeros : (k : ℕ) → (k ≡ 16 → ⊥) → getD unit k 0 ≡ 0
+
+-- before the first step: operations chained, nothing run but 1,024, every queue looked at
+pub record Prepared (queue : List ℕ) (n : ℕ) (source head next ran waiter : List ℕ) (ready : ℕ) : Type 0 where
+  pub chained : Chained queue 0 n head next
+  pub ran-is : ran ≡ set (replicate 1025 0) 1024 1
+  pub looked : Looked 65535 0 head source ran (replicate 1025 0) ready waiter
 
 -- operation numbers past 1,024 read as 1,024
 abbrev pub slot-of : ℕ → ℕ

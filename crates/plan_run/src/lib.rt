@@ -29,37 +29,23 @@ pub fn run(
         return 0;
     }
     let mut head = [1024u16; 16];
-    let mut prev = [1024u16; 16];
     let mut next = [1024u16; 1024];
     let mut ran = [0u16; 1025];
     let mut waiter = [0u16; 1025];
-    let mut unit = [0u16; 32];
     ran[1024] = 1;
-    unit[16] = 1;
     queues::chain(many, queue, &mut head, &mut next);
-    let mut ready = queues::wake(65535, 0, &head, source, &ran, &mut waiter);
-    let mut i: usize = 0;
-    while i < many {
-        if ready == 0 {
-            return i;
-        }
-        ready = steps::turn(
-            i,
-            many,
-            ready,
-            source,
-            &next,
-            &unit,
-            &mut head,
-            &mut prev,
-            &mut ran,
-            &mut waiter,
-            rows,
-            list,
-        );
-        i += 1;
-    }
-    i
+    let ready = queues::wake(65535, 0, &head, source, &ran, &mut waiter);
+    steps::all(
+        many,
+        ready,
+        source,
+        &next,
+        &mut head,
+        &mut ran,
+        &mut waiter,
+        rows,
+        list,
+    )
 }
 
 // The lowest operation that did not run: its row is zero at its own queue. n if each ran.

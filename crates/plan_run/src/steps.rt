@@ -7,8 +7,8 @@ ghost use Prim.Native.Nat.{ℕ, _+_, _*_, _<_, _≤_};
 ghost use lib.ListN.{length, getD};
 ghost use Rattle.plan_format.specs.Plan.{Plan};
 ghost use Rattle.plan_run.specs.Merge.{Merged};
-ghost use Rattle.plan_run.specs.Run.{Shown};
-ghost use Rattle.plan_run.specs.State.{Tables, slot-of, Stepped, Going};
+ghost use Rattle.plan_run.specs.Run.{Shown, Cleared, Ran};
+ghost use Rattle.plan_run.specs.State.{Tables, Prepared, slot-of, Stepped, Going};
 
 // An operation number; past 1,024 it reads as 1,024, whose row is zero.
 fn slot(a: &[u16], i: usize) -> usize
@@ -91,4 +91,49 @@ pub fn turn(
     step(j, q, source, next, unit, head, prev, ran, rows);
     let mask = ((cells::get16(waiter, j) % 65536) as u32) | (1u32 << q);
     queues::wake(mask, ready - (1u32 << q), head, source, ran, waiter)
+}
+
+// The steps of the run from the first, as long as a queue is ready; how many there are.
+pub fn all(
+    n: usize,
+    ready: u32,
+    source: &[u16; 3072],
+    next: &[u16; 1024],
+    head: &mut [u16; 16],
+    ran: &mut [u16; 1025],
+    waiter: &mut [u16; 1025],
+    rows: &mut [u16; 16416],
+    list: &mut [u32],
+) -> usize
+    requires { ⌜ (ready < 65536) × (n ≤ 1024) ⌝ }
+    ensures { λ r. ⌜ ((p : Plan) (queue : List ℕ) → Shown p n queue (now (source .entry)) → Cleared (now (rows .entry)) → 2 * n ≤ length (now (list .entry)) →
+        Prepared queue n (now (source .entry)) (now (head .entry)) (now (next .entry)) (now (ran .entry)) (now (waiter .entry)) ready →
+        Ran p n r (now (rows .exit)) (now (list .entry)) (now (list .exit))) ⌝ }
+{
+    let mut prev = [1024u16; 16];
+    let mut unit = [0u16; 32];
+    unit[16] = 1;
+    let mut word = ready;
+    let mut i: usize = 0;
+    while i < n {
+        if word == 0 {
+            return i;
+        }
+        word = turn(
+            i,
+            n,
+            word,
+            source,
+            next,
+            &unit,
+            head,
+            &mut prev,
+            ran,
+            waiter,
+            rows,
+            list,
+        );
+        i += 1;
+    }
+    i
 }

@@ -31,7 +31,13 @@ get16-requires-2 : tie.Need-get16-requires-2 Inv-loop μ-loop
 get16-requires-2 c κs = search needs
 
 returns : tie.Need-returns Inv-loop μ-loop
-returns c = λ p sound many shows filled. stuck-at p _ _ _ sound many shows filled _ (c .before .before .before .before .before .loop-test .taken) (own-cell (c .before .before .before .before .before .before .before .args .queue .now) (c .before .before .before .before .before .before .before .args .rows .now) (c .before .before .before .before .before .before .loop .i) _ _ (c .before .before .before .get16 .ensures) (c .before .get162 .ensures) ∙ c .if1 .taken) (c .before .before .before .before .before .before .loop .inv .1)
+returns c =
+    let seen = c .before .before .before in
+    let top = seen .before .before .before in
+    let here = top .before .args in
+    λ p sound many shows filled.
+    stuck-at p _ _ _ sound many shows filled _ (seen .before .before .loop-test .taken)
+    (own-cell (here .queue .now) (here .rows .now) (top .loop .i) _ _ (seen .get16 .ensures) (c .before .get162 .ensures) ∙ c .if1 .taken) (top .loop .inv .1)
 
 add-i : tie.Need-add-i Inv-loop μ-loop
 add-i c = search needs
@@ -40,7 +46,14 @@ loop-less : tie.Need-loop-less Inv-loop μ-loop
 loop-less c = search needs
 
 loop-again : tie.Need-loop-again Inv-loop μ-loop
-loop-again c = (omega arith, below-more _ _ (c .before .before .before .before .before .before .loop .inv .1) (λ z. c .if1 .left (sym (own-cell (c .before .before .before .before .before .before .before .args .queue .now) (c .before .before .before .before .before .before .before .args .rows .now) (c .before .before .before .before .before .before .loop .i) _ _ (c .before .before .before .get16 .ensures) (c .before .get162 .ensures)) ∙ z)))
+loop-again c =
+    let seen = c .before .before .before in
+    let top = seen .before .before .before in
+    let here = top .before .args in (
+      omega arith,
+      below-more _ _ (top .loop .inv .1)
+          (λ z. c .if1 .left (sym (own-cell (here .queue .now) (here .rows .now) (top .loop .i) _ _ (seen .get16 .ensures) (c .before .get162 .ensures)) ∙ z)),
+    )
 
 returns-2 : tie.Need-returns-2 Inv-loop μ-loop
 returns-2 c = λ p sound many shows filled. let e : c .before .loop .i ≡ c .before .before .args .n = omega arith in rw e (stuck-nowhere p _ _ _ sound many shows filled (rw e at (c .before .loop .inv .1)))

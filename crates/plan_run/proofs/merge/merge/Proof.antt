@@ -106,13 +106,17 @@ loop-less c = search needs
 
 loop-again : tie.Need-loop-again Inv-loop μ-loop
 loop-again c =
-    let at = c .before .before .before .before .before .before .before .before .before .before .loop in
-    let here = c .before .before .before .before .before .before .before .before .before .before .before .args in
-    let f : ℕ → ℕ = λ m. (largest (here .rows .now) (here .a) (here .b) (here .c) (here .d) m + getD (here .unit .now) (16 - here .q + m) 0) % 65536 in (
+    let most = c .before .before in
+    let cd = most .before in
+    let ab = cd .before .before .before in
+    let top = ab .before .before .before .before in
+    let here = top .before .args in
+    let f : ℕ → ℕ =
+    λ m. (largest (here .rows .now) (here .a) (here .b) (here .c) (here .d) m + getD (here .unit .now) (16 - here .q + m) 0) % 65536 in (
       omega arith,
-      simp length-set (at .inv .1),
-      merged-more f (at .row) (at .k) (c .sum .result) _ (at .inv .1) (omega arith) (at .inv .2)
-          (merged-is _ _ _ _ _ _ _ _ _ _ _ (c .before .before .before .before .before .before .larger .ensures) (c .before .before .before .larger2 .ensures) (c .before .before .larger3 .ensures) (c .sum .ensures)) refl,
+      simp length-set (top .loop .inv .1),
+      merged-more f (top .loop .row) (top .loop .k) (c .sum .result) _ (top .loop .inv .1) (omega arith) (top .loop .inv .2)
+          (merged-is _ _ _ _ _ _ _ _ _ _ _ (ab .larger .ensures) (cd .larger2 .ensures) (most .larger3 .ensures) (c .sum .ensures)) refl,
     )
 
 returns : tie.Need-returns Inv-loop μ-loop

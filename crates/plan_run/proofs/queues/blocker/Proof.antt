@@ -30,7 +30,9 @@ get16-requires-4 c κs = search needs
 
 returns-2 : tie.Need-returns-2
 returns-2 c =
-    held-second _ _ _ _ _ (c .before .before .before .before .before .before .before .before .get16 .ensures) (c .before .before .before .before .before .before .get162 .ensures) (c .before .before .before .before .before .if1 .left) _ _ (c .before .before .before .get163 .ensures) (c .before .get164 .ensures) (c .if2 .taken)
+    let first = c .before .before .before .before .before in
+    held-second _ _ _ _ _ (first .before .before .before .get16 .ensures) (first .before .get162 .ensures) (first .if1 .left)
+    _ _ (c .before .before .before .get163 .ensures) (c .before .get164 .ensures) (c .if2 .taken)
 
 mul-get16-3 : tie.Need-mul-get16-3
 mul-get16-3 c = search needs
@@ -46,11 +48,19 @@ get16-requires-6 c κs = search needs
 
 returns-3 : tie.Need-returns-3
 returns-3 c =
-    held-third _ _ _ _ _ (c .before .before .before .before .before .before .before .before .before .before .before .before .before .get16 .ensures) (c .before .before .before .before .before .before .before .before .before .before .before .get162 .ensures) (c .before .before .before .before .before .before .before .before .before .before .if1 .left) _ _ (c .before .before .before .before .before .before .before .before .get163 .ensures) (c .before .before .before .before .before .before .get164 .ensures) (c .before .before .before .before .before .if2 .left) _ _ (c .before .before .before .get165 .ensures) (c .before .get166 .ensures) (c .if3 .taken)
+    let second = c .before .before .before .before .before in
+    let first = second .before .before .before .before .before in
+    held-third _ _ _ _ _ (first .before .before .before .get16 .ensures) (first .before .get162 .ensures) (first .if1 .left)
+    _ _ (second .before .before .before .get163 .ensures) (second .before .get164 .ensures) (second .if2 .left)
+    _ _ (c .before .before .before .get165 .ensures) (c .before .get166 .ensures) (c .if3 .taken)
 
 returns-4 : tie.Need-returns-4
 returns-4 c =
-    held-none _ _ _ _ _ (c .before .before .before .before .before .before .before .before .before .before .before .before .before .get16 .ensures) (c .before .before .before .before .before .before .before .before .before .before .before .get162 .ensures) (c .before .before .before .before .before .before .before .before .before .before .if1 .left) _ _ (c .before .before .before .before .before .before .before .before .get163 .ensures) (c .before .before .before .before .before .before .get164 .ensures) (c .before .before .before .before .before .if2 .left) _ _ (c .before .before .before .get165 .ensures) (c .before .get166 .ensures) (c .if3 .left)
+    let second = c .before .before .before .before .before in
+    let first = second .before .before .before .before .before in
+    held-none _ _ _ _ _ (first .before .before .before .get16 .ensures) (first .before .get162 .ensures) (first .if1 .left)
+    _ _ (second .before .before .before .get163 .ensures) (second .before .get164 .ensures) (second .if2 .left)
+    _ _ (c .before .before .before .get165 .ensures) (c .before .get166 .ensures) (c .if3 .left)
 
 pub blocker-spec : {M : Type 1} → statement M
 blocker-spec =

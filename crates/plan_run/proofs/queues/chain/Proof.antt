@@ -37,10 +37,14 @@ loop-less c = search needs
 
 loop-again : tie.Need-loop-again Inv-loop μ-loop
 loop-again c =
-    let i = c .before .before .before .before .before .before .before .before .before .before .loop .i in (
+    let stored = c .before .before in
+    let first = stored .before .before in
+    let queue = first .before .before .before in
+    let top = queue .before .before .before in
+    let i = top .loop .i in (
       omega arith,
-      chained-more _ _ (c .before .before .before .before .before .before .before .before .before .before .before .pre .0) (i - 1) _ _ _ _ _ _ (omega arith) i (omega arith) (c .before .before .before .before .before .before .before .before .before .before .loop .inv .1)
-          (c .before .before .before .before .before .before .before .get16 .ensures) (c .before .before .before .before .get162 .ensures) (c .before .before .put16 .ensures) (c .put162 .ensures),
+      chained-more _ _ (top .before .pre .0) (i - 1) _ _ _ _ _ _ (omega arith) i (omega arith) (top .loop .inv .1)
+          (queue .get16 .ensures) (first .get162 .ensures) (stored .put16 .ensures) (c .put162 .ensures),
     )
 
 returns : tie.Need-returns Inv-loop μ-loop

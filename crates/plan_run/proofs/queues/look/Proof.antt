@@ -26,10 +26,11 @@ shl-result c = search needs
 
 returns-2 : tie.Need-returns-2
 returns-2 c =
-    let q = c .before .before .before .before .before .args .q in
-    let e = unit-shifted q 4294967296 (c .before .before .before .before .before .pre .0) (omega arith) in (
-      or-lt 16 _ _ (c .before .before .before .before .before .pre .1) (shifted-small q 4294967296 (c .before .before .before .before .before .pre .0) (omega arith)),
-      looked-free _ _ _ _ _ _ _ (c .before .before .before .get16 .ensures) (c .before .before .if1 .left) _ (c .before .blocker .ensures) (c .if2 .taken) _ e,
+    let start = c .before .before .before .before .before in
+    let q = start .args .q in (
+      or-lt 16 _ _ (start .pre .1) (shifted-small q 4294967296 (start .pre .0) (omega arith)),
+      looked-free _ _ _ _ _ _ _ (c .before .before .before .get16 .ensures) (c .before .before .if1 .left) _ (c .before .blocker .ensures) (c .if2 .taken)
+          _ (unit-shifted q 4294967296 (start .pre .0) (omega arith)),
     )
 
 get16-requires-2 : tie.Need-get16-requires-2
@@ -43,11 +44,12 @@ put16-requires c κs = search needs
 
 returns-3 : tie.Need-returns-3
 returns-3 c =
-    let q = c .before .before .before .before .before .before .before .before .before .before .args .q in
-    let e = unit-shifted q 18446744073709551616 (c .before .before .before .before .before .before .before .before .before .before .pre .0) (omega arith) in
-    let long : length (now (c .before .before .before .before .before .before .before .before .before .before .args .waiter)) ≡ 1025 = search needs in (
-      c .before .before .before .before .before .before .before .before .before .before .pre .1,
-      looked-held _ _ _ _ _ _ _ (c .before .before .before .before .before .before .before .before .get16 .ensures) long _ (c .before .before .before .before .before .before .blocker .ensures) (c .before .before .before .before .before .if2 .left) _ e _ (c .before .before .get162 .ensures) _ (c .put16 .ensures),
+    let held = c .before .before .before .before .before in
+    let start = held .before .before .before .before .before in
+    let long : length (now (start .args .waiter)) ≡ 1025 = search needs in (
+      start .pre .1,
+      looked-held _ _ _ _ _ _ _ (held .before .before .before .get16 .ensures) long _ (held .before .blocker .ensures) (held .if2 .left)
+          _ (unit-shifted (start .args .q) 18446744073709551616 (start .pre .0) (omega arith)) _ (c .before .before .get162 .ensures) _ (c .put16 .ensures),
     )
 
 pub look-spec : {M : Type 1} → statement M

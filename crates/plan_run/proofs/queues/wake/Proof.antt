@@ -40,7 +40,8 @@ look-requires c κs = search needs
 
 loop-less : tie.Need-loop-less Inv-loop μ-loop
 loop-less c =
-    omega (arith, unit-shifted (c .before .before .lowest .result) 4294967296 (c .before .before .lowest .ensures .0) (omega arith), pow-pos (c .before .before .lowest .result))
+    let l = c .before .before .lowest in
+    omega (arith, unit-shifted (l .result) 4294967296 (l .ensures .0) (omega arith), pow-pos (l .result))
 
 loop-again : tie.Need-loop-again Inv-loop μ-loop
 loop-again c =

@@ -38,9 +38,14 @@ lay-requires : tie.Need-lay-requires
 lay-requires c κs = search needs
 
 returns : tie.Need-returns
-returns c = λ h.
-    merged-laid _ _ _ _ _ _ _ _ _ _ _ _ _ _ (c .before .before .before .before .before .before .before .before .before .before .slot .ensures) (c .before .before .before .before .before .before .before .before .slot2 .ensures) (c .before .before .before .before .before .before .slot3 .ensures) (c .before .before .before .before .slot4 .ensures)
-    (c .before .before .merge .ensures) (c .lay .ensures h)
+returns c =
+    let row = c .before .before in
+    let third = row .before .before in
+    let second = third .before .before in
+    let first = second .before .before in
+    let last = first .before .before in
+    λ h. merged-laid _ _ _ _ _ _ _ _ _ _ _ _ _ _ (last .slot .ensures) (first .slot2 .ensures) (second .slot3 .ensures) (third .slot4 .ensures)
+    (row .merge .ensures) (c .lay .ensures h)
 
 pub fill-spec : {M : Type 1} → statement M
 fill-spec =

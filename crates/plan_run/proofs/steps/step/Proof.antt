@@ -25,12 +25,17 @@ put16-requires-3 c κs = search needs
 
 returns : tie.Need-returns
 returns c =
-    let small : c .before .before .before .before .before .before .before .before .before .before .before .args .j < 65536 = omega arith in
+    let after = c .before .before in
+    let last = after .before .before in
+    let ran = last .before .before in
+    let filled = ran .before .before in
+    let start = filled .before .before .before in
+    let small : start .args .j < 65536 = omega arith in
     record {
-      head-is = c .put163 .ensures ∙ ap (λ (x : ℕ). set (c .before .before .before .before .before .before .before .before .before .before .before .args .head .now) (c .before .before .before .before .before .before .before .before .before .before .before .args .q) (x % 65536)) (c .before .before .get16 .ensures);
-      prev-is = c .before .before .before .before .put162 .ensures ∙ ap (λ (x : ℕ). set (c .before .before .before .before .before .before .before .before .before .before .before .args .prev .now) (c .before .before .before .before .before .before .before .before .before .before .before .args .q) x) (mod-eq-of-lt small);
-      ran-is = c .before .before .before .before .before .before .put16 .ensures;
-      rows-are = c .before .before .before .before .before .before .before .before .fill .ensures;
+      head-is = c .put163 .ensures ∙ ap (λ (x : ℕ). set (start .args .head .now) (start .args .q) (x % 65536)) (after .get16 .ensures);
+      prev-is = last .put162 .ensures ∙ ap (λ (x : ℕ). set (start .args .prev .now) (start .args .q) x) (mod-eq-of-lt small);
+      ran-is = ran .put16 .ensures;
+      rows-are = filled .fill .ensures;
     }
 
 pub step-spec : {M : Type 1} → statement M

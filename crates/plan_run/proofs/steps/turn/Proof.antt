@@ -54,24 +54,34 @@ sub-wake c =
 
 wake-requires : tie.Need-wake-requires
 wake-requires c κs =
-    let l = c .before .before .before .before .before .before .before .before .before .before .before .before .before .before .before .before .before .before .before .before .before .before .lowest in (
-      mask-small (c .before .before .before .get16 .result) _ (shifted-small (l .result) 4294967296 (l .ensures .0) (omega arith)),
-      omega (arith, c .before .before .before .before .before .before .before .before .before .before .before .before .before .before .before .before .before .before .before .before .before .before .before .before .pre .1),
+    let seen = c .before .before .before in
+    let listed = seen .before .before .before .before .before .before .before .before .before .before in
+    let low = listed .before .before .before .before .before .before .before .before .before in
+    let l = low .lowest in (
+      mask-small (seen .get16 .result) _ (shifted-small (l .result) 4294967296 (l .ensures .0) (omega arith)),
+      omega (arith, low .before .before .pre .1),
     )
 
 same-length : tie.Need-same-length
 same-length c = search needs
 
 returns : tie.Need-returns
-returns c = (
-  c .wake .ensures .0,
-  λ p queue first shown tables room going.
-      let start = c .before .before .before .before .before .before .before .before .before .before .before .before .before .before .before .before .before .before .before .before .before .before .before .before .before in
-      let l = c .before .before .before .before .before .before .before .before .before .before .before .before .before .before .before .before .before .before .before .before .before .before .before .lowest in
-      turned p (start .args .n) queue _ _ _ first shown tables room _ _ _ _ _ _ _ _ going (start .pre .0) (start .pre .1) (start .pre .2) _ _ (l .ensures .0) (l .ensures .1)
-      (c .before .before .before .before .before .before .before .before .before .before .before .before .before .before .before .before .before .before .before .before .slot .ensures) _ _ (c .before .before .before .before .before .before .before .before .before .before .before .before .before .before .before .before .before .before .put32 .ensures) (c .before .before .before .before .before .before .before .before .before .before .before .before .before .before .put322 .ensures) _ _ _ _ (c .before .before .before .before .before .before .before .step .ensures)
-      _ _ (c .before .before .before .before .get16 .ensures) (unit-shifted (l .result) 4294967296 (l .ensures .0) (omega arith)) _ _ (c .wake .ensures .1),
-)
+returns c =
+    let seen = c .before .before .before .before in
+    let stepped = seen .before .before .before in
+    let listed = stepped .before .before .before .before .before .before .before in
+    let counted = listed .before .before .before .before in
+    let chosen = counted .before .before in
+    let low = chosen .before .before .before in
+    let start = low .before .before in
+    let l = low .lowest in (
+      c .wake .ensures .0,
+      λ p queue first shown tables room going.
+          turned p (start .args .n) queue _ _ _ first shown tables room _ _ _ _ _ _ _ _ going (start .pre .0) (start .pre .1) (start .pre .2)
+          _ _ (l .ensures .0) (l .ensures .1) (chosen .slot .ensures) _ _ (counted .put32 .ensures) (listed .put322 .ensures)
+          _ _ _ _ (stepped .step .ensures) _ _ (seen .get16 .ensures) (unit-shifted (l .result) 4294967296 (l .ensures .0) (omega arith))
+          _ _ (c .wake .ensures .1),
+    )
 
 pub turn-spec : {M : Type 1} → statement M
 turn-spec =
