@@ -11,7 +11,7 @@ use borrow.Author.Tests.{ltb-true, ltb-false}
 use Rattle.basics.specs.Lists.{member, in-front}
 use Rattle.basics.proofs.Tests.{by-cases}
 use Rattle.basics.proofs.Members.{member-nil}
-use Rattle.basics.proofs.Places.{replicate-at}
+use Rattle.basics.proofs.Elements.{replicate-at}
 use Rattle.order.specs.Greedy.{greedy}
 use Rattle.order.proofs.Runs.{runs-nil}
 use Rattle.plan_format.specs.Plan.{Plan, count}
