@@ -4,3 +4,4 @@ pub mod Operations
 pub mod Ownership
 pub mod Lists
 pub mod Plans
+pub mod Padded
