@@ -22,5 +22,6 @@ pub mod StandardMeaning
 pub mod RowsMeaning
 pub mod LeftMeaning
 pub mod RoomMeaning
+pub mod CheckMeaning
 pub mod OutcomeMeaning
 pub mod QuestionMeaning
