@@ -1,5 +1,5 @@
 -- No number is given on other grounds: which numbers a reading's fault can have. Assumes nothing.
-use mathlib.Core.Path.{_≡_}
+use mathlib.Core.Path.{_≡_, refl}
 use mathlib.Core.Bool.{Bool, true, false, _||_, cond}
 use mathlib.Core.Logic.{_⊎_, inl, inr}
 use mathlib.Core.List.{List, [], _∷_, _++_}
@@ -8,12 +8,13 @@ use native.Mathlib.Omega.{arith}
 use lib.Dec.{ltb, eqb}
 use lib.ListN.{length, drop}
 use Rattle.basics.specs.Lists.{member}
+use Rattle.basics.proofs.Tests.{either}
 use Rattle.plan_format.specs.Refusal.{Refusal, refusal, none-given, given, or-else}
 use Rattle.plan_format.specs.Grammar.{Grammar, field, seq, counted, nothing, Source, Scan, bytes, numbers, scan, refused, field-number, read-field, last-got, times, count-check, read-by, ended}
 use Rattle.plan_format.specs.Form.{first-form, queue-count, semaphore-count, buffer-count, any-number, below, new-axis, a-queue, a-semaphore, a-buffer, a-kind, point, mark, part, operation, plan-grammar, scanned-by}
 use Rattle.plan_format.specs.Stored.{scanned, listed, plan-in, plan-refusal}
 use Rattle.plan_format.specs.Sound.{rules-refusal}
-use Rattle.plan_format.specs.Meaning.{Plan-refusal-means}
+use Rattle.plan_format.specs.Meaning.{Fields-answer, first-of, rest-of, Sections-answer, Plan-refusal-means}
 use Rattle.plan_format.proofs.Judged.{other-given, or-else-first, or-else-second}
 use Rattle.plan_format.proofs.RulesMeaning.{rules-mean}
 
@@ -21,12 +22,11 @@ cond-has : {A : Type 0} (Q : A → Type 0) (b : Bool) (x y : A) → Q x → Q y 
 cond-has Q true x y h g = h
 cond-has Q false x y h g = g
 
--- every check of a grammar answers a number with a property
-abbrev All-checks : (P : ℕ → Type 0) → Grammar → Type 0
-All-checks P (field w c) = (got : List ℕ) (v : ℕ) → P (c got v)
-All-checks P (seq g h) = All-checks P g × All-checks P h
-All-checks P (counted l m w g) = All-checks P g
-All-checks P nothing = Unit {0}
+fields-mono : (P Q : ℕ → Type 0) → ((n : ℕ) → P n → Q n) → (g : Grammar) → Fields-answer P g → Fields-answer Q g
+fields-mono P Q f (field w c) h = λ got v. f (c got v) (h got v)
+fields-mono P Q f (seq g k) h = (fields-mono P Q f g (h .0), fields-mono P Q f k (h .1))
+fields-mono P Q f (counted l m w g) h = fields-mono P Q f g h
+fields-mono P Q f nothing h = h
 
 abbrev Fault-has : (P : ℕ → Type 0) → Scan → Type 0
 Fault-has P s = P (s .fault .number)
@@ -54,7 +54,7 @@ module _ (P : ℕ → Type 0) (p0 : P 0) (p1 : P 1) (p2 : P 2) (p4 : P 4) (S : S
   times-has zero f h s e = e
   times-has (suc k) f h s e = times-has k f h (f s) (h s e)
 
-  read-has : (g : Grammar) → All-checks P g → (s : Scan) → Fault-has P s → Fault-has P (read-by S g s)
+  read-has : (g : Grammar) → Fields-answer P g → (s : Scan) → Fault-has P s → Fault-has P (read-by S g s)
   unfolding read-by
   read-has (field w c) h s e = field-has w (λ v. c (s .got) v) s (λ v. h (s .got) v) e
   read-has (seq g k) h s e = read-has k (h .1) (read-by S g s) (read-has g (h .0) s e)
@@ -70,27 +70,39 @@ module _ (P : ℕ → Type 0) (p0 : P 0) (p1 : P 1) (p2 : P 2) (p4 : P 4) (S : S
   ended-has p3 s e = cond-has (Fault-has P) (given (s .fault) || eqb (length (s .rest)) 0) s (refused 3 s) e p3
 
 -- ---- 0 to 5 for a plan
+abbrev Or-none : (n m : ℕ) → Type 0
+Or-none n m = (m ≡ 0) ⊎ (m ≡ n)
+
+below-four : (limit v : ℕ) → Or-none 4 (below limit v)
+unfolding below
+below-four l v = cond-has (Or-none 4) (ltb v l) 0 4 (inl refl) (inr refl)
+
+any-none : (g : List ℕ) (v : ℕ) → Or-none 4 (any-number g v)
+unfolding any-number
+any-none g v = inl refl
+
+point-four : Fields-answer (Or-none 4) (point first-form)
+unfolding point a-semaphore
+point-four = ((λ g v. below-four (semaphore-count g) v), any-none)
+
+pub sections-answer : Sections-answer
+unfolding plan-grammar operation part mark first-form new-axis a-queue a-buffer a-kind
+sections-answer =
+    let queue : (g : List ℕ) (v : ℕ) → Or-none 4 (below (queue-count g) v) = λ g v. below-four (queue-count g) v in
+    record {
+      axes = λ g v. cond-has (Or-none 5) (member v (drop 1 g)) 5 0 (inr refl) (inl refl);
+      others = (queue, (any-none, (queue, (tt, (point-four, (point-four, ((λ g v. below-four (buffer-count g) v), (λ g v. below-four 2 v))))))));
+    }
+
 abbrev To-five : ℕ → Type 0
 To-five n = n ≤ 5
 
-below-five : (limit v : ℕ) → To-five (below limit v)
-unfolding below
-below-five l v = cond-has To-five (ltb v l) 0 4 (omega arith) (omega arith)
-
-any-five : (g : List ℕ) (v : ℕ) → To-five (any-number g v)
-unfolding any-number
-any-five g v = omega arith
-
-point-five : All-checks To-five (point first-form)
-unfolding point a-semaphore
-point-five = ((λ g v. below-five (semaphore-count g) v), any-five)
-
-grammar-five : All-checks To-five (plan-grammar first-form)
-unfolding plan-grammar operation part mark first-form new-axis a-queue a-buffer a-kind
+grammar-five : Fields-answer To-five (plan-grammar first-form)
+unfolding plan-grammar first-form
 grammar-five =
-    let queue : (g : List ℕ) (v : ℕ) → To-five (below (queue-count g) v) = λ g v. below-five (queue-count g) v in (
-      (λ g v. cond-has To-five (member v (drop 1 g)) 5 0 (omega arith) (omega arith)),
-      (queue, (any-five, (queue, (tt, (point-five, (point-five, ((λ g v. below-five (buffer-count g) v), (λ g v. below-five 2 v)))))))),
+    let g = plan-grammar first-form in (
+      fields-mono (Or-none 5) To-five (λ n h. either h (λ e. omega arith) (λ e. omega arith)) (first-of g) (sections-answer .axes),
+      fields-mono (Or-none 4) To-five (λ n h. either h (λ e. omega arith) (λ e. omega arith)) (rest-of g) (sections-answer .others),
     )
 
 -- 1 to 5 of a reader, and of a writer

@@ -48,6 +48,30 @@ pub record Checks-mean (got : List ℕ) (v : ℕ) : Type 0 where
   pub axis : Given-when (new-axis got v) 5 (Earlier-axis got v)
   pub any : any-number got v ≡ 0
 
+-- what every field of a grammar answers, counts aside
+abbrev pub Fields-answer : (P : ℕ → Type 0) → Grammar → Type 0
+Fields-answer P (field w c) = (got : List ℕ) (v : ℕ) → P (c got v)
+Fields-answer P (seq g h) = Fields-answer P g × Fields-answer P h
+Fields-answer P (counted l m w g) = Fields-answer P g
+Fields-answer P nothing = Unit {0}
+
+abbrev pub first-of : Grammar → Grammar
+first-of (field w c) = nothing
+first-of (seq g h) = g
+first-of (counted l m w g) = nothing
+first-of nothing = nothing
+
+abbrev pub rest-of : Grammar → Grammar
+rest-of (field w c) = nothing
+rest-of (seq g h) = h
+rest-of (counted l m w g) = nothing
+rest-of nothing = nothing
+
+-- which sections give which number: axes 5 and no other, every other field 4 and no other; 2 is for counts alone
+pub record Sections-answer : Type 0 where
+  pub axes : Fields-answer (λ n. (n ≡ 0) ⊎ (n ≡ 5)) (first-of (plan-grammar first-form))
+  pub others : Fields-answer (λ n. (n ≡ 0) ⊎ (n ≡ 4)) (rest-of (plan-grammar first-form))
+
 -- 01: "each field judged as soon as it is read. A field that is cut short is 1 whatever it holds"; what its bytes cannot hold is 4
 pub record Field-means (S : Source) (width : ℕ) (check : ℕ → ℕ) (rest : List ℕ) (n : ℕ) : Type 0 where
   pub cut-short : length rest < S .wide width → n ≡ 1

@@ -23,5 +23,6 @@ pub mod RowsMeaning
 pub mod RunListed
 pub mod LeftMeaning
 pub mod RoomMeaning
+pub mod CheckMeaning
 pub mod OutcomeMeaning
 pub mod QuestionMeaning

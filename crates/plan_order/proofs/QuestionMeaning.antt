@@ -17,7 +17,8 @@ use Rattle.plan_format.proofs.Judged.{zero-not-given, other-given}
 use Rattle.plan_order.specs.Check.{rows-and-run, Outcome, outcome, or-then, check-outcome}
 use Rattle.plan_order.specs.Reuse.{number-of, verdict, question-refusal, reuse-outcome, Reuse-says}
 use Rattle.plan_order.specs.Meaning.{Gives, Verdict-table, Question-means, Left-by-number}
-use Rattle.plan_order.proofs.OutcomeMeaning.{Left-case, left-rows, left-by, check-eleven, check-left-case, passed-whole}
+use Rattle.plan_order.proofs.CheckMeaning.{check-eleven}
+use Rattle.plan_order.proofs.OutcomeMeaning.{Left-case, left-rows, left-by, check-left-case, passed-whole}
 use Rattle.plan_order.proofs.VerdictMeaning.{verdict-table}
 
 -- ---- the question's own refusals
@@ -82,6 +83,12 @@ module _ (bs : List ℕ) (q b t l : ℕ) where
   thirteen-if n (buffer-case k z h g) e = (z, h, g)
   thirteen-if n (answer-case k z h g) e = absurd (omega arith)
 
+  to-thirteen : (n : ℕ) → Question-case n → n ≤ 13
+  to-thirteen n (plan-case low high bad) = omega arith
+  to-thirteen n (queue-case k z h) = omega arith
+  to-thirteen n (buffer-case k z h g) = omega arith
+  to-thirteen n (answer-case k z h g) = omega arith
+
   pub question-means : Question-means bs q b t l (reuse-outcome bs q b t l)
   question-means = record {
     plan-first = plan-first;
@@ -93,6 +100,7 @@ module _ (bs : List ℕ) (q b t l : ℕ) where
       thirteen-if (reuse-outcome bs q b t l .refusal .number) question-case,
       (λ w. then-asked 13 b (w .0) (thirteen-is plan q b (w .1) (w .2)) .0 .0),
     );
+    only = to-thirteen (reuse-outcome bs q b t l .refusal .number) question-case;
   }
 
   -- ---- what it leaves

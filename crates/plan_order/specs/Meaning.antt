@@ -9,11 +9,11 @@ use Rattle.basics.specs.Places.{Among, Counts}
 use Rattle.order.specs.Runs.{step-of}
 use Rattle.plan_format.specs.Refusal.{Refusal}
 use Rattle.plan_format.specs.Plan.{Point, Mark, Plan, count, op, queues}
-use Rattle.plan_format.specs.Stored.{plan-in}
+use Rattle.plan_format.specs.Stored.{plan-in, plan-refusal}
 use Rattle.plan_format.specs.Meaning.{Refuses, signal-at}
 use Rattle.plan_order.specs.Precedence.{Before}
 use Rattle.plan_order.specs.Holdings.{Placed, buffer-marks}
-use Rattle.plan_order.specs.Check.{Outcome, Leaves, rows-and-run, check-outcome}
+use Rattle.plan_order.specs.Check.{room-refusal, Outcome, Leaves, untouched, zeros, rows-and-run, check-outcome}
 use Rattle.plan_order.specs.declared.Verdict.{Verdict}
 use Rattle.plan_order.specs.declared.Verdict.the-variants.{Fresh, Reusable, Held, NotOrdered, StrayUse}
 
@@ -186,27 +186,47 @@ pub record Verdict-table (p : Plan) (q b n : ℕ) : Type 0 where
   pub not-ordered : (n ≡ 3) ↔ When p q b NotOrdered
   pub stray-use : (n ≡ 4) ↔ When p q b StrayUse
 
--- an outcome by its number, its place and what it leaves
-abbrev pub Gives : Outcome → (number place : ℕ) → Leaves → Type 0
-Gives o n i l = Refuses (o .refusal) n i × (o .leaves ≡ l)
-
--- 01: "The plan is checked first", "then 12; then 13", "place the number asked", "any answer, and 12, 13 .. leave the rows and the run there"
-pub record Question-means (bytes : List ℕ) (q b table list : ℕ) (o : Outcome) : Type 0 where
-  pub plan-first : (check-outcome bytes table list .refusal .number ≡ 0 → ⊥) → o ≡ check-outcome bytes table list
-  pub no-queue : check-outcome bytes table list .refusal .number ≡ 0 → queues (plan-in bytes) ≤ q → Gives o 12 q rows-and-run
-  pub no-buffer : check-outcome bytes table list .refusal .number ≡ 0 → q < queues (plan-in bytes) → length (plan-in bytes .sizes) ≤ b → Gives o 13 b rows-and-run
-  pub answered : check-outcome bytes table list .refusal .number ≡ 0 → q < queues (plan-in bytes) → b < length (plan-in bytes .sizes) → Gives o 0 0 rows-and-run
-  -- "exactly if"
-  pub twelve : (o .refusal .number ≡ 12) ↔ ((check-outcome bytes table list .refusal .number ≡ 0) × (queues (plan-in bytes) ≤ q))
-  pub thirteen : (o .refusal .number ≡ 13) ↔
-      ((check-outcome bytes table list .refusal .number ≡ 0) × (q < queues (plan-in bytes)) × (length (plan-in bytes .sizes) ≤ b))
-
 -- ---- room
 -- 01: "9: lent table under 16 numbers for each operation, or lent run list under two for each; length needed", "table before list"
 pub record Room-means (n table list : ℕ) (f : Refusal) : Type 0 where
   pub table-short : table < 16 * n → Refuses f 9 (16 * n)
   pub list-short : 16 * n ≤ table → list < 2 * n → Refuses f 9 (2 * n)
   pub enough : 16 * n ≤ table → 2 * n ≤ list → Refuses f 0 0
+
+-- ---- the check
+-- an outcome by its number, its place and what it leaves
+abbrev pub Gives : Outcome → (number place : ℕ) → Leaves → Type 0
+Gives o n i l = Refuses (o .refusal) n i × (o .leaves ≡ l)
+
+-- none of refusals 1 to 9
+abbrev pub Unrefused : (bytes : List ℕ) → (table list : ℕ) → Type 0
+Unrefused bs t l = (plan-refusal bs .number ≡ 0) × (room-refusal (count (plan-in bs)) t l .number ≡ 0)
+
+-- 01: "Then 6 and 7 ..; then 8 likewise; then 9 ..; then 10; then 11", "No number is given on other grounds."
+pub record Check-means (bytes : List ℕ) (table list : ℕ) (o : Outcome) : Type 0 where
+  pub plan-first : (plan-refusal bytes .number ≡ 0 → ⊥) → (o .refusal ≡ plan-refusal bytes) × (o .leaves ≡ untouched)
+  pub nine :
+      (i : ℕ) → Gives o 9 i untouched ↔ ((plan-refusal bytes .number ≡ 0) × Refuses (room-refusal (count (plan-in bytes)) table list) 9 i)
+  pub ten : (j : ℕ) → Gives o 10 j zeros ↔ (Unrefused bytes table list × Lowest-in-no-run (plan-in bytes) j)
+  pub eleven :
+      (i : ℕ) → Gives o 11 i zeros ↔ (Unrefused bytes table list × ((r : List ℕ) × Full-means (plan-in bytes) r) × Lowest-broken (plan-in bytes) i)
+  pub passed :
+      Gives o 0 0 rows-and-run ↔ (Unrefused bytes table list × ((r : List ℕ) × Full-means (plan-in bytes) r) ×
+      ((b k : ℕ) → b < length (plan-in bytes .sizes) → k < length (buffer-marks (plan-in bytes) b) → Forced (plan-in bytes) b k))
+  pub only : o .refusal .number ≤ 11
+
+-- ---- the question
+-- 01: "The plan is checked first", "then 12; then 13", "place the number asked", "any answer, and 12, 13 .. leave the rows and the run there"
+pub record Question-means (bytes : List ℕ) (q b table list : ℕ) (o : Outcome) : Type 0 where
+  pub plan-first : (check-outcome bytes table list .refusal .number ≡ 0 → ⊥) → o ≡ check-outcome bytes table list
+  pub no-queue : check-outcome bytes table list .refusal .number ≡ 0 → queues (plan-in bytes) ≤ q → Gives o 12 q rows-and-run
+  pub no-buffer : check-outcome bytes table list .refusal .number ≡ 0 → q < queues (plan-in bytes) → length (plan-in bytes .sizes) ≤ b → Gives o 13 b rows-and-run
+  pub answered : check-outcome bytes table list .refusal .number ≡ 0 → q < queues (plan-in bytes) → b < length (plan-in bytes .sizes) → Gives o 0 0 rows-and-run
+  -- exactly if
+  pub twelve : (o .refusal .number ≡ 12) ↔ ((check-outcome bytes table list .refusal .number ≡ 0) × (queues (plan-in bytes) ≤ q))
+  pub thirteen : (o .refusal .number ≡ 13) ↔
+      ((check-outcome bytes table list .refusal .number ≡ 0) × (q < queues (plan-in bytes)) × (length (plan-in bytes .sizes) ≤ b))
+  pub only : o .refusal .number ≤ 13
 
 -- ---- what is left in table and list
 -- 01: "Numbers past those are never touched."
