@@ -20,9 +20,9 @@ pub mod VerdictMeaning
 pub mod ReadyMeaning
 pub mod StandardMeaning
 pub mod RowsMeaning
-pub mod RunListed
 pub mod LeftMeaning
 pub mod RoomMeaning
 pub mod CheckMeaning
 pub mod OutcomeMeaning
 pub mod QuestionMeaning
+pub mod Checks

@@ -20,7 +20,7 @@ use Rattle.plan_order.specs.Rows.{epoch, row}
 use Rattle.plan_order.specs.Runs.{is-run, is-full, ahead, ready, raises-in-order, next, standard}
 use Rattle.plan_order.specs.Holdings.{Ask, asks, asked-of, met, keeps, marks-buffer}
 use Rattle.plan_format.specs.declared.Told.{Told}
-use Rattle.plan_order.specs.Meaning.{In-column, Standard-means, Full-means, Ready-queue}
+use Rattle.plan_order.specs.Meaning.{In-column, Left-by-number}
 use Rattle.plan_order.specs.Check.{room-refusal, order-refusal, Check-says}
 
 -- ---- DEMAND 3
@@ -146,16 +146,11 @@ unfoldable pub None-itself : Type 0
 None-itself = (bs : List ℕ) (j : ℕ) → passed bs ≡ true → before (plan-in bs) j j ≡ false
 
 -- ---- THE CHECK
--- 01: "The run list holds the n positions in run order, then the n ready numbers": the standard run, and the count taken in the state
--- before each step
-pub record Run-listed (p : Plan) (list : List ℕ) : Type 0 where
-  pub run : Standard-means p (take (count p) list)
-  pub full : Full-means p (take (count p) list)
-  pub ready : (k : ℕ) → k < count p → Counts (Ready-queue p (take k list)) (getD list (count p + k) 0)
-
--- what a caller of the check gets: what it hands back and leaves, by its definition, and with it demands 3 and 2 and the run list
+-- what a caller of the check gets: what it hands back and leaves, by its definition and by index, and demands 3 and 2
 pub record Checked (bytes : List ℕ) (r : Told) (table table-now list list-now : List ℕ) : Type 0 where
   pub says : Check-says bytes r table table-now list list-now
+  -- 0, 10 and 11 are given only where none of 1 to 9 is
+  pub answers : (r .number ≡ 0) ⊎ ((r .number ≡ 10) ⊎ (r .number ≡ 11)) → unrefused bytes (length table) (length list) ≡ true
   pub demand-3 : Demand-3-stored bytes (length table) (length list) (r .number) (r .place)
   pub demand-2 : r .number ≡ 0 → Demand-2 (plan-in bytes) table-now
-  pub run-list : r .number ≡ 0 → Run-listed (plan-in bytes) list-now
+  pub left : Left-by-number (plan-in bytes) (r .number) table table-now list list-now
