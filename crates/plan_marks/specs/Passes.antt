@@ -3,7 +3,6 @@
 use mathlib.Core.Path.{_≡_}
 use mathlib.Core.Bool.{Bool, true, _&&_, _||_, not, cond}
 use mathlib.Core.List.{List, [], _∷_}
-use mathlib.Core.Option.{Option, none, some}
 use Prim.Native.Nat.{ℕ, _+_, _*_, _/_, _%_, _≤_, _<_}
 use lib.Dec.{ltb, leb, eqb}
 use lib.ListN.{length, getD, set, replicate}
@@ -12,11 +11,6 @@ use Rattle.plan_format.specs.Plan.{Plan, count}
 use Rattle.plan_format.specs.Sound.{Sound}
 use Rattle.plan_order.specs.Runs.{is-full}
 use Rattle.plan_columns.specs.Columns.{Queue-column, Marked, Mark-columns, Row-columns}
-
--- the operation that is found, or n where there is none
-unfoldable pub place-or : (n : ℕ) → Option ℕ → ℕ
-place-or n none = n
-place-or n (some i) = i
 
 -- a plan with a full run, shown by columns
 pub record Shown (p : Plan) (n marks : ℕ) (queue mark operation rows : List ℕ) : Type 0 where

@@ -3,9 +3,10 @@
 ghost use mathlib.Core.Path.{_≡_};
 ghost use Prim.Native.Nat.{_<_, min};
 ghost use lib.ListN.{getD};
+ghost use Rattle.basics.specs.Lists.{place-or};
 ghost use Rattle.plan_format.specs.Plan.{Plan};
 ghost use Rattle.plan_order.specs.Holdings.{broken as broken-mark};
-ghost use Rattle.plan_marks.specs.Passes.{place-or, Shown, mark-of, shown-from, noted, no-frees, ordered as is-ordered, late as is-late, early as is-early, first-late, first-early};
+ghost use Rattle.plan_marks.specs.Passes.{Shown, mark-of, shown-from, noted, no-frees, ordered as is-ordered, late as is-late, early as is-early, first-late, first-early};
 
 // The lowest operation with a broken mark; n where there is none.
 pub fn broken(
