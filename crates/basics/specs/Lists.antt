@@ -50,6 +50,11 @@ unfoldable pub highest-below : (n : ℕ) → (ℕ → Bool) → Option ℕ
 highest-below zero f = none
 highest-below (suc n) f = cond (f n) (some n) (highest-below n f)
 
+-- the place that is found, or n where there is none
+unfoldable pub place-or : (n : ℕ) → Option ℕ → ℕ
+place-or n none = n
+place-or n (some i) = i
+
 unfoldable pub is-some {ℓ} : {A : Type ℓ} → Option A → Bool
 is-some none = false
 is-some (some a) = true

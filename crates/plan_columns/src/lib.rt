@@ -208,7 +208,7 @@ fn marks(
 }
 
 // The number at a place, 0 past the end.
-fn number(numbers: &[u64; 22868], at: usize) -> usize
+pub fn number(numbers: &[u64; 22868], at: usize) -> usize
     ensures { λ r. ⌜ r ≡ getD (now (numbers .entry)) at 0 ⌝ }
 {
     cells::get64(numbers, at) as usize

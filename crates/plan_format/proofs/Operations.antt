@@ -111,15 +111,25 @@ module _ (F : Form) (q s b : ℕ) where
   Blocks zero xs = xs ≡ []
   Blocks (suc n) xs = Block-then (Blocks n) xs
 
+  block-then : (n : ℕ) (xs rest : List ℕ) (k : Block F q s b xs) → operations-in F (suc n) (xs ++ rest) ≡ operation-of xs k ∷ operations-in F n rest
+  unfolding operations-in
+  block-then n xs rest k =
+      ap₂ {C = List Operation} (λ x y. x ∷ operations-in F n y) (block-operation xs rest k)
+      (drop-at xs rest (operation-long F (xs ++ rest)) (sym (block-long xs rest k)))
+
   pub operations-cons : (n : ℕ) (xs : List ℕ) (k : Blocks (suc n) xs) →
       operations-in F (suc n) xs ≡ operation-of (k .block) (k .first) ∷ operations-in F n (k .rest)
+  operations-cons n xs k = ap (λ z. operations-in F (suc n) z) (k .numbers-are) ∙ block-then n (k .block) (k .rest) (k .first)
+
+  -- what follows the blocks changes no operation
+  pub operations-front : (n : ℕ) (xs rest : List ℕ) → Blocks n xs → operations-in F n (xs ++ rest) ≡ operations-in F n xs
   unfolding operations-in
-  operations-cons n xs k =
-      let e = k .numbers-are in
-      let long : drop (operation-long F (k .block ++ k .rest)) (k .block ++ k .rest) ≡ k .rest = drop-at (k .block) (k .rest)
-      (operation-long F (k .block ++ k .rest)) (sym (block-long (k .block) (k .rest) (k .first))) in
-      ap₂ {C = List Operation} (λ x y. x ∷ operations-in F n y) (ap (λ z. operation-in F z) e ∙ block-operation (k .block) (k .rest) (k .first))
-      (ap (λ z. drop (operation-long F z) z) e ∙ long)
+  operations-front zero xs rest k = refl
+  operations-front (suc n) xs rest k =
+      ap (λ z. operations-in F (suc n) z) (ap (λ z. z ++ rest) (k .numbers-are) ∙ append-assoc (k .block) (k .rest) rest)
+      ∙ block-then n (k .block) (k .rest ++ rest) (k .first)
+      ∙ ap (λ z. operation-of (k .block) (k .first) ∷ z) (operations-front n (k .rest) rest (k .more))
+      ∙ sym (operations-cons n xs k)
 
 pub operations-long : (F : Form) (n : ℕ) (xs : List ℕ) → length (operations-in F n xs) ≡ n
 unfolding operations-in

@@ -6,12 +6,12 @@ use native.Mathlib.Omega.{arith}
 use lib.ListN.{length, getD, take, drop, length-append}
 use lib.Seq.{take-at}
 use Rattle.plan_format.specs.Form.{Form, queue-count, semaphore-count, buffer-count, any-number, new-axis, a-queue, operation, plan-grammar}
-use Rattle.plan_format.specs.Plan.{operations-in, plan-of}
+use Rattle.plan_format.specs.Plan.{Plan, operations-in, plan-of}
 use Rattle.plan_format.proofs.Parses.{Spelt, Many, Field, Parses}
 use Rattle.plan_format.proofs.Entries.{Row, listing, many-fields}
 use Rattle.plan_format.proofs.Seams.{at-seam, after-seam}
 use Rattle.plan_format.proofs.Blocks.{Counts, Kept, kept-more, operation-block}
-use Rattle.plan_format.proofs.Operations.{Blocks}
+use Rattle.plan_format.proofs.Operations.{Blocks, operations-front}
 
 pub record Sections (F : Form) (xs : List ℕ) : Type 0 where
   pub queues : ℕ
@@ -32,6 +32,13 @@ pub record Sections (F : Form) (xs : List ℕ) : Type 0 where
   pub sizes-long : length sizes ≡ buffers
   pub blocks-are : Blocks F queues semaphores buffers operations blocks
   pub numbers-are : xs ≡ queues ∷ (axes ++ (semaphores ∷ (owners ++ (buffers ∷ (sizes ++ (operations ∷ blocks))))))
+
+-- the four counts, each at its place
+pub record Counts-at (xs : List ℕ) (q s b n : ℕ) : Type 0 where
+  pub queues : getD xs 0 0 ≡ q
+  pub semaphores : getD xs (1 + q) 0 ≡ s
+  pub buffers : getD xs (2 + q + s) 0 ≡ b
+  pub operations : getD xs (3 + q + s + b) 0 ≡ n
 
 -- ---- from a parse
 many-blocks : (D : Spelt) (F : Form) (q s b n : ℕ) (got vs ds : List ℕ) → Kept q s b got → Many (Parses D (operation F)) n got vs ds →
@@ -129,22 +136,20 @@ module _ (F : Form) (q s b n : ℕ) (axes owners sizes blocks : List ℕ) (la : 
   unfolding whole
   seam-n = simp append-assoc
 
+  counts-at : Counts-at whole q s b n
+  unfolding whole
+  counts-at = record {
+    queues = refl;
+    semaphores = at-seam whole (q ∷ axes) (owners ++ (b ∷ (sizes ++ (n ∷ blocks)))) s (1 + q) seam-s (omega arith);
+    buffers = at-seam whole (q ∷ (axes ++ (s ∷ owners))) (sizes ++ (n ∷ blocks)) b (2 + q + s) seam-b (simp length-append (omega arith));
+    operations = at-seam whole (q ∷ (axes ++ (s ∷ (owners ++ (b ∷ sizes))))) blocks n (3 + q + s + b) seam-n (simp length-append (omega arith));
+  }
+
   plan-at : plan-of F whole ≡ record { axes = axes; owners = owners; sizes = sizes; operations = operations-in F n blocks }
   unfolding plan-of
-  plan-at = rw (at-q, at-s, at-b, at-n, to-axes, to-owners, to-sizes, to-blocks)
+  plan-at =
+      rw (counts-at .queues, counts-at .semaphores, counts-at .buffers, counts-at .operations, to-axes, to-owners, to-sizes, to-blocks)
     where
-      at-q : getD whole 0 0 ≡ q
-      at-q = ap (λ z. getD z 0 0) seam-s
-
-      at-s : getD whole (1 + q) 0 ≡ s
-      at-s = at-seam whole (q ∷ axes) (owners ++ (b ∷ (sizes ++ (n ∷ blocks)))) s (1 + q) seam-s (omega arith)
-
-      at-b : getD whole (2 + q + s) 0 ≡ b
-      at-b = at-seam whole (q ∷ (axes ++ (s ∷ owners))) (sizes ++ (n ∷ blocks)) b (2 + q + s) seam-b (simp length-append (omega arith))
-
-      at-n : getD whole (3 + q + s + b) 0 ≡ n
-      at-n = at-seam whole (q ∷ (axes ++ (s ∷ (owners ++ (b ∷ sizes))))) blocks n (3 + q + s + b) seam-n (simp length-append (omega arith))
-
       to-axes : take q (drop 1 whole) ≡ axes
       to-axes = ap (λ z. take q (drop 1 z)) seam-s ∙ take-at axes (s ∷ (owners ++ (b ∷ (sizes ++ (n ∷ blocks))))) q la
 
@@ -166,3 +171,25 @@ plan-is F xs c =
     ap (λ z. plan-of F z) (c .numbers-are)
     ∙ plan-at F (c .queues) (c .semaphores) (c .buffers) (c .operations) (c .axes) (c .owners) (c .sizes) (c .blocks) (c .axes-row .long)
     (c .owners-row .long) (c .sizes-long)
+
+-- ---- whatever follows the numbers, counts and plan are the same
+module _ (F : Form) (xs rest : List ℕ) (c : Sections F xs) where
+  longer : xs ++ rest ≡ c .queues ∷ (c .axes ++ (c .semaphores ∷ (c .owners ++ (c .buffers ∷ (c .sizes ++ (c .operations ∷ (c .blocks ++ rest)))))))
+  longer = ap (λ z. z ++ rest) (c .numbers-are) ∙ simp append-assoc
+
+  pub counts-front : Counts-at (xs ++ rest) (c .queues) (c .semaphores) (c .buffers) (c .operations)
+  unfolding whole
+  counts-front =
+      subst (λ z. Counts-at z (c .queues) (c .semaphores) (c .buffers) (c .operations)) (sym longer)
+      (counts-at F (c .queues) (c .semaphores) (c .buffers) (c .operations) (c .axes) (c .owners) (c .sizes) (c .blocks ++ rest) (c .axes-row .long)
+      (c .owners-row .long) (c .sizes-long))
+
+  pub plan-front : plan-of F (xs ++ rest) ≡ plan-of F xs
+  unfolding whole
+  plan-front =
+      ap (λ z. plan-of F z) longer
+      ∙ plan-at F (c .queues) (c .semaphores) (c .buffers) (c .operations) (c .axes) (c .owners) (c .sizes) (c .blocks ++ rest) (c .axes-row .long)
+      (c .owners-row .long) (c .sizes-long)
+      ∙ ap {B = Plan} (λ z. record { axes = c .axes; owners = c .owners; sizes = c .sizes; operations = z })
+      (operations-front F (c .queues) (c .semaphores) (c .buffers) (c .operations) (c .blocks) rest (c .blocks-are))
+      ∙ sym (plan-is F xs c)

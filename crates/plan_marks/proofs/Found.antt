@@ -10,6 +10,7 @@ use lib.Dec.{ltb, eqb}
 use lib.ListN.{length, getD, set, length-set, length-replicate, getD-replicate}
 use lib.Seq.{getD-set-same, getD-set-other}
 use borrow.Author.Tests.{ltb-true, ltb-false, eqb-true, eqb-false}
+use Rattle.basics.specs.Lists.{place-or}
 use Rattle.basics.proofs.Tests.{by-cases, by-option, clash, either}
 use Rattle.plan_format.specs.Plan.{Plan, count}
 use Rattle.plan_format.specs.Sound.{Sound}
@@ -18,7 +19,7 @@ use Rattle.plan_order.specs.Runs.{is-full}
 use Rattle.plan_order.specs.Holdings.{is-free, freed-by, free-after, Ask, use-asks, later-asks, asked-of, met, all-asks, broken}
 use Rattle.plan_order.proofs.Keeping.{asked-marks, all-asks-has, broken-some, broken-none}
 use Rattle.plan_columns.specs.Columns.{Queue-column, Marked, plan-marks, Row-columns}
-use Rattle.plan_marks.specs.Shown.{place-or, Shown}
+use Rattle.plan_marks.specs.Shown.{Shown}
 use Rattle.plan_marks.specs.Passes.{shown-from, noted, no-frees, next-frees, late, early, first-late, first-early}
 use Rattle.plan_marks.proofs.Marks.{Each, Known, marks-known, Rising, marks-rising, marks-shown}
 use Rattle.plan_marks.proofs.Order.{late-right, late-nothing, early-nothing, early-right}

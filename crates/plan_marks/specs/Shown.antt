@@ -1,19 +1,13 @@
--- What is asked of the columns of a plan, and what is answered. Assumes nothing: these are definitions.
+-- What the pass asks of the columns of a plan. Assumes nothing: these are definitions.
 use mathlib.Core.Path.{_≡_}
 use mathlib.Core.Bool.{true}
 use mathlib.Core.List.{List}
-use mathlib.Core.Option.{Option, none, some}
 use Prim.Native.Nat.{ℕ, _≤_, _<_}
 use lib.ListN.{length}
 use Rattle.plan_format.specs.Plan.{Plan, count}
 use Rattle.plan_format.specs.Sound.{Sound}
 use Rattle.plan_order.specs.Runs.{is-full}
 use Rattle.plan_columns.specs.Columns.{Queue-column, Mark-columns, Row-columns}
-
--- the operation that is found, or n where there is none
-unfoldable pub place-or : (n : ℕ) → Option ℕ → ℕ
-place-or n none = n
-place-or n (some i) = i
 
 -- a plan with a full run, shown by columns
 pub record Shown (p : Plan) (n marks : ℕ) (queue mark operation rows : List ℕ) : Type 0 where

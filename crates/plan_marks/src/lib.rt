@@ -4,7 +4,8 @@ ghost use mathlib.Core.Path.{_≡_};
 ghost use Prim.Native.Nat.{_<_, _≤_, min};
 ghost use Rattle.plan_format.specs.Plan.{Plan};
 ghost use Rattle.plan_order.specs.Holdings.{broken as broken-mark};
-ghost use Rattle.plan_marks.specs.Shown.{place-or, Shown};
+ghost use Rattle.basics.specs.Lists.{place-or};
+ghost use Rattle.plan_marks.specs.Shown.{Shown};
 ghost use Rattle.plan_marks.specs.Passes.{mark-of, shown-from, noted, no-frees, ordered as is-ordered, late as is-late, early as is-early, first-late, first-early};
 
 // The lowest operation with a broken mark; n where there is none.

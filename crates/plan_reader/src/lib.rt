@@ -28,7 +28,7 @@ pub fn repeated(list: &[u64], number: u64) -> bool
 }
 
 // A refusal at a place.
-fn refused(number: u32, place: usize) -> Told
+pub fn refused(number: u32, place: usize) -> Told
     ensures { λ r. ⌜ r ≡ record { number = number; place = place; answer = 0 } ⌝ }
 {
     Told {

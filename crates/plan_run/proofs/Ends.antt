@@ -35,6 +35,9 @@ cleared-by rows e = record {
   zeros = λ k. ap (λ (x : List ℕ). getD x k 0) e ∙ replicate-at 16416 0 k;
 }
 
+pub cleared : Cleared (replicate 16416 0)
+cleared = record { long = length-replicate {A = ℕ} 16416 0; zeros = zeros-at 16416 }
+
 pub tables-are : (queue : List ℕ) (n : ℕ) (head next unit : List ℕ) → Chained queue 0 n head next → unit ≡ set (replicate 32 0) 16 1 → Tables queue n next unit
 tables-are queue n head next unit chained e = record {
   nexts = λ i l b. chained .nexts i zero-le l b;

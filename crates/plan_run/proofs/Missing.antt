@@ -9,7 +9,7 @@ use native.Mathlib.Nat.{mod-eq-of-lt}
 use native.Mathlib.Omega.{arith}
 use lib.ListN.{getD}
 use borrow.Author.Tests.{not-true}
-use Rattle.basics.specs.Lists.{member}
+use Rattle.basics.specs.Lists.{member, place-or}
 use Rattle.basics.proofs.Tests.{by-option, is-true, is-false, not-of-false}
 use Rattle.basics.proofs.Searches.{lowest-some, lowest-is}
 use Rattle.plan_format.specs.Plan.{Plan, count, op}
@@ -18,7 +18,7 @@ use Rattle.plan_order.specs.Promise.{Row-epoch}
 use Rattle.plan_order.specs.Runs.{standard, missing}
 use Rattle.plan_order.proofs.Demand2.{row-epoch}
 use Rattle.plan_columns.specs.Columns.{Queue-column, Row-columns}
-use Rattle.plan_run.specs.Run.{Rows-of, place-or}
+use Rattle.plan_run.specs.Run.{Rows-of}
 use Rattle.plan_run.proofs.Fills.{epoch-first}
 
 pub own-cell :
@@ -47,7 +47,7 @@ module _ (p : Plan) (n : ℕ) (queue rows : List ℕ) (sound : Sound p) (many : 
   others-zero i l f =
       ap (λ (x : ℕ). getD rows (16 * i + x) 0) (own-queue i l) ∙ filled .others i (op p i .queue) (omega (arith, sound .few-operations)) f (queue-small i l)
 
-  pub stuck-at : (i : ℕ) → i < n → Zero queue rows i → ((k : ℕ) → k < i → Zero queue rows k → ⊥) → i ≡ place-or (missing p) n
+  pub stuck-at : (i : ℕ) → i < n → Zero queue rows i → ((k : ℕ) → k < i → Zero queue rows k → ⊥) → i ≡ place-or n (missing p)
   unfolding missing place-or
   stuck-at i l z h =
       let e : missing p ≡ some i = lowest-is (count p) (λ j. not (member j (standard p))) i (record {
@@ -57,7 +57,7 @@ module _ (p : Plan) (n : ℕ) (queue rows : List ℕ) (sound : Sound p) (many : 
       }) in
       rw e
 
-  pub stuck-nowhere : ((k : ℕ) → k < n → Zero queue rows k → ⊥) → n ≡ place-or (missing p) n
+  pub stuck-nowhere : ((k : ℕ) → k < n → Zero queue rows k → ⊥) → n ≡ place-or n (missing p)
   unfolding missing place-or
   stuck-nowhere h =
       by-option (missing p) (λ e. rw e)

@@ -2,7 +2,6 @@
 use mathlib.Core.Path.{_≡_}
 use mathlib.Core.Bool.{true, false}
 use mathlib.Core.List.{List}
-use mathlib.Core.Option.{Option, none, some}
 use Prim.Native.Nat.{ℕ, _+_, _*_, _≤_, _<_}
 use lib.ListN.{length, getD, take, drop}
 use Rattle.basics.specs.Lists.{member, in-front}
@@ -42,8 +41,3 @@ pub record Ran (p : Plan) (n answer : ℕ) (rows list list-now : List ℕ) : Typ
   pub listed : Listed p n (standard p) list list-now
   pub whole : answer ≡ n → list-now ≡ in-front (run-list p) list
   pub filled : Rows-of p (standard p) rows
-
--- a place, or the number past the last
-unfoldable pub place-or : Option ℕ → (n : ℕ) → ℕ
-place-or none n = n
-place-or (some i) n = i

@@ -1,0 +1,93 @@
+-- Refusals 1 to 9 as answers of the check: table and list untouched. Assumes nothing.
+use mathlib.Core.Path.{_≡_, refl, sym, ap, _∙_, subst}
+use mathlib.Core.Bool.{Bool, true, false, cond}
+use mathlib.Core.List.{List}
+use Prim.Native.Nat.{ℕ, _*_, _≤_, _<_}
+use native.Mathlib.Omega.{arith}
+use lib.Dec.{ltb}
+use lib.ListN.{length}
+use borrow.Author.Tests.{lt-ltb, le-ltb, ltb-false}
+use Rattle.basics.proofs.Tests.{by-cases}
+use Rattle.plan_format.specs.Refusal.{Refusal, refusal, none-given, given, or-else}
+use Rattle.plan_format.specs.Plan.{count}
+use Rattle.plan_format.specs.Sound.{rules-refusal}
+use Rattle.plan_format.specs.Stored.{scanned, plan-in, plan-refusal, room-for, Tells}
+use Rattle.plan_format.specs.declared.Told.{Told}
+use Rattle.plan_format.proofs.Judged.{other-given, or-else-first, or-else-second, or-else-none}
+use Rattle.plan_order.specs.Check.{room-refusal, Outcome, untouched, outcome, check-outcome, table-left, list-left, left-in, Says, Check-says}
+use Rattle.plan_order.proofs.Outcomes.{plan-refused, room-refused}
+use Rattle.plan_reader.specs.Reading.{Numbers-read}
+use Rattle.checker.specs.Leaving.{Room}
+
+abbrev pub told : (number place : ℕ) → Told
+told n i = record { number = n; place = i; answer = 0 }
+
+no-answer : (b : Bool) → _≡_ {A = ℕ} 0 (cond b 0 0)
+no-answer true = refl
+no-answer false = refl
+
+-- a refusal and its answer
+pub tells : {f : Refusal} {n i : ℕ} → f ≡ refusal n i → Tells f 0 (told n i)
+unfolding refusal
+tells {f} {n} {i} e =
+    subst (λ (g : Refusal). Tells g 0 (told n i)) (sym e) (record { number = refl; place = refl; answer-is = no-answer (given (refusal n i)) })
+
+says-untouched : (bs : List ℕ) (r : Told) (t l : List ℕ) (f : Refusal) → check-outcome bs (length t) (length l) ≡ outcome f untouched → Tells f 0 r → Check-says bs r t t l l
+unfolding Check-says outcome table-left list-left left-in
+says-untouched bs r t l f e h =
+    subst (λ (o : Outcome). Says o 0 (plan-in bs) r t t l l) (sym e) (record { tells = h; table-holds = refl; list-holds = refl })
+
+module _ (bs : List ℕ) (r : Told) (t l : List ℕ) where
+  -- 1 to 5
+  pub not-read : {nums : List ℕ} → Numbers-read bs r nums → (r .number ≡ 0 → ⊥) → Check-says bs r t t l l
+  unfolding plan-refusal
+  not-read n z =
+      let f = scanned bs .fault in
+      let g = other-given f (λ e. z (n .told .number ∙ e)) in
+      let same : plan-refusal bs ≡ f = or-else-first f (rules-refusal (plan-in bs)) g in
+      let given-too = ap given same ∙ g in
+      says-untouched bs r t l f (plan-refused bs (length t) (length l) given-too ∙ ap (λ (x : Refusal). outcome x untouched) same)
+      (record { number = n .told .number; place = n .told .place; answer-is = rw g (rw g at (n .told .answer-is)) })
+
+  -- 6 to 8
+  pub not-ruled : scanned bs .fault .number ≡ 0 → (r .number ≡ 0 → ⊥) → r ≡ told (rules-refusal (plan-in bs) .number) (rules-refusal (plan-in bs) .place) → Check-says bs r t t l l
+  unfolding plan-refusal
+  not-ruled clean z e =
+      let f = rules-refusal (plan-in bs) in
+      let g = other-given f (λ x. z (ap (λ (y : Told). y .number) e ∙ x)) in
+      let same : plan-refusal bs ≡ f = or-else-second (scanned bs .fault) f clean in
+      says-untouched bs r t l f (plan-refused bs (length t) (length l) (ap given same ∙ g) ∙ ap (λ (x : Refusal). outcome x untouched) same)
+      (record { number = ap (λ (y : Told). y .number) e; place = ap (λ (y : Told). y .place) e; answer-is = rw g (ap (λ (y : Told). y .answer) e) })
+
+  -- 9
+  pub no-room : (n : ℕ) → count (plan-in bs) ≡ n → plan-refusal bs .number ≡ 0 → Tells (room-refusal n (length t) (length l)) 0 r → (r .number ≡ 0 → ⊥) → Check-says bs r t t l l
+  no-room n many good h z =
+      let f = room-refusal n (length t) (length l) in
+      let same : room-refusal (count (plan-in bs)) (length t) (length l) ≡ f = ap (λ (k : ℕ). room-refusal k (length t) (length l)) many in
+      let g = other-given f (λ e. z (h .number ∙ e)) in
+      says-untouched bs r t l f (room-refused bs (length t) (length l) good (ap given same ∙ g) ∙ ap (λ (x : Refusal). outcome x untouched) same) h
+
+-- ---- the room
+module _ (n t l : ℕ) where
+  pub short-table : t < 16 * n → room-refusal n t l ≡ refusal 9 (16 * n)
+  unfolding room-refusal room-for or-else given refusal
+  short-table h = rw (lt-ltb t (16 * n) h)
+
+  pub short-list : 16 * n ≤ t → l < 2 * n → room-refusal n t l ≡ refusal 9 (2 * n)
+  unfolding room-refusal room-for or-else given none-given
+  short-list h k = rw (le-ltb t (16 * n) h, lt-ltb l (2 * n) k)
+
+  pub room-enough : 16 * n ≤ t → 2 * n ≤ l → room-refusal n t l ≡ refusal 0 0
+  unfolding room-refusal room-for or-else given none-given refusal
+  room-enough h k = rw (le-ltb t (16 * n) h, le-ltb l (2 * n) k)
+
+room-for-none : (n k : ℕ) → room-for n k .number ≡ 0 → n ≤ k
+unfolding room-for refusal
+room-for-none n k e = by-cases (ltb k n) (λ t. absurd (let z : 9 ≡ 0 = rw t at e in omega arith)) (λ f. ltb-false k n f)
+
+-- no refusal is enough room
+pub has-room : (n : ℕ) (t l : List ℕ) (r : Told) → n ≤ 1024 → Tells (room-refusal n (length t) (length l)) 0 r → r .number ≡ 0 → Room n t l
+unfolding room-refusal
+has-room n t l r few h z =
+    let (a, b) = or-else-none (room-for (16 * n) (length t)) (room-for (2 * n) (length l)) (sym (h .number) ∙ z) in
+    record { few = few; in-table = room-for-none (16 * n) (length t) a; in-list = room-for-none (2 * n) (length l) b }

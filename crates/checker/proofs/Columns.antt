@@ -1,0 +1,129 @@
+-- What the passes are given: the columns of a stored plan that is read, ruled and resolved. Assumes nothing.
+use mathlib.Core.Path.{_≡_, sym, ap, _∙_, subst}
+use mathlib.Core.List.{List}
+use Prim.Native.Nat.{ℕ, _+_, _≤_}
+use lib.ListN.{length, take, drop}
+use Rattle.plan_format.specs.Form.{first-form}
+use Rattle.plan_format.specs.Plan.{Plan, count, operations-in, plan-of}
+use Rattle.plan_format.specs.Sound.{rules-refusal}
+use Rattle.plan_format.specs.Stored.{scanned, plan-in, plan-refusal}
+use Rattle.plan_format.proofs.Judged.{or-else-second, or-else-none}
+use Rattle.plan_format.proofs.Shape.{Shaped}
+use Rattle.plan_format.proofs.Plans.{scanned-shape, sound-in}
+use Rattle.plan_order.specs.Runs.{standard}
+use Rattle.plan_columns.specs.Columns.{Source-column}
+use Rattle.plan_columns.specs.Filling.{Limits}
+use Rattle.plan_rules.specs.Walks.{Shown as Rules-shown}
+use Rattle.plan_waits.specs.Groups.{Shown as Waits-shown}
+use Rattle.plan_run.specs.Run.{Shown as Sources-shown, Rows-of}
+use Rattle.checker.specs.declared.Header.{Header}
+use Rattle.checker.specs.Counting.{header-of, Holds}
+use Rattle.checker.specs.Passing.{Read, Ruled, Resolved, Run-shown}
+use Rattle.checker.proofs.Numbers.{plan-same, lengths-are}
+
+-- ---- a plan that the reader does not refuse
+module _ (bs : List ℕ) (clean : scanned bs .fault .number ≡ 0) where
+  pub shape : Shaped first-form (plan-in bs)
+  shape = scanned-shape bs clean
+
+  pub few-semaphores : length (plan-in bs .owners) ≤ 64
+  unfolding first-form
+  few-semaphores = shape .few-semaphores
+
+  pub limits : Limits (plan-in bs)
+  limits = record {
+    few-queues = shape .few-queues;
+    few-semaphores = few-semaphores;
+    few-buffers = shape .few-buffers;
+    few-operations = shape .few-operations;
+    in-range = shape .in-range;
+    few-waits = λ i l. shape .few i l .waits;
+    few-signals = λ i l. shape .few i l .signals;
+    few-marks = λ i l. shape .few i l .marks;
+  }
+
+-- ---- its columns, from its numbers
+module _ {bs nums : List ℕ} (h : Holds bs nums) (c : Header) (e : c ≡ header-of nums) where
+  pub owners-at : plan-in bs .owners ≡ take (c .semaphores) (drop (2 + c .queues) nums)
+  unfolding plan-of
+  owners-at =
+      subst (λ (x : Header). plan-in bs .owners ≡ take (x .semaphores) (drop (2 + x .queues) nums)) (sym e) (ap (λ (p : Plan). p .owners) (sym (plan-same h)))
+
+  pub operations-at : plan-in bs .operations ≡ operations-in first-form (c .operations) (drop (4 + c .queues + c .semaphores + c .buffers) nums)
+  unfolding plan-of
+  operations-at =
+      subst (λ (x : Header). plan-in bs .operations ≡ operations-in first-form (x .operations) (drop (4 + x .queues + x .semaphores + x .buffers) nums)) (sym e)
+      (ap (λ (p : Plan). p .operations) (sym (plan-same h)))
+
+  pub as-many : count (plan-in bs) ≡ c .operations
+  as-many = sym (ap (λ (x : Header). x .operations) (e ∙ lengths-are h))
+
+-- ---- what each pass is given
+module _ {bs : List ℕ} {n signals marks : ℕ} {owner queue wsem wval ssem sval sop mark mop : List ℕ}
+    (r : Read bs n signals marks owner queue wsem wval ssem sval sop mark mop) where
+  pub rules-given : Rules-shown (plan-in bs) n signals owner queue ssem sval sop wsem wval
+  rules-given = record {
+    operations = r .many;
+    few-owners = few-semaphores bs (r .read);
+    in-range = shape bs (r .read) .in-range;
+    owners-shown = r .owners-shown;
+    queues-shown = r .columns .queues-shown;
+    signals-shown = r .columns .signals-shown;
+    waits-shown = r .columns .waits-shown;
+  }
+
+  pub no-refusal : rules-refusal (plan-in bs) .number ≡ 0 → plan-refusal bs .number ≡ 0
+  unfolding plan-refusal
+  no-refusal z = rw (or-else-second (scanned bs .fault) (rules-refusal (plan-in bs)) (r .read)) z
+
+  pub ruled-given : rules-refusal (plan-in bs) .number ≡ 0 → Ruled bs n signals marks queue wsem wval ssem sval sop mark mop
+  ruled-given z = record { good = no-refusal z; many = r .many; columns = r .columns }
+
+read-clean : (bs : List ℕ) → plan-refusal bs .number ≡ 0 → (scanned bs .fault .number ≡ 0) × (rules-refusal (plan-in bs) .number ≡ 0)
+unfolding plan-refusal
+read-clean bs good = or-else-none (scanned bs .fault) (rules-refusal (plan-in bs)) good
+
+module _ {bs : List ℕ} {n signals marks : ℕ} {queue wsem wval ssem sval sop mark mop : List ℕ} (r : Ruled bs n signals marks queue wsem wval ssem sval sop mark mop) where
+  pub waits-given : Waits-shown (plan-in bs) n signals ssem sval sop wsem wval
+  waits-given =
+      let (clean, rules) = read-clean bs (r .good) in
+      record {
+        operations = r .many;
+        few = subst (λ (k : ℕ). k ≤ 1024) (r .many) (shape bs clean .few-operations);
+        few-owners = few-semaphores bs clean;
+        in-range = shape bs clean .in-range;
+        rules = rules;
+        signals-shown = r .columns .signals-shown;
+        waits-shown = r .columns .waits-shown;
+      }
+
+  pub resolved-given : (source : List ℕ) → Source-column (plan-in bs) source → Resolved bs n marks queue source mark mop
+  resolved-given source s = record {
+    good = r .good;
+    many = r .many;
+    queues-shown = r .columns .queues-shown;
+    sources-shown = s;
+    marks-shown = r .columns .marks-shown;
+  }
+
+module _ {bs : List ℕ} {n marks : ℕ} {queue source mark mop : List ℕ} (r : Resolved bs n marks queue source mark mop) where
+  pub sources-given : Sources-shown (plan-in bs) n queue source
+  sources-given = record {
+    sound = sound-in bs (r .good);
+    many = r .many;
+    few-waits = λ i l. shape bs (read-clean bs (r .good) .0) .few i l .waits;
+    queues = r .queues-shown;
+    sources = r .sources-shown;
+  }
+
+  pub run-given : (ran : ℕ) (rows : List ℕ) → ran ≡ length (standard (plan-in bs)) → Rows-of (plan-in bs) (standard (plan-in bs)) rows →
+      Run-shown (plan-in bs) n ran marks queue mark mop rows
+  run-given ran rows long filled = record {
+    sound = sound-in bs (r .good);
+    many = r .many;
+    few-buffers = shape bs (read-clean bs (r .good) .0) .few-buffers;
+    queues-shown = r .queues-shown;
+    marks-shown = r .marks-shown;
+    long = long;
+    filled = filled;
+  }

@@ -1,0 +1,4 @@
+pub mod Numbers
+pub mod Columns
+pub mod Answers
+pub mod Orders

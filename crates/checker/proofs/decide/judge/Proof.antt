@@ -1,0 +1,39 @@
+-- `decide::judge` meets its contract: an operation that did not run, a broken mark, or neither. Assumes nothing.
+use Rattle.checker.proofs.Orders.{stuck-told, marks-given, broken-told, passed-told}
+use borrow.Author.Needs.{needs}
+use Rattle.checker.proofs.decide.judge.Statement.{statement}
+use Rattle.checker.proofs.decide.judge.Tie as tie
+
+stuck-requires : tie.Need-stuck-requires
+stuck-requires c κs = search needs
+
+refused-requires : tie.Need-refused-requires
+refused-requires c κs = search needs
+
+returns : tie.Need-returns
+returns c =
+    λ p shown.
+    rw (c .refused .ensures)
+    (stuck-told shown (c .before .before .if1 .taken)
+    (c .before .stuck .ensures p (shown .sound) (shown .many) (shown .queues-shown) (shown .filled)))
+
+broken-requires : tie.Need-broken-requires
+broken-requires c κs = search needs
+
+refused-requires-2 : tie.Need-refused-requires-2
+refused-requires-2 c κs = search needs
+
+returns-2 : tie.Need-returns-2
+returns-2 c =
+    λ p shown.
+    let whole = c .before .before .before .if1 .left in
+    rw (c .refused2 .ensures) (broken-told shown whole (c .before .if2 .taken) (c .before .before .broken .ensures p (marks-given shown whole)))
+
+returns-3 : tie.Need-returns-3
+returns-3 c =
+    λ p shown.
+    let whole = c .before .before .if1 .left in
+    passed-told shown whole (c .if2 .left) (c .before .broken .ensures p (marks-given shown whole))
+
+pub judge-spec : {M : Type 1} → statement M
+judge-spec = tie.close (tie.spec stuck-requires refused-requires returns broken-requires refused-requires-2 returns-2 returns-3)

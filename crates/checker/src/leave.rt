@@ -1,0 +1,50 @@
+// What the check leaves in the lent table and list.
+ghost use mathlib.Core.Path.{_≡_};
+ghost use Prim.Native.Nat.{_≤_};
+ghost use lib.ListN.{length, take, replicate};
+ghost use Rattle.basics.specs.Lists.{in-front};
+ghost use Rattle.checker.specs.Leaving.{Room, Left};
+
+// Zeros over both on a refusal; else the rows in the table, the run being in the list already.
+pub fn results(number: u32, n: u16, from: &[u16; 16416], table: &mut [u32], list: &mut [u32])
+    requires { ⌜ Room n (now table) (now list) ⌝ }
+    ensures { λ _. ⌜ Left number n (now (from .entry)) (now (table .entry)) (now (table .exit)) (now (list .entry)) (now (list .exit)) ⌝ }
+{
+    let many = n as usize;
+    if number == 0 {
+        rows(from, table, 16 * many);
+        return;
+    }
+    zeros(table, 16 * many);
+    zeros(list, 2 * many);
+}
+
+// Zeros over the first n numbers.
+fn zeros(a: &mut [u32], n: usize)
+    requires { ⌜ n ≤ length (now a) ⌝ }
+    ensures { λ _. ⌜ now (a .exit) ≡ in-front (replicate n 0) (now (a .entry)) ⌝ }
+{
+    let mut i = 0;
+    while i < n {
+        a[i] = 0;
+        i += 1;
+    }
+}
+
+// The first n numbers of the rows over the first n of the table.
+fn rows(from: &[u16], table: &mut [u32], n: usize)
+    requires { ⌜ (n ≤ length (now from)) × (n ≤ length (now table)) ⌝ }
+    ensures { λ _. ⌜ now (table .exit) ≡ in-front (take n (now (from .entry))) (now (table .entry)) ⌝ }
+{
+    let mut i = 0;
+    while i < n {
+        table[i] = wide32(from[i]);
+        i += 1;
+    }
+}
+
+fn wide32(x: u16) -> u32
+    ensures { λ r. ⌜ r ≡ x ⌝ }
+{
+    x as u32
+}
