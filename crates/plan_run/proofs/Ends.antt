@@ -36,7 +36,7 @@ cleared-by rows e = record {
 }
 
 pub cleared : Cleared (replicate 16416 0)
-cleared = record { long = length-replicate {A = ℕ} 16416 0; zeros = zeros-at 16416 }
+cleared = cleared-by (replicate 16416 0) refl
 
 pub tables-are : (queue : List ℕ) (n : ℕ) (head next unit : List ℕ) → Chained queue 0 n head next → unit ≡ set (replicate 32 0) 16 1 → Tables queue n next unit
 tables-are queue n head next unit chained e = record {
