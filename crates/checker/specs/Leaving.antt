@@ -11,7 +11,7 @@ pub record Room (n : ℕ) (table list : List ℕ) : Type 0 where
   pub in-table : 16 * n ≤ length table
   pub in-list : 2 * n ≤ length list
 
--- rows over the front of the table, the list as it is; or zeros over the front of both
+-- rows, if there are so many, over the front of the table, the list as it is; or zeros over the front of both
 pub record Left (number n : ℕ) (rows table table-now list list-now : List ℕ) : Type 0 where
   pub long : number ≡ 0 → 16 * n ≤ length rows
   pub passed-table : number ≡ 0 → table-now ≡ in-front (take (16 * n) rows) table

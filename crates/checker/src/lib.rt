@@ -10,7 +10,7 @@ ghost use Rattle.plan_format.specs.Stored.{Tells};
 ghost use Rattle.plan_order.specs.Check.{room-refusal, Check-says};
 ghost use Rattle.plan_order.specs.Promise.{Checked};
 ghost use Rattle.checker.specs.Counting.{Counts-told, header-of, Sized, Holds};
-ghost use Rattle.checker.specs.Passing.{Read};
+ghost use Rattle.checker.specs.Passing.{Numbered, Read};
 
 // How many queues, semaphores, buffers and operations a plan has; or the reader's refusal and its place.
 pub struct Counted {
@@ -73,6 +73,7 @@ pub fn check_plan(plan: &[u8], table: &mut [u32], list: &mut [u32]) -> Told
 fn read_header(numbers: &[u64; 22868]) -> Header
     requires { ⌜ Sized (header-of (now numbers)) ⌝ }
     ensures { λ r. ⌜ r ≡ header-of (now (numbers .entry)) ⌝ }
+    ensures { λ r. ⌜ Sized r ⌝ }
 {
     let queues = plan_columns::number(numbers, 0);
     let semaphores = plan_columns::number(numbers, 1 + queues);
@@ -93,9 +94,25 @@ fn check_numbers(numbers: &[u64; 22868], table: &mut [u32], list: &mut [u32]) ->
         Check-says bs r (now (table .entry)) (now (table .exit)) (now (list .entry)) (now (list .exit))) ⌝ }
 {
     let h = read_header(numbers);
-    let n = h.operations as u16;
     let mut owner = [0u16; 64];
     plan_columns::owners(numbers, 2 + h.queues, h.semaphores, &mut owner);
+    let first = 4 + h.queues + h.semaphores + h.buffers;
+    check_operations(numbers, first, h.operations as u16, &owner, table, list)
+}
+
+// The check of a plan of n operations whose owners are shown, the first operation's numbers at `first`.
+fn check_operations(
+    numbers: &[u64; 22868],
+    first: usize,
+    n: u16,
+    owner: &[u16; 64],
+    table: &mut [u32],
+    list: &mut [u32],
+) -> Told
+    requires { ⌜ (first ≤ 22868) × (n ≤ 1024) ⌝ }
+    ensures { λ r. ⌜ ((bs : List ℕ) → Numbered bs (now (numbers .entry)) first n (now (owner .entry)) →
+        Check-says bs r (now (table .entry)) (now (table .exit)) (now (list .entry)) (now (list .exit))) ⌝ }
+{
     let mut queue = [0u16; 1024];
     let mut wsem = [0u16; 3072];
     let mut wval = [0u64; 3072];
@@ -106,7 +123,7 @@ fn check_numbers(numbers: &[u64; 22868], table: &mut [u32], list: &mut [u32]) ->
     let mut mop = [0u16; 4096];
     let filled = plan_columns::fill(
         numbers,
-        4 + h.queues + h.semaphores + h.buffers,
+        first,
         n,
         &mut queue,
         &mut wsem,
@@ -121,7 +138,7 @@ fn check_numbers(numbers: &[u64; 22868], table: &mut [u32], list: &mut [u32]) ->
         n,
         filled.signals,
         filled.marks,
-        &owner,
+        owner,
         &queue,
         &wsem,
         &wval,

@@ -14,7 +14,7 @@ read-header-requires : tie.Need-read-header-requires
 read-header-requires c κs = sized (read-holds (c .before .before .before .read-numbers .ensures) (c .before .if1 .left))
 
 returns-2 : tie.Need-returns-2
-returns-2 c = the-counts (c .before .before .before .before .read-numbers .ensures) (c .read-header .result) (c .before .before .if1 .left) (c .read-header .ensures)
+returns-2 c = the-counts (c .before .before .before .before .read-numbers .ensures) (c .read-header .result) (c .before .before .if1 .left) (c .read-header .ensures .0)
 
 pub counts-spec : {M : Type 1} → statement M
 counts-spec = tie.close (tie.spec read-numbers-requires returns read-header-requires returns-2)
