@@ -12,7 +12,7 @@ use Rattle.plan_format.proofs.Shape.{Shaped}
 use Rattle.plan_format.proofs.Plans.{scanned-shape, sound-in}
 use Rattle.plan_order.specs.Runs.{standard}
 use Rattle.plan_columns.specs.Columns.{Source-column}
-use Rattle.plan_columns.specs.Filling.{Limits}
+use Rattle.plan_columns.specs.Shown.{Limits}
 use Rattle.plan_rules.specs.Walks.{Shown as Rules-shown}
 use Rattle.plan_waits.specs.Groups.{Shown as Waits-shown}
 use Rattle.plan_run.specs.Run.{Shown as Sources-shown, Rows-of}

@@ -9,7 +9,7 @@ use Rattle.plan_format.specs.Sound.{Sound}
 use Rattle.plan_format.specs.Stored.{scanned, plan-in, plan-refusal}
 use Rattle.plan_order.specs.Runs.{standard}
 use Rattle.plan_columns.specs.Columns.{Owner-column, Queue-column, Mark-columns, Source-column}
-use Rattle.plan_columns.specs.Filling.{Shown}
+use Rattle.plan_columns.specs.Shown.{Shown}
 use Rattle.plan_run.specs.Run.{Rows-of}
 
 -- a plan that the reader does not refuse: its operations among the numbers from a place on, its owners in their column
