@@ -7,10 +7,10 @@ use lib.ListN.{getD, take}
 use lib.Seq.{length-take-le}
 use Rattle.plan_format.specs.Grammar.{Grammar, field, counted, numbers, Scan, scan, read-by, Spelling, spell-by, times, spell-field}
 use Rattle.plan_format.specs.Form.{first-form, queue-count, any-number, new-axis, a-queue, operation, plan-grammar}
-use Rattle.plan_reader.specs.Reading.{limited, axis-field, size-field, operation-below}
-use Rattle.plan_reader.proofs.Alike.{Alike, field-alike, seq-alike, counted-alike, nothing-alike, alike-from}
-use Rattle.plan_reader.proofs.Follows.{Section, section}
-use Rattle.plan_reader.proofs.Counts.{number-at, owners-alike, operations-alike, counts-of}
+use Rattle.plan_format.specs.Sections.{limited, axis-field, size-field, operation-below}
+use Rattle.plan_format.proofs.Alike.{Alike, field-alike, seq-alike, counted-alike, nothing-alike, alike-from}
+use Rattle.plan_format.proofs.Follows.{Section, section}
+use Rattle.plan_format.proofs.Counts.{number-at, owners-alike, operations-alike, counts-of}
 use Rattle.plan_writer.specs.declared.cursor.Cursor.{Cursor}
 use Rattle.plan_writer.specs.Writing.{fault-of, here, spelling, Writes, Plan-written}
 use Rattle.plan_writer.proofs.Cursors.{clean-before}

@@ -6,9 +6,11 @@ use mathlib.Core.List.{List, [], _∷_, _++_, append-assoc, append-nil}
 use Prim.Native.Nat.{ℕ, zero, suc}
 use lib.Dec.{eqb}
 use Rattle.basics.proofs.Tests.{by-cases}
 use Rattle.plan_format.specs.Refusal.{given}
 use Rattle.plan_format.specs.Grammar.{Check, Grammar, field, seq, counted, nothing, Source, Scan, scan, refused, field-number, read-field, last-got, times, count-check, read-by}
-use Rattle.plan_reader.proofs.Grammars.{read-after, field-same, given-not}
+use Rattle.plan_format.proofs.Faults.{read-stays}
+use Rattle.plan_format.proofs.Judged.{not-given-zero}
+use Rattle.plan_format.proofs.Repeats.{field-same}
 
 -- ---- what was read stays in front
 abbrev pub Begins : (front got : List ℕ) → Type 0
@@ -76,5 +78,5 @@ module _ (S : Source) (front : List ℕ) where
 -- where there is a fault already, nothing has to agree
 pub alike-from : (S : Source) (g h : Grammar) (s : Scan) → (s .fault .number ≡ 0 → Alike (s .got) g h) → read-by S g s ≡ read-by S h s
 alike-from S g h s a =
-    by-cases (given (s .fault)) (λ y. read-after S g s y ∙ sym (read-after S h s y))
-    (λ z. alike-read S (s .got) (a (given-not (s .fault) z)) s ([], sym (append-nil (s .got))))
+    by-cases (given (s .fault)) (λ y. read-stays S g s y ∙ sym (read-stays S h s y))
+    (λ z. alike-read S (s .got) (a (not-given-zero (s .fault) z)) s ([], sym (append-nil (s .got))))
