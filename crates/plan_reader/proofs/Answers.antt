@@ -12,10 +12,10 @@ use Rattle.plan_format.specs.Grammar.{bytes, Scan, scan, ended}
 use Rattle.plan_format.specs.Form.{first-form, scanned-by}
 use Rattle.plan_format.specs.Stored.{scanned, Tells}
 use Rattle.plan_format.specs.declared.Told.{Told}
-use Rattle.plan_reader.specs.declared.cursor.Cursor.{Cursor}
-use Rattle.plan_reader.specs.Reading.{fault-of, here, Plan-read, Numbers-read}
 use Rattle.plan_format.proofs.Answers.{ended-none, ended-more, answer-long}
 use Rattle.plan_format.proofs.Faults.{ended-stays}
+use Rattle.plan_reader.specs.declared.cursor.Cursor.{Cursor}
+use Rattle.plan_reader.specs.Reading.{fault-of, here, Plan-read, Numbers-read}
 use Rattle.plan_reader.proofs.Fields.{here-given, here-clean, fault-number}
 
 -- ---- the end of the reading

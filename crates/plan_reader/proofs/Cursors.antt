@@ -8,11 +8,11 @@ use native.Mathlib.Omega.{arith}
 use lib.ListN.{length, take, drop}
 use Rattle.plan_format.specs.Refusal.{given}
 use Rattle.plan_format.specs.Grammar.{Grammar, seq, counted, nothing, bytes, Scan, scan, count-check, read-by}
-use Rattle.plan_reader.specs.declared.cursor.Cursor.{Cursor}
 use Rattle.plan_format.specs.Sections.{limited}
-use Rattle.plan_reader.specs.Reading.{fault-of, here, Reads, Limited}
 use Rattle.plan_format.proofs.Counts.{count-limited}
 use Rattle.plan_format.proofs.Repeats.{repeat, read-counted, repeat-stops, field-same}
+use Rattle.plan_reader.specs.declared.cursor.Cursor.{Cursor}
+use Rattle.plan_reader.specs.Reading.{fault-of, here, Reads, Limited}
 use Rattle.plan_reader.proofs.Fields.{here-given, fault-none}
 
 module _ {bs : List ℕ} {c d r : Cursor} {nums nums₁ nums₂ : List ℕ} where

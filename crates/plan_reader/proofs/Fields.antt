@@ -13,12 +13,12 @@ use borrow.Author.Tests.{lt-ltb, le-ltb, ne-eqb, eqb-true, eqb-false}
 use Rattle.basics.proofs.Tests.{by-cases}
 use Rattle.plan_format.specs.Refusal.{refusal, none-given, given}
 use Rattle.plan_format.specs.Grammar.{Check, Grammar, field, value, bytes, Scan, scan, refused, field-number, read-field, last-got, read-by}
-use Rattle.plan_reader.specs.declared.cursor.Cursor.{Cursor}
 use Rattle.plan_format.specs.Sections.{limited}
-use Rattle.plan_reader.specs.Reading.{fault-of, here, Reads, Word, Limited}
 use Rattle.plan_format.proofs.Faults.{read-stays}
 use Rattle.plan_format.proofs.Judged.{other-given}
 use Rattle.plan_format.proofs.Seams.{last-snoc}
+use Rattle.plan_reader.specs.declared.cursor.Cursor.{Cursor}
+use Rattle.plan_reader.specs.Reading.{fault-of, here, Reads, Word, Limited}
 
 module _ (w : ℕ) (c : ℕ → ℕ) (rest : List ℕ) (p : ℕ) (got : List ℕ) where
   field-cut : length rest < w → read-field bytes w c (scan rest p got none-given) ≡ scan rest p got (refusal 1 p)
