@@ -65,7 +65,7 @@ module _ (bs : List ℕ) {c₁ c₂ c₃ c₄ : Cursor} {n₀ n₁ n₂ n₃ n�
       (counts-of (A .rest) (B .rest) (C .rest) (A .got ∙ ap (λ (x : ℕ). x ∷ A .rest) (sym (queues-read A)))
       (B .got ∙ ap (λ (x : ℕ). take (c₁ .got) n₁ ++ (x ∷ B .rest)) (sym (semaphores-read B)))
       (C .got ∙ ap (λ (x : ℕ). take (c₂ .got) n₂ ++ (x ∷ C .rest)) (sym (buffers-read C)))
-      (A .long ∙ sym (queues-read A)) (B .long ∙ sym (semaphores-read B))))
+      (A .long ∙ sym (queues-read A)) (B .long ∙ sym (semaphores-read B)) (C .long ∙ sym (buffers-read C))))
 
   -- what the four sections read is the plan
   pub plan-read : Plan-read bs c₄ n₄

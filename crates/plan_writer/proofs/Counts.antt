@@ -65,7 +65,7 @@ module _ (xs : List ℕ) {c₁ c₂ c₃ c₄ : Cursor} {b₀ b₁ b₂ b₃ b�
       (counts-of (A .rest) (B .rest) (C .rest) (A .got ∙ ap (λ (x : ℕ). x ∷ A .rest) (sym (queues-read A)))
       (B .got ∙ ap (λ (x : ℕ). take (c₁ .at) xs ++ (x ∷ B .rest)) (sym (semaphores-read B)))
       (C .got ∙ ap (λ (x : ℕ). take (c₂ .at) xs ++ (x ∷ C .rest)) (sym (buffers-read C)))
-      (A .long ∙ sym (queues-read A)) (B .long ∙ sym (semaphores-read B)))
+      (A .long ∙ sym (queues-read A)) (B .long ∙ sym (semaphores-read B)) (C .long ∙ sym (buffers-read C)))
 
   operations-same : read-by numbers (counted 0 1024 2 (operation first-form)) (here xs c₃) ≡ read-by numbers (counted 0 1024 2 (operation-below q m b)) (here xs c₃)
   unfolding here scan
