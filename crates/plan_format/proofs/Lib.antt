@@ -1,5 +1,6 @@
 pub mod Judged
 pub mod Faults
+pub mod Seams
 pub mod Bytes
 pub mod Parses
 pub mod Fields
@@ -10,7 +11,6 @@ pub mod Sources
 pub mod Whole
 pub mod RoundTrip
 pub mod Entries
-pub mod Seams
 pub mod Pairs
 pub mod Blocks
 pub mod Operations
@@ -30,3 +30,9 @@ pub mod ChecksMeaning
 pub mod RoomMeaning
 pub mod Stopping
 pub mod ReadingMeaning
+pub mod Repeats
+pub mod Alike
+pub mod Follows
+pub mod Counts
+pub mod Axes
+pub mod Answers

@@ -2,15 +2,16 @@
 use mathlib.Core.Path.{_≡_, refl, sym, ap, ap₂, _∙_, subst}
 use mathlib.Core.Bool.{cond}
 use mathlib.Core.List.{List, [], _∷_, _++_, append-assoc, append-nil}
-use Prim.Native.Nat.{ℕ, zero, suc, _+_, _-_}
+use Prim.Native.Nat.{ℕ, zero, suc, _+_}
 use native.Mathlib.Omega.{arith}
 use lib.ListN.{length, drop, length-append, take-append-drop}
-use lib.Seq.{getD-at, drop-append-seam}
+use lib.Seq.{drop-append-seam}
 use Rattle.basics.proofs.Tests.{by-cases, clash}
 use Rattle.plan_format.specs.Refusal.{Refusal, given}
 use Rattle.plan_format.specs.Grammar.{Check, Grammar, field, seq, counted, nothing, Source, Scan, scan, read-field, last-got, times, count-check, read-by}
 use Rattle.plan_format.proofs.Judged.{zero-not-given, not-given-zero}
 use Rattle.plan_format.proofs.Faults.{read-began, times-began}
+use Rattle.plan_format.proofs.Seams.{last-snoc}
 use Rattle.plan_format.proofs.Parses.{Takes, Spelt, Nothing, Then, Many, Holds, Field, Counted, Parses}
 use Rattle.plan_format.proofs.Fields.{Lawful, field-done}
 
@@ -22,7 +23,7 @@ go-on t u e =
 
 pub last-is : (r got : List ℕ) (p v : ℕ) (f : Refusal) → last-got (scan r p (got ++ (v ∷ [])) f) ≡ v
 unfolding last-got scan
-last-is r got p v f = getD-at got v [] 0 (length (got ++ (v ∷ [])) - 1) (rw length-append (omega arith))
+last-is r got p v f = last-snoc got v
 
 module _ (S : Source) (D : Spelt) (L : Lawful S D) where
   -- from s to t a reading takes what P takes

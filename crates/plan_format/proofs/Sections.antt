@@ -69,12 +69,16 @@ module _ (q s b : ℕ) (axes owners sizes : List ℕ) (la : length axes ≡ q) (
         ∙ at-seam (header ++ more) (q ∷ (axes ++ (s ∷ owners))) (sizes ++ more) b (2 + q + s) (simp append-assoc) (simp length-append (omega arith));
   }
 
-  -- three sections read, and the count of the fourth
-  pub sections-kept : (v₁ v₂ v₃ : List ℕ) (n : ℕ) → v₁ ≡ q ∷ axes → v₂ ≡ s ∷ owners → v₃ ≡ b ∷ sizes → Kept q s b (((v₁ ++ v₂) ++ v₃) ++ (n ∷ []))
+  -- three sections read
+  pub header-kept : (v₁ v₂ v₃ : List ℕ) → v₁ ≡ q ∷ axes → v₂ ≡ s ∷ owners → v₃ ≡ b ∷ sizes → Kept q s b ((v₁ ++ v₂) ++ v₃)
   unfolding header
-  sections-kept v₁ v₂ v₃ n e₁ e₂ e₃ =
-      let same : ((v₁ ++ v₂) ++ v₃) ++ (n ∷ []) ≡ header ++ (n ∷ []) = cc (append-assoc axes (s ∷ owners) (b ∷ sizes)) in
-      subst (Kept q s b) (sym same) (kept-more q s b header (n ∷ []) header-counts)
+  header-kept v₁ v₂ v₃ e₁ e₂ e₃ =
+      let same : (v₁ ++ v₂) ++ v₃ ≡ header = cc (append-assoc axes (s ∷ owners) (b ∷ sizes)) in
+      subst (Kept q s b) (sym same) header-counts
+
+  -- and the count of the fourth
+  pub sections-kept : (v₁ v₂ v₃ : List ℕ) (n : ℕ) → v₁ ≡ q ∷ axes → v₂ ≡ s ∷ owners → v₃ ≡ b ∷ sizes → Kept q s b (((v₁ ++ v₂) ++ v₃) ++ (n ∷ []))
+  sections-kept v₁ v₂ v₃ n e₁ e₂ e₃ = kept-more q s b ((v₁ ++ v₂) ++ v₃) (n ∷ []) (header-kept v₁ v₂ v₃ e₁ e₂ e₃)
 
 module _ (D : Spelt) (F : Form) where
   pub sections : (xs ds : List ℕ) → Parses D (plan-grammar F) [] xs ds → Sections F xs

@@ -1,6 +1,7 @@
 pub mod Refusal
 pub mod Grammar
 pub mod Form
+pub mod Sections
 pub mod Plan
 pub mod Sound
 pub mod Stored

@@ -1,8 +1,25 @@
-// What every call on a stored plan hands back; the format itself is in specs/.
+// What every call on a stored plan hands back, and the search that judges an axis; the format itself is in specs/.
+ghost use mathlib.Core.Path.{_≡_};
+ghost use lib.ListN.{drop};
+ghost use Rattle.basics.specs.Lists.{member};
 
 // The number of a refusal and its place, or 0 and 0 with the answer.
 pub struct Told {
     pub number: u32,
     pub place: u64,
     pub answer: u64,
+}
+
+// Whether a number stands in a list behind the first: an axis among the axes, the count being in front of them.
+pub fn repeated(list: &[u64], number: u64) -> bool
+    ensures { λ r. ⌜ r ≡ member number (drop 1 (now (list .entry))) ⌝ }
+{
+    let mut i = 1;
+    while i < list.len() {
+        if list[i] == number {
+            return true;
+        }
+        i += 1;
+    }
+    false
 }

@@ -1,20 +1,18 @@
 -- What cursors read, put together: one thing after another, a count and its things, a loop that stops at a refusal. Assumes nothing.
 use mathlib.Core.Path.{_≡_, refl, sym, ap, _∙_}
-use mathlib.Core.Bool.{cond}
 use mathlib.Core.List.{List}
-use Prim.Native.Nat.{ℕ, _+_, _*_, _≤_, zero-le}
+use Prim.Native.Nat.{ℕ, _+_, _*_, _≤_}
 use native.Mathlib.Nat.{mul-le-mul-left, mul-suc}
 use native.Mathlib.Numerals.{add-one}
 use native.Mathlib.Omega.{arith}
-use lib.Dec.{ltb}
 use lib.ListN.{length, take, drop}
-use borrow.Author.Tests.{lt-ltb, le-ltb, ltb-true, ltb-false}
-use Rattle.basics.proofs.Tests.{by-cases}
 use Rattle.plan_format.specs.Refusal.{given}
 use Rattle.plan_format.specs.Grammar.{Grammar, seq, counted, nothing, bytes, Scan, scan, count-check, read-by}
+use Rattle.plan_format.specs.Sections.{limited}
+use Rattle.plan_format.proofs.Counts.{count-limited}
+use Rattle.plan_format.proofs.Repeats.{repeat, read-counted, repeat-stops, field-same}
 use Rattle.plan_reader.specs.declared.cursor.Cursor.{Cursor}
-use Rattle.plan_reader.specs.Reading.{fault-of, here, Reads, limited, Limited}
-use Rattle.plan_reader.proofs.Grammars.{repeat, read-counted, repeat-stops, field-same}
+use Rattle.plan_reader.specs.Reading.{fault-of, here, Reads, Limited}
 use Rattle.plan_reader.proofs.Fields.{here-given, fault-none}
 
 module _ {bs : List ℕ} {c d r : Cursor} {nums nums₁ nums₂ : List ℕ} where
@@ -37,12 +35,6 @@ reads-nothing h = record { read = refl; inside = h; few = omega arith; as-long =
 pub reads-none : (g : Grammar) (m : ℕ) (bs : List ℕ) (c : Cursor) (nums : List ℕ) → c .at ≤ length bs → Reads (repeat 0 g) (m * 0) bs c nums c nums
 unfolding repeat read-by
 reads-none g m bs c nums h = record { read = refl; inside = h; few = omega arith; as-long = refl }
-
-pub count-limited : (most v : ℕ) → count-check 0 most v ≡ cond (ltb v (most + 1)) 0 2
-unfolding count-check
-count-limited most v =
-    by-cases (ltb most v) (λ t. rw (le-ltb v 0 zero-le, t, le-ltb v (most + 1) (omega (arith, ltb-true most v t))))
-    (λ f. rw (le-ltb v 0 zero-le, f, lt-ltb v (most + 1) (omega (arith, ltb-false most v f))))
 
 -- a count, and so many of a thing
 pub reads-counted : {g : Grammar} {bs : List ℕ} {c start r : Cursor} {nums nums₁ nums₂ : List ℕ} {w most : ℕ} (m : ℕ) → Limited w (most + 1) 2 bs c nums start nums₁ → (n : ℕ) → n ≡ start .value → Reads (repeat n g) (m * n) bs start nums₁ r nums₂ → Reads (counted 0 most w g) (1 + m * most) bs c nums r nums₂

@@ -13,9 +13,12 @@ use borrow.Author.Tests.{lt-ltb, le-ltb, ne-eqb, eqb-true, eqb-false}
 use Rattle.basics.proofs.Tests.{by-cases}
 use Rattle.plan_format.specs.Refusal.{refusal, none-given, given}
 use Rattle.plan_format.specs.Grammar.{Check, Grammar, field, value, bytes, Scan, scan, refused, field-number, read-field, last-got, read-by}
+use Rattle.plan_format.specs.Sections.{limited}
+use Rattle.plan_format.proofs.Faults.{read-stays}
+use Rattle.plan_format.proofs.Judged.{other-given}
+use Rattle.plan_format.proofs.Seams.{last-snoc}
 use Rattle.plan_reader.specs.declared.cursor.Cursor.{Cursor}
-use Rattle.plan_reader.specs.Reading.{fault-of, here, Reads, Word, limited, Limited}
-use Rattle.plan_reader.proofs.Grammars.{given-number, read-after, last-snoc}
+use Rattle.plan_reader.specs.Reading.{fault-of, here, Reads, Word, Limited}
 
 module _ (w : ℕ) (c : ℕ → ℕ) (rest : List ℕ) (p : ℕ) (got : List ℕ) where
   field-cut : length rest < w → read-field bytes w c (scan rest p got none-given) ≡ scan rest p got (refusal 1 p)
@@ -48,7 +51,7 @@ fault-number c z = rw (ne-eqb (c .number) 0 z)
 
 pub here-given : (bs : List ℕ) (c : Cursor) (nums : List ℕ) → (c .number ≡ 0 → ⊥) → given (here bs c nums .fault) ≡ true
 unfolding here scan
-here-given bs c nums z = given-number (fault-of c) (λ e. z (sym (fault-number c z) ∙ e))
+here-given bs c nums z = other-given (fault-of c) (λ e. z (sym (fault-number c z) ∙ e))
 
 pub fault-none : (c : Cursor) → fault-of c .number ≡ 0 → c .number ≡ 0
 fault-none c e = by-cases (eqb (c .number) 0) (λ t. eqb-true (c .number) 0 t) (λ f. sym (fault-number c (eqb-false (c .number) 0 f)) ∙ e)
@@ -57,7 +60,7 @@ fault-none c e = by-cases (eqb (c .number) 0) (λ t. eqb-true (c .number) 0 t) (
 pub passed : {g : Grammar} {many : ℕ} {bs : List ℕ} {c : Cursor} {nums : List ℕ} {v : ℕ} → (c .number ≡ 0 → ⊥) → c .at ≤ length bs → Reads g many bs c nums (cursor (c .number) (c .at) (c .got) v) nums
 unfolding here fault-of
 passed {g} {bs = bs} {c} {nums} z h =
-    record { read = read-after bytes g (here bs c nums) (here-given bs c nums z); inside = h; few = omega arith; as-long = refl }
+    record { read = read-stays bytes g (here bs c nums) (here-given bs c nums z); inside = h; few = omega arith; as-long = refl }
 
 read-clean : (w : ℕ) (check : Check) (bs : List ℕ) (c : Cursor) (nums : List ℕ) → c .number ≡ 0 → read-by bytes (field w check) (here bs c nums) ≡ read-field bytes w (λ v. check (take (c .got) nums) v) (scan (drop (c .at) bs) (c .at) (take (c .got) nums) none-given)
 unfolding read-by scan

@@ -1,8 +1,4 @@
 pub mod Words
-pub mod Grammars
-pub mod Alike
-pub mod Follows
-pub mod Axes
 pub mod Fields
 pub mod Cursors
 pub mod Counts

@@ -1,14 +1,15 @@
--- What the reader's functions say: the reading that a cursor stands for, and the grammars of the sections once the counts are known.
+-- What the reader's functions say: the reading that a cursor stands for.
 -- Assumes nothing: these are definitions.
 use mathlib.Core.Path.{_≡_}
 use mathlib.Core.Bool.{cond}
 use mathlib.Core.List.{List, []}
 use Prim.Native.Nat.{ℕ, _+_, _-_, _≤_, _<_, _^_}
-use lib.Dec.{ltb, eqb}
+use lib.Dec.{eqb}
 use lib.ListN.{length, take, drop}
 use Rattle.plan_format.specs.Refusal.{Refusal, refusal, none-given}
-use Rattle.plan_format.specs.Grammar.{Check, Grammar, field, seq, counted, value, bytes, Scan, scan, last-got, read-by}
-use Rattle.plan_format.specs.Form.{first-form, any-number, new-axis, part, plan-grammar}
+use Rattle.plan_format.specs.Grammar.{Grammar, field, value, bytes, Scan, scan, last-got, read-by}
+use Rattle.plan_format.specs.Form.{first-form, plan-grammar}
+use Rattle.plan_format.specs.Sections.{limited}
 use Rattle.plan_format.specs.Stored.{scanned, Tells}
 use Rattle.plan_format.specs.declared.Told.{Told}
 use Rattle.plan_reader.specs.declared.cursor.Cursor.{Cursor}
@@ -36,27 +37,6 @@ pub record Reads (g : Grammar) (many : ℕ) (bs : List ℕ) (c : Cursor) (nums :
 pub record Word (width : ℕ) (bs : List ℕ) (at v : ℕ) : Type 0 where
   pub word : v ≡ value (take width (drop at bs))
   pub small : v < 256 ^ width
-
--- ---- the sections, each check with the count that it asks for
-unfoldable pub limited : (limit over : ℕ) → Check
-limited l n g v = cond (ltb v l) 0 n
-
-unfoldable pub axis-field : Grammar
-axis-field = field 8 new-axis
-
-unfoldable pub size-field : Grammar
-size-field = field 4 any-number
-
-unfoldable pub point-below : (semaphores : ℕ) → Grammar
-point-below m = seq (field 1 (limited m 4)) (field 8 any-number)
-
-unfoldable pub mark-below : (buffers : ℕ) → Grammar
-mark-below b = seq (field 2 (limited b 4)) (field 1 (limited 2 4))
-
-unfoldable pub operation-below : (queues semaphores buffers : ℕ) → Grammar
-operation-below q m b =
-    seq (field 1 (limited q 4))
-    (seq (part first-form) (seq (counted 0 3 1 (point-below m)) (seq (counted 0 2 1 (point-below m)) (counted 0 4 1 (mark-below b)))))
 
 -- a limited field was read, and the cursor has its number: 0 where it is refused
 pub record Limited (width limit over : ℕ) (bs : List ℕ) (c : Cursor) (nums : List ℕ) (r : Cursor) (nums-now : List ℕ) : Type 0 where

@@ -4,7 +4,8 @@ use crate::word;
 ghost use Prim.Native.Nat.{_≤_};
 ghost use Rattle.plan_format.specs.Form.{any-number};
 ghost use Rattle.plan_format.specs.Grammar.{field};
-ghost use Rattle.plan_reader.specs.Reading.{Room, Reads, Limited, axis-field, size-field};
+ghost use Rattle.plan_format.specs.Sections.{axis-field, size-field};
+ghost use Rattle.plan_reader.specs.Reading.{Room, Reads, Limited};
 
 // A byte below `limit`; any other is refused by `over`.
 pub fn byte(plan: &[u8], c: Cursor, limit: u64, over: u32, numbers: &mut [u64]) -> Cursor
@@ -100,7 +101,7 @@ pub fn axis(plan: &[u8], c: Cursor, numbers: &mut [u64]) -> Cursor
         return c.refused(1);
     }
     let value = word::word8(plan, at);
-    if crate::repeated(&numbers[..got], value) {
+    if plan_format::repeated(&numbers[..got], value) {
         return c.refused(5);
     }
     numbers[got] = value;

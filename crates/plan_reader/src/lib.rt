@@ -8,24 +8,10 @@ mod word;
 use plan_format::Told;
 ghost use mathlib.Core.Path.{_≡_};
 ghost use Prim.Native.Nat.{_≤_};
-ghost use lib.ListN.{length, take, drop};
-ghost use Rattle.basics.specs.Lists.{member, in-front};
+ghost use lib.ListN.{length, take};
+ghost use Rattle.basics.specs.Lists.{in-front};
 ghost use Rattle.plan_format.specs.Stored.{Read-says};
 ghost use Rattle.plan_reader.specs.Reading.{Numbers-read};
-
-// Whether a number stands in a list behind the first: an axis among the axes, the count being in front of them.
-pub fn repeated(list: &[u64], number: u64) -> bool
-    ensures { λ r. ⌜ r ≡ member number (drop 1 (now (list .entry))) ⌝ }
-{
-    let mut i = 1;
-    while i < list.len() {
-        if list[i] == number {
-            return true;
-        }
-        i += 1;
-    }
-    false
-}
 
 // A refusal at a place.
 pub fn refused(number: u32, place: usize) -> Told

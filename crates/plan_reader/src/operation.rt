@@ -3,7 +3,8 @@ use crate::cursor::Cursor;
 use crate::field;
 ghost use Prim.Native.Nat.{_+_, _*_};
 ghost use Rattle.plan_format.specs.Grammar.{counted};
-ghost use Rattle.plan_reader.specs.Reading.{Room, Reads, point-below, mark-below, operation-below};
+ghost use Rattle.plan_format.specs.Sections.{point-below, mark-below, operation-below};
+ghost use Rattle.plan_reader.specs.Reading.{Room, Reads};
 
 // A wait or a signal: a semaphore and a value.
 fn point(plan: &[u8], c: Cursor, semaphores: u64, numbers: &mut [u64]) -> Cursor

@@ -6,7 +6,8 @@ ghost use mathlib.Core.Path.{_≡_};
 ghost use Prim.Native.Nat.{_≤_};
 ghost use lib.ListN.{length, getD};
 ghost use Rattle.plan_format.specs.Grammar.{counted, field};
-ghost use Rattle.plan_reader.specs.Reading.{Room, Reads, Plan-read, axis-field, size-field, limited};
+ghost use Rattle.plan_format.specs.Sections.{axis-field, size-field, limited};
+ghost use Rattle.plan_reader.specs.Reading.{Room, Reads, Plan-read};
 
 // The section of queues.
 fn axes(plan: &[u8], c: Cursor, numbers: &mut [u64]) -> Cursor

@@ -12,7 +12,8 @@ use Rattle.plan_format.specs.Grammar.{numbers, Scan, scan, ended, Spelling}
 use Rattle.plan_format.specs.Form.{first-form, scanned-by}
 use Rattle.plan_format.specs.Stored.{listed, spelled, Tells}
 use Rattle.plan_format.specs.declared.Told.{Told}
-use Rattle.plan_reader.proofs.Answers.{ended-given, ended-none, ended-more, answer-long}
+use Rattle.plan_format.proofs.Answers.{ended-none, ended-more, answer-long}
+use Rattle.plan_format.proofs.Faults.{ended-stays}
 use Rattle.plan_writer.specs.declared.cursor.Cursor.{Cursor}
 use Rattle.plan_writer.specs.Writing.{fault-of, here, spelling, Plan-written, Bytes-written}
 use Rattle.plan_writer.proofs.Fields.{here-given, here-clean, fault-number}
@@ -39,7 +40,7 @@ module _ {xs : List ℕ} {c : Cursor} {bytes : List ℕ} (p : Plan-written xs c 
   written-refused z =
       record {
         told =
-            tells xs (here xs c) (listed-is p ∙ ended-given (here xs c) (here-given xs c z))
+            tells xs (here xs c) (listed-is p ∙ ended-stays (here xs c) (here-given xs c z))
             (record { number = sym (fault-number c z); place = sym (fault-place c z); answer-is = rw (here-given xs c z) });
         bytes = λ e. absurd (z e);
         few = omega arith;

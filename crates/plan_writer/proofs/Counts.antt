@@ -1,33 +1,20 @@
 -- The four sections of a list: what the checks ask of the numbers read is what the writer took from the list. Assumes nothing.
 use mathlib.Core.Path.{_≡_, refl, sym, ap, _∙_}
 use mathlib.Core.List.{List, [], _∷_, _++_}
-use Prim.Native.Nat.{ℕ, zero, suc}
+use Prim.Native.Nat.{ℕ}
 use native.Mathlib.Omega.{arith}
 use lib.ListN.{getD, take}
 use lib.Seq.{length-take-le}
-use Rattle.plan_format.specs.Grammar.{Grammar, field, counted, numbers, Scan, scan, read-by, Spelling, spell-by, times, spell-field}
+use Rattle.plan_format.specs.Grammar.{field, counted, numbers, Scan, scan, read-by, Spelling, spell-by}
 use Rattle.plan_format.specs.Form.{first-form, queue-count, any-number, new-axis, a-queue, operation, plan-grammar}
-use Rattle.plan_reader.specs.Reading.{limited, axis-field, size-field, operation-below}
-use Rattle.plan_reader.proofs.Alike.{Alike, field-alike, seq-alike, counted-alike, nothing-alike, alike-from}
-use Rattle.plan_reader.proofs.Follows.{Section, section}
-use Rattle.plan_reader.proofs.Counts.{number-at, owners-alike, operations-alike, counts-of}
+use Rattle.plan_format.specs.Sections.{limited, axis-field, size-field, operation-below}
+use Rattle.plan_format.proofs.Alike.{Alike, alike-from, alike-spell}
+use Rattle.plan_format.proofs.Follows.{Section, section}
+use Rattle.plan_format.proofs.Counts.{number-at, owners-alike, operations-alike, counts-of}
 use Rattle.plan_writer.specs.declared.cursor.Cursor.{Cursor}
 use Rattle.plan_writer.specs.Writing.{fault-of, here, spelling, Writes, Plan-written}
 use Rattle.plan_writer.proofs.Cursors.{clean-before}
 use Rattle.plan_writer.proofs.Fields.{fault-clean}
-
--- a spelling asks nothing of a check
-times-same : (k : ℕ) (f g : Spelling → Spelling) → ((s : Spelling) → f s ≡ g s) → (s : Spelling) → times k f s ≡ times k g s
-unfolding times
-times-same zero f g e s = refl
-times-same (suc k) f g e s = rw (e s) (times-same k f g e (g s))
-
-alike-spell : {front : List ℕ} {g h : Grammar} → Alike front g h → (s : Spelling) → spell-by g s ≡ spell-by h s
-unfolding spell-by
-alike-spell (field-alike e) s = refl
-alike-spell (seq-alike {h = h} p q) s = rw (alike-spell p s) (alike-spell q (spell-by h s))
-alike-spell (counted-alike {w = w} {g} {h} p) s = times-same (getD (s .left) 0 0) (λ u. spell-by g u) (λ u. spell-by h u) (λ u. alike-spell p u) (spell-field w s)
-alike-spell nothing-alike s = refl
 
 abbrev origin : Cursor
 origin = record { number = 0; at = 0; put = 0; value = 0 }
@@ -78,7 +65,7 @@ module _ (xs : List ℕ) {c₁ c₂ c₃ c₄ : Cursor} {b₀ b₁ b₂ b₃ b�
       (counts-of (A .rest) (B .rest) (C .rest) (A .got ∙ ap (λ (x : ℕ). x ∷ A .rest) (sym (queues-read A)))
       (B .got ∙ ap (λ (x : ℕ). take (c₁ .at) xs ++ (x ∷ B .rest)) (sym (semaphores-read B)))
       (C .got ∙ ap (λ (x : ℕ). take (c₂ .at) xs ++ (x ∷ C .rest)) (sym (buffers-read C)))
-      (A .long ∙ sym (queues-read A)) (B .long ∙ sym (semaphores-read B)))
+      (A .long ∙ sym (queues-read A)) (B .long ∙ sym (semaphores-read B)) (C .long ∙ sym (buffers-read C)))
 
   operations-same : read-by numbers (counted 0 1024 2 (operation first-form)) (here xs c₃) ≡ read-by numbers (counted 0 1024 2 (operation-below q m b)) (here xs c₃)
   unfolding here scan

@@ -11,9 +11,10 @@ use borrow.Author.Tests.{eqb-true, eqb-false}
 use Rattle.basics.proofs.Tests.{by-cases}
 use Rattle.plan_format.specs.Refusal.{given}
 use Rattle.plan_format.specs.Grammar.{Grammar, seq, counted, nothing, numbers, Scan, scan, times, count-check, read-by, Spelling, spell-field, spell-by}
-use Rattle.plan_reader.specs.Reading.{limited}
-use Rattle.plan_reader.proofs.Grammars.{repeat, read-after, read-counted, repeat-stops, field-same, times-last}
-use Rattle.plan_reader.proofs.Cursors.{count-limited}
+use Rattle.plan_format.specs.Sections.{limited}
+use Rattle.plan_format.proofs.Faults.{read-stays}
+use Rattle.plan_format.proofs.Repeats.{repeat, read-counted, repeat-stops, field-same, times-last}
+use Rattle.plan_format.proofs.Counts.{count-limited}
 use Rattle.plan_writer.specs.declared.cursor.Cursor.{Cursor}
 use Rattle.plan_writer.specs.Writing.{fault-of, here, spelling, Writes, Limited}
 use Rattle.plan_writer.proofs.Fields.{here-given, fault-none, fault-clean}
@@ -24,7 +25,7 @@ unfolding here scan
 clean-before {g} {xs = xs} {c} {r} p e =
     by-cases (eqb (c .number) 0) (λ t. eqb-true (c .number) 0 t)
     (λ f. let z = eqb-false (c .number) 0 f in
-    fault-none c (ap (λ (s : Scan). s .fault .number) (sym (read-after numbers g (here xs c) (here-given xs c z)) ∙ p .read) ∙ fault-clean r e))
+    fault-none c (ap (λ (s : Scan). s .fault .number) (sym (read-stays numbers g (here xs c) (here-given xs c z)) ∙ p .read) ∙ fault-clean r e))
 
 module _ {xs : List ℕ} {c d r : Cursor} {bytes bytes₁ bytes₂ : List ℕ} where
   -- one thing after another

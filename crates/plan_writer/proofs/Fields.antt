@@ -13,8 +13,10 @@ use borrow.Author.Tests.{lt-ltb, le-ltb, ne-eqb, eqb-true, eqb-false}
 use Rattle.basics.proofs.Tests.{by-cases}
 use Rattle.plan_format.specs.Refusal.{refusal, none-given, given}
 use Rattle.plan_format.specs.Grammar.{Check, Grammar, field, numbers, Scan, scan, refused, field-number, read-field, last-got, read-by, spell-field, spell-by}
-use Rattle.plan_reader.specs.Reading.{limited}
-use Rattle.plan_reader.proofs.Grammars.{given-number, read-after, last-snoc}
+use Rattle.plan_format.specs.Sections.{limited}
+use Rattle.plan_format.proofs.Faults.{read-stays}
+use Rattle.plan_format.proofs.Judged.{other-given}
+use Rattle.plan_format.proofs.Seams.{last-snoc}
 use Rattle.plan_writer.specs.declared.cursor.Cursor.{Cursor}
 use Rattle.plan_writer.specs.Writing.{fault-of, here, spelling, Writes, Puts, Limited}
 
@@ -53,7 +55,7 @@ fault-number c z = rw (ne-eqb (c .number) 0 z)
 
 pub here-given : (xs : List ℕ) (c : Cursor) → (c .number ≡ 0 → ⊥) → given (here xs c .fault) ≡ true
 unfolding here scan
-here-given xs c z = given-number (fault-of c) (λ e. z (sym (fault-number c z) ∙ e))
+here-given xs c z = other-given (fault-of c) (λ e. z (sym (fault-number c z) ∙ e))
 
 pub fault-none : (c : Cursor) → fault-of c .number ≡ 0 → c .number ≡ 0
 fault-none c e = by-cases (eqb (c .number) 0) (λ t. eqb-true (c .number) 0 t) (λ f. sym (fault-number c (eqb-false (c .number) 0 f)) ∙ e)
@@ -66,7 +68,7 @@ fault-clean c e = ap (λ (n : ℕ). cond (eqb n 0) none-given (refusal n (c .at)
 pub passed : {g : Grammar} {many : ℕ} {xs : List ℕ} {c : Cursor} {bytes : List ℕ} {v : ℕ} → (c .number ≡ 0 → ⊥) → c .at ≤ length xs → Writes g many xs c bytes (cursor (c .number) (c .at) (c .put) v) bytes
 unfolding here fault-of
 passed {g} {xs = xs} {c} z h =
-    record { read = read-after numbers g (here xs c) (here-given xs c z); spell = λ e. absurd (z e); inside = h; few = omega arith; as-long = refl }
+    record { read = read-stays numbers g (here xs c) (here-given xs c z); spell = λ e. absurd (z e); inside = h; few = omega arith; as-long = refl }
 
 read-clean : (w : ℕ) (check : Check) (xs : List ℕ) (c : Cursor) → c .number ≡ 0 → read-by numbers (field w check) (here xs c) ≡ read-field numbers w (λ v. check (take (c .at) xs) v) (scan (drop (c .at) xs) (c .at) (take (c .at) xs) none-given)
 unfolding read-by scan

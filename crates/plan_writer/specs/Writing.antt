@@ -11,7 +11,7 @@ use Rattle.plan_format.specs.Grammar.{Grammar, field, digits, numbers, Scan, sc
 use Rattle.plan_format.specs.Form.{first-form, plan-grammar}
 use Rattle.plan_format.specs.Stored.{listed, spelled, Tells}
 use Rattle.plan_format.specs.declared.Told.{Told}
-use Rattle.plan_reader.specs.Reading.{limited}
+use Rattle.plan_format.specs.Sections.{limited}
 use Rattle.plan_writer.specs.declared.cursor.Cursor.{Cursor}
 
 -- the reading of the list `xs` that a cursor stands for, and the spelling, its bytes being in front of `bytes`

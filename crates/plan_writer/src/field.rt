@@ -4,7 +4,7 @@ use crate::digits;
 ghost use Prim.Native.Nat.{_≤_};
 ghost use Rattle.plan_format.specs.Form.{any-number};
 ghost use Rattle.plan_format.specs.Grammar.{field};
-ghost use Rattle.plan_reader.specs.Reading.{axis-field, size-field};
+ghost use Rattle.plan_format.specs.Sections.{axis-field, size-field};
 ghost use Rattle.plan_writer.specs.Writing.{Room, Writes, Limited};
 
 // A number below `limit`, in one byte; any other is refused by `over`.
@@ -105,7 +105,7 @@ pub fn axis(numbers: &[u64], c: Cursor, bytes: &mut [u8]) -> Cursor
         return c.refused(1);
     }
     let value = numbers[at];
-    if plan_reader::repeated(&numbers[..at], value) {
+    if plan_format::repeated(&numbers[..at], value) {
         return c.refused(5);
     }
     digits::put8(bytes, c.put, value);

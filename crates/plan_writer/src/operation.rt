@@ -3,7 +3,7 @@ use crate::cursor::Cursor;
 use crate::field;
 ghost use Prim.Native.Nat.{_+_, _*_};
 ghost use Rattle.plan_format.specs.Grammar.{counted};
-ghost use Rattle.plan_reader.specs.Reading.{point-below, mark-below, operation-below};
+ghost use Rattle.plan_format.specs.Sections.{point-below, mark-below, operation-below};
 ghost use Rattle.plan_writer.specs.Writing.{Room, Writes};
 
 // A wait or a signal: a semaphore and a value.

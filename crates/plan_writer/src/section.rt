@@ -6,7 +6,7 @@ ghost use mathlib.Core.Path.{_≡_};
 ghost use Prim.Native.Nat.{_≤_};
 ghost use lib.ListN.{length, getD};
 ghost use Rattle.plan_format.specs.Grammar.{counted, field};
-ghost use Rattle.plan_reader.specs.Reading.{axis-field, size-field, limited};
+ghost use Rattle.plan_format.specs.Sections.{axis-field, size-field, limited};
 ghost use Rattle.plan_writer.specs.Writing.{Room, Writes, Plan-written};
 
 // The section of queues.

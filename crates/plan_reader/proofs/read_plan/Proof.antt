@@ -3,7 +3,8 @@ use mathlib.Core.Path.{_∙_}
 use native.Mathlib.Omega.{arith}
 use borrow.Author.Needs.{needs}
 use Rattle.plan_format.specs.Stored.{scanned, read-refusal, Read-says}
-use Rattle.plan_reader.proofs.Answers.{not-read, no-room, stored, read-fits, read-front}
+use Rattle.plan_format.proofs.Answers.{not-read, no-room, stored}
+use Rattle.plan_reader.proofs.Answers.{read-fits, read-front}
 use Rattle.plan_reader.proofs.read_plan.Statement.{statement}
 use Rattle.plan_reader.proofs.read_plan.Tie as tie
 

@@ -3,8 +3,8 @@ use mathlib.Core.Path.{_∙_}
 use native.Mathlib.Omega.{arith}
 use borrow.Author.Needs.{needs}
 use Rattle.plan_format.specs.Stored.{listed, spelled, write-refusal, Write-says}
+use Rattle.plan_format.proofs.Answers.{not-read, no-room, stored}
 use Rattle.plan_writer.proofs.Answers.{written-fits, written-front}
-use Rattle.plan_reader.proofs.Answers.{not-read, no-room, stored}
 use Rattle.plan_writer.proofs.write_plan.Statement.{statement}
 use Rattle.plan_writer.proofs.write_plan.Tie as tie
 

@@ -3,7 +3,7 @@ use mathlib.Core.Path.{refl}
 use native.Mathlib.Omega.{arith}
 use borrow.Author.Needs.{needs}
 use Rattle.plan_format.specs.Form.{any-number}
-use Rattle.plan_reader.specs.Reading.{size-field}
+use Rattle.plan_format.specs.Sections.{size-field}
 use Rattle.plan_reader.proofs.Fields.{passed, cut, kept}
 use Rattle.plan_reader.proofs.field.size.Statement.{statement}
 use Rattle.plan_reader.proofs.field.size.Tie as tie

@@ -1,6 +1,6 @@
 -- `mark` meets its contract: one field after the other.
 use borrow.Author.Needs.{needs}
-use Rattle.plan_reader.specs.Reading.{mark-below}
+use Rattle.plan_format.specs.Sections.{mark-below}
 use Rattle.plan_reader.proofs.Cursors.{reads-seq}
 use Rattle.plan_reader.proofs.operation.mark.Statement.{statement}
 use Rattle.plan_reader.proofs.operation.mark.Tie as tie

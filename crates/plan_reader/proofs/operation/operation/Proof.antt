@@ -1,7 +1,7 @@
 -- `operation` meets its contract: one part after the other.
 use borrow.Author.Needs.{needs}
 use Rattle.plan_format.specs.Form.{part, first-form}
-use Rattle.plan_reader.specs.Reading.{operation-below}
+use Rattle.plan_format.specs.Sections.{operation-below}
 use Rattle.plan_reader.proofs.Cursors.{reads-nothing, reads-seq}
 use Rattle.plan_reader.proofs.operation.operation.Statement.{statement}
 use Rattle.plan_reader.proofs.operation.operation.Tie as tie

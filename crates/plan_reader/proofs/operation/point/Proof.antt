@@ -1,6 +1,6 @@
 -- `point` meets its contract: one field after the other.
 use borrow.Author.Needs.{needs}
-use Rattle.plan_reader.specs.Reading.{point-below}
+use Rattle.plan_format.specs.Sections.{point-below}
 use Rattle.plan_reader.proofs.Cursors.{reads-seq}
 use Rattle.plan_reader.proofs.operation.point.Statement.{statement}
 use Rattle.plan_reader.proofs.operation.point.Tie as tie

@@ -4,9 +4,10 @@ use Prim.Native.Nat.{_+_, _-_, _*_, _≤_}
 use native.Mathlib.Omega.{arith}
 use borrow.Author.Needs.{needs}
 use Rattle.plan_format.specs.Grammar.{field}
-use Rattle.plan_reader.specs.Reading.{Reads, limited}
+use Rattle.plan_format.specs.Sections.{limited}
+use Rattle.plan_format.proofs.Repeats.{repeat}
+use Rattle.plan_reader.specs.Reading.{Reads}
 use Rattle.plan_reader.proofs.Cursors.{reads-none, reads-more, reads-counted, reads-stopped}
-use Rattle.plan_reader.proofs.Grammars.{repeat}
 use Rattle.plan_reader.proofs.section.owners.Statement.{statement}
 use Rattle.plan_reader.proofs.section.owners.Tie as tie
 

@@ -4,9 +4,9 @@ use native.Mathlib.Omega.{arith}
 use lib.Seq.{length-take-le}
 use borrow.Author.Needs.{needs}
 use borrow.Author.Tests.{eqb-false}
+use Rattle.plan_format.specs.Sections.{axis-field}
+use Rattle.plan_format.proofs.Axes.{axis-again, axis-new}
 use Rattle.plan_writer.proofs.Fields.{passed, missing, wrong, kept}
-use Rattle.plan_reader.proofs.Axes.{axis-again, axis-new}
-use Rattle.plan_reader.specs.Reading.{axis-field}
 use Rattle.plan_writer.proofs.field.axis.Statement.{statement}
 use Rattle.plan_writer.proofs.field.axis.Tie as tie
 

@@ -2,8 +2,8 @@
 use mathlib.Core.Path.{refl}
 use borrow.Author.Needs.{needs}
 use Rattle.plan_format.specs.Form.{any-number}
+use Rattle.plan_format.specs.Sections.{size-field}
 use Rattle.plan_writer.proofs.Fields.{passed, missing, wide, kept}
-use Rattle.plan_reader.specs.Reading.{size-field}
 use Rattle.plan_writer.proofs.field.size.Statement.{statement}
 use Rattle.plan_writer.proofs.field.size.Tie as tie
 

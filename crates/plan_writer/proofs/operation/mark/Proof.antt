@@ -1,7 +1,7 @@
 -- `mark` meets its contract: one field after the other.
 use borrow.Author.Needs.{needs}
+use Rattle.plan_format.specs.Sections.{mark-below}
 use Rattle.plan_writer.proofs.Cursors.{writes-seq}
-use Rattle.plan_reader.specs.Reading.{mark-below}
 use Rattle.plan_writer.proofs.operation.mark.Statement.{statement}
 use Rattle.plan_writer.proofs.operation.mark.Tie as tie
 

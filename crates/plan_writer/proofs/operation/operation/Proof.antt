@@ -1,8 +1,8 @@
 -- `operation` meets its contract: one part after the other.
 use borrow.Author.Needs.{needs}
 use Rattle.plan_format.specs.Form.{part, first-form}
+use Rattle.plan_format.specs.Sections.{operation-below}
 use Rattle.plan_writer.proofs.Cursors.{writes-nothing, writes-seq}
-use Rattle.plan_reader.specs.Reading.{operation-below}
 use Rattle.plan_writer.proofs.operation.operation.Statement.{statement}
 use Rattle.plan_writer.proofs.operation.operation.Tie as tie
 

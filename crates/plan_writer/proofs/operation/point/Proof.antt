@@ -1,7 +1,7 @@
 -- `point` meets its contract: one field after the other.
 use borrow.Author.Needs.{needs}
+use Rattle.plan_format.specs.Sections.{point-below}
 use Rattle.plan_writer.proofs.Cursors.{writes-seq}
-use Rattle.plan_reader.specs.Reading.{point-below}
 use Rattle.plan_writer.proofs.operation.point.Statement.{statement}
 use Rattle.plan_writer.proofs.operation.point.Tie as tie
 

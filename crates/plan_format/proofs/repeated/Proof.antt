@@ -4,9 +4,9 @@ use Prim.Native.Nat.{_-_}
 use lib.ListN.{length, drop}
 use borrow.Author.Needs.{needs}
 use Rattle.basics.specs.Lists.{member}
-use Rattle.plan_reader.proofs.Axes.{seen-here, seen-next, seen-end}
-use Rattle.plan_reader.proofs.repeated.Statement.{statement}
-use Rattle.plan_reader.proofs.repeated.Tie as tie
+use Rattle.plan_format.proofs.Axes.{seen-here, seen-next, seen-end}
+use Rattle.plan_format.proofs.repeated.Statement.{statement}
+use Rattle.plan_format.proofs.repeated.Tie as tie
 
 abbrev Inv-loop : tie.InvT-loop
 Inv-loop list number i₀ i = member number (drop i list) ≡ member number (drop 1 list)

@@ -1,14 +1,17 @@
--- What was read stays in front, so checks that agree on every list that begins so read the same: a check may take from the code what it
--- asks of the numbers read. Assumes nothing.
+-- What was read stays in front, so grammars whose checks agree on every list that begins so read the same, and spell the same: a check may
+-- take from the code what it asks of the numbers read. Assumes nothing.
 use mathlib.Core.Path.{_≡_, refl, sym, ap, _∙_, subst}
 use mathlib.Core.Bool.{Bool, true, false, cond}
 use mathlib.Core.List.{List, [], _∷_, _++_, append-assoc, append-nil}
 use Prim.Native.Nat.{ℕ, zero, suc}
 use lib.Dec.{eqb}
+use lib.ListN.{getD}
 use Rattle.basics.proofs.Tests.{by-cases}
 use Rattle.plan_format.specs.Refusal.{given}
-use Rattle.plan_format.specs.Grammar.{Check, Grammar, field, seq, counted, nothing, Source, Scan, scan, refused, field-number, read-field, last-got, times, count-check, read-by}
-use Rattle.plan_reader.proofs.Grammars.{read-after, field-same, given-not}
+use Rattle.plan_format.specs.Grammar.{Check, Grammar, field, seq, counted, nothing, Source, Scan, scan, refused, field-number, read-field, last-got, times, count-check, read-by, Spelling, spell-field, spell-by}
+use Rattle.plan_format.proofs.Faults.{read-stays}
+use Rattle.plan_format.proofs.Judged.{not-given-zero}
+use Rattle.plan_format.proofs.Repeats.{field-same}
 
 -- ---- what was read stays in front
 abbrev pub Begins : (front got : List ℕ) → Type 0
@@ -76,5 +79,13 @@ module _ (S : Source) (front : List ℕ) where
 -- where there is a fault already, nothing has to agree
 pub alike-from : (S : Source) (g h : Grammar) (s : Scan) → (s .fault .number ≡ 0 → Alike (s .got) g h) → read-by S g s ≡ read-by S h s
 alike-from S g h s a =
-    by-cases (given (s .fault)) (λ y. read-after S g s y ∙ sym (read-after S h s y))
-    (λ z. alike-read S (s .got) (a (given-not (s .fault) z)) s ([], sym (append-nil (s .got))))
+    by-cases (given (s .fault)) (λ y. read-stays S g s y ∙ sym (read-stays S h s y))
+    (λ z. alike-read S (s .got) (a (not-given-zero (s .fault) z)) s ([], sym (append-nil (s .got))))
+
+-- a spelling asks nothing of a check
+pub alike-spell : {front : List ℕ} {g h : Grammar} → Alike front g h → (s : Spelling) → spell-by g s ≡ spell-by h s
+unfolding spell-by
+alike-spell (field-alike e) s = refl
+alike-spell (seq-alike {h = h} p q) s = rw (alike-spell p s) (alike-spell q (spell-by h s))
+alike-spell (counted-alike {w = w} {g} {h} p) s = times-same (λ _. Unit {0}) (λ u. spell-by g u) (λ u. spell-by h u) (λ u _. tt) (λ u _. alike-spell p u) (getD (s .left) 0 0) (spell-field w s) tt
+alike-spell nothing-alike s = refl

@@ -3,13 +3,11 @@ use mathlib.Core.Path.{_≡_, refl, sym, ap, _∙_}
 use mathlib.Core.List.{List, [], _∷_, _++_, append-assoc, append-nil}
 use Prim.Native.Nat.{ℕ, zero, suc, _-_}
 use native.Mathlib.Omega.{arith}
-use lib.Dec.{eqb}
 use lib.ListN.{length, getD, length-append}
-use borrow.Author.Tests.{eqb-false}
-use Rattle.basics.proofs.Tests.{by-cases, clash}
-use Rattle.plan_format.specs.Refusal.{refusal, given}
-use Rattle.plan_format.specs.Grammar.{Check, field, counted, Source, Scan, scan, refused, field-number, read-field, last-got, count-check, read-by}
-use Rattle.plan_reader.proofs.Grammars.{repeat, read-counted, given-not, given-none, last-snoc}
+use Rattle.plan_format.specs.Grammar.{Check, field, counted, Source, Scan, scan, read-field, last-got, count-check, read-by}
+use Rattle.plan_format.proofs.Fields.{field-done}
+use Rattle.plan_format.proofs.Repeats.{repeat, read-counted}
+use Rattle.plan_format.proofs.Seams.{last-snoc}
 
 -- what follows `s` in `t`, where `t` has no fault
 pub record Follows (n : ℕ) (s t : Scan) : Type 0 where
@@ -45,13 +43,10 @@ counted-follows {s} {t} {u} p rest g n =
 
 module _ (S : Source) where
   field-follows : (w : ℕ) (c : ℕ → ℕ) (s : Scan) → read-field S w c s .fault .number ≡ 0 → Follows 1 s (read-field S w c s)
-  unfolding read-field refused scan refusal
+  unfolding scan
   field-follows w c s h =
-      by-cases (given (s .fault))
-      (λ y. clash (given (s .fault)) y (given-none (s .fault) (rw y at h)))
-      (λ z. by-cases (eqb (field-number S w c (s .rest)) 0)
-      (λ t. record { clean = given-not (s .fault) z; rest = S .front w (s .rest) ∷ []; got = rw (z, t); long = refl })
-      (λ f. absurd (eqb-false (field-number S w c (s .rest)) 0 f (rw (z, f) at h))))
+      let d = field-done S w c s h in
+      record { clean = d .begun; rest = S .front w (s .rest) ∷ []; got = ap (λ (t : Scan). t .got) (d .result); long = refl }
 
   follows-more : {n : ℕ} {s t u : Scan} → Follows n s t → Follows 1 t u → Follows (suc n) s u
   follows-more {n} {s} {t} {u} p q =
