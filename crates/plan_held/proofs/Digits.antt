@@ -1,13 +1,12 @@
 -- Little-endian numbers, one more digit in front. Assumes nothing.
 use mathlib.Core.Path.{_≡_}
-use mathlib.Core.List.{List, [], _∷_}
-use Prim.Native.Nat.{ℕ, zero, suc, _+_, _*_, _-_, _^_, _≤_, _<_}
+use mathlib.Core.List.{List, []}
+use Prim.Native.Nat.{ℕ, suc, _+_, _*_, _-_, _^_, _≤_, _<_}
 use native.Mathlib.Omega.{arith}
-use native.Mathlib.Numerals.{add-one}
 use native.Mathlib.Nat.{pow-suc, pow-le-pow-right}
 use lib.ListN.{length, take, drop, getD, length-take, length-drop, drop-of-length-le}
-use lib.Seq.{drop-cons, getD-drop, getD-take, drop-length}
-use lib.Dec.{lit<, lit≤}
+use lib.Seq.{drop-cons, getD-drop, getD-take}
+use lib.Dec.{lit<}
 use Rattle.plan_format.specs.Grammar.{value}
 
 pub value-none : (s : List ℕ) (at w : ℕ) → at + w ≤ length s → 0 ≡ value (drop w (take w (drop at s)))

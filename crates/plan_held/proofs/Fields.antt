@@ -10,7 +10,6 @@ use lib.ListN.{length, take, drop, length-drop}
 use Rattle.plan_format.specs.Grammar.{value, bytes, field-number}
 use Rattle.plan_held.specs.Held.{judged, Field-read}
 use Rattle.plan_held.specs.declared.Rule.{Rule}
-use Rattle.plan_held.specs.declared.Field.{Field}
 
 cut-number : (w : ℕ) (c : ℕ → ℕ) (rest : List ℕ) → length rest < w → 1 ≡ field-number bytes w c rest
 unfolding field-number bytes

@@ -4,7 +4,7 @@ use mathlib.Core.Bool.{_||_, cond}
 use mathlib.Core.List.{List}
 use Prim.Native.Nat.{ℕ, _≤_}
 use lib.Dec.{ltb}
-use lib.ListN.{length, take, drop}
+use lib.ListN.{take, drop}
 use Rattle.plan_format.specs.Grammar.{value, bytes, field-number}
 use Rattle.plan_held.specs.declared.Rule.{Rule}
 use Rattle.plan_held.specs.declared.Field.{Field}

@@ -106,10 +106,16 @@ pub fn moved<'a>(r: Reader<'a>, at: usize) -> Reader<'a>
     Reader { src: r.src, at }
 }
 
-// A whole plan, read through the struct: the answer of `plan_reader::read_plan`.
-pub fn read_held(plan: &[u8], room: &mut [u64]) -> Told
-    ensures { λ r. ⌜ Read-says (now (plan .entry)) r (now (room .entry)) (now (room .exit)) ⌝ }
+// The whole plan that the reader holds, wherever the reader stands: the answer of `plan_reader::read_plan`.
+pub fn read_whole<'a>(r: Reader<'a>, room: &mut [u64]) -> Told
+    ensures { λ t. ⌜ Read-says (now (r .entry .src)) t (now (room .entry)) (now (room .exit)) ⌝ }
 {
-    let r = new(plan);
     plan_reader::read_plan(r.src, room)
+}
+
+// A plan read through the struct. Callers need no struct.
+pub fn read_held(plan: &[u8], room: &mut [u64]) -> Told
+    ensures { λ t. ⌜ Read-says (now (plan .entry)) t (now (room .entry)) (now (room .exit)) ⌝ }
+{
+    read_whole(new(plan), room)
 }

@@ -1,10 +1,9 @@
 -- `word` meets its contract: the bytes from the last to the first. Assumes nothing.
-use mathlib.Core.Path.{_≡_, sym, ap, _∙_}
-use Prim.Native.Nat.{ℕ, suc, _≤_, _<_, _-_, _^_, _*_, _+_}
+use mathlib.Core.Path.{_≡_}
+use Prim.Native.Nat.{suc, _≤_, _<_, _-_, _^_, _+_}
 use native.Mathlib.Omega.{arith}
-use borrow.Author.Needs.{needs}
 use lib.Dec.{lit<}
-use lib.ListN.{length, take, drop, getD}
+use lib.ListN.{take, drop}
 use Rattle.plan_format.specs.Grammar.{value}
 use Rattle.plan_held.proofs.Digits.{value-none, value-more, pow-seven, pow-more}
 use Rattle.plan_held.proofs.word.Statement.{statement}
