@@ -7,6 +7,7 @@ ghost use Rattle.plan_format.specs.Grammar.{value};
 ghost use Rattle.plan_format.specs.Stored.{Read-says};
 ghost use Rattle.plan_held.specs.Held.{Field-read};
 
+// The bytes of a plan, lent, and a place in them.
 pub struct Reader<'a> {
     pub src: &'a [u8],
     pub at: usize,
@@ -26,6 +27,7 @@ pub struct Field {
     pub value: u64,
 }
 
+// A byte as a number.
 fn wide(x: u8) -> u64
     ensures { λ r. ⌜ r ≡ x ⌝ }
 {
