@@ -1,12 +1,13 @@
 -- What dominance means: yes, no and unknown are exactly what the completions tell. Assumes nothing.
 use mathlib.Core.Path.{_≡_, refl, sym, ap, _∙_}
-use mathlib.Core.Bool.{Bool, true, false}
+use mathlib.Core.Bool.{Bool, true, false, cond}
 use mathlib.Core.List.{List, [], _∷_}
-use Prim.Native.Nat.{ℕ, suc, _+_, _≤_, _<_, zero-le}
+use Prim.Native.Nat.{ℕ, suc, _+_, _≤_, _<_, max, zero-le}
 use native.Mathlib.Nat.{le-refl}
 use native.Mathlib.Omega.{arith}
-use lib.Dec.{eqb}
-use borrow.Author.Tests.{leb-true, leb-false, eqb-true, eqb-false}
+use lib.Dec.{eqb, leb}
+use lib.ListN.{length}
+use borrow.Author.Tests.{leb-true, leb-false, le-leb, eqb-true, eqb-false, eq-eqb}
 use Rattle.basics.proofs.Tests.{by-cases, clash, and-left, and-right}
 use Rattle.frontier.specs.declared.Frontier.{Frontier}
 use Rattle.frontier.specs.declared.Lookup.{Lookup}
@@ -16,8 +17,9 @@ use Rattle.frontier.specs.declared.Dominance.the-variants.{Yes, No, Unkn
 use Rattle.frontier.specs.Entries.{Entry, find}
 use Rattle.frontier.specs.Frontiers.{entries, well-formed, met, reached, answer, dominance-number, dominance, number-of}
 use Rattle.frontier.specs.Meaning.{epoch-of, epoch-at, Completion, Over, Dominance-means}
-use Rattle.frontier.proofs.Sorted.{Sorted, epoch-here, epoch-there, epoch-none, epoch-below}
-use Rattle.frontier.proofs.Pack.{sorted-entries}
+use Rattle.frontier.proofs.Sorted.{Sorted, lower, epoch-here, epoch-there, epoch-none, epoch-below}
+use Rattle.frontier.proofs.Pack.{formed, sorted-entries}
+use Rattle.frontier.proofs.Merge.{entries-length}
 
 -- THE REFUSALS, left before right
 module _ (f g : Frontier) where
@@ -70,8 +72,46 @@ itself : (f : Frontier) → Completion f (epoch-at (entries f))
 itself f = record { at-least = λ a. le-refl (epoch-at (entries f) a); exact = λ t a. refl }
 
 -- what a tainted frontier may have lost besides
-besides : (f : Frontier) (lost : ℕ → ℕ) → f .tainted ≡ true → Completion f (λ a. epoch-at (entries f) a + lost a)
+besides : (f : Frontier) (lost : ℕ → ℕ) → f .tainted ≡ true → Completion f (λ a. max (epoch-at (entries f) a) (lost a))
 besides f lost t = record { at-least = λ a. omega arith; exact = λ u a. clash (f .tainted) t u }
+
+-- the least axis from b on that is not listed
+unfoldable fresh : (b : ℕ) → List Entry → ℕ
+fresh b [] = b
+fresh b (x ∷ xs) = cond (eqb (x .axis) b) (fresh (suc b) xs) b
+
+fresh-from : (b : ℕ) (xs : List Entry) → b ≤ fresh b xs
+unfolding fresh
+fresh-from b [] = le-refl b
+fresh-from b (x ∷ xs) = by-cases (eqb (x .axis) b) (λ t. rw t (omega (arith, fresh-from (suc b) xs))) (λ t. rw t (le-refl b))
+
+fresh-low : (b : ℕ) (xs : List Entry) → fresh b xs ≤ b + length xs
+unfolding fresh
+fresh-low b [] = omega arith
+fresh-low b (x ∷ xs) = by-cases (eqb (x .axis) b) (λ t. rw t (omega (arith, fresh-low (suc b) xs))) (λ t. rw t (omega arith))
+
+fresh-none : (b : ℕ) (xs : List Entry) → Sorted b xs → epoch-at xs (fresh b xs) ≡ 0
+unfolding fresh
+fresh-none b [] s = epoch-none b
+fresh-none b (x ∷ xs) s =
+    by-cases (eqb (x .axis) b)
+    (λ t. let e = eqb-true (x .axis) b t in rw t (epoch-there x xs (fresh (suc b) xs) (λ q. omega (arith, fresh-from (suc b) xs)) ∙ fresh-none (suc b) xs (lower (suc (x .axis)) (suc b) xs (omega arith) (s .2))))
+    (λ t. rw t (epoch-there x xs b (eqb-false (x .axis) b t) ∙ epoch-below (suc (x .axis)) xs b (s .2) (omega (arith, s .0))))
+
+-- an entry of epoch 1 under an axis of at most sixteen
+one-at : (k a : ℕ) → ℕ
+one-at k a = cond (eqb k a) 1 0
+
+one-small : (k a : ℕ) → k ≤ 16 → one-at k a ≤ cond (leb a 16) 1 0
+unfolding one-at
+one-small k a h =
+    by-cases (eqb k a)
+    (λ t. rw (t, le-leb a 16 (omega (arith, eqb-true k a t))) (le-refl 1))
+    (λ t. rw t zero-le)
+
+one-here : (k : ℕ) → one-at k k ≡ 1
+unfolding one-at
+one-here k = rw (eq-eqb k k refl)
 
 -- the answers are told apart
 code : Dominance → ℕ
@@ -94,35 +134,36 @@ module _ (f g : Frontier) where
     nor-yes = λ q. apart (Refused n) Unknown q (λ z. omega arith);
   }
 
-  answered : (all ft gt : Bool) → 0 ≡ dominance-number f g → Sorted 0 (entries g) → reached (entries f) (entries g) ≡ all → f .tainted ≡ ft → g .tainted ≡ gt → Dominance-means f g (answer all ft gt)
+  answered : (all ft gt : Bool) → 0 ≡ dominance-number f g → Sorted 0 (entries f) → length (entries f) ≤ 16 → Sorted 0 (entries g) → reached (entries f) (entries g) ≡ all → f .tainted ≡ ft → g .tainted ≡ gt → Dominance-means f g (answer all ft gt)
   unfolding answer number-of code
-  answered true ft false n s r p q = record {
+  answered true ft false n sf l s r p q = record {
     number = n;
     if-yes = λ z full other x y a. omega (arith, y .exact q a, x .at-least a, reached-over (entries f) (entries g) r a);
     if-no = λ z. apart Yes No z (λ k. omega arith);
     if-unknown = λ z. apart Yes Unknown z (λ k. omega arith);
     nor-yes = λ z. apart Yes Unknown z (λ k. omega arith);
   }
-  answered true ft true n s r p q = record {
+  answered true ft true n sf l s r p q = record {
     number = n;
     if-yes = λ z. apart Unknown Yes z (λ k. omega arith);
     if-no = λ z. apart Unknown No z (λ k. omega arith);
-    if-unknown = λ z. (epoch-at (entries f), epoch-at (entries g), itself f, itself g, reached-over (entries f) (entries g) r);
-    nor-yes = λ z. (epoch-at (entries f), λ a. epoch-at (entries g) a + suc (epoch-at (entries f) a), itself f, besides g (λ a. suc (epoch-at (entries f) a)) q, λ over. omega (arith, over 0));
+    if-unknown = λ z. (epoch-at (entries f), epoch-at (entries g), itself f, itself g, λ a. omega arith, λ a. omega arith, reached-over (entries f) (entries g) r);
+    nor-yes = λ z. let k = fresh 0 (entries f) in
+        (epoch-at (entries f), λ a. max (epoch-at (entries g) a) (one-at k a), itself f, besides g (one-at k) q, λ a. omega arith, λ a. omega (arith, one-small k a (omega (arith, l, fresh-low 0 (entries f)))), λ over. omega (arith, over k, one-here k, fresh-none 0 (entries f) sf));
   }
-  answered false false gt n s r p q = record {
+  answered false false gt n sf l s r p q = record {
     number = n;
     if-yes = λ z. apart No Yes z (λ k. omega arith);
     if-no = λ z full other x y over. let w = not-reached 0 (entries f) (entries g) s r in omega (arith, x .exact p (w .0), y .at-least (w .0), w .1, over (w .0));
     if-unknown = λ z. apart No Unknown z (λ k. omega arith);
     nor-yes = λ z. apart No Unknown z (λ k. omega arith);
   }
-  answered false true gt n s r p q = record {
+  answered false true gt n sf l s r p q = record {
     number = n;
     if-yes = λ z. apart Unknown Yes z (λ k. omega arith);
     if-no = λ z. apart Unknown No z (λ k. omega arith);
-    if-unknown = λ z. (λ a. epoch-at (entries f) a + epoch-at (entries g) a, epoch-at (entries g), besides f (epoch-at (entries g)) p, itself g, λ a. omega arith);
-    nor-yes = λ z. (epoch-at (entries f), epoch-at (entries g), itself f, itself g, λ over. let w = not-reached 0 (entries f) (entries g) s r in omega (arith, w .1, over (w .0)));
+    if-unknown = λ z. (λ a. max (epoch-at (entries f) a) (epoch-at (entries g) a), epoch-at (entries g), besides f (epoch-at (entries g)) p, itself g, λ a. omega arith, λ a. omega arith, λ a. omega arith);
+    nor-yes = λ z. (epoch-at (entries f), epoch-at (entries g), itself f, itself g, λ a. omega arith, λ a. omega arith, λ over. let w = not-reached 0 (entries f) (entries g) s r in omega (arith, w .1, over (w .0)));
   }
 
   pub dominance-means : (r : Dominance) → r ≡ dominance f g → Dominance-means f g r
@@ -130,7 +171,7 @@ module _ (f g : Frontier) where
   dominance-means r e =
       by-cases (well-formed f)
       (λ p. by-cases (well-formed g)
-      (λ q. rw (e ∙ sym (judged-both f g p q)) (answered (reached (entries f) (entries g)) (f .tainted) (g .tainted) (rw (p, q)) (sorted-entries g q) refl refl refl))
+      (λ q. rw (e ∙ sym (judged-both f g p q)) (answered (reached (entries f) (entries g)) (f .tainted) (g .tainted) (rw (p, q)) (sorted-entries f p) (omega (arith, entries-length f, formed f p .short)) (sorted-entries g q) refl refl refl))
       (λ q. rw (e ∙ sym (judged-right f g p q)) (refused-means 14 (rw (p, q)))))
       (λ p. rw (e ∙ sym (judged-left f g p)) (refused-means 14 (rw p)))
 

@@ -53,14 +53,14 @@ module _ (f : Frontier) (axis at : ℕ) (r : Lookup) (short : f .len ≤ 16)
       said ∙ ap (first-listed axis) (sought (f .epochs) ∙ ap (skip-below axis) (rest-all (f .axes) (f .epochs) (f .len)))
       ∙ sym (find-first axis 0 (entries f) (sorted-entries f w))
 
-  in-slot : (e : ℕ) → r ≡ Listed e → (i : ℕ) × (i < 16) × (slot (f .axes) (f .epochs) i ≡ record { axis = axis; epoch = e })
+  in-slot : (e : ℕ) → r ≡ Listed e → (i : ℕ) × (i < f .len) × (f .len ≤ 16) × (slot (f .axes) (f .epochs) i ≡ record { axis = axis; epoch = e })
   unfolding slot first-listed
   in-slot e q =
       by-cases (ltb at (f .len))
       (λ l. let h = ltb-true at (f .len) l in
       let s = rw (rest-more (f .axes) (f .epochs) (f .len) at h) at (sym q ∙ said) in
       by-cases (eqb (getD (f .axes) at 0) axis)
-      (λ t. (at, omega arith, same-entry (eqb-true (getD (f .axes) at 0) axis t) (listed-same (rw t at s))))
+      (λ t. (at, h, short, same-entry (eqb-true (getD (f .axes) at 0) axis t) (listed-same (rw t at s))))
       (λ t. absent-listed (sym (rw t at s))))
       (λ l. absent-listed (sym (rw (rest-none (f .axes) (f .epochs) (f .len) at (ltb-false at (f .len) l)) at (sym q ∙ said))))
     where

@@ -1,5 +1,5 @@
--- The laws of merge and raise: the refusals in their order, well-formed results, commutative always, idempotent where the capacity holds it,
--- associative where it holds all three, tainted exactly if a side was or something was cut. Assumes nothing.
+-- The laws of merge and raise: the refusals in their order, well-formed results, commutative always, idempotent where the capacity holds it.
+-- Assumes nothing.
 use mathlib.Core.Path.{_≡_, refl, sym, ap, _∙_}
 use mathlib.Core.Bool.{Bool, true, false, _||_}
 use mathlib.Core.List.{List, [], _∷_}
@@ -13,7 +13,7 @@ use Rattle.basics.proofs.Tests.{by-cases}
 use Rattle.frontier.specs.declared.Frontier.{Frontier}
 use Rattle.frontier.specs.declared.Merged.{Merged}
 use Rattle.frontier.specs.Entries.{Entry, union, cut}
-use Rattle.frontier.specs.Frontiers.{entries, well-formed, pack, refusal, joined, merge-number, merge, one-entry, raise}
+use Rattle.frontier.specs.Frontiers.{entries, well-formed, pack, refusal, joined, merge-number, merge, one-entry}
 use Rattle.frontier.proofs.Sorted.{Sorted, sorted-union, union-commutes, union-idempotent}
 use Rattle.frontier.proofs.Cut.{sorted-cut, cut-length, cut-whole}
 use Rattle.frontier.proofs.Slots.{slots-length}

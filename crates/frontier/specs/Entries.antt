@@ -1,5 +1,5 @@
 -- Lists of entries (axis, epoch): their form, lookup, union with the larger epoch, and the cut to a capacity. Assumes nothing: these are definitions.
-use mathlib.Core.Bool.{Bool, true, false, _&&_, _||_, cond}
+use mathlib.Core.Bool.{Bool, true, _&&_, _||_, cond}
 use mathlib.Core.List.{List, [], _∷_}
 use Prim.Native.Nat.{ℕ, suc, _+_, max}
 use lib.Dec.{ltb, leb, eqb}

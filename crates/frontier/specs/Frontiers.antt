@@ -11,7 +11,7 @@ use Rattle.frontier.specs.declared.Lookup.{Lookup}
 use Rattle.frontier.specs.declared.Lookup.the-variants.{Listed, Absent}
 use Rattle.frontier.specs.declared.Dominance.{Dominance}
 use Rattle.frontier.specs.declared.Dominance.the-variants.{Yes, No, Unknown, Refused}
-use Rattle.frontier.specs.Entries.{Entry, rising-from, find, put, union, cut}
+use Rattle.frontier.specs.Entries.{Entry, rising-from, find, union, cut}
 
 -- what stands in slot i
 unfoldable pub slot : (axes epochs : List ℕ) → ℕ → Entry

@@ -2,9 +2,9 @@
 -- these are definitions.
 use mathlib.Core.Path.{_≡_}
 use mathlib.Core.Bool.{Bool, true, false, _||_, cond}
-use mathlib.Core.List.{List, [], _∷_}
+use mathlib.Core.List.{List}
 use Prim.Native.Nat.{ℕ, _≤_, _<_, max, min}
-use lib.Dec.{ltb, eqb}
+use lib.Dec.{ltb, leb, eqb}
 use lib.ListN.{length}
 use Rattle.frontier.specs.declared.Frontier.{Frontier}
 use Rattle.frontier.specs.declared.Merged.{Merged}
@@ -34,14 +34,18 @@ pub record Completion (f : Frontier) (full : ℕ → ℕ) : Type 0 where
 abbrev pub Over : (full other : ℕ → ℕ) → Type 0
 Over full other = (axis : ℕ) → other axis ≤ full axis
 
+-- no epoch but the listed ones, and 1 under an axis of at most sixteen: so a map of 64-bit axes to 64-bit epochs
+abbrev pub Small : (f g : Frontier) → (full : ℕ → ℕ) → Type 0
+Small f g full = (axis : ℕ) → full axis ≤ max (max (epoch-at (entries f) axis) (epoch-at (entries g) axis)) (cond (leb axis 16) 1 0)
+
 -- LOOKUP
 
--- of a well-formed frontier the lookup gives every epoch listed under the axis, one or none; of any other it gives, if anything, what
--- stands in a slot
+-- of a well-formed frontier the lookup gives every epoch listed under the axis, one or none; of any other, which the rules leave free, it
+-- gives, if anything, what stands in a slot below the length, and nothing where that is over sixteen
 pub record Looked (f : Frontier) (axis : ℕ) (r : Lookup) : Type 0 where
   pub found : well-formed f ≡ true → r ≡ find axis (entries f)
   pub exactly : well-formed f ≡ true → values-of r ≡ epochs-under axis (entries f)
-  pub in-a-slot : (epoch : ℕ) → r ≡ Listed epoch → (i : ℕ) × (i < 16) × (slot (f .axes) (f .epochs) i ≡ record { axis = axis; epoch = epoch })
+  pub in-a-slot : (epoch : ℕ) → r ≡ Listed epoch → (i : ℕ) × (i < f .len) × (f .len ≤ 16) × (slot (f .axes) (f .epochs) i ≡ record { axis = axis; epoch = epoch })
 
 -- MERGE AND RAISE
 
@@ -91,5 +95,5 @@ pub record Dominance-means (f g : Frontier) (r : Dominance) : Type 0 where
   pub number : number-of r ≡ dominance-number f g
   pub if-yes : r ≡ Yes → (full other : ℕ → ℕ) → Completion f full → Completion g other → Over full other
   pub if-no : r ≡ No → (full other : ℕ → ℕ) → Completion f full → Completion g other → Over full other → ⊥
-  pub if-unknown : r ≡ Unknown → (full : ℕ → ℕ) × (other : ℕ → ℕ) × Completion f full × Completion g other × Over full other
-  pub nor-yes : r ≡ Unknown → (full : ℕ → ℕ) × (other : ℕ → ℕ) × Completion f full × Completion g other × (Over full other → ⊥)
+  pub if-unknown : r ≡ Unknown → (full : ℕ → ℕ) × (other : ℕ → ℕ) × Completion f full × Completion g other × Small f g full × Small f g other × Over full other
+  pub nor-yes : r ≡ Unknown → (full : ℕ → ℕ) × (other : ℕ → ℕ) × Completion f full × Completion g other × Small f g full × Small f g other × (Over full other → ⊥)

@@ -212,7 +212,7 @@ fn larger(a: u64, b: u64) -> u64
     if a < b { b } else { a }
 }
 
-// The union of x and y, cut to a capacity: tainted if something is cut.
+// The union of x and y, cut to a capacity: tainted if something is cut, or if `tainted` says so.
 pub fn join<'a>(
     xa: &'a Slots,
     xe: &'a Slots,
