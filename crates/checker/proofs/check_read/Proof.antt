@@ -33,8 +33,7 @@ returns-2 c =
     let counts = c .before .before .before .before .before .before .before .before .before .before .read-counts .ensures in
     let clean = sym (counts .0 .number) ∙ c .before .before .before .before .before .before .before .before .if1 .left in
     let told = c .before .before .before .before .check-numbers in
-    let sizes = counts .0 .sizes in
-    (
+    let sizes = counts .0 .sizes in (
       checked _ _ _ _ _ _ (answerless _ _ _ _ _ _ (told .ensures _ (counts .1 clean))),
       (record { queues = sizes .queues; semaphores = sizes .semaphores; buffers = sizes .buffers; operations = sizes .operations }, counts .1),
     )
