@@ -1,0 +1,2 @@
+pub mod ReuseVerdict
+pub mod ReuseTurns

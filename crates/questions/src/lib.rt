@@ -1,0 +1,2 @@
+// Questions on a stored plan.
+mod reuse;
