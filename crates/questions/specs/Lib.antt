@@ -1,1 +1,2 @@
+pub mod Reuse
 pub mod ReusePass

@@ -1,23 +1,104 @@
 // The reuse question: the verdict by the columns of a plan and the rows that its check leaves in the table.
+use checker::Counted;
+use plan_format::Told;
 use plan_order::Verdict;
 ghost use mathlib.Core.Path.{_≡_};
 ghost use mathlib.Core.Bool.{true};
 ghost use Prim.Native.Nat.{_<_};
 ghost use Rattle.plan_format.specs.Plan.{Plan};
-ghost use Rattle.plan_order.specs.Reuse.{verdict as verdict-of, number-of};
+ghost use Rattle.plan_format.specs.Stored.{Tells};
+ghost use Rattle.plan_order.specs.Reuse.{verdict as verdict-of, number-of, question-refusal};
 ghost use Rattle.plan_order.specs.declared.Verdict.the-variants.{Fresh};
 ghost use Rattle.plan_marks.specs.Passes.{shown-from};
-ghost use Rattle.questions.specs.ReusePass.{Shown, last-shown, seen as is-seen, verdict-after, verdict-from};
+ghost use Rattle.questions.specs.Reuse.{Asked};
+ghost use Rattle.questions.specs.ReusePass.{Few, Opened, Numbered, Shown, last-shown, seen as is-seen, verdict-after, verdict-from};
 
-// The verdict on a buffer for a queue.
-pub fn verdict(
+// The reuse question: a verdict as the answer; or the refusal of the plan, of the queue or of the buffer.
+pub fn reuse_question(
+    plan: &[u8],
+    queue: u32,
+    buffer: u32,
+    table: &mut [u32],
+    list: &mut [u32],
+) -> Told
+    ensures { λ r. ⌜ Asked (now (plan .entry)) queue buffer r (now (table .entry)) (now (table .exit)) (now (list .entry)) (now (list .exit)) ⌝ }
+{
+    let mut numbers = [0u64; 22868];
+    let c = checker::check_read(plan, &mut numbers, table, list);
+    if c.number != 0 {
+        return Told {
+            number: c.number,
+            place: c.place,
+            answer: 0,
+        };
+    }
+    answer(c, queue as usize, buffer as usize, &numbers, table)
+}
+
+// The question on a plan that passes, by its counts, its numbers and its rows in the table.
+fn answer(c: Counted, q: usize, b: usize, numbers: &[u64; 22868], table: &[u32]) -> Told
+    requires { ⌜ Few c ⌝ }
+    ensures { λ r. ⌜ ((p : Plan) → Opened p c (now (numbers .entry)) (now (table .entry)) → Tells (question-refusal p q b) (number-of (verdict-of p q b)) r) ⌝ }
+{
+    if c.queues <= q {
+        return plan_reader::refused(12, q);
+    }
+    if c.buffers <= b {
+        return plan_reader::refused(13, b);
+    }
+    let first = 4 + c.queues + c.semaphores + c.buffers;
+    let v = verdict_of_numbers(numbers, first, c.operations as u16, q, b, table);
+    Told {
+        number: 0,
+        place: 0,
+        answer: number_of(v),
+    }
+}
+
+// The verdict on a buffer for a queue, by the numbers of a plan of n operations, the first one's at `first`, and its rows in the table.
+fn verdict_of_numbers(
+    numbers: &[u64; 22868],
+    first: usize,
+    n: u16,
+    q: usize,
+    b: usize,
+    table: &[u32],
+) -> Verdict
+    ensures { λ r. ⌜ ((p : Plan) → Numbered p (now (numbers .entry)) first n (now (table .entry)) → r ≡ verdict-of p q b) ⌝ }
+{
+    let mut queue = [0u16; 1024];
+    let mut wsem = [0u16; 3072];
+    let mut wval = [0u64; 3072];
+    let mut ssem = [0u16; 2048];
+    let mut sval = [0u64; 2048];
+    let mut sop = [0u16; 2048];
+    let mut mark = [0u16; 4096];
+    let mut mop = [0u16; 4096];
+    let filled = plan_columns::fill(
+        numbers,
+        first,
+        n,
+        &mut queue,
+        &mut wsem,
+        &mut wval,
+        &mut ssem,
+        &mut sval,
+        &mut sop,
+        &mut mark,
+        &mut mop,
+    );
+    verdict(q, b, n, filled.marks, &queue, &mark, &mop, table)
+}
+
+// The verdict on a buffer for a queue, by the columns of a plan of n operations.
+fn verdict(
     q: usize,
     b: usize,
     n: u16,
     marks: usize,
-    queue: &[u16],
-    mark: &[u16],
-    mop: &[u16],
+    queue: &[u16; 1024],
+    mark: &[u16; 4096],
+    mop: &[u16; 4096],
     table: &[u32],
 ) -> Verdict
     ensures { λ r. ⌜ ((p : Plan) → Shown p n marks (now (queue .entry)) (now (mark .entry)) (now (mop .entry)) (now (table .entry)) → r ≡ verdict-of p q b) ⌝ }
