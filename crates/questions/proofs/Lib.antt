@@ -1,0 +1,4 @@
+pub mod SentRows
+pub mod SentMeaning
+pub mod SentOutcome
+pub mod SentAnswers
