@@ -2,3 +2,4 @@ pub mod SentRows
 pub mod SentMeaning
 pub mod SentOutcome
 pub mod SentAnswers
+pub mod SentWalk

@@ -11,7 +11,6 @@ use Rattle.frontier.specs.Frontiers.{pack}
 use Rattle.frontier.specs.declared.Frontier.{Frontier}
 use Rattle.plan_format.specs.Plan.{Plan, count}
 use Rattle.plan_format.specs.Refusal.{Refusal, given}
-use Rattle.plan_format.specs.Sound.{Sound}
 use Rattle.plan_format.specs.Stored.{plan-in, plan-refusal}
 use Rattle.plan_format.specs.declared.Told.{Told}
 use Rattle.plan_format.proofs.Judged.{zero-not-given, other-given, not-given-zero}
@@ -81,11 +80,11 @@ module _ (bs : List ℕ) (j c : ℕ) (t x l y : List ℕ) (n i : ℕ) (s : Check
       asked-said z (record { number = 0; place = 0; frontier = f }) (sym (r .0)) (sym (r .1)) (rw (zero-not-given (sent-refusal (plan-in bs) j c) (r .0)) e)
 
 -- ---- what a caller gets
-passed-sound : (bs : List ℕ) (t l : ℕ) → check-outcome bs t l .refusal .number ≡ 0 → Sound (plan-in bs)
+pub passed-good : (bs : List ℕ) (t l : ℕ) → check-outcome bs t l .refusal .number ≡ 0 → plan-refusal bs .number ≡ 0
 unfolding unrefused
-passed-sound bs t l z =
+passed-good bs t l z =
     let none = and-left (not (given (plan-refusal bs))) (not (given (room-refusal (count (plan-in bs)) t l))) (answer-unrefused bs t l (inl z)) in
-    sound-in bs (not-given-zero (plan-refusal bs) (not-true (given (plan-refusal bs)) none))
+    not-given-zero (plan-refusal bs) (not-true (given (plan-refusal bs)) none)
   where
     not-true : (b : Bool) → not b ≡ true → b ≡ false
     not-true true e = sym e
@@ -122,7 +121,7 @@ module _ (bs : List ℕ) (j c : ℕ) (r : Sent) (t x l y : List ℕ) (s : Fronti
   means-by n e z (answer-case k a h v w) =
       let same : r .frontier ≡ sent (plan-in bs) j c =
       s .frontier-is ∙ ap (λ (b : Bool). cond b (pack [] false) (sent (plan-in bs) j c)) (zero-not-given (out .refusal) (e ∙ z)) in
-      subst (Sent-means (plan-in bs) j c) (sym same) (sent-means (plan-in bs) (passed-sound bs (length t) (length l) a) j c w)
+      subst (Sent-means (plan-in bs) j c) (sym same) (sent-means (plan-in bs) (sound-in bs (passed-good bs (length t) (length l) a)) j c w)
 
   pub frontier-right : Frontier-right bs j c r t x l y
   frontier-right = record {
