@@ -3,3 +3,4 @@ pub mod SentMeaning
 pub mod SentOutcome
 pub mod SentAnswers
 pub mod SentWalk
+pub mod SentCalls

@@ -28,14 +28,14 @@ use Rattle.questions.proofs.SentOutcome.{no-operation, no-capacity, non
 -- ---- what is said
 module _ (bs : List ℕ) (j c : ℕ) (t x l y : List ℕ) (n i : ℕ) (s : Check-says bs (record { number = n; place = i; answer = 0 }) t x l y) where
   -- of a plan that the check refuses
-  pub plan-said : (n ≡ 0 → ⊥) → (f : Frontier) → f ≡ pack [] false → Frontier-says bs j c (record { number = n; place = i; frontier = f }) t x l y
+  pub plan-said : (n ≡ 0 → ⊥) → Frontier-says bs j c (record { number = n; place = i; frontier = pack [] false }) t x l y
   unfolding Check-says
-  plan-said h f e =
+  plan-said h =
       let bad : check-outcome bs (length t) (length l) .refusal .number ≡ 0 → ⊥ = λ z. h (s .tells .number ∙ z) in
       let o = plan-first bs j c (length t) (length l) bad in
       record {
         says = subst (λ (z : Outcome). Says z 0 (plan-in bs) (record { number = n; place = i; answer = 0 }) t x l y) (sym o) s;
-        frontier-is = e ∙ sym (ap (λ (b : Bool). cond b (pack [] false) (sent (plan-in bs) j c)) (ap (λ (z : Outcome). given (z .refusal)) o ∙ other-given (check-outcome bs (length t) (length l) .refusal) bad));
+        frontier-is = sym (ap (λ (b : Bool). cond b (pack [] false) (sent (plan-in bs) j c)) (ap (λ (z : Outcome). given (z .refusal)) o ∙ other-given (check-outcome bs (length t) (length l) .refusal) bad));
       }
 
   -- of a plan that passes
@@ -58,26 +58,6 @@ module _ (bs : List ℕ) (j c : ℕ) (t x l y : List ℕ) (n i : ℕ) (s : Check
       zero-either : (b : Bool) → _≡_ {A = ℕ} 0 (cond b 0 0)
       zero-either true = refl
       zero-either false = refl
-
-  pub operation-said : n ≡ 0 → count (plan-in bs) ≤ j → (f : Frontier) → f ≡ pack [] false →
-      Frontier-says bs j c (record { number = 21; place = j; frontier = f }) t x l y
-  operation-said z h f e =
-      let r = no-operation (plan-in bs) j c h in
-      asked-said z (record { number = 21; place = j; frontier = f }) (sym (r .0)) (sym (r .1))
-      (rw (other-given (sent-refusal (plan-in bs) j c) (λ q. omega (arith, r .0))) e)
-
-  pub capacity-said : n ≡ 0 → j < count (plan-in bs) → (c < 1) ⊎ (16 < c) → (f : Frontier) → f ≡ pack [] false →
-      Frontier-says bs j c (record { number = 15; place = 0; frontier = f }) t x l y
-  capacity-said z h k f e =
-      let r = no-capacity (plan-in bs) j c h k in
-      asked-said z (record { number = 15; place = 0; frontier = f }) (sym (r .0)) (sym (r .1))
-      (rw (other-given (sent-refusal (plan-in bs) j c) (λ q. omega (arith, r .0))) e)
-
-  pub sent-said : n ≡ 0 → j < count (plan-in bs) → 1 ≤ c → c ≤ 16 → (f : Frontier) → f ≡ sent (plan-in bs) j c →
-      Frontier-says bs j c (record { number = 0; place = 0; frontier = f }) t x l y
-  sent-said z h k m f e =
-      let r = none-refused (plan-in bs) j c h k m in
-      asked-said z (record { number = 0; place = 0; frontier = f }) (sym (r .0)) (sym (r .1)) (rw (zero-not-given (sent-refusal (plan-in bs) j c) (r .0)) e)
 
 -- ---- what a caller gets
 pub passed-good : (bs : List ℕ) (t l : ℕ) → check-outcome bs t l .refusal .number ≡ 0 → plan-refusal bs .number ≡ 0
