@@ -44,7 +44,8 @@ module _ (bs : List ℕ) (q b t l : ℕ) where
   passed-safe z = demand-3-stored bs t l (answer-unrefused bs t l (inl z)) .exactly .0 z
 
   -- its marks are forced, on a buffer of the plan
-  passed-forced : check-outcome bs t l .refusal .number ≡ 0 → b < length (plan-in bs .sizes) → (k : ℕ) → k < length (buffer-marks (plan-in bs) b) → Forced (plan-in bs) b k
+  passed-forced : check-outcome bs t l .refusal .number ≡ 0 → b < length (plan-in bs .sizes) →
+      (k : ℕ) → k < length (buffer-marks (plan-in bs) b) → Forced (plan-in bs) b k
   unfolding Demand-3-stored
   passed-forced z inside k here =
       let place = demand-3-stored bs t l (answer-unrefused bs t l (inl z)) .passed-place z in
@@ -126,7 +127,8 @@ module _ {p : Plan} {c : Counted} {numbers rows : List ℕ} (opened : Opened p c
         rw (lt-leb (queues p) q (omega (arith, opened .queues-are)), le-leb (length (p .sizes)) b (omega (arith, opened .buffers-are)))
         (record { number = refl; place = refl; answer-is = refl })
 
-    pub answered : b < c .buffers → {a : ℕ} → a ≡ number-of (verdict p q b) → Tells (question-refusal p q b) (number-of (verdict p q b)) (record { number = 0; place = 0; answer = a })
+    pub answered : b < c .buffers → {a : ℕ} → a ≡ number-of (verdict p q b) →
+        Tells (question-refusal p q b) (number-of (verdict p q b)) (record { number = 0; place = 0; answer = a })
     unfolding question-refusal or-else refusal given none-given
     answered h e =
         rw (lt-leb (queues p) q (omega (arith, opened .queues-are)), lt-leb (length (p .sizes)) b (omega (arith, opened .buffers-are)))

@@ -39,7 +39,8 @@ module _ (p : Plan) (b : ℕ) (forced : (k : ℕ) → k < length (buffer-marks p
       (λ f. forced k (omega arith) .own-free n (omega (arith, eqb-false k n f)) inside none frees)
 
   -- a mark and any free from it on; no free is passed from k up to n
-  later-free : (left k n l : ℕ) → n + left ≡ l → k ≤ n → l < length (buffer-marks p b) → No-free (buffer-marks p b) k n → Frees (buffer-marks p b) l → At p (by k) (by l)
+  later-free : (left k n l : ℕ) → n + left ≡ l → k ≤ n → l < length (buffer-marks p b) → No-free (buffer-marks p b) k n →
+      Frees (buffer-marks p b) l → At p (by k) (by l)
   later-free zero k n l e low inside none frees =
       let same : n ≡ l = omega arith in
       own-free k l (omega arith) inside (subst (λ (z : ℕ). No-free (buffer-marks p b) k z) same none) frees
@@ -48,7 +49,8 @@ module _ (p : Plan) (b : ℕ) (forced : (k : ℕ) → k < length (buffer-marks p
       (λ t. let free = eqb-true (mark-at (buffer-marks p b) n .kind) 1 t in
       let next = forced (suc n) (omega arith) .free-before n (omega arith) free (λ m a c. absurd (omega arith)) in
       at-join p (by k) (by n) (by l) (own-free k n low (omega arith) none free)
-      (at-join p (by n) (by (suc n)) (by l) (inr next) (later-free left (suc n) (suc n) l (omega arith) (omega arith) inside (λ m a c. absurd (omega arith)) frees)))
+      (at-join p (by n) (by (suc n)) (by l) (inr next)
+      (later-free left (suc n) (suc n) l (omega arith) (omega arith) inside (λ m a c. absurd (omega arith)) frees)))
       (λ f. later-free left k (suc n) l (omega arith) (omega arith) inside
       (λ m a c g. by-cases (eqb m n)
       (λ s. eqb-false (mark-at (buffer-marks p b) n .kind) 1 f (subst (λ (z : ℕ). Frees (buffer-marks p b) z) (eqb-true m n s) g))
@@ -63,6 +65,7 @@ module _ (p : Plan) (b : ℕ) (forced : (k : ℕ) → k < length (buffer-marks p
       let l = length ns in
       let long : length (buffer-marks p b) ≡ length ns + 1 = ap length e ∙ length-append ns (m ∷ []) in
       let m-is : mark-at (buffer-marks p b) l ≡ m = rw e (getD-append-seam ns m [] none) in
-      let reached = later-free (l - k) k k l (omega arith) (omega arith) (omega arith) (λ n a c. absurd (omega arith)) (ap (λ (z : Placed). z .kind) m-is ∙ frees) in
+      let reached = later-free (l - k) k k l (omega arith) (omega arith) (omega arith) (λ n a c. absurd (omega arith))
+      (ap (λ (z : Placed). z .kind) m-is ∙ frees) in
       let joined : At p i (m .by) = subst₂ (λ (y z : ℕ). At p y z) (ap (λ (z : Placed). z .by) x-is ∙ x-by) (ap (λ (z : Placed). z .by) m-is) reached in
       unseen (j, last, at-join p i (m .by) j joined seen)
