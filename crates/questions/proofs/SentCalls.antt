@@ -8,16 +8,15 @@ use native.Mathlib.Omega.{arith}
 use lib.ListN.{length}
 use Rattle.frontier.specs.Frontiers.{pack, gathered}
 use Rattle.frontier.specs.declared.Frontier.{Frontier}
-use Rattle.plan_format.specs.Plan.{count}
 use Rattle.plan_format.specs.Stored.{scanned, plan-in}
 use Rattle.plan_format.proofs.Judged.{zero-not-given, other-given}
 use Rattle.plan_order.specs.Promise.{Checked}
 use Rattle.checker.specs.declared.Counted.{Counted}
 use Rattle.checker.specs.Counting.{Sizes-told, Holds}
 use Rattle.questions.specs.declared.sent.Sent.{Sent}
-use Rattle.questions.specs.Sent.{sent-refusal, Frontier-says}
+use Rattle.questions.specs.Sent.{cut-to, sent-refusal, Frontier-says}
 use Rattle.questions.specs.SentMeaning.{Frontier-right}
-use Rattle.questions.specs.SentWalk.{row-in, cut-to}
+use Rattle.questions.specs.SentWalk.{row-in}
 use Rattle.questions.proofs.SentOutcome.{no-operation, no-capacity, none-refused}
 use Rattle.questions.proofs.SentAnswers.{plan-said, asked-said, frontier-right}
 use Rattle.questions.proofs.SentWalk.{Passed, passed, row-lent, sent-found}

@@ -18,7 +18,6 @@ use Rattle.frontier.specs.declared.Merged.{Merged}
 use Rattle.frontier.proofs.Slots.{tabulate-same}
 use Rattle.frontier.proofs.Sorted.{same-entry}
 use Rattle.frontier.proofs.Raising.{raises, raises-from-empty, sorted-gathered, gathered-length, merge-empty}
-use Rattle.plan_format.specs.Form.{first-form}
 use Rattle.plan_format.specs.Plan.{Plan, count, queues, plan-of}
 use Rattle.plan_format.specs.Sound.{rules-refusal}
 use Rattle.plan_format.specs.Stored.{scanned, plan-in, plan-refusal}
@@ -30,8 +29,8 @@ use Rattle.plan_order.proofs.Rows.{rows-length, rows-at, row-at}
 use Rattle.checker.specs.declared.Counted.{Counted}
 use Rattle.checker.specs.Counting.{Sizes-told, Holds}
 use Rattle.checker.proofs.Numbers.{plan-same}
-use Rattle.questions.specs.Sent.{row-entries, sent-entries, sent}
-use Rattle.questions.specs.SentWalk.{row-in, cut-to}
+use Rattle.questions.specs.Sent.{row-entries, sent-entries, cut-to, sent}
+use Rattle.questions.specs.SentWalk.{row-in}
 use Rattle.questions.proofs.SentOutcome.{passed-leaves}
 use Rattle.questions.proofs.SentAnswers.{passed-good}
 
