@@ -10,6 +10,7 @@ use Rattle.frontier.specs.Frontiers.{pack}
 use Rattle.plan_format.specs.Plan.{count}
 use Rattle.plan_format.specs.Refusal.{Refusal, given}
 use Rattle.plan_format.specs.Stored.{plan-in, plan-refusal}
+use Rattle.plan_format.specs.Meaning.{Refuses}
 use Rattle.plan_format.proofs.Judged.{zero-not-given, other-given, not-given-zero}
 use Rattle.plan_format.proofs.Plans.{sound-in}
 use Rattle.plan_order.specs.Check.{room-refusal, Leaves, Outcome, outcome, check-outcome, table-left, list-left, Says, Check-says}
@@ -32,7 +33,8 @@ module _ (bs : List ℕ) (j c : ℕ) (t x l y : List ℕ) (n i : ℕ) (s : Check
       let o = plan-first bs j c (length t) (length l) bad in
       record {
         says = subst (λ (z : Outcome). Says z 0 (plan-in bs) (record { number = n; place = i; answer = 0 }) t x l y) (sym o) s;
-        frontier-is = sym (ap (λ (b : Bool). cond b (pack [] false) (sent (plan-in bs) j c)) (ap (λ (z : Outcome). given (z .refusal)) o ∙ other-given (check-outcome bs (length t) (length l) .refusal) bad));
+        frontier-is = sym (ap (λ (b : Bool). cond b (pack [] false) (sent (plan-in bs) j c))
+            (ap (λ (z : Outcome). given (z .refusal)) o ∙ other-given (check-outcome bs (length t) (length l) .refusal) bad));
       }
 
   -- of a plan that passes
@@ -79,7 +81,7 @@ module _ (bs : List ℕ) (j c : ℕ) (r : Sent) (t x l y : List ℕ) (s : Fronti
       let n = s .says .tells .number in
       let i = s .says .tells .place in
       let this-case = sent-case bs j c (length t) (length l) in
-      let given-as : (k v : ℕ) → check .number ≡ 0 → (sent-refusal (plan-in bs) j c .number ≡ k) × (sent-refusal (plan-in bs) j c .place ≡ v) → (r .number ≡ k) × (r .place ≡ v) =
+      let given-as : (k v : ℕ) → check .number ≡ 0 → Refuses (sent-refusal (plan-in bs) j c) k v → (r .number ≡ k) × (r .place ≡ v) =
       λ k v z f. let g = gives-asked bs j c (length t) (length l) k v z f in (n ∙ g .0 .0, i ∙ g .0 .1) in
       record {
         plan-first = λ h. let o = plan-first bs j c (length t) (length l) h in (

@@ -9,6 +9,7 @@ use lib.ListN.{length}
 use Rattle.frontier.specs.Frontiers.{pack, gathered}
 use Rattle.frontier.specs.declared.Frontier.{Frontier}
 use Rattle.plan_format.specs.Stored.{scanned, plan-in}
+use Rattle.plan_format.specs.Meaning.{Refuses}
 use Rattle.plan_format.proofs.Judged.{zero-not-given, other-given}
 use Rattle.plan_order.specs.Promise.{Checked}
 use Rattle.checker.specs.declared.Counted.{Counted}
@@ -35,11 +36,12 @@ module _ {bs t x l y : List ℕ} (k : Counted) (j c : ℕ) (checked : Checked bs
     there : Passed bs nums t x (k .queues) (k .operations)
     there = passed bs nums t x l y k (checked .says) sizes holds z
 
-    asked-refused : (r : Sent) (n i : ℕ) → (n ≡ 0 → ⊥) → (sent-refusal (plan-in bs) j c .number ≡ n) × (sent-refusal (plan-in bs) j c .place ≡ i) → r ≡ refused-as n i →
+    asked-refused : (r : Sent) (n i : ℕ) → (n ≡ 0 → ⊥) → Refuses (sent-refusal (plan-in bs) j c) n i → r ≡ refused-as n i →
         Frontier-right bs j c r t x l y
     asked-refused r n i h f e =
         subst (λ (a : Sent). Frontier-right bs j c a t x l y) (sym e)
-        (frontier-right bs j c (refused-as n i) t x l y (asked-said bs j c t x l y (k .number) (k .place) (checked .says) z (refused-as n i) (sym (f .0)) (sym (f .1))
+        (frontier-right bs j c (refused-as n i) t x l y
+        (asked-said bs j c t x l y (k .number) (k .place) (checked .says) z (refused-as n i) (sym (f .0)) (sym (f .1))
         (rw (other-given (sent-refusal (plan-in bs) j c) (λ q. h (sym (f .0) ∙ q))))))
 
     pub operation-refused : (r : Sent) → k .operations ≤ j → r ≡ refused-as 21 j → Frontier-right bs j c r t x l y

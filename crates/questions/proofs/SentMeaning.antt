@@ -58,7 +58,8 @@ module _ (p : Plan) (sound : Sound p) where
   few-sent : (j : ℕ) → length (sent-entries p j) ≤ 16
   unfolding sent-entries row-entries
   few-sent j =
-      omega (arith, gathered-length (row-entries p j), tabulate-length {A = Entry} (λ q. record { axis = getD (p .axes) q 0; epoch = getD (row p j) q 0 }) (queues p) 0, sound .few-queues)
+      let entry-of : ℕ → Entry = λ q. record { axis = getD (p .axes) q 0; epoch = getD (row p j) q 0 } in
+      omega (arith, gathered-length (row-entries p j), tabulate-length entry-of (queues p) 0, sound .few-queues)
 
   listed-right : (j axis e : ℕ) → (find axis (sent-entries p j) ≡ Listed e) ↔ ((0 < e) × ((q : ℕ) × In-row p j axis e q))
   unfolding epoch-at

@@ -138,7 +138,8 @@ module _ {bs nums t x : List ℕ} {queues-told operations-told : ℕ} (w : Passe
     pub row-lent : 16 * j + queues-told ≤ length x
     unfolding in-front
     row-lent =
-        let long : length x ≡ length (rows plan) + length (drop (length (rows plan)) t) = ap length (w .left) ∙ length-append (rows plan) (drop (length (rows plan)) t) in
+        let long : length x ≡ length (rows plan) + length (drop (length (rows plan)) t) =
+        ap length (w .left) ∙ length-append (rows plan) (drop (length (rows plan)) t) in
         omega (arith, rows-length plan, w .queues-are, w .few-queues, below)
 
     pub sent-found : (c : ℕ) → cut-to c (gathered (row-in nums x (16 * j) queues-told 0)) ≡ sent plan j c
