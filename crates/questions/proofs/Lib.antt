@@ -1,3 +1,7 @@
+pub mod Passed
+pub mod ReuseAsked
+pub mod ReuseVerdict
+pub mod ReuseTurns
 pub mod SentRows
 pub mod SentMeaning
 pub mod SentOutcome
