@@ -1,27 +1,24 @@
 -- What the question for a frontier says, from what the check says; and all that a caller gets with it. Assumes nothing.
 use mathlib.Core.Path.{_≡_, refl, sym, ap, _∙_, subst}
-use mathlib.Core.Bool.{Bool, true, false, not, cond}
-use mathlib.Core.Logic.{inl}
+use mathlib.Core.Bool.{Bool, true, false, cond}
 use mathlib.Core.List.{List, []}
 use Prim.Native.Nat.{ℕ, _≤_, _<_}
 use lib.ListN.{length}
-use Rattle.basics.proofs.Tests.{and-left}
 use Rattle.frontier.specs.Frontiers.{pack}
 use Rattle.plan_format.specs.Plan.{count}
 use Rattle.plan_format.specs.Refusal.{Refusal, given}
-use Rattle.plan_format.specs.Stored.{plan-in, plan-refusal}
+use Rattle.plan_format.specs.Stored.{plan-in}
 use Rattle.plan_format.specs.Meaning.{Refuses}
-use Rattle.plan_format.proofs.Judged.{zero-not-given, other-given, not-given-zero}
+use Rattle.plan_format.proofs.Judged.{zero-not-given, other-given}
 use Rattle.plan_format.proofs.Plans.{sound-in}
-use Rattle.plan_order.specs.Check.{room-refusal, Leaves, Outcome, outcome, check-outcome, table-left, list-left, Says, Check-says}
-use Rattle.plan_order.specs.Promise.{unrefused}
-use Rattle.plan_order.proofs.CheckMeaning.{answer-unrefused}
+use Rattle.plan_order.specs.Check.{Leaves, Outcome, outcome, check-outcome, table-left, list-left, Says, Check-says}
 use Rattle.plan_order.proofs.OutcomeMeaning.{left-by}
 use Rattle.questions.specs.declared.sent.Sent.{Sent}
 use Rattle.questions.specs.Sent.{sent, sent-refusal, sent-outcome, told, Frontier-says}
 use Rattle.questions.specs.SentMeaning.{Sent-means, Sent-number, Frontier-right}
+use Rattle.questions.proofs.Passed.{passed-leaves, passed-good}
 use Rattle.questions.proofs.SentMeaning.{sent-means}
-use Rattle.questions.proofs.SentOutcome.{no-operation, no-capacity, none-refused, plan-first, then-asked, gives-asked, sent-left-case, passed-leaves, sent-case, operation-if, capacity-if, answer-if}
+use Rattle.questions.proofs.SentOutcome.{no-operation, no-capacity, none-refused, plan-first, then-asked, gives-asked, sent-left-case, sent-case, operation-if, capacity-if, answer-if}
 
 -- ---- what is said
 module _ (bs : List ℕ) (j c : ℕ) (t x l y : List ℕ) (n i : ℕ) (s : Check-says bs (record { number = n; place = i; answer = 0 }) t x l y) where
@@ -44,7 +41,7 @@ module _ (bs : List ℕ) (j c : ℕ) (t x l y : List ℕ) (n i : ℕ) (s : Check
   asked-said z r en ei ef =
       let passed : check-outcome bs (length t) (length l) .refusal .number ≡ 0 = sym (s .tells .number) ∙ z in
       let o = then-asked bs j c (length t) (length l) passed in
-      let leaves = passed-leaves bs j c (length t) (length l) passed in
+      let leaves = passed-leaves bs (length t) (length l) passed in
       record {
         says = subst (λ (z : Outcome). Says z 0 (plan-in bs) (told r) t x l y) (sym o) (record {
           tells = record { number = en; place = ei; answer-is = zero-either (given (sent-refusal (plan-in bs) j c)) };
@@ -59,16 +56,6 @@ module _ (bs : List ℕ) (j c : ℕ) (t x l y : List ℕ) (n i : ℕ) (s : Check
       zero-either false = refl
 
 -- ---- what a caller gets
-pub passed-good : (bs : List ℕ) (t l : ℕ) → check-outcome bs t l .refusal .number ≡ 0 → plan-refusal bs .number ≡ 0
-unfolding unrefused
-passed-good bs t l z =
-    let none = and-left (not (given (plan-refusal bs))) (not (given (room-refusal (count (plan-in bs)) t l))) (answer-unrefused bs t l (inl z)) in
-    not-given-zero (plan-refusal bs) (not-true (given (plan-refusal bs)) none)
-  where
-    not-true : (b : Bool) → not b ≡ true → b ≡ false
-    not-true true e = sym e
-    not-true false e = refl
-
 module _ (bs : List ℕ) (j c : ℕ) (r : Sent) (t x l y : List ℕ) (s : Frontier-says bs j c r t x l y) where
   abbrev out : Outcome
   out = sent-outcome bs j c (length t) (length l)

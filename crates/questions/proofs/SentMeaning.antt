@@ -158,8 +158,8 @@ module _ (p : Plan) (sound : Sound p) where
     );
     row-map = entries-map p sound j;
     completes = completes-sent j c;
-    if-yes = λ i d inside l k. yes-order j c i d inside;
-    if-no = λ i d inside l k. no-order j c i d inside;
+    if-yes = yes-order j c;
+    if-no = no-order j c;
     exactly = λ e i inside. (
       yes-order j c i 16 inside,
       (λ w. rw e (either (whole i j) (λ y. y) (λ n. absurd (no-order j 16 i 16 inside n w)))),

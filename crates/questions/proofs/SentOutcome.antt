@@ -16,7 +16,7 @@ use Rattle.plan_format.proofs.Judged.{zero-not-given, other-given}
 use Rattle.plan_order.specs.Check.{rows-and-run, Outcome, outcome, or-then, check-outcome}
 use Rattle.plan_order.specs.Meaning.{Gives}
 use Rattle.plan_order.proofs.CheckMeaning.{check-eleven}
-use Rattle.plan_order.proofs.OutcomeMeaning.{Left-case, left-untouched, left-zeros, left-rows, check-left-case, passed-whole}
+use Rattle.plan_order.proofs.OutcomeMeaning.{Left-case, left-rows, check-left-case, passed-whole}
 use Rattle.questions.specs.Sent.{sent-refusal, sent-outcome}
 
 -- ---- the question's own refusals
@@ -109,12 +109,3 @@ module _ (bs : List ℕ) (j c t l : ℕ) where
 
   pub sent-left-case : Left-case plan (sent-outcome bs j c t l)
   sent-left-case = case-left (sent-outcome bs j c t l .refusal .number) sent-case
-
-  -- a passed check leaves rows and run
-  pub passed-leaves : checked .refusal .number ≡ 0 → checked .leaves ≡ rows-and-run
-  passed-leaves z = by-case (check-left-case bs t l)
-    where
-      by-case : Left-case plan checked → checked .leaves ≡ rows-and-run
-      by-case (left-untouched low high e) = absurd (omega arith)
-      by-case (left-zeros low high e) = absurd (omega arith)
-      by-case (left-rows n e w) = e

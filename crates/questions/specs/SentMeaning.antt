@@ -48,8 +48,8 @@ pub record Sent-means (p : Plan) (j capacity : ℕ) (f : Frontier) : Type 0 wher
   pub row-map : Row-map p j (epoch-at (sent-entries p j))
   pub completes : (full : ℕ → ℕ) → Row-map p j full → Completion f full
   -- dominance of two frontiers of one plan tells whether an operation is the other or before it
-  pub if-yes : (i c : ℕ) → i < count p → 1 ≤ c → c ≤ 16 → dominance f (sent p i c) ≡ Yes → (i ≡ j) ⊎ Before p i j
-  pub if-no : (i c : ℕ) → i < count p → 1 ≤ c → c ≤ 16 → dominance f (sent p i c) ≡ No → (i ≡ j) ⊎ Before p i j → ⊥
+  pub if-yes : (i c : ℕ) → i < count p → dominance f (sent p i c) ≡ Yes → (i ≡ j) ⊎ Before p i j
+  pub if-no : (i c : ℕ) → i < count p → dominance f (sent p i c) ≡ No → (i ≡ j) ⊎ Before p i j → ⊥
   pub exactly : capacity ≡ 16 → (i : ℕ) → i < count p → (dominance f (sent p i 16) ≡ Yes) ↔ ((i ≡ j) ⊎ Before p i j)
 
 -- which refusal is handed back, with its place; 01: "The plan's refusals come first, then 21, then 15."
