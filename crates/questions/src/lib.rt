@@ -3,5 +3,5 @@ mod reuse; // whether a buffer may be filled again from a queue
 mod sent; // the frontier sent out for an operation
 
 pub use reuse::reuse_question;
-pub use sent::frontier_of;
 pub use sent::Sent;
+pub use sent::frontier_of;
