@@ -243,10 +243,10 @@ fn room(n: u16, table: usize, list: usize) -> Told
 {
     let many = n as usize;
     if table < 16 * many {
-        return plan_reader::refused(9, 16 * many);
+        return plan_format::refused(9, 16 * many);
     }
     if list < 2 * many {
-        return plan_reader::refused(9, 2 * many);
+        return plan_format::refused(9, 2 * many);
     }
     Told {
         number: 0,

@@ -50,9 +50,10 @@ pub record Plan-read (bs : List ℕ) (r : Cursor) (nums-now : List ℕ) : Type 0
   pub inside : r .at ≤ length bs
   pub few : r .got ≤ 22868
 
--- 01: "A read plan is a list of numbers, one for each field in stored order, counts included, at most 22,868"; on a refusal the numbers
--- are free
+-- 01: "A read plan is a list of numbers, one for each field in stored order, counts included, at most 22,868"; past them, and on a
+-- refusal, the numbers are free
 pub record Numbers-read (bs : List ℕ) (r : Told) (nums-now : List ℕ) : Type 0 where
   pub told : Tells (scanned bs .fault) (length (scanned bs .got)) r
   pub numbers : r .number ≡ 0 → take (length (scanned bs .got)) nums-now ≡ scanned bs .got
   pub few : r .answer ≤ 22868
+  pub long : length nums-now ≡ 22868

@@ -6,23 +6,13 @@ mod section;
 mod word;
 
 use plan_format::Told;
+use plan_format::refused;
 ghost use mathlib.Core.Path.{_≡_};
 ghost use Prim.Native.Nat.{_≤_};
 ghost use lib.ListN.{length, take};
 ghost use Rattle.basics.specs.Lists.{in-front};
 ghost use Rattle.plan_format.specs.Stored.{Read-says};
 ghost use Rattle.plan_reader.specs.Reading.{Numbers-read};
-
-// A refusal at a place.
-pub fn refused(number: u32, place: usize) -> Told
-    ensures { λ r. ⌜ r ≡ record { number = number; place = place; answer = 0 } ⌝ }
-{
-    Told {
-        number,
-        place: place as u64,
-        answer: 0,
-    }
-}
 
 // The numbers of a stored plan, or the first of refusals 1 to 5; the answer is how many numbers there are.
 pub fn read_numbers(plan: &[u8], numbers: &mut [u64; 22868]) -> Told
