@@ -2,6 +2,7 @@
 mod cursor;
 mod field;
 mod operation;
+pub mod rule;
 mod section;
 mod word;
 
