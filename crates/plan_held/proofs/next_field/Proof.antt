@@ -42,20 +42,20 @@ use denote.Triple.Table.{entered, cited}
 use denote.Triple.Walked.{says, Stays, stay-none, walkOf, goes-none, Walks, ends-at, walked, walk-meets}
 use denote.Exit.{yes}
 use denote.Triple.Clauses.{ensured, lasts}
-use Rattle.plan_held.specs.Held.{Field-read}
+use Rattle.plan_reader.specs.Judging.{field-read}
 use Rattle.plan_held.specs.declared.Reader.{Reader}
-use Rattle.plan_held.specs.declared.Field.{Field}
+use Rattle.plan_reader.specs.declared.rule.Field.{Field}
 use Rattle.plan_held.proofs.Reader as T
 use Rattle.plan_held.proofs.Reader.Laws as T′
-use Rattle.plan_held.specs.declared.Rule.{Rule}
-use Rattle.plan_held.proofs.Rule as Q
-use Rattle.plan_held.proofs.Rule.Laws as Q′
-use Rattle.plan_held.proofs.Field as S
-use Rattle.plan_held.proofs.Field.Laws as S′
-use Rattle.plan_held.proofs.field_at as step
-use Rattle.plan_held.proofs.field_at.Symbol as at-def
-use Rattle.plan_held.proofs.field_at.Symbol.{name as #plan-held·field-at}
-use Rattle.plan_held.proofs.field_at.Met as at-thm
+use Rattle.plan_reader.specs.declared.rule.Rule.{Rule}
+use Rattle.plan_reader.proofs.rule.Rule as Q
+use Rattle.plan_reader.proofs.rule.Rule.Laws as Q′
+use Rattle.plan_reader.proofs.rule.Field as S
+use Rattle.plan_reader.proofs.rule.Field.Laws as S′
+use Rattle.plan_reader.proofs.rule.field_at as step
+use Rattle.plan_reader.proofs.rule.field_at.Symbol as at-def
+use Rattle.plan_reader.proofs.rule.field_at.Symbol.{name as #field-at}
+use Rattle.plan_reader.proofs.rule.field_at.Met as at-thm
 use Rattle.plan_held.proofs.next_field.Key.{name as #plan-held·next-field}
 use Rattle.plan_held.proofs.next_field as field
 use Rattle.plan_held.proofs.next_field.Statement as stated
@@ -86,7 +86,7 @@ module _ {M : Type 1} (𝓤 : URA M) (H : Heap 𝓤) (A : Atoms 𝓤) (W : Given
   mr = LL.val Q.the-type Q′.the-laws rule
 
   abbrev Says : Field → Type 0
-  Says = Field-read (now (d .src)) (d .at) rule
+  Says f = f ≡ field-read (now (d .src)) (d .at) rule
 
   abbrev Post : Val → SProp 𝓤
   Post = walkOf 𝓤 H A field.ended stayed (field.clauses 𝓤 H A mem run) .post (((κ, tt), (q, tt), tt, (d, (rule, tt)), (mach ∷ [], (mr ∷ [], tt))), tt)
@@ -134,7 +134,7 @@ module _ {M : Type 1} (𝓤 : URA M) (H : Heap 𝓤) (A : Atoms 𝓤) (W : Given
       suffices ! _ (ends-at 𝓤 H A field.ended stayed (field.clauses 𝓤 H A mem run) W (((κ, tt), (q, tt), tt, (d, (rule, tt)), (mach ∷ [], (mr ∷ [], tt))), tt) u r (tt, (tt, tt)) (tt, (tt, tt))) $ says ! e $
       move ! (1 ∷ []) $ frame ! $ nothing ! $ owned ! Q.the-row (Is Q.the-row) (LL.makes Q.the-type Q′.the-plain 𝓤 H A) rule _ rule-is $ fjoin ! $ move ! (2 ∷ 0 ∷ []) $ fjoin ! $ frame ! $ done !
 
-  module _ (C : Calls 𝓤 H) (Λ : Loops 𝓤 H) (fm : FmC 𝓤 H (W .laws) C) (known : Triple 𝓤 (C #plan-held·field-at) (FieldAt 𝓤 H A mem run)) where
+  module _ (C : Calls 𝓤 H) (Λ : Loops 𝓤 H) (fm : FmC 𝓤 H (W .laws) C) (known : Triple 𝓤 (C #field-at) (FieldAt 𝓤 H A mem run)) where
     walk : Holds (hasTy (T′.mir (named 0)) mach) × WT mach → ent 𝓤 (onEntry 𝓤 H A field.signature (κ, tt) (q, tt) (d, (rule, tt)) (mach ∷ [], (mr ∷ [], tt))) (WpFn 𝓤 H C Λ code.function (mach ∷ mr ∷ []) Post)
     walk wt =
         qed W (raw (onEntry 𝓤 H A field.signature (κ, tt) (q, tt) (d, (rule, tt)) (mach ∷ [], (mr ∷ [], tt))) ∷ []) ∵ enter ! C Λ code.function (mach ∷ mr ∷ []) _ $
@@ -152,13 +152,13 @@ module _ {M : Type 1} (𝓤 : URA M) (H : Heap 𝓤) (A : Atoms 𝓤) (W : Given
         move ! (11 ∷ 12 ∷ []) $ free1 ! $ move ! (9 ∷ 10 ∷ []) $ free1 ! $ move ! (7 ∷ 8 ∷ []) $ free1 ! $ move ! (5 ∷ 6 ∷ []) $ free1 ! $ move ! (3 ∷ 4 ∷ []) $ free1 ! $ free0 ! $ by ! (exits r u e))))))))))
 
 module _ {M : Type 1} (𝓤 : URA M) (H : Heap 𝓤) (A : Atoms 𝓤) (W : Given 𝓤 H A) (mem : Memory → SProp 𝓤) (run : Routine → Fun 𝓤) where
-  field-walks : (C : Calls 𝓤 H) (Λ : Loops 𝓤 H) → FmC 𝓤 H (W .laws) C → Triple 𝓤 (C #plan-held·field-at) (FieldAt 𝓤 H A mem run)
+  field-walks : (C : Calls 𝓤 H) (Λ : Loops 𝓤 H) → FmC 𝓤 H (W .laws) C → Triple 𝓤 (C #field-at) (FieldAt 𝓤 H A mem run)
       → Walks 𝓤 H A field.ended stayed (WpFn 𝓤 H C Λ code.function) (field.clauses 𝓤 H A mem run)
   field-walks C Λ fm known = walked 𝓤 H A field.ended stayed (field.clauses 𝓤 H A mem run) (WpFn 𝓤 H C Λ code.function) (λ κs. (LL.vals (T.the-type (namedLft 1 0 tt κs)) (T′.the-laws (namedLft 1 0 tt κs)), (LL.vals Q.the-type Q′.the-laws, tt))) (λ κs. (LL.tells (T.the-type (namedLft 1 0 tt κs)) (T′.the-laws (namedLft 1 0 tt κs)), (LL.tells Q.the-type Q′.the-laws, tt)))
       (λ κs qs bounds a g are. via 𝓤 _ (fst∗ 𝓤 _ (emp 𝓤)) (walk 𝓤 H A W mem run (κs .0) (qs .0) (a .0) (a .1 .0) (are .1 .0) C Λ fm known (LL.lawful (T.the-type (namedLft 1 0 tt κs)) (T′.the-laws (namedLft 1 0 tt κs)) 𝓤 H A W .typed (a .0) _ (are .0) .0)))
 
 field-meets : {M : Type 1} (𝓤 : URA M) (H : Heap 𝓤) (A : Atoms 𝓤) (W : Given 𝓤 H A) (mem : Memory → SProp 𝓤) (run : Routine → Fun 𝓤) (𝓣 : Tables 𝓤 H)
-    → Triple 𝓤 (𝓣 .C #plan-held·field-at) (FieldAt 𝓤 H A mem run)
+    → Triple 𝓤 (𝓣 .C #field-at) (FieldAt 𝓤 H A mem run)
     → Meets 𝓤 H A field.signature (WpFn 𝓤 H (𝓣 .C) (𝓣 .Λ) code.function) (field.spec 𝓤 H A mem run)
 field-meets 𝓤 H A W mem run 𝓣 known = walk-meets 𝓤 H A field.ended stayed W (goes-none 𝓤 H A W 1 B yes (λ κs x f. refl), (goes-none 𝓤 H A W 1 (λ _. Q.the-row) yes (λ κs x f. refl), tt)) (field.clauses 𝓤 H A mem run) (WpFn 𝓤 H (𝓣 .C) (𝓣 .Λ) code.function) (WpFn-mono 𝓤 H (W .laws) 𝓣 code.function)
     (field-walks 𝓤 H A W mem run (𝓣 .C) (𝓣 .Λ) (fmOf 𝓤 H (W .laws) 𝓣) known)
@@ -169,4 +169,4 @@ next-field-spec 𝓤 H 𝓜 𝓖 𝓡 =
     entered 𝓤 H (tripleOf 𝓤 H (𝓖 .A) field.signature (field.spec 𝓤 H (𝓖 .A) (𝓜 .mem) (𝓡 .run)))
     (tables 𝓤 H 𝓜 𝓡 code.env .C) (tables 𝓤 H 𝓜 𝓡 code.env .Λ) #plan-held·next-field code.function (code.unfolded 𝓤 H 𝓜 𝓡)
     (field-meets 𝓤 H (𝓖 .A) (givenOf 𝓤 H 𝓜 𝓖) (𝓜 .mem) (𝓡 .run) (tablesOf 𝓤 H 𝓜 (tables 𝓤 H 𝓜 𝓡 code.env))
-    (cited 𝓤 H (FieldAt 𝓤 H (𝓖 .A) (𝓜 .mem) (𝓡 .run)) 𝓜 𝓡 code.env #plan-held·field-at at-def.routine code.calls-plan-held·field-at (at-thm.met 𝓤 H 𝓜 𝓖 𝓡)))
+    (cited 𝓤 H (FieldAt 𝓤 H (𝓖 .A) (𝓜 .mem) (𝓡 .run)) 𝓜 𝓡 code.env #field-at at-def.routine code.calls-plan-reader·rule·field-at (at-thm.met 𝓤 H 𝓜 𝓖 𝓡)))
