@@ -4,3 +4,4 @@ pub mod Cursors
 pub mod Counts
 pub mod Answers
 pub mod Rules
+pub mod Parts
