@@ -2,6 +2,7 @@
 use plan_format::Told;
 use plan_reader::rule::{Field, Rule};
 ghost use mathlib.Core.Path.{_≡_};
+ghost use lib.ListN.{drop};
 ghost use Rattle.plan_format.specs.Stored.{Read-says};
 ghost use Rattle.plan_reader.specs.Judging.{field-read};
 
@@ -32,11 +33,11 @@ pub fn moved<'a>(r: Reader<'a>, at: usize) -> Reader<'a>
     Reader { src: r.src, at }
 }
 
-// The whole plan that the reader holds, wherever the reader stands: the answer of `plan_reader::read_plan`.
+// The plan that stands from the reader's place on, its places counted from there.
 pub fn read_whole<'a>(r: Reader<'a>, room: &mut [u64]) -> Told
-    ensures { λ t. ⌜ Read-says (now (r .entry .src)) t (now (room .entry)) (now (room .exit)) ⌝ }
+    ensures { λ t. ⌜ Read-says (drop (r .entry .at) (now (r .entry .src))) t (now (room .entry)) (now (room .exit)) ⌝ }
 {
-    plan_reader::read_plan(r.src, room)
+    plan_reader::read_from(r.src, r.at, room)
 }
 
 // A plan read through the struct. Callers need no struct.
