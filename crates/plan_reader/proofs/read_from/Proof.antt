@@ -1,7 +1,7 @@
 -- `read_from` meets its contract: no bytes past the end, else the part from the place on.
 use native.Mathlib.Omega.{arith}
 use borrow.Author.Needs.{needs}
-use Rattle.plan_reader.proofs.Parts.{past-end, part-from}
+use Rattle.plan_reader.proofs.Parts.{past-end, part-from, says-same}
 use Rattle.plan_reader.proofs.read_from.Statement.{statement}
 use Rattle.plan_reader.proofs.read_from.Tie as tie
 
@@ -17,7 +17,7 @@ same-length c = search needs
 returns : tie.Need-returns
 returns c =
     let s = c .before .before .before .before .before .before .before .before in
-    rw (← past-end (s .args .plan .now) (s .args .at) (omega arith)) (c .before .before .read-plan .ensures)
+    says-same _ _ _ (past-end (s .args .plan .now) (s .args .at) (omega arith)) (c .before .before .read-plan .ensures)
 
 sub-read-plan : tie.Need-sub-read-plan
 sub-read-plan c = search needs
@@ -37,7 +37,7 @@ same-length-2 c = search needs
 returns-2 : tie.Need-returns-2
 returns-2 c =
     let s = c .before .before .before .before .before .before .before .before in
-    rw (← part-from (s .args .plan .now) (s .args .at)) (c .before .before .read-plan2 .ensures)
+    says-same _ _ _ (part-from (s .args .plan .now) (s .args .at)) (c .before .before .read-plan2 .ensures)
 
 pub read-from-spec : {M : Type 1} → statement M
 read-from-spec =
