@@ -1,6 +1,7 @@
 // A reader that holds the bytes of a stored plan and its place in them: thin functions over it, and one above them with plain parameters.
 use plan_format::Told;
-use plan_reader::rule::{Field, Rule};
+use plan_reader::rule::Field;
+use plan_reader::rule::Rule;
 ghost use mathlib.Core.Path.{_≡_};
 ghost use lib.ListN.{drop};
 ghost use Rattle.plan_format.specs.Stored.{Read-says};

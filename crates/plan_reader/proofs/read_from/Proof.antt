@@ -42,4 +42,5 @@ returns-2 c =
 pub read-from-spec : {M : Type 1} → statement M
 read-from-spec =
     tie.close
-    (tie.spec slice-aggregate-read-plan read-plan-requires same-length returns sub-read-plan part-read-plan-start part-read-plan-end read-plan-requires-2 same-length-2 returns-2)
+    (tie.spec slice-aggregate-read-plan read-plan-requires same-length returns sub-read-plan part-read-plan-start part-read-plan-end
+    read-plan-requires-2 same-length-2 returns-2)

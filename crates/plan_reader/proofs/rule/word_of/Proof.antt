@@ -52,4 +52,5 @@ returns-4 c = width-word (c .before .enum-told4 .given .1) (c .word8 .ensures)
 pub word-of-spec : {M : Type 1} → statement M
 word-of-spec =
     tie.close
-    (tie.spec enum-told word1-requires enum-told-2 word2-requires enum-told-3 word4-requires enum-told-4 word8-requires returns returns-2 returns-3 returns-4)
+    (tie.spec enum-told word1-requires enum-told-2 word2-requires enum-told-3 word4-requires enum-told-4 word8-requires returns returns-2 returns-3
+    returns-4)
