@@ -10,19 +10,19 @@ use Rattle.plan_reader.specs.declared.rule.Width.the-variants.{One, Two,
 use Rattle.plan_reader.specs.declared.rule.Rule.{Rule}
 use Rattle.plan_reader.specs.declared.rule.Field.{Field}
 
--- 01: "count 1 byte, 0..16", "count 2 bytes, 0..256", "size in bytes, 4 bytes", "axis, 8 bytes": the widths that fields have
+-- 01: "1 byte, 0..16", "2 bytes, 0..256", "size in bytes, 4 bytes, any number", "axis, 8 bytes, all distinct": the widths that fields have
 unfoldable pub bytes-of : Width → ℕ
 bytes-of One = 1
 bytes-of Two = 2
 bytes-of Four = 4
 bytes-of Eight = 8
 
--- 01: "2: a count is over its limit", "4: owner, queue, semaphore or buffer not in its list, or kind above 1": a number that is out of its
--- limits has the refusal that the rule names
+-- 01: "each field judged as soon as it is read": a number out of its limits has the refusal that the rule names, 2 for a count, 4 for a position
+-- or a kind
 unfoldable pub judged : Rule → (v : ℕ) → ℕ
 judged rule v = cond (ltb v (rule .least) || ltb (rule .most) v) (rule .over) 0
 
--- 01: "each field judged as soon as it is read. A field that is cut short is 1 whatever it holds."
+-- 01: "A field that is cut short is 1 whatever it holds."
 unfoldable pub refusal-at : (bs : List ℕ) → (at : ℕ) → Rule → ℕ
 refusal-at bs at rule = field-number bytes (bytes-of (rule .width)) (judged rule) (drop at bs)
 
