@@ -3,3 +3,5 @@ pub mod Fields
 pub mod Cursors
 pub mod Counts
 pub mod Answers
+pub mod Rules
+pub mod Parts
