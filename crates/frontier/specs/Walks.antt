@@ -1,5 +1,5 @@
 -- What the walks over lent slots answer. Assumes nothing: these are definitions.
-use mathlib.Core.Bool.{Bool, _&&_, cond}
+use mathlib.Core.Bool.{Bool, true, false, _&&_, cond}
 use mathlib.Core.List.{List, [], _∷_}
 use Prim.Native.Nat.{ℕ, zero, suc, _-_}
 use lib.Dec.{ltb, leb, eqb}
@@ -31,6 +31,12 @@ skip-below a (x ∷ xs) = cond (ltb (x .axis) a) (skip-below a xs) (x ∷ xs)
 unfoldable pub first-listed : (axis : ℕ) → List Entry → Lookup
 first-listed a [] = Absent
 first-listed a (x ∷ xs) = cond (eqb (x .axis) a) (Listed (x .epoch)) Absent
+
+-- the next axis of a union is that of xs: ys has none, or none that is smaller
+unfoldable pub leads : (xs ys : List Entry) → Bool
+leads [] ys = false
+leads (x ∷ xs) [] = true
+leads (x ∷ xs) (y ∷ ys) = leb (x .axis) (y .axis)
 
 -- of an entry and the best so far, the one that is nearer above the bound
 unfoldable pub nearer : (bound x best : Entry) → Entry

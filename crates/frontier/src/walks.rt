@@ -9,7 +9,7 @@ ghost use lib.ListN.{length, drop};
 ghost use Rattle.basics.specs.Lists.{filter};
 ghost use Rattle.frontier.specs.Entries.{rising-from, union, exceeds, exceeding, cut};
 ghost use Rattle.frontier.specs.Frontiers.{slots, all-zero, well-formed, pack, joined, reached};
-ghost use Rattle.frontier.specs.Walks.{rest, placed, skip-below, first-listed, nearer};
+ghost use Rattle.frontier.specs.Walks.{rest, placed, skip-below, first-listed, leads, nearer};
 
 // The axes or the epochs of a frontier.
 pub type Slots = [u64; Frontier::SLOTS];
@@ -147,6 +147,55 @@ pub fn reaches<'a>(
     true
 }
 
+// The next axis of the union of x from slot i and y from slot j is x's: y has none, or none that is smaller.
+fn leads_at<'a>(xa: &'a Slots, xn: usize, i: usize, ya: &'a Slots, yn: usize, j: usize) -> bool
+    requires { ⌜ (xn ≤ 16) × (yn ≤ 16) ⌝ }
+    ensures { λ r. ⌜ ((xe ye : List ℕ) → r ≡ leads (rest (now (xa .entry)) xe xn i) (rest (now (ya .entry)) ye yn j)) ⌝ }
+{
+    if xn <= i {
+        return false;
+    }
+    if yn <= j {
+        return true;
+    }
+    xa[i] <= ya[j]
+}
+
+// The entry in slot i of x, which leads: with the larger epoch if y lists its axis, with x's own if it is absent there.
+fn leading<'a>(
+    xa: &'a Slots,
+    xe: &'a Slots,
+    xn: usize,
+    i: usize,
+    ya: &'a Slots,
+    ye: &'a Slots,
+    yn: usize,
+    j: usize,
+) -> Step
+    requires { ⌜ (xn ≤ 16) × (yn ≤ 16) × (i < xn) × (j ≤ yn) ⌝ }
+    requires { ⌜ (rising-from 0 (slots (now xa) (now xe) xn 0) ≡ true) × (rising-from 0 (slots (now ya) (now ye) yn 0) ≡ true) ⌝ }
+    requires { ⌜ leads (rest (now xa) (now xe) xn i) (rest (now ya) (now ye) yn j) ≡ true ⌝ }
+    ensures { λ s. ⌜ (s .left ≤ xn) × (s .right ≤ yn) × (i + j < s .left + s .right) ⌝ }
+    ensures { λ s. ⌜ union (rest (now (xa .entry)) (now (xe .entry)) xn i) (rest (now (ya .entry)) (now (ye .entry)) yn j) ≡ record { axis = s .axis; epoch = s .epoch } ∷ union (rest (now (xa .entry)) (now (xe .entry)) xn (s .left)) (rest (now (ya .entry)) (now (ye .entry)) yn (s .right)) ⌝ }
+{
+    let axis = xa[i];
+    let epoch = xe[i];
+    let Lookup::Listed(other) = listed_at(ya, ye, yn, j, axis) else {
+        return Step {
+            axis,
+            epoch,
+            left: i + 1,
+            right: j,
+        };
+    };
+    Step {
+        axis,
+        epoch: larger(epoch, other),
+        left: i + 1,
+        right: j + 1,
+    }
+}
+
 // The next entry of the union of x from slot i and y from slot j: the smaller axis, with the larger epoch where both list it.
 fn next<'a>(
     xa: &'a Slots,
@@ -163,45 +212,15 @@ fn next<'a>(
     ensures { λ s. ⌜ (s .left ≤ xn) × (s .right ≤ yn) × (i + j < s .left + s .right) ⌝ }
     ensures { λ s. ⌜ union (rest (now (xa .entry)) (now (xe .entry)) xn i) (rest (now (ya .entry)) (now (ye .entry)) yn j) ≡ record { axis = s .axis; epoch = s .epoch } ∷ union (rest (now (xa .entry)) (now (xe .entry)) xn (s .left)) (rest (now (ya .entry)) (now (ye .entry)) yn (s .right)) ⌝ }
 {
-    if xn <= i {
-        return Step {
-            axis: ya[j],
-            epoch: ye[j],
-            left: i,
-            right: j + 1,
-        };
+    if leads_at(xa, xn, i, ya, yn, j) {
+        return leading(xa, xe, xn, i, ya, ye, yn, j);
     }
-    let axis = xa[i];
-    let epoch = xe[i];
-    if yn <= j {
-        return Step {
-            axis,
-            epoch,
-            left: i + 1,
-            right: j,
-        };
-    }
-    if ya[j] < axis {
-        return Step {
-            axis: ya[j],
-            epoch: ye[j],
-            left: i,
-            right: j + 1,
-        };
-    }
-    let Lookup::Listed(other) = listed_at(ya, ye, yn, j, axis) else {
-        return Step {
-            axis,
-            epoch,
-            left: i + 1,
-            right: j,
-        };
-    };
+    let s = leading(ya, ye, yn, j, xa, xe, xn, i);
     Step {
-        axis,
-        epoch: larger(epoch, other),
-        left: i + 1,
-        right: j + 1,
+        axis: s.axis,
+        epoch: s.epoch,
+        left: s.right,
+        right: s.left,
     }
 }
 
