@@ -6,7 +6,7 @@ use lib.Dec.{ltb, leb, eqb}
 use lib.ListN.{getD}
 use Rattle.frontier.specs.declared.Lookup.{Lookup}
 use Rattle.frontier.specs.declared.Lookup.the-variants.{Listed, Absent}
-use Rattle.frontier.specs.Entries.{Entry, exceeds}
+use Rattle.frontier.specs.Entries.{Entry}
 use Rattle.frontier.specs.Frontiers.{slots}
 
 -- the entries from slot i on, of a frontier with n
@@ -37,7 +37,3 @@ unfoldable pub leads : (xs ys : List Entry) → Bool
 leads [] ys = false
 leads (x ∷ xs) [] = true
 leads (x ∷ xs) (y ∷ ys) = leb (x .axis) (y .axis)
-
--- of an entry and the best so far, the one that is nearer above the bound
-unfoldable pub nearer : (bound x best : Entry) → Entry
-nearer bound x best = cond (exceeds x bound && exceeds best x) x best

@@ -21,6 +21,12 @@ pub struct Frontier {
     pub tainted: bool,
 }
 
+// An axis and its epoch.
+pub struct Entry {
+    pub axis: u64,
+    pub epoch: u64,
+}
+
 // What a frontier says of an axis: its epoch, or nothing.
 pub enum Lookup {
     Listed(u64),

@@ -1,4 +1,5 @@
 // Walks over the lent slots of one frontier or two: form, lookup, reach, union and cut.
+use crate::Entry;
 use crate::Frontier;
 use crate::Lookup;
 ghost use mathlib.Core.Path.{_≡_};
@@ -9,23 +10,16 @@ ghost use lib.ListN.{length, drop};
 ghost use Rattle.basics.specs.Lists.{filter};
 ghost use Rattle.frontier.specs.Entries.{rising-from, union, exceeds, exceeding, cut};
 ghost use Rattle.frontier.specs.Frontiers.{slots, all-zero, well-formed, pack, joined, reached};
-ghost use Rattle.frontier.specs.Walks.{rest, placed, skip-below, first-listed, leads, nearer};
+ghost use Rattle.frontier.specs.Walks.{rest, placed, skip-below, first-listed, leads};
 
 // The axes or the epochs of a frontier.
 pub type Slots = [u64; Frontier::SLOTS];
 
 // The next entry of a union, and where each side goes on.
 pub struct Step {
-    pub axis: u64,
-    pub epoch: u64,
+    pub entry: Entry,
     pub left: usize,
     pub right: usize,
-}
-
-// An entry that the kept ones exceed.
-pub struct Bound {
-    pub axis: u64,
-    pub epoch: u64,
 }
 
 // Slot i has an epoch above 0, and its axis is above that of the slot before.
@@ -176,21 +170,22 @@ fn leading<'a>(
     requires { ⌜ (rising-from 0 (slots (now xa) (now xe) xn 0) ≡ true) × (rising-from 0 (slots (now ya) (now ye) yn 0) ≡ true) ⌝ }
     requires { ⌜ leads (rest (now xa) (now xe) xn i) (rest (now ya) (now ye) yn j) ≡ true ⌝ }
     ensures { λ s. ⌜ (s .left ≤ xn) × (s .right ≤ yn) × (i + j < s .left + s .right) ⌝ }
-    ensures { λ s. ⌜ union (rest (now (xa .entry)) (now (xe .entry)) xn i) (rest (now (ya .entry)) (now (ye .entry)) yn j) ≡ record { axis = s .axis; epoch = s .epoch } ∷ union (rest (now (xa .entry)) (now (xe .entry)) xn (s .left)) (rest (now (ya .entry)) (now (ye .entry)) yn (s .right)) ⌝ }
+    ensures { λ s. ⌜ union (rest (now (xa .entry)) (now (xe .entry)) xn i) (rest (now (ya .entry)) (now (ye .entry)) yn j) ≡ s .entry ∷ union (rest (now (xa .entry)) (now (xe .entry)) xn (s .left)) (rest (now (ya .entry)) (now (ye .entry)) yn (s .right)) ⌝ }
 {
     let axis = xa[i];
     let epoch = xe[i];
     let Lookup::Listed(other) = listed_at(ya, ye, yn, j, axis) else {
         return Step {
-            axis,
-            epoch,
+            entry: Entry { axis, epoch },
             left: i + 1,
             right: j,
         };
     };
     Step {
-        axis,
-        epoch: larger(epoch, other),
+        entry: Entry {
+            axis,
+            epoch: larger(epoch, other),
+        },
         left: i + 1,
         right: j + 1,
     }
@@ -210,15 +205,15 @@ fn next<'a>(
     requires { ⌜ (xn ≤ 16) × (yn ≤ 16) × (i ≤ xn) × (j ≤ yn) × (i + j < xn + yn) ⌝ }
     requires { ⌜ (rising-from 0 (slots (now xa) (now xe) xn 0) ≡ true) × (rising-from 0 (slots (now ya) (now ye) yn 0) ≡ true) ⌝ }
     ensures { λ s. ⌜ (s .left ≤ xn) × (s .right ≤ yn) × (i + j < s .left + s .right) ⌝ }
-    ensures { λ s. ⌜ union (rest (now (xa .entry)) (now (xe .entry)) xn i) (rest (now (ya .entry)) (now (ye .entry)) yn j) ≡ record { axis = s .axis; epoch = s .epoch } ∷ union (rest (now (xa .entry)) (now (xe .entry)) xn (s .left)) (rest (now (ya .entry)) (now (ye .entry)) yn (s .right)) ⌝ }
+    ensures { λ s. ⌜ union (rest (now (xa .entry)) (now (xe .entry)) xn i) (rest (now (ya .entry)) (now (ye .entry)) yn j) ≡ s .entry ∷ union (rest (now (xa .entry)) (now (xe .entry)) xn (s .left)) (rest (now (ya .entry)) (now (ye .entry)) yn (s .right)) ⌝ }
 {
     if leads_at(xa, xn, i, ya, yn, j) {
         return leading(xa, xe, xn, i, ya, ye, yn, j);
     }
     let s = leading(ya, ye, yn, j, xa, xe, xn, i);
+    let entry = s.entry;
     Step {
-        axis: s.axis,
-        epoch: s.epoch,
+        entry,
         left: s.right,
         right: s.left,
     }
@@ -244,7 +239,7 @@ pub fn join<'a>(
 ) -> Frontier
     requires { ⌜ (xn ≤ 16) × (yn ≤ 16) ⌝ }
     requires { ⌜ (rising-from 0 (slots (now xa) (now xe) xn 0) ≡ true) × (rising-from 0 (slots (now ya) (now ye) yn 0) ≡ true) ⌝ }
-    requires { ⌜ capacity ≤ 16 ⌝ }
+    requires { ⌜ (1 ≤ capacity) × (capacity ≤ 16) ⌝ }
     ensures { λ r. ⌜ r ≡ joined (slots (now (xa .entry)) (now (xe .entry)) xn 0) (slots (now (ya .entry)) (now (ye .entry)) yn 0) tainted capacity ⌝ }
 {
     let mut axes = [0u64; 32];
@@ -254,8 +249,8 @@ pub fn join<'a>(
     let mut j: usize = 0;
     while i + j < xn + yn {
         let s = next(xa, xe, xn, i, ya, ye, yn, j);
-        axes[n] = s.axis;
-        epochs[n] = s.epoch;
+        axes[n] = s.entry.axis;
+        epochs[n] = s.entry.epoch;
         n += 1;
         i = s.left;
         j = s.right;
@@ -264,67 +259,76 @@ pub fn join<'a>(
     trim(&axes, &epochs, n, bound, tainted | (capacity < n))
 }
 
-// Entry (axis, epoch) exceeds the bound: by its epoch, at equal epochs by its axis.
-fn above(axis: u64, epoch: u64, bound: Bound) -> bool
-    ensures { λ r. ⌜ r ≡ exceeds (record { axis = axis; epoch = epoch }) (record { axis = bound .axis; epoch = bound .epoch }) ⌝ }
+// An entry exceeds a bound: by its epoch, at equal epochs by its axis.
+fn above(entry: Entry, bound: Entry) -> bool
+    ensures { λ r. ⌜ r ≡ exceeds entry bound ⌝ }
 {
-    if bound.epoch == epoch {
-        return bound.axis < axis;
+    if bound.epoch == entry.epoch {
+        return bound.axis < entry.axis;
     }
-    bound.epoch < epoch
+    bound.epoch < entry.epoch
 }
 
-// The entry, if it lies between the bound and the best so far; else the best.
-fn nearer_of(bound: Bound, axis: u64, epoch: u64, best: Bound) -> Bound
-    ensures { λ r. ⌜ record { axis = r .axis; epoch = r .epoch } ≡ nearer (record { axis = bound .axis; epoch = bound .epoch }) (record { axis = axis; epoch = epoch }) (record { axis = best .axis; epoch = best .epoch }) ⌝ }
+// How many entries exceed one.
+fn count_above<'a>(axes: &'a [u64], epochs: &'a [u64], len: usize, bound: Entry) -> usize
+    requires { ⌜ (len ≤ length (now axes)) × (len ≤ length (now epochs)) ⌝ }
+    ensures { λ r. ⌜ r ≡ exceeding bound (slots (now (axes .entry)) (now (epochs .entry)) len 0) ⌝ }
 {
-    if !above(axis, epoch, bound) {
-        return best;
+    let mut n: usize = 0;
+    let mut i: usize = 0;
+    while i < len {
+        let axis = axes[i];
+        let epoch = epochs[i];
+        i += 1;
+        if !above(Entry { axis, epoch }, bound) {
+            continue;
+        }
+        n += 1;
     }
-    let entry = Bound { axis, epoch };
-    if !above(best.axis, best.epoch, entry) {
-        return best;
-    }
-    entry
+    n
 }
 
-// The least entry above the bound: one entry fewer exceeds it.
-fn next_least<'a>(axes: &'a [u64], epochs: &'a [u64], len: usize, bound: Bound) -> Bound
+// The bound that the entries kept at a capacity exceed: the greatest that is cut, or the zero entry. Of each entry between the greatest known
+// to be cut and the least known to be kept, it is counted how many exceed it.
+fn bound_of<'a>(axes: &'a [u64], epochs: &'a [u64], len: usize, capacity: usize) -> Entry
     requires { ⌜ (len ≤ length (now axes)) × (len ≤ length (now epochs)) × (rising-from 0 (slots (now axes) (now epochs) len 0) ≡ true) ⌝ }
-    requires { ⌜ 0 < exceeding (record { axis = bound .axis; epoch = bound .epoch }) (slots (now axes) (now epochs) len 0) ⌝ }
-    ensures { λ r. ⌜ exceeding (record { axis = bound .axis; epoch = bound .epoch }) (slots (now (axes .entry)) (now (epochs .entry)) len 0) ≡ exceeding (record { axis = r .axis; epoch = r .epoch }) (slots (now (axes .entry)) (now (epochs .entry)) len 0) + 1 ⌝ }
+    requires { ⌜ 1 ≤ capacity ⌝ }
+    ensures { λ r. ⌜ cut capacity (slots (now (axes .entry)) (now (epochs .entry)) len 0) ≡ filter (λ x. exceeds x r) (slots (now (axes .entry)) (now (epochs .entry)) len 0) ⌝ }
 {
-    let mut best = Bound {
+    let mut lost = Entry { axis: 0, epoch: 0 };
+    if len <= capacity {
+        return lost;
+    }
+    let mut kept = Entry {
         axis: 18446744073709551615,
         epoch: 18446744073709551615,
     };
     let mut i: usize = 0;
     while i < len {
-        best = nearer_of(bound, axes[i], epochs[i], best);
+        let axis = axes[i];
+        let epoch = epochs[i];
+        let entry = Entry { axis, epoch };
         i += 1;
+        if !above(entry, lost) {
+            continue;
+        }
+        if !above(kept, entry) {
+            continue;
+        }
+        if count_above(axes, epochs, len, entry) < capacity {
+            kept = entry;
+        } else {
+            lost = entry;
+        }
     }
-    best
-}
-
-// The bound that the entries kept at a capacity exceed.
-fn bound_of<'a>(axes: &'a [u64], epochs: &'a [u64], len: usize, capacity: usize) -> Bound
-    requires { ⌜ (len ≤ length (now axes)) × (len ≤ length (now epochs)) × (rising-from 0 (slots (now axes) (now epochs) len 0) ≡ true) ⌝ }
-    ensures { λ r. ⌜ cut capacity (slots (now (axes .entry)) (now (epochs .entry)) len 0) ≡ filter (λ x. exceeds x (record { axis = r .axis; epoch = r .epoch })) (slots (now (axes .entry)) (now (epochs .entry)) len 0) ⌝ }
-{
-    let mut bound = Bound { axis: 0, epoch: 0 };
-    let mut left = len;
-    while capacity < left {
-        bound = next_least(axes, epochs, len, bound);
-        left -= 1;
-    }
-    bound
+    lost
 }
 
 // The entries above the bound, as a frontier.
-fn trim<'a>(axes: &'a [u64], epochs: &'a [u64], len: usize, bound: Bound, tainted: bool) -> Frontier
+fn trim<'a>(axes: &'a [u64], epochs: &'a [u64], len: usize, bound: Entry, tainted: bool) -> Frontier
     requires { ⌜ (len ≤ length (now axes)) × (len ≤ length (now epochs)) ⌝ }
-    requires { ⌜ length (filter (λ x. exceeds x (record { axis = bound .axis; epoch = bound .epoch })) (slots (now axes) (now epochs) len 0)) ≤ 16 ⌝ }
-    ensures { λ r. ⌜ r ≡ pack (filter (λ x. exceeds x (record { axis = bound .axis; epoch = bound .epoch })) (slots (now (axes .entry)) (now (epochs .entry)) len 0)) tainted ⌝ }
+    requires { ⌜ length (filter (λ x. exceeds x bound) (slots (now axes) (now epochs) len 0)) ≤ 16 ⌝ }
+    ensures { λ r. ⌜ r ≡ pack (filter (λ x. exceeds x bound) (slots (now (axes .entry)) (now (epochs .entry)) len 0)) tainted ⌝ }
 {
     let mut kept = [0u64; Frontier::SLOTS];
     let mut at = [0u64; Frontier::SLOTS];
@@ -334,7 +338,7 @@ fn trim<'a>(axes: &'a [u64], epochs: &'a [u64], len: usize, bound: Bound, tainte
         let axis = axes[i];
         let epoch = epochs[i];
         i += 1;
-        if !above(axis, epoch, bound) {
+        if !above(Entry { axis, epoch }, bound) {
             continue;
         }
         kept[n] = axis;

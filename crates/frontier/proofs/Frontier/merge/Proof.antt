@@ -52,7 +52,7 @@ returns-4 c = merge-all _ _ _ _ (c .refused4 .ensures ∙ refused-right _ _ _ (c
 
 join-requires : tie.Need-join-requires
 unfolding entries
-join-requires c κs = let w = both-fit _ _ (left-formed (c .before .before .before .before .before .before .before .before .before .before .before)) (right-formed (c .before .before .before .before .before .before)) in (w .0, (w .1, c .before .before .before .before .before .before .before .before .before .before .before .before .before .before .before .before .if2 .left))
+join-requires c κs = let w = both-fit _ _ (left-formed (c .before .before .before .before .before .before .before .before .before .before .before)) (right-formed (c .before .before .before .before .before .before)) in (w .0, (w .1, (c .before .before .before .before .before .before .before .before .before .before .before .before .before .before .before .before .before .if1 .left, c .before .before .before .before .before .before .before .before .before .before .before .before .before .before .before .before .if2 .left)))
 
 returns-5 : tie.Need-returns-5
 unfolding entries

@@ -53,7 +53,7 @@ slice-aggregate-bound-of-2 : tie.Need-slice-aggregate-bound-of-2 Inv-loop μ-loo
 slice-aggregate-bound-of-2 c = search needs
 
 bound-of-requires : tie.Need-bound-of-requires Inv-loop μ-loop
-bound-of-requires c κs = join-fits _ _ _ _ _ _ _ _ _ _ _ (c .before .before .before .loop .inv) (c .before .before .loop-test .left) (c .before .before .before .before .pre .1 .0 .0) (c .before .before .before .before .pre .1 .0 .1) (c .before .before .before .before .pre .0 .0) (c .before .before .before .before .pre .0 .1)
+bound-of-requires c κs = (join-fits _ _ _ _ _ _ _ _ _ _ _ (c .before .before .before .loop .inv) (c .before .before .loop-test .left) (c .before .before .before .before .pre .1 .0 .0) (c .before .before .before .before .pre .1 .0 .1) (c .before .before .before .before .pre .0 .0) (c .before .before .before .before .pre .0 .1), c .before .before .before .before .pre .1 .1 .0)
 
 slice-aggregate-trim : tie.Need-slice-aggregate-trim Inv-loop μ-loop
 slice-aggregate-trim c = search needs
@@ -62,7 +62,7 @@ slice-aggregate-trim-2 : tie.Need-slice-aggregate-trim-2 Inv-loop μ-loop
 slice-aggregate-trim-2 c = search needs
 
 trim-requires : tie.Need-trim-requires Inv-loop μ-loop
-trim-requires c κs = let w = join-fits _ _ _ _ _ _ _ _ _ _ _ (c .before .before .before .before .before .before .loop .inv) (c .before .before .before .before .before .loop-test .left) (c .before .before .before .before .before .before .before .pre .1 .0 .0) (c .before .before .before .before .before .before .before .pre .1 .0 .1) (c .before .before .before .before .before .before .before .pre .0 .0) (c .before .before .before .before .before .before .before .pre .0 .1) in ((w .0, w .1), cut-fits _ _ _ _ _ (w .2) (c .before .before .before .before .before .before .before .pre .1 .1) (c .before .before .bound-of .ensures))
+trim-requires c κs = let w = join-fits _ _ _ _ _ _ _ _ _ _ _ (c .before .before .before .before .before .before .loop .inv) (c .before .before .before .before .before .loop-test .left) (c .before .before .before .before .before .before .before .pre .1 .0 .0) (c .before .before .before .before .before .before .before .pre .1 .0 .1) (c .before .before .before .before .before .before .before .pre .0 .0) (c .before .before .before .before .before .before .before .pre .0 .1) in ((w .0, w .1), cut-fits _ _ _ _ _ (w .2) (c .before .before .before .before .before .before .before .pre .1 .1 .1) (c .before .before .bound-of .ensures))
 
 returns : tie.Need-returns Inv-loop μ-loop
 returns c = cut-packed _ _ _ _ (c .trim .ensures) (c .before .before .before .bound-of .ensures) refl ∙ join-packed _ _ _ _ _ _ _ _ _ _ _ _ _ (c .before .before .before .before .before .before .before .loop .inv) (c .before .before .before .before .before .before .loop-test .left)

@@ -28,8 +28,8 @@ enum-known-other c = search needs
 enum-told : tie.Need-enum-told
 enum-told c = search needs
 
-add-t19 : tie.Need-add-t19
-add-t19 c = search needs
+add-t20 : tie.Need-add-t20
+add-t20 c = search needs
 
 returns : tie.Need-returns
 unfolding slot
@@ -41,8 +41,8 @@ larger-requires c κs = search needs
 add-t12 : tie.Need-add-t12
 add-t12 c = search needs
 
-add-t20 : tie.Need-add-t20
-add-t20 c = search needs
+add-t22 : tie.Need-add-t22
+add-t22 c = search needs
 
 returns-2 : tie.Need-returns-2
 returns-2 c =
@@ -61,9 +61,9 @@ leading-spec =
     listed-at-requires
     enum-known-other
     enum-told
-    add-t19
+    add-t20
     returns
     larger-requires
     add-t12
-    add-t20
+    add-t22
     returns-2)
