@@ -15,7 +15,7 @@ use Rattle.basics.specs.Lists.{filter}
 use Rattle.frontier.specs.Entries.{Entry, exceeds, exceeding, cut}
 use Rattle.frontier.proofs.Sorted.{Sorted}
 use Rattle.frontier.proofs.Exceeds.{exceeds-not-itself, exceeds-chain, exceeds-or, exceeds-past, exceeds-same, exceeds-zero}
-use Rattle.frontier.proofs.Cut.{In, in-above, keep-all, cut-whole}
+use Rattle.frontier.proofs.Cut.{In, in-above}
 
 -- COUNTS OF TWO BOUNDS
 pub exceeding-same : (b m : Entry) (xs : List Entry) → ((y : Entry) → In y xs → exceeds y b ≡ exceeds y m) → exceeding b xs ≡ exceeding m xs
@@ -154,26 +154,8 @@ cut-at b c xs m h =
 pub cut-by-bound : (b : Entry) (c : ℕ) (xs : List Entry) → exceeding b xs ≡ c → cut c xs ≡ filter (λ x. exceeds x b) xs
 cut-by-bound b c xs e = cut-at b c xs (omega arith) (λ x i t. omega (arith, exceeding-less x b xs i t))
 
-exceeding-most : (b : Entry) (xs : List Entry) → exceeding b xs ≤ length xs
-unfolding exceeding
-exceeding-most b [] = zero-le
-exceeding-most b (x ∷ xs) = by-cases (exceeds x b) (λ t. rw t (omega (arith, exceeding-most b xs))) (λ t. rw t (omega (arith, exceeding-most b xs)))
-
-all-above : (b : Entry) (xs : List Entry) → exceeding b xs ≡ length xs → (x : Entry) → In x xs → exceeds x b ≡ true
-unfolding exceeding
-all-above b [] e x i = absurd i
-all-above b (y ∷ ys) e x i =
-    by-cases (exceeds y b)
-    (λ t. let e′ : 1 + exceeding b ys ≡ suc (length ys) = rw t at e in either i (λ q. rw q t) (λ j. all-above b ys (omega arith) x j))
-    (λ t. let e′ : 0 + exceeding b ys ≡ suc (length ys) = rw t at e in absurd (omega (arith, exceeding-most b ys)))
-
--- all exceed the zero entry: the bound where nothing is cut
+-- all exceed the zero entry
 pub bound-start : (c : ℕ) (xs : List Entry) → Sorted c xs → exceeding (record { axis = 0; epoch = 0 }) xs ≡ length xs
 unfolding exceeding
 bound-start c [] s = refl
 bound-start c (x ∷ xs) s = rw (exceeds-zero x (s .1)) (omega (arith, bound-start (suc (x .axis)) xs (s .2)))
-
-pub cut-none : (c b : ℕ) (xs : List Entry) → Sorted b xs → length xs ≤ c → cut c xs ≡ filter (λ x. exceeds x (record { axis = 0; epoch = 0 })) xs
-cut-none c b xs s h =
-    cut-whole c xs h
-    ∙ sym (keep-all (λ x. exceeds x (record { axis = 0; epoch = 0 })) xs (all-above (record { axis = 0; epoch = 0 }) xs (bound-start b xs s)))

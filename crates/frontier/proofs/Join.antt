@@ -1,19 +1,22 @@
 -- The walk that joins two frontiers: the next entry of the union of what is left, and what is written so far. Assumes nothing.
 use mathlib.Core.Path.{_≡_, refl, sym, ap, _∙_}
-use mathlib.Core.Bool.{Bool, true, false, _||_, false≢true}
+use mathlib.Core.Bool.{Bool, true, false, or-true, false≢true}
 use mathlib.Core.List.{List, [], _∷_, _++_, append-assoc, append-nil}
 use Prim.Native.Nat.{ℕ, suc, _+_, _-_, _≤_, _<_, zero-le, max}
 use native.Mathlib.Omega.{arith}
 use lib.Dec.{eqb, ltb, leb}
-use lib.ListN.{length, getD, set, length-set}
-use borrow.Author.Tests.{eqb-true, eqb-false, ltb-true, ltb-false, leb-true, leb-false, le-leb}
+use lib.ListN.{length, getD, set, length-set, take, drop, replicate}
+use lib.Seq.{length-take-le}
+use borrow.Author.Tests.{eqb-true, eqb-false, ltb-true, ltb-false, leb-true, leb-false, le-leb, lt-ltb}
 use Rattle.basics.proofs.Tests.{by-cases, clash}
 use Rattle.frontier.specs.declared.Lookup.the-variants.{Listed, Absent}
 use Rattle.frontier.specs.Entries.{Entry, rising-from, union, cut}
-use Rattle.frontier.specs.Frontiers.{slot, slots, pack, joined}
+use Rattle.frontier.specs.Frontiers.{slot, slots, all-zero, pack, joined}
 use Rattle.frontier.specs.Walks.{rest, floor, first-listed, leads}
 use Rattle.frontier.proofs.Sorted.{Sorted, sorted, rising, sorted-union, lower, union-commutes, union-left, union-both}
-use Rattle.frontier.proofs.Slots.{rest-all, rest-more, rest-none, sorted-rest, slots-put, slots-length}
+use Rattle.frontier.proofs.Slots.{rest-all, rest-more, rest-none, sorted-rest, slots-put, slots-length, zero-past, zero-first, slots-first}
+use Rattle.frontier.proofs.Pack.{repack, all-zero-replicate}
+use Rattle.frontier.proofs.Merge.{joined-whole}
 
 -- WHICH SIDE LEADS
 module _ (xa xe : List ℕ) (xn i : ℕ) where
@@ -119,19 +122,23 @@ pub record Join (xa xe ya ye axes epochs : List ℕ) (xn yn n i j : ℕ) : Type 
   pub few : n ≤ i + j
   pub axes-32 : length axes ≡ 32
   pub epochs-32 : length epochs ≡ 32
+  pub zero-axes : all-zero (drop n axes) ≡ true
+  pub zero-epochs : all-zero (drop n epochs) ≡ true
   pub whole : slots axes epochs n 0 ++ union (rest xa xe xn i) (rest ya ye yn j) ≡ union (slots xa xe xn 0) (slots ya ye yn 0)
 
 module _ (xa xe ya ye axes epochs : List ℕ) (xn yn : ℕ) where
-  pub join-none : length axes ≡ 32 → length epochs ≡ 32 → Join xa xe ya ye axes epochs xn yn 0 0 0
+  pub join-none : axes ≡ replicate 32 0 → epochs ≡ replicate 32 0 → Join xa xe ya ye axes epochs xn yn 0 0 0
   unfolding slots Rattle.basics.specs.Lists.tabulate-from
-  join-none p q = record {
+  join-none p q = rw (p, q) (record {
     left-in = zero-le;
     right-in = zero-le;
     few = zero-le;
-    axes-32 = p;
-    epochs-32 = q;
+    axes-32 = refl;
+    epochs-32 = refl;
+    zero-axes = all-zero-replicate 32;
+    zero-epochs = all-zero-replicate 32;
     whole = rw (rest-all xa xe xn, rest-all ya ye yn);
-  }
+  })
 
   pub join-more : (n i j a e p q : ℕ) → Join xa xe ya ye axes epochs xn yn n i j → n < 32 → p ≤ xn → q ≤ yn → i + j < p + q → union (rest xa xe xn i) (rest ya ye yn j) ≡ record { axis = a; epoch = e } ∷ union (rest xa xe xn p) (rest ya ye yn q) → Join xa xe ya ye (set axes n a) (set epochs n e) xn yn (n + 1) p q
   join-more n i j a e p q w h l r m step = record {
@@ -140,6 +147,8 @@ module _ (xa xe ya ye axes epochs : List ℕ) (xn yn : ℕ) where
     few = omega (arith, w .few);
     axes-32 = length-set axes n a ∙ w .axes-32;
     epochs-32 = length-set epochs n e ∙ w .epochs-32;
+    zero-axes = zero-past axes n a (omega (arith, w .axes-32)) (w .zero-axes);
+    zero-epochs = zero-past epochs n e (omega (arith, w .epochs-32)) (w .zero-epochs);
     whole = rw (slots-put axes epochs n a e (omega (arith, w .axes-32)) (omega (arith, w .epochs-32)), append-assoc, ← step) (w .whole);
   }
 
@@ -158,6 +167,15 @@ module _ (xa xe ya ye axes epochs : List ℕ) (xn yn : ℕ) where
         (sorted-union 0 (slots xa xe xn 0) (slots ya ye yn 0) (sorted 0 (slots xa xe xn 0) rx) (sorted 0 (slots ya ye yn 0) ry))),
   )
 
-  pub join-packed : (n i j c : ℕ) (t : Bool) → Join xa xe ya ye axes epochs xn yn n i j → xn + yn ≤ i + j → pack (cut c (slots axes epochs n 0)) (t || ltb c n) ≡ joined (slots xa xe xn 0) (slots ya ye yn 0) t c
+  pub join-packed : (n i j c : ℕ) (t : Bool) → Join xa xe ya ye axes epochs xn yn n i j → xn + yn ≤ i + j → c < n → pack (cut c (slots axes epochs n 0)) true ≡ joined (slots xa xe xn 0) (slots ya ye yn 0) t c
   unfolding joined
-  join-packed n i j c t w h = rw (← join-end n i j w h, slots-length axes epochs n 0)
+  join-packed n i j c t w h l = rw (← join-end n i j w h, slots-length axes epochs n 0, lt-ltb c n l, or-true t)
+
+  -- what the capacity holds is not cut: the first slots are the frontier
+  pub join-whole : (n i j c : ℕ) (t : Bool) (r q : List ℕ) → Join xa xe ya ye axes epochs xn yn n i j → xn + yn ≤ i + j → n ≤ c → c ≤ 16 → r ≡ take 16 axes → q ≡ take 16 epochs → record { axes = r; epochs = q; len = n; tainted = t } ≡ joined (slots xa xe xn 0) (slots ya ye yn 0) t c
+  join-whole n i j c t r q w h l m e f =
+      let u = slots-first axes epochs 16 n (omega arith) ∙ join-end n i j w h in
+      rw (e, f) (repack (take 16 axes) (take 16 epochs) n t (omega arith) (length-take-le 16 axes (omega (arith, w .axes-32))) (length-take-le 16 epochs (omega (arith, w .epochs-32)))
+      (zero-first 16 n axes (w .zero-axes)) (zero-first 16 n epochs (w .zero-epochs))
+      ∙ ap (λ l. pack l t) u
+      ∙ sym (joined-whole (slots xa xe xn 0) (slots ya ye yn 0) t c (omega (arith, ap length (join-end n i j w h), slots-length axes epochs n 0))))

@@ -1,16 +1,15 @@
 -- The walks of eviction over slots: how many exceed an entry, the bound of a capacity, and the copy of what exceeds it. Assumes nothing.
 use mathlib.Core.Path.{_≡_, refl, sym, ap, _∙_}
-use mathlib.Core.Bool.{Bool, true, false}
+use mathlib.Core.Bool.{Bool, true, false, cond}
+use mathlib.Core.Logic.{inl, inr}
 use mathlib.Core.List.{List, _∷_, _++_, append-assoc, append-nil}
-use Prim.Native.Nat.{ℕ, zero, suc, _+_, _-_, _≤_, _<_}
-use native.Mathlib.Numerals.{add-one}
+use Prim.Native.Nat.{ℕ, zero, suc, _+_, _-_, _≤_, _<_, zero-le}
 use native.Mathlib.Omega.{arith}
 use lib.Dec.{eqb}
 use borrow.Author.Tests.{eqb-true, eqb-false}
 use lib.ListN.{length, getD, drop, set, length-append, length-set, replicate}
-use lib.Seq.{drop-cons, drop-set-lt}
 use Rattle.basics.specs.Lists.{tabulate-from}
-use Rattle.basics.proofs.Tests.{by-cases, clash, either, and-right}
+use Rattle.basics.proofs.Tests.{by-cases, clash, is-false, either}
 use Rattle.frontier.specs.declared.Frontier.{Frontier}
 use Rattle.basics.specs.Lists.{filter}
 use Rattle.frontier.specs.Entries.{Entry, rising-from, exceeds, exceeding, cut}
@@ -18,10 +17,10 @@ use Rattle.frontier.specs.Frontiers.{slot, slots, all-zero, pack}
 use Rattle.frontier.specs.Walks.{rest}
 use Rattle.frontier.proofs.Sorted.{sorted}
 use Rattle.frontier.proofs.Exceeds.{exceeds-chain, exceeds-not-itself, exceeds-not-top}
-use Rattle.frontier.proofs.Cut.{In, cut-length}
-use Rattle.frontier.proofs.Slots.{rest-all, rest-more, rest-none, slots-length, slots-put}
+use Rattle.frontier.proofs.Cut.{In, exceeding-lt, least-count, cut-length}
+use Rattle.frontier.proofs.Slots.{rest-all, rest-more, rest-none, slots-length, slots-put, zero-past}
 use Rattle.frontier.proofs.Pack.{repack, all-zero-replicate}
-use Rattle.frontier.proofs.Evict.{exceeding-over, exceeding-none, bound-start, cut-at, cut-none}
+use Rattle.frontier.proofs.Evict.{exceeding-over, exceeding-none, bound-start, cut-at, cut-by-bound}
 
 -- THE COPY: what is kept so far, and what is kept of the rest, is all that is kept
 pub record Trim (f : Entry → Bool) (axes epochs kept at : List ℕ) (len n i : ℕ) : Type 0 where
@@ -30,12 +29,6 @@ pub record Trim (f : Entry → Bool) (axes epochs kept at : List ℕ) (len n i :
   pub zero-axes : all-zero (drop n kept) ≡ true
   pub zero-epochs : all-zero (drop n at) ≡ true
   pub whole : slots kept at n 0 ++ filter f (rest axes epochs len i) ≡ filter f (slots axes epochs len 0)
-
-zero-past : (row : List ℕ) (n v : ℕ) → n < length row → all-zero (drop n row) ≡ true → all-zero (drop (n + 1) (set row n v)) ≡ true
-unfolding all-zero
-zero-past row n v h z =
-    rw (add-one n, drop-set-lt (suc n) row n v (omega arith))
-    (and-right (eqb (getD row n 0) 0) (all-zero (drop (suc n) row)) (rw (drop-cons row n 0 h) at z))
 
 module _ (f : Entry → Bool) (axes epochs kept at : List ℕ) (len : ℕ) where
   pub trim-none : kept ≡ replicate 16 0 → at ≡ replicate 16 0 → Trim f axes epochs kept at len 0 0
@@ -111,17 +104,68 @@ unfolding tabulate-from
 in-table y zero i f m = absurd m
 in-table y (suc n) i f m = either m (λ e. (i, omega arith, e)) (λ j. let w = in-table y n (suc i) f j in (w .0, omega (arith, w .1), w .2))
 
+table-in : (n i k : ℕ) (f : ℕ → Entry) → i ≤ k → k < i + n → In (f k) (tabulate-from n i f)
+unfolding tabulate-from
+table-in zero i k f l h = absurd (omega arith)
+table-in (suc n) i k f l h =
+    by-cases (eqb k i) (λ t. inl (ap f (eqb-true k i t)))
+    (λ t. inr (table-in n (suc i) k f (omega (arith, eqb-false k i t)) (omega arith)))
+
+in-slots : (xs es : List ℕ) (n : ℕ) (y : Entry) → In y (slots xs es n 0) → (k : ℕ) × (k < n) × (y ≡ slot xs es k)
+unfolding slots
+in-slots xs es n y j = let w = in-table y n 0 (slot xs es) j in (w .0, omega (arith, w .1), w .2)
+
+slots-in : (xs es : List ℕ) (n k : ℕ) → k < n → In (slot xs es k) (slots xs es n 0)
+unfolding slots
+slots-in xs es n k h = table-in n 0 k (slot xs es) zero-le (omega arith)
+
+-- THE LEAST: a slot before i that exceeds none before i
+pub record Least-before (best : Entry) (xs es : List ℕ) (i : ℕ) : Type 0 where
+  pub found : (k : ℕ) × (k < i) × (best ≡ slot xs es k)
+  pub under : (k : ℕ) → k < i → exceeds best (slot xs es k) ≡ false
+
+module _ (xs es : List ℕ) where
+  pub least-first : Least-before (slot xs es 0) xs es 1
+  least-first = record {
+    found = (0, omega arith, refl);
+    under = λ k h. rw (let z : k ≡ 0 = omega arith in z) (exceeds-not-itself (slot xs es 0));
+  }
+
+  pub least-more : (best next : Entry) (i : ℕ) → Least-before best xs es i → next ≡ cond (exceeds best (slot xs es i)) (slot xs es i) best → Least-before next xs es (i + 1)
+  least-more best next i w e =
+      by-cases (exceeds best (slot xs es i))
+      (λ t. let q : next ≡ slot xs es i = rw t at e in
+      rw q (record {
+        found = (i, omega arith, refl);
+        under = λ k h. by-cases (eqb k i) (λ u. rw (eqb-true k i u) (exceeds-not-itself (slot xs es i)))
+            (λ u. is-false (exceeds (slot xs es i) (slot xs es k)) (λ v.
+            clash (exceeds best (slot xs es k)) (exceeds-chain best (slot xs es i) (slot xs es k) t v) (w .under k (omega (arith, eqb-false k i u)))));
+      }))
+      (λ t. let q : next ≡ best = rw t at e in
+      rw q (record {
+        found = (w .found .0, omega (arith, w .found .1), w .found .2);
+        under = λ k h. by-cases (eqb k i) (λ u. rw (eqb-true k i u) t) (λ u. w .under k (omega (arith, eqb-false k i u)));
+      }))
+
+  pub least-end : (best : Entry) (i n : ℕ) → Least-before best xs es i → i ≤ n → n ≤ i → rising-from 0 (slots xs es n 0) ≡ true → exceeding best (slots xs es n 0) + 1 ≡ n
+  least-end best i n w h l r =
+      let j : In best (slots xs es n 0) = rw (w .found .2) (slots-in xs es n (w .found .0) (omega (arith, w .found .1))) in
+      omega (
+        arith,
+        slots-length xs es n 0,
+        exceeding-lt best (slots xs es n 0) j,
+        least-count best 0 (slots xs es n 0) (sorted 0 (slots xs es n 0) r) j
+            (λ y m. let k = in-slots xs es n y m in rw (k .2) (w .under (k .0) (omega (arith, k .1)))),
+      )
+
 module _ (xs es : List ℕ) (n c : ℕ) where
   pub bounded-none : (top : Entry) → rising-from 0 (slots xs es n 0) ≡ true → c < n → 1 ≤ c → ((k : ℕ) → getD xs k 0 ≤ top .axis) → ((k : ℕ) → getD es k 0 ≤ top .epoch) → Bounded (record { axis = 0; epoch = 0 }) top xs es n c 0
   bounded-none top r h l p q = record {
     many = omega (arith, bound-start 0 (slots xs es n 0) (sorted 0 (slots xs es n 0) r), slots-length xs es n 0);
-    few = omega (arith, exceeding-none top (slots xs es n 0) (λ y j. let w = in-slots y j in rw (w .1) (low (w .0))));
+    few = omega (arith, exceeding-none top (slots xs es n 0) (λ y j. let w = in-slots xs es n y j in rw (w .2) (low (w .0))));
     seen = λ k m. absurd (omega arith);
   }
     where
-      in-slots : (y : Entry) → In y (slots xs es n 0) → (k : ℕ) × (y ≡ slot xs es k)
-      in-slots y j = unfold slots in (let w = in-table y n 0 (slot xs es) j in (w .0, w .2))
-
       low : (k : ℕ) → exceeds (slot xs es k) top ≡ false
       low k = exceeds-not-top (slot xs es k) top (unfold slot in (p k)) (unfold slot in (q k))
 
@@ -161,13 +205,11 @@ module _ (xs es : List ℕ) (n c : ℕ) where
 
   pub bounded-end : (lost kept : Entry) (i : ℕ) → Bounded lost kept xs es n c i → n ≤ i → cut c (slots xs es n 0) ≡ filter (λ x. exceeds x lost) (slots xs es n 0)
   bounded-end lost kept i w h =
-      cut-at lost c (slots xs es n 0) (w .many) (λ x j. let k = in-slots x j in rw (k .2) (w .seen (k .0) (omega (arith, k .1))))
-    where
-      in-slots : (y : Entry) → In y (slots xs es n 0) → (k : ℕ) × (k < 0 + n) × (y ≡ slot xs es k)
-      in-slots y j = unfold slots in (in-table y n 0 (slot xs es) j)
+      cut-at lost c (slots xs es n 0) (w .many) (λ x j. let k = in-slots xs es n x j in rw (k .2) (w .seen (k .0) (omega (arith, k .1))))
 
-  pub bounded-all : rising-from 0 (slots xs es n 0) ≡ true → n ≤ c → cut c (slots xs es n 0) ≡ filter (λ x. exceeds x (record { axis = 0; epoch = 0 })) (slots xs es n 0)
-  bounded-all r h = cut-none c 0 (slots xs es n 0) (sorted 0 (slots xs es n 0) r) (omega (arith, slots-length xs es n 0))
+  -- where one is cut, the least is the bound
+  pub bounded-one : (b : Entry) → exceeding b (slots xs es n 0) + 1 ≡ n → n - 1 ≡ c → cut c (slots xs es n 0) ≡ filter (λ x. exceeds x b) (slots xs es n 0)
+  bounded-one b e h = cut-by-bound b c (slots xs es n 0) (omega arith)
 
 -- THE CUT of slots: what exceeds the bound fits, and is what the cut keeps
 pub cut-fits : (xs es : List ℕ) (n c : ℕ) (f : Entry → Bool) → rising-from 0 (slots xs es n 0) ≡ true → c ≤ 16 → cut c (slots xs es n 0) ≡ filter f (slots xs es n 0) → length (filter f (slots xs es n 0)) ≤ 16

@@ -4,10 +4,11 @@ use mathlib.Core.List.{List, [], _∷_}
 use Prim.Native.Nat.{ℕ, zero, suc, _-_}
 use lib.Dec.{ltb, leb, eqb}
 use lib.ListN.{getD}
+use Rattle.frontier.specs.declared.Frontier.{Frontier}
 use Rattle.frontier.specs.declared.Lookup.{Lookup}
 use Rattle.frontier.specs.declared.Lookup.the-variants.{Listed, Absent}
 use Rattle.frontier.specs.Entries.{Entry}
-use Rattle.frontier.specs.Frontiers.{slots}
+use Rattle.frontier.specs.Frontiers.{slots, well-formed}
 
 -- the entries from slot i on, of a frontier with n
 abbrev pub rest : (axes epochs : List ℕ) → (n i : ℕ) → List Entry
@@ -37,3 +38,7 @@ unfoldable pub leads : (xs ys : List Entry) → Bool
 leads [] ys = false
 leads (x ∷ xs) [] = true
 leads (x ∷ xs) (y ∷ ys) = leb (x .axis) (y .axis)
+
+-- a merge's number before the right side is judged: "Check 15 first, then 14 for the left"
+unfoldable pub left-number : Frontier → (capacity : ℕ) → ℕ
+left-number f capacity = cond (leb 1 capacity && leb capacity 16) (cond (well-formed f) 0 14) 15

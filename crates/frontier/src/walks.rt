@@ -3,14 +3,14 @@ use crate::Entry;
 use crate::Frontier;
 use crate::Lookup;
 ghost use mathlib.Core.Path.{_≡_};
-ghost use mathlib.Core.Bool.{true, false};
+ghost use mathlib.Core.Bool.{true, false, cond};
 ghost use mathlib.Core.List.{List, _∷_};
 ghost use Prim.Native.Nat.{ℕ, _+_, _≤_, _<_, max};
-ghost use lib.ListN.{length, drop};
+ghost use lib.ListN.{length, drop, take};
 ghost use Rattle.basics.specs.Lists.{filter};
 ghost use Rattle.frontier.specs.Entries.{rising-from, union, exceeds, exceeding, cut};
 ghost use Rattle.frontier.specs.Frontiers.{slots, all-zero, well-formed, pack, joined, reached};
-ghost use Rattle.frontier.specs.Walks.{rest, placed, skip-below, first-listed, leads};
+ghost use Rattle.frontier.specs.Walks.{rest, placed, skip-below, first-listed, leads, left-number};
 
 // The axes or the epochs of a frontier.
 pub type Slots = [u64; Frontier::SLOTS];
@@ -81,6 +81,23 @@ pub fn formed<'a>(axes: &'a Slots, epochs: &'a Slots, len: usize) -> bool
         return false;
     }
     zero_from(epochs, len)
+}
+
+// 15 for a capacity that is not 1 to 16, then 14 for slots that are not well-formed; 0 where a merge goes on.
+pub fn judged<'a>(axes: &'a Slots, epochs: &'a Slots, len: usize, capacity: u32) -> u32
+    requires { ⌜ (length (now axes) ≡ 16) × (length (now epochs) ≡ 16) ⌝ }
+    ensures { λ r. ⌜ r ≡ left-number (record { axes = now (axes .entry); epochs = now (epochs .entry); len = len; tainted = false }) capacity ⌝ }
+{
+    if capacity < 1 {
+        return 15;
+    }
+    if Frontier::MOST < capacity {
+        return 15;
+    }
+    if !formed(axes, epochs, len) {
+        return 14;
+    }
+    0
 }
 
 // The first slot from `from` on whose axis is not below the one sought, or the length.
@@ -255,8 +272,30 @@ pub fn join<'a>(
         i = s.left;
         j = s.right;
     }
+    if n <= capacity {
+        return Frontier {
+            axes: first_slots(&axes),
+            epochs: first_slots(&epochs),
+            len: n,
+            tainted,
+        };
+    }
     let bound = bound_of(&axes, &epochs, n, capacity);
-    trim(&axes, &epochs, n, bound, tainted | (capacity < n))
+    trim(&axes, &epochs, n, bound, true)
+}
+
+// The first sixteen slots.
+fn first_slots(row: &[u64; 32]) -> Slots
+    requires { ⌜ length (now row) ≡ 32 ⌝ }
+    ensures { λ r. ⌜ r ≡ take 16 (now (row .entry)) ⌝ }
+{
+    let mut first = [0u64; Frontier::SLOTS];
+    let mut i: usize = 0;
+    while i < Frontier::SLOTS {
+        first[i] = row[i];
+        i += 1;
+    }
+    first
 }
 
 // An entry exceeds a bound: by its epoch, at equal epochs by its axis.
@@ -288,17 +327,47 @@ fn count_above<'a>(axes: &'a [u64], epochs: &'a [u64], len: usize, bound: Entry)
     n
 }
 
-// The bound that the entries kept at a capacity exceed: the greatest that is cut, or the zero entry. Of each entry between the greatest known
-// to be cut and the least known to be kept, it is counted how many exceed it.
+// The smaller of two entries.
+fn lesser(best: Entry, entry: Entry) -> Entry
+    ensures { λ r. ⌜ r ≡ cond (exceeds best entry) entry best ⌝ }
+{
+    if above(best, entry) {
+        return entry;
+    }
+    best
+}
+
+// The least entry: all others exceed it.
+fn least<'a>(axes: &'a [u64], epochs: &'a [u64], len: usize) -> Entry
+    requires { ⌜ (len ≤ length (now axes)) × (len ≤ length (now epochs)) × (rising-from 0 (slots (now axes) (now epochs) len 0) ≡ true) ⌝ }
+    requires { ⌜ 0 < len ⌝ }
+    ensures { λ r. ⌜ exceeding r (slots (now (axes .entry)) (now (epochs .entry)) len 0) + 1 ≡ len ⌝ }
+{
+    let mut best = Entry {
+        axis: axes[0],
+        epoch: epochs[0],
+    };
+    let mut i: usize = 1;
+    while i < len {
+        let axis = axes[i];
+        let epoch = epochs[i];
+        best = lesser(best, Entry { axis, epoch });
+        i += 1;
+    }
+    best
+}
+
+// The bound that the entries kept at a capacity exceed: the greatest that is cut. If more than one is, it is counted how many exceed each
+// entry between the greatest known to be cut and the least known to be kept.
 fn bound_of<'a>(axes: &'a [u64], epochs: &'a [u64], len: usize, capacity: usize) -> Entry
     requires { ⌜ (len ≤ length (now axes)) × (len ≤ length (now epochs)) × (rising-from 0 (slots (now axes) (now epochs) len 0) ≡ true) ⌝ }
-    requires { ⌜ 1 ≤ capacity ⌝ }
+    requires { ⌜ (1 ≤ capacity) × (capacity < len) ⌝ }
     ensures { λ r. ⌜ cut capacity (slots (now (axes .entry)) (now (epochs .entry)) len 0) ≡ filter (λ x. exceeds x r) (slots (now (axes .entry)) (now (epochs .entry)) len 0) ⌝ }
 {
-    let mut lost = Entry { axis: 0, epoch: 0 };
-    if len <= capacity {
-        return lost;
+    if len - 1 == capacity {
+        return least(axes, epochs, len);
     }
+    let mut lost = Entry { axis: 0, epoch: 0 };
     let mut kept = Entry {
         axis: 18446744073709551615,
         epoch: 18446744073709551615,

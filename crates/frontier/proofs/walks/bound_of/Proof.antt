@@ -5,7 +5,7 @@ use mathlib.Core.Path.{sym, _∙_}
 use borrow.Author.Tests.{not-true, not-false}
 use borrow.Author.Needs.{needs}
 use Rattle.frontier.specs.Frontiers.{slot}
-use Rattle.frontier.proofs.Trim.{Bounded, bounded-none, bounded-lost, bounded-kept, bounded-low, bounded-high, bounded-end, bounded-all}
+use Rattle.frontier.proofs.Trim.{Bounded, bounded-none, bounded-lost, bounded-kept, bounded-low, bounded-high, bounded-end, bounded-one}
 use Rattle.frontier.proofs.walks.bound_of.Statement.{statement}
 use Rattle.frontier.proofs.walks.bound_of.Tie as tie
 
@@ -15,11 +15,17 @@ Inv-loop axes epochs len capacity lost₀ kept₀ i₀ lost kept i = Bounded los
 abbrev μ-loop : tie.MeasureT-loop
 μ-loop axes epochs len capacity lost₀ kept₀ i₀ lost kept i = len - i
 
+sub-if1 : tie.Need-sub-if1 Inv-loop μ-loop
+sub-if1 c = search needs
+
+least-requires : tie.Need-least-requires Inv-loop μ-loop
+least-requires c κs = (c .before .before .before .pre .0, search needs)
+
 returns : tie.Need-returns Inv-loop μ-loop
-returns c = bounded-all _ _ _ _ (c .before .before .before .pre .0 .2) (c .if1 .taken)
+returns c = bounded-one _ _ _ _ _ (c .least .ensures) (c .before .if1 .taken)
 
 loop-holds : tie.Need-loop-holds Inv-loop μ-loop
-loop-holds c = bounded-none _ _ _ _ _ (c .before .before .before .pre .0 .2) (c .if1 .left) (c .before .before .before .pre .1) (λ k. omega (arith, c .before .before .shared-slice-known .given k)) (λ k. omega (arith, c .before .shared-slice-known2 .given k))
+loop-holds c = bounded-none _ _ _ _ _ (c .before .before .before .pre .0 .2) (c .before .before .before .pre .1 .1) (c .before .before .before .pre .1 .0) (λ k. omega (arith, c .before .before .shared-slice-known .given k)) (λ k. omega (arith, c .before .shared-slice-known2 .given k))
 
 mul-axis : tie.Need-mul-axis Inv-loop μ-loop
 mul-axis c = search needs
@@ -82,6 +88,8 @@ bound-of-spec =
     (tie.spec
     Inv-loop
     μ-loop
+    sub-if1
+    least-requires
     returns
     loop-holds
     mul-axis
