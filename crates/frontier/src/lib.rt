@@ -211,8 +211,8 @@ fn answer_of(reached: bool, tainted: bool, other: bool) -> Dominance
 // Of two lent rows of epochs, the one that reaches the other in every place, as it lies: the first where they are equal. If neither does, or
 // the lengths differ, an empty part of the first.
 pub fn reaching<'a>(first: &'a [u64], second: &'a [u64]) -> &'a [u64]
-    ensures { λ r. ⌜ now r ≡ reaching-row (now (first .entry)) (now (second .entry)) ⌝ }
     ensures { λ r. ⌜ As-it-lies (first .entry) (second .entry) r ⌝ }
+    ensures { λ r. ⌜ now r ≡ reaching-row (now (first .entry)) (now (second .entry)) ⌝ }
 {
     if row_reaches(first, second) {
         return first;
