@@ -33,9 +33,9 @@ module _ (xa xe : List ℕ) (xn i : ℕ) where
   leads-both ya ye yn j h l = rw (rest-more xa xe xn i h, rest-more ya ye yn j l)
 
   -- a side that leads has an entry
-  pub leads-some : (ys : List Entry) → leads (rest xa xe xn i) ys ≡ true → i < xn
-  leads-some ys e =
-      by-cases (ltb i xn) (λ t. ltb-true i xn t) (λ t. clash (leads (rest xa xe xn i) ys) e (sym (leads-none ys (ltb-false i xn t))))
+  pub leads-some : (ys : List Entry) (t : Bool) → t ≡ leads (rest xa xe xn i) ys → t ≡ true → i < xn
+  leads-some ys t q e =
+      by-cases (ltb i xn) (λ l. ltb-true i xn l) (λ l. clash t e (q ∙ sym (leads-none ys (ltb-false i xn l))))
 
   -- and so does one that lists an axis
   pub listed-some : (a e : ℕ) → Listed e ≡ first-listed a (rest xa xe xn i) → i < xn
@@ -100,10 +100,10 @@ module _ (xa xe ya ye : List ℕ) (xn yn i j : ℕ) (rx : rising-from 0 (slots x
       listed-absent : {k : ℕ} → Listed k ≡ Absent → ⊥
       listed-absent e = let z : _≡_ {A = ℕ} 0 1 = cc in omega arith
 
-  pub right-leads : i + j < xn + yn → i ≤ xn → j ≤ yn → leads (rest xa xe xn i) (rest ya ye yn j) ≡ false → leads (rest ya ye yn j) (rest xa xe xn i) ≡ true
-  right-leads h l r e =
+  pub right-leads : (t : Bool) → i + j < xn + yn → i ≤ xn → j ≤ yn → t ≡ leads (rest xa xe xn i) (rest ya ye yn j) → t ≡ false → leads (rest ya ye yn j) (rest xa xe xn i) ≡ true
+  right-leads t h l r q e =
       leads-other (rest xa xe xn i) (rest ya ye yn j)
-      (omega (arith, slots-length xa xe (xn - i) i, slots-length ya ye (yn - j) j)) e
+      (omega (arith, slots-length xa xe (xn - i) i, slots-length ya ye (yn - j) j)) (sym q ∙ e)
 
   rests-commute : (p q : ℕ) → p ≤ xn → q ≤ yn → union (rest xa xe xn p) (rest ya ye yn q) ≡ union (rest ya ye yn q) (rest xa xe xn p)
   rests-commute p q h l =
