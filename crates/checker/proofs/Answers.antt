@@ -16,7 +16,6 @@ use Rattle.plan_format.specs.declared.Told.{Told}
 use Rattle.plan_format.proofs.Judged.{other-given, or-else-first, or-else-second, or-else-none}
 use Rattle.plan_order.specs.Check.{room-refusal, Outcome, untouched, outcome, check-outcome, table-left, list-left, left-in, Says, Check-says}
 use Rattle.plan_order.proofs.Outcomes.{plan-refused, room-refused}
-use Rattle.plan_reader.specs.Reading.{Numbers-read}
 use Rattle.checker.specs.Leaving.{Room}
 
 abbrev pub told : (number place : ℕ) → Told
@@ -32,32 +31,43 @@ unfolding refusal
 tells {f} {n} {i} e =
     subst (λ (g : Refusal). Tells g 0 (told n i)) (sym e) (record { number = refl; place = refl; answer-is = no-answer (given (refusal n i)) })
 
+-- the check has no answer of its own
+pub answerless : (bs : List ℕ) (r : Told) (t x l y : List ℕ) → Check-says bs r t x l y → Check-says bs (told (r .number) (r .place)) t x l y
+unfolding Check-says
+answerless bs r t x l y s =
+    record {
+      tells =
+          record { number = s .tells .number; place = s .tells .place; answer-is = no-answer (given (check-outcome bs (length t) (length l) .refusal)) };
+      table-holds = s .table-holds;
+      list-holds = s .list-holds;
+    }
+
 says-untouched : (bs : List ℕ) (r : Told) (t l : List ℕ) (f : Refusal) → check-outcome bs (length t) (length l) ≡ outcome f untouched → Tells f 0 r → Check-says bs r t t l l
 unfolding Check-says outcome table-left list-left left-in
 says-untouched bs r t l f e h =
     subst (λ (o : Outcome). Says o 0 (plan-in bs) r t t l l) (sym e) (record { tells = h; table-holds = refl; list-holds = refl })
 
 module _ (bs : List ℕ) (r : Told) (t l : List ℕ) where
+  -- the plan's own refusal
+  of-plan : (f : Refusal) → plan-refusal bs ≡ f → given f ≡ true → r ≡ told (f .number) (f .place) → Check-says bs r t t l l
+  of-plan f same g e =
+      says-untouched bs r t l f (plan-refused bs (length t) (length l) (ap given same ∙ g) ∙ ap (λ (x : Refusal). outcome x untouched) same)
+      (record { number = ap (λ (y : Told). y .number) e; place = ap (λ (y : Told). y .place) e; answer-is = rw g (ap (λ (y : Told). y .answer) e) })
+
   -- 1 to 5
-  pub not-read : {nums : List ℕ} → Numbers-read bs r nums → (r .number ≡ 0 → ⊥) → Check-says bs r t t l l
+  pub not-read : (r .number ≡ 0 → ⊥) → r ≡ told (scanned bs .fault .number) (scanned bs .fault .place) → Check-says bs r t t l l
   unfolding plan-refusal
-  not-read n z =
+  not-read z e =
       let f = scanned bs .fault in
-      let g = other-given f (λ e. z (n .told .number ∙ e)) in
-      let same : plan-refusal bs ≡ f = or-else-first f (rules-refusal (plan-in bs)) g in
-      let given-too = ap given same ∙ g in
-      says-untouched bs r t l f (plan-refused bs (length t) (length l) given-too ∙ ap (λ (x : Refusal). outcome x untouched) same)
-      (record { number = n .told .number; place = n .told .place; answer-is = rw g (rw g at (n .told .answer-is)) })
+      let g = other-given f (λ x. z (ap (λ (y : Told). y .number) e ∙ x)) in
+      of-plan f (or-else-first f (rules-refusal (plan-in bs)) g) g e
 
   -- 6 to 8
   pub not-ruled : scanned bs .fault .number ≡ 0 → (r .number ≡ 0 → ⊥) → r ≡ told (rules-refusal (plan-in bs) .number) (rules-refusal (plan-in bs) .place) → Check-says bs r t t l l
   unfolding plan-refusal
   not-ruled clean z e =
       let f = rules-refusal (plan-in bs) in
-      let g = other-given f (λ x. z (ap (λ (y : Told). y .number) e ∙ x)) in
-      let same : plan-refusal bs ≡ f = or-else-second (scanned bs .fault) f clean in
-      says-untouched bs r t l f (plan-refused bs (length t) (length l) (ap given same ∙ g) ∙ ap (λ (x : Refusal). outcome x untouched) same)
-      (record { number = ap (λ (y : Told). y .number) e; place = ap (λ (y : Told). y .place) e; answer-is = rw g (ap (λ (y : Told). y .answer) e) })
+      of-plan f (or-else-second (scanned bs .fault) f clean) (other-given f (λ x. z (ap (λ (y : Told). y .number) e ∙ x))) e
 
   -- 9
   pub no-room : (n : ℕ) → count (plan-in bs) ≡ n → plan-refusal bs .number ≡ 0 → Tells (room-refusal n (length t) (length l)) 0 r → (r .number ≡ 0 → ⊥) → Check-says bs r t t l l

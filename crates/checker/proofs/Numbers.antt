@@ -82,7 +82,11 @@ module _ {bs nums : List ℕ} {r : Told} (n : Numbers-read bs r nums) where
   pub no-counts : (r .number ≡ 0 → ⊥) → Counts-told bs (record { number = r .number; place = r .place; queues = 0; semaphores = 0; buffers = 0; operations = 0 })
   no-counts z =
       let g = other-given (scanned bs .fault) (λ e. z (n .told .number ∙ e)) in
-      record { number = n .told .number; place = n .told .place; queues = rw g; semaphores = rw g; buffers = rw g; operations = rw g }
+      record {
+        number = n .told .number;
+        place = n .told .place;
+        sizes = record { queues = rw g; semaphores = rw g; buffers = rw g; operations = rw g };
+      }
 
   pub the-counts : (h : Header) → r .number ≡ 0 → h ≡ header-of nums →
       Counts-told bs (record { number = r .number; place = r .place; queues = h .queues; semaphores = h .semaphores; buffers = h .buffers; operations = h .operations })
@@ -92,8 +96,11 @@ module _ {bs nums : List ℕ} {r : Told} (n : Numbers-read bs r nums) where
       record {
         number = n .told .number;
         place = n .told .place;
-        queues = rw g (ap (λ (x : Header). x .queues) same);
-        semaphores = rw g (ap (λ (x : Header). x .semaphores) same);
-        buffers = rw g (ap (λ (x : Header). x .buffers) same);
-        operations = rw g (ap (λ (x : Header). x .operations) same);
+        sizes =
+            record {
+              queues = rw g (ap (λ (x : Header). x .queues) same);
+              semaphores = rw g (ap (λ (x : Header). x .semaphores) same);
+              buffers = rw g (ap (λ (x : Header). x .buffers) same);
+              operations = rw g (ap (λ (x : Header). x .operations) same);
+            };
       }

@@ -10,14 +10,18 @@ use Rattle.plan_format.specs.Stored.{scanned, plan-in}
 use Rattle.checker.specs.declared.Counted.{Counted}
 use Rattle.checker.specs.declared.Header.{Header}
 
--- number and place as the reader has them; the counts of queues, semaphores, buffers and operations, each 0 on a refusal
-pub record Counts-told (bytes : List ℕ) (r : Counted) : Type 0 where
-  pub number : r .number ≡ scanned bytes .fault .number
-  pub place : r .place ≡ scanned bytes .fault .place
+-- the counts of queues, semaphores, buffers and operations, each 0 where the reader refuses the plan
+pub record Sizes-told (bytes : List ℕ) (r : Counted) : Type 0 where
   pub queues : r .queues ≡ cond (given (scanned bytes .fault)) 0 (length (plan-in bytes .axes))
   pub semaphores : r .semaphores ≡ cond (given (scanned bytes .fault)) 0 (length (plan-in bytes .owners))
   pub buffers : r .buffers ≡ cond (given (scanned bytes .fault)) 0 (length (plan-in bytes .sizes))
   pub operations : r .operations ≡ cond (given (scanned bytes .fault)) 0 (count (plan-in bytes))
+
+-- the counts, with number and place as the reader has them
+pub record Counts-told (bytes : List ℕ) (r : Counted) : Type 0 where
+  pub number : r .number ≡ scanned bytes .fault .number
+  pub place : r .place ≡ scanned bytes .fault .place
+  pub sizes : Sizes-told bytes r
 
 -- each count in front of its section
 abbrev pub header-of : (numbers : List ℕ) → Header

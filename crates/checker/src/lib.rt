@@ -6,10 +6,10 @@ use plan_format::Told;
 ghost use mathlib.Core.Path.{_≡_};
 ghost use mathlib.Core.List.{List};
 ghost use Prim.Native.Nat.{ℕ, _≤_};
-ghost use Rattle.plan_format.specs.Stored.{Tells};
+ghost use Rattle.plan_format.specs.Stored.{scanned, Tells};
 ghost use Rattle.plan_order.specs.Check.{room-refusal, Check-says};
 ghost use Rattle.plan_order.specs.Promise.{Checked};
-ghost use Rattle.checker.specs.Counting.{Counts-told, header-of, Sized, Holds};
+ghost use Rattle.checker.specs.Counting.{Sizes-told, Counts-told, header-of, Sized, Holds};
 ghost use Rattle.checker.specs.Passing.{Numbered, Read};
 
 // How many queues, semaphores, buffers and operations a plan has; or the reader's refusal and its place.
@@ -35,7 +35,54 @@ pub fn counts(plan: &[u8]) -> Counted
     ensures { λ r. ⌜ Counts-told (now (plan .entry)) r ⌝ }
 {
     let mut numbers = [0u64; 22868];
-    let told = plan_reader::read_numbers(plan, &mut numbers);
+    read_counts(plan, &mut numbers)
+}
+
+// The check of a stored plan: 0, and the rows and the run in table and list; or the first refusal and its place.
+pub fn check_plan(plan: &[u8], table: &mut [u32], list: &mut [u32]) -> Told
+    ensures { λ r. ⌜ Checked (now (plan .entry)) r (now (table .entry)) (now (table .exit)) (now (list .entry)) (now (list .exit)) ⌝ }
+{
+    let mut numbers = [0u64; 22868];
+    let c = check_read(plan, &mut numbers, table, list);
+    Told {
+        number: c.number,
+        place: c.place,
+        answer: 0,
+    }
+}
+
+// The check for those who ask on: with the plan's counts, and with its numbers in front of the lent ones.
+pub fn check_read(
+    plan: &[u8],
+    numbers: &mut [u64; 22868],
+    table: &mut [u32],
+    list: &mut [u32],
+) -> Counted
+    ensures { λ r. ⌜ Checked (now (plan .entry)) (record { number = r .number; place = r .place; answer = 0 }) (now (table .entry)) (now (table .exit)) (now (list .entry)) (now (list .exit)) ⌝ }
+    ensures { λ r. ⌜ Sizes-told (now (plan .entry)) r ⌝ }
+    ensures { λ _. ⌜ (scanned (now (plan .entry)) .fault .number ≡ 0 → Holds (now (plan .entry)) (now (numbers .exit))) ⌝ }
+{
+    let c = read_counts(plan, numbers);
+    if c.number != 0 {
+        return c;
+    }
+    let told = check_numbers(numbers, table, list);
+    Counted {
+        number: told.number,
+        place: told.place,
+        queues: c.queues,
+        semaphores: c.semaphores,
+        buffers: c.buffers,
+        operations: c.operations,
+    }
+}
+
+// Reads the numbers of a stored plan, and gives its counts.
+fn read_counts(plan: &[u8], numbers: &mut [u64; 22868]) -> Counted
+    ensures { λ r. ⌜ Counts-told (now (plan .entry)) r ⌝ }
+    ensures { λ _. ⌜ (scanned (now (plan .entry)) .fault .number ≡ 0 → Holds (now (plan .entry)) (now (numbers .exit))) ⌝ }
+{
+    let told = plan_reader::read_numbers(plan, numbers);
     if told.number != 0 {
         return Counted {
             number: told.number,
@@ -46,7 +93,7 @@ pub fn counts(plan: &[u8]) -> Counted
             operations: 0,
         };
     }
-    let h = read_header(&numbers);
+    let h = read_header(numbers);
     Counted {
         number: told.number,
         place: told.place,
@@ -55,18 +102,6 @@ pub fn counts(plan: &[u8]) -> Counted
         buffers: h.buffers,
         operations: h.operations,
     }
-}
-
-// The check of a stored plan: 0, and the rows and the run in table and list; or the first refusal and its place.
-pub fn check_plan(plan: &[u8], table: &mut [u32], list: &mut [u32]) -> Told
-    ensures { λ r. ⌜ Checked (now (plan .entry)) r (now (table .entry)) (now (table .exit)) (now (list .entry)) (now (list .exit)) ⌝ }
-{
-    let mut numbers = [0u64; 22868];
-    let told = plan_reader::read_numbers(plan, &mut numbers);
-    if told.number != 0 {
-        return told;
-    }
-    check_numbers(&numbers, table, list)
 }
 
 // The counts among the numbers of a plan, each in front of its section.

@@ -7,6 +7,7 @@ ghost use mathlib.Core.Bool.{true, _&&_, _||_};
 ghost use lib.Dec.{leb};
 ghost use Rattle.plan_format.specs.Stored.{Read-says, Write-says};
 ghost use Rattle.plan_order.specs.Promise.{Checked};
+ghost use Rattle.questions.specs.Reuse.{Asked};
 ghost use Rattle.frontier.specs.Frontiers.{merge, raise, dominance};
 ghost use Rattle.frontier.specs.Meaning.{Merge-right, Raise-right, Dominance-means};
 ghost use Rattle.cundvrest_c.specs.Lent.{told-of, frontier-of, oversized, Merge-says, merged-of, Oversized-refused, dominance-told, dominance-of};
@@ -38,6 +39,24 @@ pub extern "C" fn cundvrest_check(
     ensures { λ _. ⌜ Checked (now (plan .entry)) (told-of (now (told .exit))) (now (table .entry)) (now (table .exit)) (now (list .entry)) (now (list .exit)) ⌝ }
 {
     lent::tell(checker::check_plan(plan, table, list), told);
+}
+
+// The reuse question: whether a queue may take a buffer anew; the answer is the verdict.
+#[no_mangle]
+pub extern "C" fn cundvrest_reuse(
+    plan: &[u8],
+    queue: u32,
+    buffer: u32,
+    table: &mut [u32],
+    list: &mut [u32],
+    told: &mut [u64; 3],
+)
+    ensures { λ _. ⌜ Asked (now (plan .entry)) queue buffer (told-of (now (told .exit))) (now (table .entry)) (now (table .exit)) (now (list .entry)) (now (list .exit)) ⌝ }
+{
+    lent::tell(
+        questions::reuse_question(plan, queue, buffer, table, list),
+        told,
+    );
 }
 
 // The larger epoch of each axis, cut to the capacity.

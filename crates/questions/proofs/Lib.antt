@@ -1,0 +1,4 @@
+pub mod Passed
+pub mod ReuseAsked
+pub mod ReuseVerdict
+pub mod ReuseTurns
