@@ -1,9 +1,12 @@
 -- What merge, raise and dominance tell and store, from what the proved functions answer of the frontiers that were lent. Assumes nothing.
 use mathlib.Core.Path.{_≡_, refl, sym, ap, _∙_, subst}
 use mathlib.Core.Bool.{true, false, _&&_, _||_}
-use mathlib.Core.List.{List}
+use mathlib.Core.List.{List, []}
 use Prim.Native.Nat.{ℕ}
-use lib.Dec.{leb}
+use native.Mathlib.Omega.{arith}
+use lib.Dec.{leb, eqb}
+use borrow.Author.Tests.{eqb-true, eqb-false}
+use Rattle.basics.proofs.Tests.{by-cases}
 use Rattle.plan_format.specs.declared.Told.{Told}
 use Rattle.frontier.specs.declared.Frontier.{Frontier}
 use Rattle.frontier.specs.declared.Merged.{Merged}
@@ -11,9 +14,12 @@ use Rattle.frontier.specs.declared.Dominance.{Dominance}
 use Rattle.frontier.specs.declared.Dominance.the-variants.{Yes, No, Unknown, Refused}
 use Rattle.frontier.specs.Frontiers.{well-formed, pack, one-entry, merge, raise, dominance, number-of}
 use Rattle.frontier.specs.Meaning.{Merge-right, Raise-right, Dominance-means}
-use Rattle.cundvrest_c.specs.Lent.{told-of, frontier-of, list-of, oversized, Merge-says, merged-of, Oversized-refused, dominance-told, dominance-of}
+use Rattle.frontier.proofs.Pack.{well-formed-pack}
+use Rattle.questions.specs.declared.sent.Sent.{Sent}
+use Rattle.questions.specs.SentMeaning.{Frontier-right}
+use Rattle.cundvrest_c.specs.Lent.{told-of, frontier-of, list-of, oversized, Merge-says, merged-of, Oversized-refused, Sent-says, sent-of, dominance-told, dominance-of}
 use Rattle.cundvrest_c.proofs.Tells.{dominance-back}
-use Rattle.cundvrest_c.proofs.Frontiers.{merged-back}
+use Rattle.cundvrest_c.proofs.Frontiers.{frontier-back, merged-back}
 use Rattle.cundvrest_c.proofs.Refusals.{first-fails, oversized-formed, either-oversized, dominance-fourteen, merge-refused}
 
 -- a merge that is told and stored
@@ -90,3 +96,24 @@ module _ (left right : List ℕ) (r : Dominance) (told : List ℕ) (e : told-of 
               ∙ dominance-fourteen (frontier-of left) (frontier-of right) (either-oversized left right o),
         ),
       )
+
+-- a frontier sent out that is told and stored is read as it was sent
+module _ (bytes : List ℕ) (j capacity : ℕ) (r : Sent) (table table-now list list-now told frontier : List ℕ) where
+  pub sent-answered : Sent-says r told frontier → Frontier-right bytes j capacity r table table-now list list-now →
+      Frontier-right bytes j capacity (sent-of told frontier) table table-now list list-now × Sent-says (sent-of told frontier) told frontier
+  unfolding sent-of
+  sent-answered says right-of =
+      let e = same in
+      (subst (λ (k : Sent). Frontier-right bytes j capacity k table table-now list list-now) e right-of, subst (λ (k : Sent). Sent-says k told frontier) e says)
+    where
+      whole : well-formed (r .frontier) ≡ true
+      whole =
+          by-cases (eqb (r .number) 0) (λ t. right-of .means (eqb-true (r .number) 0 t) .formed)
+          (λ n. ap well-formed (right-of .number .refused (eqb-false (r .number) 0 n)) ∙ well-formed-pack [] false tt (omega arith))
+
+      same : r ≡ sent-of told frontier
+      same = λ i. record {
+        number = sym (ap (λ (t : Told). t .number) (says .0)) i;
+        place = sym (ap (λ (t : Told). t .place) (says .0)) i;
+        frontier = sym (ap frontier-of (says .1) ∙ frontier-back (r .frontier) whole) i;
+      }

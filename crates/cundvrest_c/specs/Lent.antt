@@ -9,6 +9,7 @@ use lib.ListN.{getD, take, drop}
 use Rattle.plan_format.specs.declared.Told.{Told}
 use Rattle.frontier.specs.declared.Frontier.{Frontier}
 use Rattle.frontier.specs.declared.Merged.{Merged}
+use Rattle.questions.specs.declared.sent.Sent.{Sent}
 use Rattle.frontier.specs.declared.Dominance.{Dominance}
 use Rattle.frontier.specs.declared.Dominance.the-variants.{Yes, No, Unknown, Refused}
 
@@ -48,6 +49,15 @@ merged-of told frontier = record { number = told-of told .number; frontier = fro
 -- "is badly formed (14)", behind 15
 abbrev pub Oversized-refused : (oversized capable : Bool) → (told : List ℕ) → Type 0
 Oversized-refused over capable told = over ≡ true → told-of told .number ≡ cond capable 14 15
+
+-- ---- THE FRONTIER SENT OUT
+-- number and place, with nothing to answer; and the frontier
+abbrev pub Sent-says : Sent → (told frontier : List ℕ) → Type 0
+Sent-says r told frontier = (told-of told ≡ record { number = r .number; place = r .place; answer = 0 }) × (frontier ≡ list-of (r .frontier))
+
+-- what a caller reads there
+unfoldable pub sent-of : (told frontier : List ℕ) → Sent
+sent-of told frontier = record { number = told-of told .number; place = told-of told .place; frontier = frontier-of frontier }
 
 -- ---- DOMINANCE
 -- "answer: 0 no, 1 yes, 2 unknown"; 01: "for dominance the number stands instead of the three answers"

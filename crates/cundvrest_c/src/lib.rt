@@ -8,9 +8,10 @@ ghost use lib.Dec.{leb};
 ghost use Rattle.plan_format.specs.Stored.{Read-says, Write-says};
 ghost use Rattle.plan_order.specs.Promise.{Checked};
 ghost use Rattle.questions.specs.Reuse.{Asked};
+ghost use Rattle.questions.specs.SentMeaning.{Frontier-right};
 ghost use Rattle.frontier.specs.Frontiers.{merge, raise, dominance};
 ghost use Rattle.frontier.specs.Meaning.{Merge-right, Raise-right, Dominance-means};
-ghost use Rattle.cundvrest_c.specs.Lent.{told-of, frontier-of, oversized, Merge-says, merged-of, Oversized-refused, dominance-told, dominance-of};
+ghost use Rattle.cundvrest_c.specs.Lent.{told-of, frontier-of, oversized, Merge-says, merged-of, Oversized-refused, Sent-says, sent-of, dominance-told, dominance-of};
 
 // The numbers of a stored plan in front of the room; the answer is how many there are.
 #[no_mangle]
@@ -55,6 +56,32 @@ pub extern "C" fn cundvrest_reuse(
 {
     lent::tell(
         questions::reuse_question(plan, queue, buffer, table, list),
+        told,
+    );
+}
+
+// The frontier sent out for an operation, cut to the capacity.
+#[no_mangle]
+pub extern "C" fn cundvrest_frontier(
+    plan: &[u8],
+    operation: u32,
+    capacity: u32,
+    table: &mut [u32],
+    list: &mut [u32],
+    frontier: &mut [u64; 34],
+    told: &mut [u64; 3],
+)
+    ensures { λ _. ⌜ Frontier-right (now (plan .entry)) operation capacity (sent-of (now (told .exit)) (now (frontier .exit))) (now (table .entry)) (now (table .exit)) (now (list .entry)) (now (list .exit)) ⌝ }
+    ensures { λ _. ⌜ Sent-says (sent-of (now (told .exit)) (now (frontier .exit))) (now (told .exit)) (now (frontier .exit)) ⌝ }
+{
+    let r = questions::frontier_of(plan, operation, capacity, table, list);
+    lent::put(r.frontier, frontier);
+    lent::tell(
+        Told {
+            number: r.number,
+            place: r.place,
+            answer: 0,
+        },
         told,
     );
 }
