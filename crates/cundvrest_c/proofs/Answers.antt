@@ -22,25 +22,20 @@ use Rattle.cundvrest_c.proofs.Tells.{dominance-back}
 use Rattle.cundvrest_c.proofs.Frontiers.{frontier-back, merged-back}
 use Rattle.cundvrest_c.proofs.Refusals.{first-fails, oversized-formed, either-oversized, dominance-fourteen, merge-refused}
 
--- a merge that is told and stored
-pub record Stored (m : Merged) (told frontier : List ℕ) : Type 0 where
-  pub tells : told-of told ≡ record { number = m .number; place = 0; answer = 0 }
-  pub holds : frontier ≡ list-of (m .frontier)
-
-module _ (m n : Merged) (told frontier : List ℕ) (s : Stored m told frontier) (same : m ≡ n) where
+module _ (m n : Merged) (told frontier : List ℕ) (s : Merge-says m told frontier) (same : m ≡ n) where
   says : Merge-says n told frontier
   says = (
-    s .tells ∙ ap {B = Told} (λ (k : Merged). record { number = k .number; place = 0; answer = 0 }) same,
-    s .holds ∙ ap (λ (k : Merged). list-of (k .frontier)) same,
+    s .0 ∙ ap {B = Told} (λ (k : Merged). record { number = k .number; place = 0; answer = 0 }) same,
+    s .1 ∙ ap (λ (k : Merged). list-of (k .frontier)) same,
   )
 
   number : told-of told .number ≡ n .number
   number = ap (λ (t : Told). t .number) (says .0)
 
   read : well-formed (m .frontier) ≡ true → m ≡ merged-of told frontier
-  read w = sym (merged-back m told frontier (ap (λ (t : Told). t .number) (s .tells)) (s .holds) w)
+  read w = sym (merged-back m told frontier (ap (λ (t : Told). t .number) (s .0)) (s .1) w)
 
-module _ (left right : List ℕ) (capacity : ℕ) (m : Merged) (told frontier : List ℕ) (s : Stored m told frontier) where
+module _ (left right : List ℕ) (capacity : ℕ) (m : Merged) (told frontier : List ℕ) (s : Merge-says m told frontier) where
   pub merge-answered : (f g : Frontier) → f ≡ frontier-of left → g ≡ frontier-of right → m ≡ merge f g capacity → Merge-right f g capacity m →
       Merge-says (merge (frontier-of left) (frontier-of right) capacity) told frontier
       × (Merge-right (frontier-of left) (frontier-of right) capacity (merged-of told frontier)
@@ -55,7 +50,7 @@ module _ (left right : List ℕ) (capacity : ℕ) (m : Merged) (told frontier : 
         ),
       )
 
-module _ (old : List ℕ) (axis epoch capacity : ℕ) (m : Merged) (told frontier : List ℕ) (s : Stored m told frontier) where
+module _ (old : List ℕ) (axis epoch capacity : ℕ) (m : Merged) (told frontier : List ℕ) (s : Merge-says m told frontier) where
   pub raise-answered : (f : Frontier) → f ≡ frontier-of old → m ≡ raise f axis epoch capacity → Raise-right f axis epoch capacity m →
       Merge-says (raise (frontier-of old) axis epoch capacity) told frontier
       × (Raise-right (frontier-of old) axis epoch capacity (merged-of told frontier)

@@ -37,10 +37,14 @@ list-of f = f .axes ++ f .epochs ++ (f .len ∷ cond (f .tainted) 1 0 ∷ [])
 unfoldable pub oversized : List ℕ → Bool
 oversized ns = ltb 16 (getD ns 32 0) || ltb 1 (getD ns 33 0)
 
+-- a frontier beside its number and place, with nothing to answer
+abbrev pub Handed : (number place : ℕ) → Frontier → (told frontier : List ℕ) → Type 0
+Handed number place f told frontier = (told-of told ≡ record { number = number; place = place; answer = 0 }) × (frontier ≡ list-of f)
+
 -- ---- MERGE AND RAISE
--- the number, with place 0 as 01 has it for 14 and 15, and nothing to answer; and the frontier
+-- 01: "14: frontier badly formed, 0. 15: frontier capacity not 1..16, 0"
 abbrev pub Merge-says : Merged → (told frontier : List ℕ) → Type 0
-Merge-says m told frontier = (told-of told ≡ record { number = m .number; place = 0; answer = 0 }) × (frontier ≡ list-of (m .frontier))
+Merge-says m told frontier = Handed (m .number) 0 (m .frontier) told frontier
 
 -- what a caller reads there
 unfoldable pub merged-of : (told frontier : List ℕ) → Merged
@@ -51,9 +55,8 @@ abbrev pub Oversized-refused : (oversized capable : Bool) → (told : List ℕ) 
 Oversized-refused over capable told = over ≡ true → told-of told .number ≡ cond capable 14 15
 
 -- ---- THE FRONTIER SENT OUT
--- number and place, with nothing to answer; and the frontier
 abbrev pub Sent-says : Sent → (told frontier : List ℕ) → Type 0
-Sent-says r told frontier = (told-of told ≡ record { number = r .number; place = r .place; answer = 0 }) × (frontier ≡ list-of (r .frontier))
+Sent-says r told frontier = Handed (r .number) (r .place) (r .frontier) told frontier
 
 -- what a caller reads there
 unfoldable pub sent-of : (told frontier : List ℕ) → Sent

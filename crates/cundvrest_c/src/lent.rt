@@ -8,7 +8,7 @@ ghost use Prim.Native.Nat.{_+_, _≤_};
 ghost use lib.Dec.{ltb};
 ghost use lib.ListN.{length, getD, take, drop};
 ghost use lib.Seq.{sets};
-ghost use Rattle.cundvrest_c.specs.Lent.{told-of, frontier-of, list-of, dominance-told};
+ghost use Rattle.cundvrest_c.specs.Lent.{told-of, frontier-of, list-of, Handed, dominance-told};
 
 // Number, place and answer.
 pub fn tell(r: Told, told: &mut [u64])
@@ -102,7 +102,7 @@ fn put_row(row: &[u64], at: usize, numbers: &mut [u64])
 }
 
 // The 34 numbers of a frontier.
-pub fn put(f: Frontier, numbers: &mut [u64])
+fn put(f: Frontier, numbers: &mut [u64])
     requires { ⌜ length (now numbers) ≡ 34 ⌝ }
     ensures { λ _. ⌜ now (numbers .exit) ≡ list-of f ⌝ }
 {
@@ -110,4 +110,20 @@ pub fn put(f: Frontier, numbers: &mut [u64])
     put_row(&f.epochs, 16, numbers);
     numbers[32] = f.len as u64;
     numbers[33] = f.tainted as u64;
+}
+
+// A frontier beside its number and place, with nothing to answer.
+pub fn hand(number: u32, place: u64, f: Frontier, numbers: &mut [u64], told: &mut [u64])
+    requires { ⌜ (length (now numbers) ≡ 34) × (length (now told) ≡ 3) ⌝ }
+    ensures { λ _. ⌜ Handed number place f (now (told .exit)) (now (numbers .exit)) ⌝ }
+{
+    put(f, numbers);
+    tell(
+        Told {
+            number,
+            place,
+            answer: 0,
+        },
+        told,
+    );
 }

@@ -1,7 +1,6 @@
 // The C interface, declared in include/cundvrest.h: each function lends what it is lent to a proved function and stores what comes back.
 mod lent; // what the lent numbers stand for
 
-use plan_format::Told;
 ghost use mathlib.Core.Path.{_≡_};
 ghost use mathlib.Core.Bool.{true, _&&_, _||_};
 ghost use lib.Dec.{leb};
@@ -75,15 +74,7 @@ pub extern "C" fn cundvrest_frontier(
     ensures { λ _. ⌜ Sent-says (sent-of (now (told .exit)) (now (frontier .exit))) (now (told .exit)) (now (frontier .exit)) ⌝ }
 {
     let r = questions::frontier_of(plan, operation, capacity, table, list);
-    lent::put(r.frontier, frontier);
-    lent::tell(
-        Told {
-            number: r.number,
-            place: r.place,
-            answer: 0,
-        },
-        told,
-    );
+    lent::hand(r.number, r.place, r.frontier, frontier, told);
 }
 
 // The larger epoch of each axis, cut to the capacity.
@@ -100,15 +91,7 @@ pub extern "C" fn cundvrest_merge(
     ensures { λ _. ⌜ Oversized-refused (oversized (now (left .entry)) || oversized (now (right .entry))) (leb 1 capacity && leb capacity 16) (now (told .exit)) ⌝ }
 {
     let r = lent::frontier(left).merge(lent::frontier(right), capacity);
-    lent::put(r.frontier, merged);
-    lent::tell(
-        Told {
-            number: r.number,
-            place: 0,
-            answer: 0,
-        },
-        told,
-    );
+    lent::hand(r.number, 0, r.frontier, merged, told);
 }
 
 // One axis raised to an epoch.
@@ -126,15 +109,7 @@ pub extern "C" fn cundvrest_raise(
     ensures { λ _. ⌜ Oversized-refused (oversized (now (old .entry))) (leb 1 capacity && leb capacity 16) (now (told .exit)) ⌝ }
 {
     let r = lent::frontier(old).raise(axis, epoch, capacity);
-    lent::put(r.frontier, raised);
-    lent::tell(
-        Told {
-            number: r.number,
-            place: 0,
-            answer: 0,
-        },
-        told,
-    );
+    lent::hand(r.number, 0, r.frontier, raised, told);
 }
 
 // Whether the left frontier dominates the right one: 0 no, 1 yes, 2 unknown.

@@ -7,11 +7,8 @@ use Rattle.cundvrest_c.proofs.cundvrest_frontier.Tie as tie
 frontier-of-requires : tie.Need-frontier-of-requires
 frontier-of-requires c κs = search needs
 
-put-requires : tie.Need-put-requires
-put-requires c κs = search needs
-
-tell-requires : tie.Need-tell-requires
-tell-requires c κs = search needs
+hand-requires : tie.Need-hand-requires
+hand-requires c κs = search needs
 
 same-length : tie.Need-same-length
 same-length c = search needs
@@ -20,9 +17,9 @@ same-length-2 : tie.Need-same-length-2
 same-length-2 c = search needs
 
 returns : tie.Need-returns
-returns c = sent-answered _ _ _ _ _ _ _ _ _ _ (c .tell .ensures, c .before .before .put .ensures) (c .before .before .before .before .before .before .before .before .frontier-of .ensures)
+returns c = sent-answered _ _ _ _ _ _ _ _ _ _ (c .hand .ensures) (c .before .before .before .before .before .before .before .frontier-of .ensures)
 
 pub cundvrest-frontier-spec : {M : Type 1} → statement M
 cundvrest-frontier-spec =
     tie.close
-    (tie.spec frontier-of-requires put-requires tell-requires same-length same-length-2 returns)
+    (tie.spec frontier-of-requires hand-requires same-length same-length-2 returns)

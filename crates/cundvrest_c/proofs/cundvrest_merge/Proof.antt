@@ -13,21 +13,17 @@ frontier-requires-2 c κs = search needs
 merge-requires : tie.Need-merge-requires
 merge-requires c κs = search needs
 
-put-requires : tie.Need-put-requires
-put-requires c κs = search needs
-
-tell-requires : tie.Need-tell-requires
-tell-requires c κs = search needs
+hand-requires : tie.Need-hand-requires
+hand-requires c κs = search needs
 
 returns : tie.Need-returns
 returns c =
-    let a = c .before .before .before .before .before .before .before .before .before .args in
-    let merged = c .before .before .before .before .merge in
-    let left = c .before .before .before .before .before .before .before .frontier in
-    let right = c .before .before .before .before .before .frontier2 in
-    merge-answered (a .left .now) (a .right .now) (a .capacity) (merged .result) (c .tell .last .1 .0) (c .before .before .put .last .1 .0)
-    (record { tells = c .tell .ensures; holds = c .before .before .put .ensures }) (left .result) (right .result) (left .ensures) (right .ensures)
-    (merged .ensures .0) (merged .ensures .1)
+    let a = c .before .before .before .before .before .before .before .before .args in
+    let merged = c .before .before .before .merge in
+    let left = c .before .before .before .before .before .before .frontier in
+    let right = c .before .before .before .before .frontier2 in
+    merge-answered (a .left .now) (a .right .now) (a .capacity) (merged .result) (c .hand .last .1 .1 .1 .1 .0) (c .hand .last .1 .1 .1 .0) (c .hand .ensures)
+    (left .result) (right .result) (left .ensures) (right .ensures) (merged .ensures .0) (merged .ensures .1)
 
 pub cundvrest-merge-spec : {M : Type 1} → statement M
 cundvrest-merge-spec =
@@ -36,6 +32,5 @@ cundvrest-merge-spec =
     frontier-requires
     frontier-requires-2
     merge-requires
-    put-requires
-    tell-requires
+    hand-requires
     returns)
