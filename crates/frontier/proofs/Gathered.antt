@@ -1,14 +1,14 @@
 -- Entries gathered under distinct axes: each axis has its own epoch, and any other none. Assumes nothing.
 use mathlib.Core.Path.{_≡_, refl, sym, ap, ap₂, _∙_}
 use mathlib.Core.Bool.{cond}
-use mathlib.Core.List.{List, [], _∷_}
+use mathlib.Core.List.{List, _∷_}
 use Prim.Native.Nat.{ℕ, zero, suc, _+_, _≤_, _<_, max}
 use native.Mathlib.Omega.{arith}
 use lib.Dec.{eqb}
 use borrow.Author.Tests.{eqb-true, eqb-false, eq-eqb, ne-eqb}
 use Rattle.basics.specs.Lists.{tabulate-from}
 use Rattle.basics.proofs.Tests.{by-cases}
-use Rattle.frontier.specs.Entries.{Entry, union}
+use Rattle.frontier.specs.Entries.{Entry}
 use Rattle.frontier.specs.Frontiers.{one-entry, gathered}
 use Rattle.frontier.specs.Meaning.{epoch-at}
 use Rattle.frontier.proofs.Sorted.{epoch-none, epoch-union}

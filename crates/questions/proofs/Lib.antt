@@ -1,4 +1,5 @@
 pub mod Passed
+pub mod ReuseStray
 pub mod ReuseAsked
 pub mod ReuseVerdict
 pub mod ReuseTurns

@@ -20,6 +20,7 @@ use Rattle.plan_format.proofs.Plans.{sound-in}
 use Rattle.plan_order.specs.Check.{room-refusal, Leaves, rows-and-run, check-outcome, left-in, table-left, Check-says}
 use Rattle.plan_order.specs.Rows.{rows}
 use Rattle.plan_order.specs.Promise.{unrefused, Checked}
+use Rattle.plan_order.proofs.CheckMeaning.{answer-unrefused}
 use Rattle.plan_order.proofs.OutcomeMeaning.{Left-case, left-untouched, left-zeros, left-rows, check-left-case}
 use Rattle.plan_order.proofs.Rows.{row-at, rows-at, rows-length}
 use Rattle.plan_columns.specs.Columns.{Row-columns}
@@ -38,6 +39,13 @@ passed-leaves bs t l z = by-case (check-left-case bs t l)
     by-case (left-zeros low high e) = absurd (omega arith)
     by-case (left-rows n e w) = e
 
+-- a passed check refuses nothing of the plan
+pub passed-good : (bs : List ℕ) (t l : ℕ) → check-outcome bs t l .refusal .number ≡ 0 → plan-refusal bs .number ≡ 0
+unfolding unrefused
+passed-good bs t l z =
+    not-given-zero (plan-refusal bs) (not-true (given (plan-refusal bs))
+    (and-left (not (given (plan-refusal bs))) (not (given (room-refusal (count (plan-in bs)) t l))) (answer-unrefused bs t l (inl z))))
+
 -- rows in front of a table
 rows-in-front : (p : Plan) (t : List ℕ) → Row-columns p (λ j. j < count p) (in-front (rows p) t)
 unfolding Row-columns
@@ -52,10 +60,7 @@ module _ {bs : List ℕ} {c : Counted} {t x l y : List ℕ} (sizes : Sizes-told 
   none-refused = sym (checked .says .tells .number) ∙ passed
 
   good : plan-refusal bs .number ≡ 0
-  unfolding unrefused
-  good =
-      not-given-zero (plan-refusal bs) (not-true (given (plan-refusal bs))
-      (and-left (not (given (plan-refusal bs))) (not (given (room-refusal (count (plan-in bs)) (length t) (length l)))) (checked .answers (inl passed))))
+  good = passed-good bs (length t) (length l) none-refused
 
   sound : Sound (plan-in bs)
   sound = sound-in bs good
@@ -64,22 +69,23 @@ module _ {bs : List ℕ} {c : Counted} {t x l y : List ℕ} (sizes : Sizes-told 
   unfolding plan-refusal
   read = or-else-none (scanned bs .fault) (rules-refusal (plan-in bs)) good .0
 
-  rows-shown : Row-columns (plan-in bs) (λ j. j < count (plan-in bs)) x
+  pub rows-lie : x ≡ in-front (rows (plan-in bs)) t
   unfolding Check-says table-left left-in
-  rows-shown =
-      let front : x ≡ table-left rows-and-run (plan-in bs) t =
-      checked .says .table-holds ∙ ap (λ (v : Leaves). table-left v (plan-in bs) t) (passed-leaves bs (length t) (length l) none-refused) in
-      subst (λ (z : List ℕ). Row-columns (plan-in bs) (λ j. j < count (plan-in bs)) z) (sym front) (rows-in-front (plan-in bs) t)
+  rows-lie =
+      checked .says .table-holds ∙ ap (λ (v : Leaves). table-left v (plan-in bs) t) (passed-leaves bs (length t) (length l) none-refused)
+
+  pub rows-shown : Row-columns (plan-in bs) (λ j. j < count (plan-in bs)) x
+  rows-shown = subst (λ (z : List ℕ). Row-columns (plan-in bs) (λ j. j < count (plan-in bs)) z) (sym rows-lie) (rows-in-front (plan-in bs) t)
 
   -- ---- the counts, and the operations among the numbers
-  queues-are : c .queues ≡ queues (plan-in bs)
+  pub queues-are : c .queues ≡ queues (plan-in bs)
   unfolding queues
   queues-are = sizes .queues ∙ rw (zero-not-given (scanned bs .fault) read)
 
   buffers-are : c .buffers ≡ length (plan-in bs .sizes)
   buffers-are = sizes .buffers ∙ rw (zero-not-given (scanned bs .fault) read)
 
-  operations-are : count (plan-in bs) ≡ c .operations
+  pub operations-are : count (plan-in bs) ≡ c .operations
   operations-are = sym (sizes .operations ∙ rw (zero-not-given (scanned bs .fault) read))
 
   semaphores-are : c .semaphores ≡ length (plan-in bs .owners)

@@ -4,9 +4,9 @@ use mathlib.Core.Logic.{_⊎_, inl}
 use mathlib.Core.List.{List}
 use Prim.Native.Nat.{ℕ, _≤_, _<_}
 use native.Mathlib.Omega.{arith}
-use lib.Dec.{eqb}
+use lib.Dec.{leb, eqb}
 use lib.ListN.{length}
-use borrow.Author.Tests.{le-leb, lt-leb, eqb-true, eqb-false}
+use borrow.Author.Tests.{leb-true, leb-false, le-leb, lt-leb, eqb-true, eqb-false}
 use Rattle.basics.proofs.Tests.{by-cases, either}
 use Rattle.plan_format.specs.Plan.{Plan, queues}
 use Rattle.plan_format.specs.Refusal.{refusal, none-given, given, or-else}
@@ -15,14 +15,18 @@ use Rattle.plan_format.specs.declared.Told.{Told}
 use Rattle.plan_format.proofs.Judged.{zero-not-given, other-given}
 use Rattle.plan_order.specs.Check.{Leaves, Outcome, outcome, or-then, check-outcome, table-left, list-left, Says, Check-says}
 use Rattle.plan_order.specs.Reuse.{number-of, verdict, question-refusal, reuse-outcome, Reuse-says}
+use Rattle.plan_order.specs.Holdings.{buffer-marks}
+use Rattle.plan_order.specs.Meaning.{Forced, When}
+use Rattle.plan_order.specs.declared.Verdict.the-variants.{StrayUse}
 use Rattle.plan_order.specs.Promise.{Demand-3-stored, Safe, Checked}
-use Rattle.plan_order.proofs.CheckMeaning.{check-eleven, answer-unrefused}
+use Rattle.plan_order.proofs.CheckMeaning.{check-eleven, answer-unrefused, check-means}
 use Rattle.plan_order.proofs.Promises.{demand-3-stored}
 use Rattle.plan_order.proofs.QuestionMeaning.{question-means, question-left, question-answer}
 use Rattle.checker.specs.declared.Counted.{Counted}
 use Rattle.questions.specs.Reuse.{Asked}
 use Rattle.questions.specs.ReusePass.{Opened}
 use Rattle.questions.proofs.Passed.{passed-leaves}
+use Rattle.questions.proofs.ReuseStray.{no-stray}
 
 -- ---- all that a caller gets
 module _ (bs : List ℕ) (q b t l : ℕ) where
@@ -39,6 +43,27 @@ module _ (bs : List ℕ) (q b t l : ℕ) where
   unfolding Demand-3-stored
   passed-safe z = demand-3-stored bs t l (answer-unrefused bs t l (inl z)) .exactly .0 z
 
+  -- its marks are forced, on a buffer of the plan
+  passed-forced : check-outcome bs t l .refusal .number ≡ 0 → b < length (plan-in bs .sizes) →
+      (k : ℕ) → k < length (buffer-marks (plan-in bs) b) → Forced (plan-in bs) b k
+  unfolding Demand-3-stored
+  passed-forced z inside k here =
+      let place = demand-3-stored bs t l (answer-unrefused bs t l (inl z)) .passed-place z in
+      check-means bs t l .passed .0 ((z, place), passed-leaves bs t l z) .2 b k inside here
+
+  answered-inside : reuse-outcome bs q b t l .refusal .number ≡ 0 → b < length (plan-in bs .sizes)
+  answered-inside e =
+      let z = check-passed (sym e) (inl refl) in
+      let means = question-means bs q b t l in
+      by-cases (leb (queues (plan-in bs)) q)
+      (λ h. absurd (omega (arith, means .twelve .1 (z, leb-true (queues (plan-in bs)) q h))))
+      (λ h. by-cases (leb (length (plan-in bs .sizes)) b)
+      (λ g. absurd (omega (arith, means .thirteen .1 (z, leb-false (queues (plan-in bs)) q h, leb-true (length (plan-in bs .sizes)) b g))))
+      (λ g. leb-false (length (plan-in bs .sizes)) b g))
+
+  answered-no-stray : reuse-outcome bs q b t l .refusal .number ≡ 0 → When (plan-in bs) q b StrayUse → ⊥
+  answered-no-stray e = no-stray (plan-in bs) b (passed-forced (check-passed (sym e) (inl refl)) (answered-inside e)) q
+
 pub asked : (bs : List ℕ) (q b : ℕ) (r : Told) (t x l y : List ℕ) → Reuse-says bs q b r t x l y → Asked bs q b r t x l y
 unfolding Reuse-says
 asked bs q b r t x l y s =
@@ -52,6 +77,8 @@ asked bs q b r t x l y s =
       passed = λ w. passed-safe bs q b (length t) (length l) (check-passed bs q b (length t) (length l) n w);
       left = question-left bs q b r t x l y s;
       answer = question-answer bs q b r t x l y s;
+      no-stray-use =
+          λ z a. answered-no-stray bs q b (length t) (length l) (sym n ∙ z) (question-answer bs q b r t x l y s z .stray-use .0 a);
       no-answer = λ z. s .tells .answer-is ∙ rw (other-given f (λ e. z (n ∙ e)));
     }
 
@@ -100,7 +127,8 @@ module _ {p : Plan} {c : Counted} {numbers rows : List ℕ} (opened : Opened p c
         rw (lt-leb (queues p) q (omega (arith, opened .queues-are)), le-leb (length (p .sizes)) b (omega (arith, opened .buffers-are)))
         (record { number = refl; place = refl; answer-is = refl })
 
-    pub answered : b < c .buffers → {a : ℕ} → a ≡ number-of (verdict p q b) → Tells (question-refusal p q b) (number-of (verdict p q b)) (record { number = 0; place = 0; answer = a })
+    pub answered : b < c .buffers → {a : ℕ} → a ≡ number-of (verdict p q b) →
+        Tells (question-refusal p q b) (number-of (verdict p q b)) (record { number = 0; place = 0; answer = a })
     unfolding question-refusal or-else refusal given none-given
     answered h e =
         rw (lt-leb (queues p) q (omega (arith, opened .queues-are)), lt-leb (length (p .sizes)) b (omega (arith, opened .buffers-are)))

@@ -46,7 +46,8 @@ module _ (queue rows : List ℕ) where
 -- ---- the marks, from the first to the last
 -- the verdict from here is that of the whole
 pub record Judging (queue rows mark operation : List ℕ) (b last many : ℕ) (v : Verdict) (all : Bool) (k : ℕ) : Type 0 where
-  pub rest : verdict-from (seen queue rows last) b v all (shown-from mark operation (many - k) k) ≡ verdict-from (seen queue rows last) b Fresh true (shown-from mark operation many 0)
+  pub rest : verdict-from (seen queue rows last) b v all (shown-from mark operation (many - k) k) ≡
+      verdict-from (seen queue rows last) b Fresh true (shown-from mark operation many 0)
 
 module _ {queue rows mark operation : List ℕ} {b last many : ℕ} where
   pub judging-none : Judging queue rows mark operation b last many Fresh true 0
@@ -64,7 +65,8 @@ module _ {queue rows mark operation : List ℕ} {b last many : ℕ} where
     judging-other h = record { rest = rw (shown-next mark operation many k more, ← m-is, ne-eqb (m / 2) b h) at (j .rest) }
 
     -- a mark on the buffer
-    pub judging-own : {i : ℕ} {s : Bool} {v′ : Verdict} → i ≡ getD operation k 0 % 1024 → m / 2 ≡ b → s ≡ seen queue rows last i → v′ ≡ verdict-after (eqb (m % 2) 1) s (a && s) →
+    pub judging-own : {i : ℕ} {s : Bool} {v′ : Verdict} → i ≡ getD operation k 0 % 1024 → m / 2 ≡ b → s ≡ seen queue rows last i →
+        v′ ≡ verdict-after (eqb (m % 2) 1) s (a && s) →
         Judging queue rows mark operation b last many v′ (a && s) (k + 1)
     unfolding verdict-from
     judging-own i-is h s-is v-is =

@@ -41,7 +41,11 @@ module _ {p : Plan} {n marks : ℕ} {queue mark operation rows : List ℕ} (show
   seen-right q i l =
       by-option (last-on p q) (λ e. rw e)
       (λ j e. let inside : j < count p = highest-some (count p) (λ i. eqb (op p i .queue) q) j e .inside in
-      rw (e, lt-ltb j 1024 (omega (arith, shown .sound .few-operations)), ordered-right p (shown .sound) queue rows (shown .queues-shown) (shown .rows-shown) i j l inside))
+      rw (
+        e,
+        lt-ltb j 1024 (omega (arith, shown .sound .few-operations)),
+        ordered-right p (shown .sound) queue rows (shown .queues-shown) (shown .rows-shown) i j l inside,
+      ))
 
 -- ---- the verdict by the last mark, whatever came before
 module _ (f : ℕ → Bool) where
@@ -66,14 +70,20 @@ module _ (f : ℕ → Bool) where
   from-at b v a [] = refl
   from-at b v a (m ∷ ms) =
       by-cases (eqb (m .buffer) b)
-      (λ t. rw t (from-at b (verdict-after (eqb (m .kind) 1) (f (m .by)) (a && f (m .by))) (a && f (m .by)) ms ∙ one-more v a (record { by = m .by; kind = m .kind }) (of-buffer b ms)))
+      (λ t. rw t (from-at b (verdict-after (eqb (m .kind) 1) (f (m .by)) (a && f (m .by))) (a && f (m .by)) ms
+      ∙ one-more v a (record { by = m .by; kind = m .kind }) (of-buffer b ms)))
       (λ e. rw e (from-at b v a ms))
 
-from-same : (p : Plan) (f g : ℕ → Bool) (b : ℕ) → ((i : ℕ) → i < count p → f i ≡ g i) → (v : Verdict) (a : Bool) (ms : List Marked) → Each (Known p) ms → verdict-from f b v a ms ≡ verdict-from g b v a ms
+from-same : (p : Plan) (f g : ℕ → Bool) (b : ℕ) → ((i : ℕ) → i < count p → f i ≡ g i) →
+    (v : Verdict) (a : Bool) (ms : List Marked) → Each (Known p) ms → verdict-from f b v a ms ≡ verdict-from g b v a ms
 unfolding verdict-from
 from-same p f g b h v a [] k = refl
 from-same p f g b h v a (m ∷ ms) k =
-    rw (h (m .by) (k .0 .by), from-same p f g b h (verdict-after (eqb (m .kind) 1) (g (m .by)) (a && g (m .by))) (a && g (m .by)) ms (k .1), from-same p f g b h v a ms (k .1))
+    rw (
+      h (m .by) (k .0 .by),
+      from-same p f g b h (verdict-after (eqb (m .kind) 1) (g (m .by)) (a && g (m .by))) (a && g (m .by)) ms (k .1),
+      from-same p f g b h v a ms (k .1),
+    )
 
 at-verdict : (p : Plan) (last : Option ℕ) (ms : List Placed) (m : Option Placed) → verdict-at (λ i. seen-by p last i) Fresh true ms m ≡ verdict-on p last ms m
 unfolding verdict-at verdict-on verdict-after
@@ -81,7 +91,8 @@ at-verdict p last ms none = refl
 at-verdict p last ms (some m) =
     by-cases (is-free m) (λ t. by-cases (seen-by p last (m .by)) (λ s. rw (t, s)) (λ s. rw (t, s))) (λ e. rw e)
 
-pub verdict-right : {p : Plan} {n marks : ℕ} {queue mark operation rows : List ℕ} (q b : ℕ) {last : ℕ} {r : Verdict} → Shown p n marks queue mark operation rows →
+pub verdict-right : {p : Plan} {n marks : ℕ} {queue mark operation rows : List ℕ} (q b : ℕ) {last : ℕ} {r : Verdict} →
+    Shown p n marks queue mark operation rows →
     last ≡ last-shown queue q n → r ≡ verdict-from (seen queue rows last) b Fresh true (shown-from mark operation marks 0) → r ≡ verdict p q b
 unfolding verdict
 verdict-right {p} {n} {marks} {queue} {mark} {operation} {rows} q b shown last-is e =
@@ -89,6 +100,7 @@ verdict-right {p} {n} {marks} {queue} {mark} {operation} {rows} q b shown last-i
     let last-right = last-is ∙ ap (last-shown queue q) (sym (shown .many)) ∙ last-of p queue q (shown .queues-shown) in
     e
     ∙ rw (last-right, marks-shown p marks mark operation (shown .sound) (shown .few-buffers) (shown .marks-shown))
-    (from-same p (seen queue rows (place-or 1024 (last-on p q))) (λ i. seen-by p (last-on p q) i) b (λ i l. seen-right shown q i l) Fresh true (plan-marks p) known
+    (from-same p (seen queue rows (place-or 1024 (last-on p q))) (λ i. seen-by p (last-on p q) i) b (λ i l. seen-right shown q i l)
+    Fresh true (plan-marks p) known
     ∙ from-at (λ i. seen-by p (last-on p q) i) b Fresh true (plan-marks p)
     ∙ rw (of-plan p b) (at-verdict p (last-on p q) (buffer-marks p b) (last-mark (buffer-marks p b))))

@@ -11,19 +11,18 @@ use borrow.Author.Tests.{ltb-true, ltb-false, lt-ltb, le-ltb}
 use Rattle.basics.proofs.Tests.{by-cases, either}
 use Rattle.basics.proofs.Tables.{tabulate-length}
 use Rattle.frontier.specs.Entries.{Entry, find, cut}
-use Rattle.frontier.specs.Frontiers.{entries, well-formed, pack, reached, answer, dominance}
-use Rattle.frontier.specs.Meaning.{epoch-of, epoch-at, Completion, Over}
+use Rattle.frontier.specs.Frontiers.{entries, well-formed, pack, merge, reached, answer, dominance}
+use Rattle.frontier.specs.Meaning.{epoch-of, epoch-at, Completion}
 use Rattle.frontier.specs.declared.Frontier.{Frontier}
 use Rattle.frontier.specs.declared.Lookup.{Lookup}
 use Rattle.frontier.specs.declared.Lookup.the-variants.{Listed, Absent}
-use Rattle.frontier.specs.declared.Dominance.{Dominance}
 use Rattle.frontier.specs.declared.Dominance.the-variants.{Yes, No}
 use Rattle.frontier.proofs.Sorted.{Sorted}
 use Rattle.frontier.proofs.Cut.{sorted-cut, cut-length, cut-whole, find-cut, epoch-cut}
 use Rattle.frontier.proofs.Associate.{cut-fills}
 use Rattle.frontier.proofs.Pack.{entries-pack, well-formed-pack}
 use Rattle.frontier.proofs.Dominates.{judged-both, dominance-means}
-use Rattle.frontier.proofs.Raising.{sorted-gathered, gathered-length}
+use Rattle.frontier.proofs.Raising.{sorted-gathered, gathered-length, merge-empty}
 use Rattle.plan_format.specs.Plan.{Plan, count, queues}
 use Rattle.plan_format.specs.Sound.{Sound}
 use Rattle.plan_order.specs.Precedence.{Before}
@@ -59,7 +58,8 @@ module _ (p : Plan) (sound : Sound p) where
   few-sent : (j : ℕ) → length (sent-entries p j) ≤ 16
   unfolding sent-entries row-entries
   few-sent j =
-      omega (arith, gathered-length (row-entries p j), tabulate-length {A = Entry} (λ q. record { axis = getD (p .axes) q 0; epoch = getD (row p j) q 0 }) (queues p) 0, sound .few-queues)
+      let entry-of : ℕ → Entry = λ q. record { axis = getD (p .axes) q 0; epoch = getD (row p j) q 0 } in
+      omega (arith, gathered-length (row-entries p j), tabulate-length entry-of (queues p) 0, sound .few-queues)
 
   listed-right : (j axis e : ℕ) → (find axis (sent-entries p j) ≡ Listed e) ↔ ((0 < e) × ((q : ℕ) × In-row p j axis e q))
   unfolding epoch-at
@@ -98,6 +98,16 @@ module _ (p : Plan) (sound : Sound p) where
       exact = λ t a. rw (found, cut-whole c (sent-entries p j) (ltb-false c (length (sent-entries p j)) (sym taint-is ∙ t))) (map-same p sound j full m a);
     }
 
+  -- nothing is cut at sixteen, and a merge with the empty frontier cuts
+  whole-is : (j : ℕ) → sent p j 16 ≡ pack (sent-entries p j) false
+  unfolding sent
+  whole-is j = ap₂ pack (cut-whole 16 (sent-entries p j) (few-sent j)) (le-ltb 16 (length (sent-entries p j)) (few-sent j))
+
+  merged-sent : (j c : ℕ) → 1 ≤ c → c ≤ 16 → merge (sent p j 16) (pack [] false) c ≡ record { number = 0; frontier = sent p j c }
+  unfolding sent
+  merged-sent j c h k =
+      ap (λ (f : Frontier). merge f (pack [] false) c) (whole-is j) ∙ merge-empty (sent-entries p j) false c (sorted-sent j) (few-sent j) h k
+
   untainted : (j : ℕ) → sent p j 16 .tainted ≡ false
   untainted j = taint-is j 16 ∙ le-ltb 16 (length (sent-entries p j)) (few-sent j)
 
@@ -135,10 +145,11 @@ module _ (p : Plan) (sound : Sound p) where
         (completes-sent j c full (entries-map p sound j)) (completes-sent i d other (entries-map p sound i))
         (order-over p sound i j inside full other (entries-map p sound j) (entries-map p sound i) w)
 
-  pub sent-means : (j c : ℕ) → c ≤ 16 → Sent-means p j c (sent p j c)
-  sent-means j c h = record {
+  pub sent-means : (j c : ℕ) → 1 ≤ c → c ≤ 16 → Sent-means p j c (sent p j c)
+  sent-means j c low h = record {
     formed = formed-sent j c h;
     listed = listed-right j;
+    as-merged = merged-sent j c low h;
     stays = λ a. ap (find a) (found j c) ∙ find-cut c 0 (sent-entries p j) (sorted-sent j) a;
     fills = ap length (found j c) ∙ cut-fills c (sent-entries p j) (sorted-sent j);
     taint = (
@@ -147,8 +158,8 @@ module _ (p : Plan) (sound : Sound p) where
     );
     row-map = entries-map p sound j;
     completes = completes-sent j c;
-    if-yes = λ i d inside l k. yes-order j c i d inside;
-    if-no = λ i d inside l k. no-order j c i d inside;
+    if-yes = yes-order j c;
+    if-no = no-order j c;
     exactly = λ e i inside. (
       yes-order j c i 16 inside,
       (λ w. rw e (either (whole i j) (λ y. y) (λ n. absurd (no-order j 16 i 16 inside n w)))),

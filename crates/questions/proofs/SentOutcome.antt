@@ -1,32 +1,23 @@
 -- The outcome of the question for a frontier: the plan first, then the operation, then the capacity; what each hands back and leaves.
 -- Assumes nothing.
 use mathlib.Core.Path.{_≡_, refl, sym, ap, _∙_, subst}
-use mathlib.Core.Bool.{false, cond}
 use mathlib.Core.Logic.{_⊎_, inl, inr}
-use mathlib.Core.List.{List, []}
+use mathlib.Core.List.{List}
 use Prim.Native.Nat.{ℕ, _≤_, _<_}
 use native.Mathlib.Omega.{arith}
 use lib.Dec.{leb, eqb}
-use lib.ListN.{length}
 use borrow.Author.Tests.{leb-true, leb-false, le-leb, lt-leb, eqb-true, eqb-false}
-use Rattle.basics.proofs.Tests.{by-cases, either}
-use Rattle.frontier.specs.Frontiers.{pack}
-use Rattle.frontier.specs.declared.Frontier.{Frontier}
+use Rattle.basics.proofs.Tests.{by-cases}
 use Rattle.plan_format.specs.Plan.{Plan, count}
 use Rattle.plan_format.specs.Refusal.{refusal, none-given, given, or-else}
-use Rattle.plan_format.specs.Stored.{plan-in, plan-refusal}
+use Rattle.plan_format.specs.Stored.{plan-in}
 use Rattle.plan_format.specs.Meaning.{Refuses}
-use Rattle.plan_format.specs.declared.Told.{Told}
 use Rattle.plan_format.proofs.Judged.{zero-not-given, other-given}
-use Rattle.plan_format.proofs.Plans.{sound-in}
-use Rattle.plan_order.specs.Check.{rows-and-run, Outcome, outcome, or-then, check-outcome, table-left, list-left, Check-says}
-use Rattle.plan_order.specs.Meaning.{Gives, Left-by-number}
+use Rattle.plan_order.specs.Check.{rows-and-run, Outcome, outcome, or-then, check-outcome}
+use Rattle.plan_order.specs.Meaning.{Gives}
 use Rattle.plan_order.proofs.CheckMeaning.{check-eleven}
-use Rattle.plan_order.proofs.OutcomeMeaning.{Left-case, left-untouched, left-zeros, left-rows, left-by, check-left-case, passed-whole}
-use Rattle.questions.specs.declared.sent.Sent.{Sent}
-use Rattle.questions.specs.Sent.{sent, sent-refusal, sent-outcome, told, Frontier-says}
-use Rattle.questions.specs.SentMeaning.{Sent-number, Frontier-right}
-use Rattle.questions.proofs.SentMeaning.{sent-means}
+use Rattle.plan_order.proofs.OutcomeMeaning.{Left-case, left-rows, check-left-case, passed-whole}
+use Rattle.questions.specs.Sent.{sent-refusal, sent-outcome}
 
 -- ---- the question's own refusals
 module _ (p : Plan) (j c : ℕ) where
@@ -63,7 +54,7 @@ module _ (bs : List ℕ) (j c t l : ℕ) where
   gives-asked n i z r = rw (then-asked z) (r, refl)
 
   pub data Sent-case (n : ℕ) : Type 0 where
-    plan-case : (checked .refusal .number ≡ 0 → ⊥) → Sent-case n
+    plan-case : 1 ≤ n → n ≤ 11 → (checked .refusal .number ≡ 0 → ⊥) → Sent-case n
     operation-case : n ≡ 21 → checked .refusal .number ≡ 0 → count plan ≤ j → Sent-case n
     capacity-case : n ≡ 15 → checked .refusal .number ≡ 0 → j < count plan → (c < 1) ⊎ (16 < c) → Sent-case n
     answer-case : n ≡ 0 → checked .refusal .number ≡ 0 → j < count plan → 1 ≤ c → c ≤ 16 → Sent-case n
@@ -81,7 +72,28 @@ module _ (bs : List ℕ) (j c t l : ℕ) where
       (λ w. let m = leb-true c 16 w in answer-case (gives-asked 0 0 z (none-refused plan j c h k m) .0 .0) z h k m)
       (λ w. let m = inr (leb-false c 16 w) in capacity-case (gives-asked 15 0 z (no-capacity plan j c h m) .0 .0) z h m))
       (λ v. let m = inl (leb-false 1 c v) in capacity-case (gives-asked 15 0 z (no-capacity plan j c h m) .0 .0) z h m)))
-      (λ a. plan-case (eqb-false (checked .refusal .number) 0 a))
+      (λ a. let bad = eqb-false (checked .refusal .number) 0 a in
+      let same = ap (λ (o : Outcome). o .refusal .number) (plan-first bad) in
+      plan-case (omega arith) (omega (arith, check-eleven bs t l)) bad)
+
+  -- ---- exactly if
+  pub operation-if : (n : ℕ) → Sent-case n → n ≡ 21 → (checked .refusal .number ≡ 0) × (count plan ≤ j)
+  operation-if n (plan-case low high bad) e = absurd (omega arith)
+  operation-if n (operation-case k z h) e = (z, h)
+  operation-if n (capacity-case k z h w) e = absurd (omega arith)
+  operation-if n (answer-case k z h v w) e = absurd (omega arith)
+
+  pub capacity-if : (n : ℕ) → Sent-case n → n ≡ 15 → (checked .refusal .number ≡ 0) × (j < count plan) × ((c < 1) ⊎ (16 < c))
+  capacity-if n (plan-case low high bad) e = absurd (omega arith)
+  capacity-if n (operation-case k z h) e = absurd (omega arith)
+  capacity-if n (capacity-case k z h w) e = (z, h, w)
+  capacity-if n (answer-case k z h v w) e = absurd (omega arith)
+
+  pub answer-if : (n : ℕ) → Sent-case n → n ≡ 0 → (checked .refusal .number ≡ 0) × (j < count plan) × (1 ≤ c) × (c ≤ 16)
+  answer-if n (plan-case low high bad) e = absurd (omega arith)
+  answer-if n (operation-case k z h) e = absurd (omega arith)
+  answer-if n (capacity-case k z h w) e = absurd (omega arith)
+  answer-if n (answer-case k z h v w) e = (z, h, v, w)
 
   -- ---- what it leaves
   asked-left : (n i : ℕ) → checked .refusal .number ≡ 0 → (n ≡ 0) ⊎ (12 ≤ n) → Gives (sent-outcome bs j c t l) n i rows-and-run →
@@ -90,19 +102,10 @@ module _ (bs : List ℕ) (j c t l : ℕ) where
   asked-left n i z (inr h) g = left-rows (inr (omega (arith, g .0 .0))) (g .1) (passed-whole bs t l z)
 
   case-left : (n : ℕ) → Sent-case n → Left-case plan (sent-outcome bs j c t l)
-  case-left n (plan-case bad) = subst (Left-case plan) (sym (plan-first bad)) (check-left-case bs t l)
+  case-left n (plan-case low high bad) = subst (Left-case plan) (sym (plan-first bad)) (check-left-case bs t l)
   case-left n (operation-case e z h) = asked-left 21 j z (inr (omega arith)) (gives-asked 21 j z (no-operation plan j c h))
   case-left n (capacity-case e z h k) = asked-left 15 0 z (inr (omega arith)) (gives-asked 15 0 z (no-capacity plan j c h k))
   case-left n (answer-case e z h k m) = asked-left 0 0 z (inl refl) (gives-asked 0 0 z (none-refused plan j c h k m))
 
   pub sent-left-case : Left-case plan (sent-outcome bs j c t l)
   sent-left-case = case-left (sent-outcome bs j c t l .refusal .number) sent-case
-
-  -- a passed check leaves rows and run
-  pub passed-leaves : checked .refusal .number ≡ 0 → checked .leaves ≡ rows-and-run
-  passed-leaves z = by-case (check-left-case bs t l)
-    where
-      by-case : Left-case plan checked → checked .leaves ≡ rows-and-run
-      by-case (left-untouched low high e) = absurd (omega arith)
-      by-case (left-zeros low high e) = absurd (omega arith)
-      by-case (left-rows n e w) = e

@@ -1,7 +1,7 @@
 -- The walk over a row: one axis raised after the other gathers the entries, and a passed check left the row and the axes where the walk
 -- reads them. Assumes nothing.
 use mathlib.Core.Path.{_≡_, refl, sym, ap, ap₂, _∙_}
-use mathlib.Core.Bool.{Bool, false, cond}
+use mathlib.Core.Bool.{false}
 use mathlib.Core.List.{List, []}
 use Prim.Native.Nat.{ℕ, suc, _+_, _*_, _-_, _≤_, _<_}
 use native.Mathlib.Numerals.{add-one}
@@ -9,7 +9,6 @@ use native.Mathlib.Omega.{arith}
 use lib.ListN.{length, getD, take, drop, length-append, length-take}
 use lib.Seq.{getD-take, getD-drop}
 use Rattle.basics.specs.Lists.{tabulate-from, in-front}
-use Rattle.basics.proofs.Fronts.{front-at}
 use Rattle.basics.proofs.Tables.{tabulate-length}
 use Rattle.frontier.specs.Entries.{Entry}
 use Rattle.frontier.specs.Frontiers.{pack, gathered, raise, merge}
@@ -18,22 +17,18 @@ use Rattle.frontier.specs.declared.Merged.{Merged}
 use Rattle.frontier.proofs.Slots.{tabulate-same}
 use Rattle.frontier.proofs.Sorted.{same-entry}
 use Rattle.frontier.proofs.Raising.{raises, raises-from-empty, sorted-gathered, gathered-length, merge-empty}
-use Rattle.plan_format.specs.Form.{first-form}
 use Rattle.plan_format.specs.Plan.{Plan, count, queues, plan-of}
-use Rattle.plan_format.specs.Sound.{rules-refusal}
-use Rattle.plan_format.specs.Stored.{scanned, plan-in, plan-refusal}
-use Rattle.plan_format.proofs.Judged.{zero-not-given, or-else-none}
-use Rattle.plan_format.proofs.Plans.{scanned-shape}
+use Rattle.plan_format.specs.Stored.{plan-in}
 use Rattle.plan_order.specs.Rows.{row, rows}
-use Rattle.plan_order.specs.Check.{Leaves, check-outcome, left-in, table-left, Check-says}
-use Rattle.plan_order.proofs.Rows.{rows-length, rows-at, row-at}
+use Rattle.plan_order.specs.Promise.{Checked}
+use Rattle.plan_order.proofs.Rows.{rows-length}
+use Rattle.plan_columns.specs.Columns.{Row-columns}
 use Rattle.checker.specs.declared.Counted.{Counted}
 use Rattle.checker.specs.Counting.{Sizes-told, Holds}
 use Rattle.checker.proofs.Numbers.{plan-same}
-use Rattle.questions.specs.Sent.{row-entries, sent-entries, sent}
-use Rattle.questions.specs.SentWalk.{row-in, cut-to}
-use Rattle.questions.proofs.SentOutcome.{passed-leaves}
-use Rattle.questions.proofs.SentAnswers.{passed-good}
+use Rattle.questions.specs.Sent.{row-entries, sent-entries, cut-to, sent}
+use Rattle.questions.specs.SentWalk.{row-in}
+use Rattle.questions.proofs.Passed.{rows-lie, rows-shown, queues-are, few}
 
 -- ---- raising
 module _ (numbers table : List ℕ) (first : ℕ) where
@@ -82,67 +77,39 @@ module _ (numbers table : List ℕ) (first : ℕ) where
       ∙ merge-empty (gathered es) false c (sorted-gathered es) (omega (arith, gathered-length es, row-long many 0)) l k)
 
 -- ---- where a passed check left them
--- what is known after a check that passes: the counts, the numbers, and the rows in the table
-pub record Passed (bs nums t x : List ℕ) (queues-told operations-told : ℕ) : Type 0 where
-  pub queues-are : queues-told ≡ queues (plan-in bs)
-  pub operations-are : operations-told ≡ count (plan-in bs)
-  pub few-queues : queues (plan-in bs) ≤ 16
-  pub holds : Holds bs nums
-  pub left : x ≡ in-front (rows (plan-in bs)) t
-
-pub passed : (bs nums t x l y : List ℕ) (r : Counted) → Check-says bs (record { number = r .number; place = r .place; answer = 0 }) t x l y →
-    Sizes-told bs r → (scanned bs .fault .number ≡ 0 → Holds bs nums) → r .number ≡ 0 → Passed bs nums t x (r .queues) (r .operations)
-unfolding Check-says plan-refusal queues table-left left-in
-passed bs nums t x l y r s sizes holds z =
-    let zero : check-outcome bs (length t) (length l) .refusal .number ≡ 0 = sym (s .tells .number) ∙ z in
-    let clean = or-else-none (scanned bs .fault) (rules-refusal (plan-in bs)) (passed-good bs (length t) (length l) zero) .0 in
-    let none = zero-not-given (scanned bs .fault) clean in
-    record {
-      queues-are = sizes .queues ∙ ap (λ (b : Bool). cond b 0 (length (plan-in bs .axes))) none;
-      operations-are = sizes .operations ∙ ap (λ (b : Bool). cond b 0 (count (plan-in bs))) none;
-      few-queues = scanned-shape bs clean .few-queues;
-      holds = holds clean;
-      left = s .table-holds ∙ ap (λ (v : Leaves). table-left v (plan-in bs) t) (passed-leaves bs 0 0 (length t) (length l) zero);
-    }
-
-module _ {bs nums t x : List ℕ} {queues-told operations-told : ℕ} (w : Passed bs nums t x queues-told operations-told) where
+module _ {bs nums t x l y : List ℕ} {k : Counted} (sizes : Sizes-told bs k)
+    (checked : Checked bs (record { number = k .number; place = k .place; answer = 0 }) t x l y) (passed : k .number ≡ 0) (holds : Holds bs nums) where
   abbrev plan : Plan
   plan = plan-in bs
 
   axis-at : (q : ℕ) → q < queues plan → getD nums (1 + q) 0 ≡ getD (plan .axes) q 0
   unfolding plan-of queues
-  axis-at q l =
-      let same : take (getD nums 0 0) (drop 1 nums) ≡ plan .axes = ap (λ (p : Plan). p .axes) (plan-same (w .holds)) in
+  axis-at q h =
+      let same : take (getD nums 0 0) (drop 1 nums) ≡ plan .axes = ap (λ (p : Plan). p .axes) (plan-same holds) in
       sym (getD-drop 1 nums q 0)
       ∙ sym (getD-take (getD nums 0 0) (drop 1 nums) q 0 (omega (arith, length-take (getD nums 0 0) (drop 1 nums), ap length same)))
       ∙ ap (λ (zs : List ℕ). getD zs q 0) same
 
-  module _ (j : ℕ) (inside : j < operations-told) where
-    below : j < count plan
-    below = omega (arith, w .operations-are)
+  few-queues : queues plan ≤ 16
+  few-queues = omega (arith, queues-are sizes checked passed, few sizes checked passed holds .queues)
 
-    epoch-at-place : (q : ℕ) → q < queues plan → getD x (16 * j + q) 0 ≡ getD (row plan j) q 0
-    epoch-at-place q l =
-        let b : q < 16 = omega (arith, w .few-queues) in
-        ap (λ (zs : List ℕ). getD zs (16 * j + q) 0) (w .left)
-        ∙ front-at (rows plan) t (16 * j + q) 0 (omega (arith, rows-length plan, below))
-        ∙ rows-at plan j q below b
-        ∙ sym (row-at plan j q b)
-
+  module _ (j : ℕ) (inside : j < count plan) where
     row-found : row-in nums x (16 * j) (queues plan) 0 ≡ row-entries plan j
-    unfolding row-in row-entries
+    unfolding row-in row-entries Row-columns
     row-found =
         tabulate-same (queues plan) 0 (λ q. record { axis = getD nums (1 + q) 0; epoch = getD x (16 * j + q) 0 })
         (λ q. record { axis = getD (plan .axes) q 0; epoch = getD (row plan j) q 0 })
-        (λ q l h. same-entry (axis-at q (omega arith)) (epoch-at-place q (omega arith)))
+        (λ q m h. same-entry (axis-at q (omega arith)) (rows-shown sizes checked passed j q inside (omega (arith, few-queues))))
 
-    pub row-lent : 16 * j + queues-told ≤ length x
+    pub row-lent : 16 * j + k .queues ≤ length x
     unfolding in-front
     row-lent =
-        let long : length x ≡ length (rows plan) + length (drop (length (rows plan)) t) = ap length (w .left) ∙ length-append (rows plan) (drop (length (rows plan)) t) in
-        omega (arith, rows-length plan, w .queues-are, w .few-queues, below)
+        let long : length x ≡ length (rows plan) + length (drop (length (rows plan)) t) =
+        ap length (rows-lie sizes checked passed) ∙ length-append (rows plan) (drop (length (rows plan)) t) in
+        omega (arith, rows-length plan, queues-are sizes checked passed, few-queues)
 
-    pub sent-found : (c : ℕ) → cut-to c (gathered (row-in nums x (16 * j) queues-told 0)) ≡ sent plan j c
+    pub sent-found : (c : ℕ) → cut-to c (gathered (row-in nums x (16 * j) (k .queues) 0)) ≡ sent plan j c
     unfolding sent sent-entries
     sent-found c =
-        ap (λ (n : ℕ). cut-to c (gathered (row-in nums x (16 * j) n 0))) (w .queues-are) ∙ ap (λ (es : List Entry). cut-to c (gathered es)) row-found
+        ap (λ (n : ℕ). cut-to c (gathered (row-in nums x (16 * j) n 0))) (queues-are sizes checked passed)
+        ∙ ap (λ (es : List Entry). cut-to c (gathered es)) row-found

@@ -21,4 +21,6 @@ pub record Asked (bytes : List ℕ) (q b : ℕ) (r : Told) (table table-now list
   pub passed : (r .number ≡ 0) ⊎ (12 ≤ r .number) → Safe (plan-in bytes)
   pub left : Left-by-number (plan-in bytes) (r .number) table table-now list list-now
   pub answer : r .number ≡ 0 → Verdict-table (plan-in bytes) q b (r .answer)
+  -- what a passed plan keeps rules out verdict 4
+  pub no-stray-use : r .number ≡ 0 → r .answer ≡ 4 → ⊥
   pub no-answer : (r .number ≡ 0 → ⊥) → r .answer ≡ 0

@@ -47,15 +47,16 @@ pub record Shown (p : Plan) (n marks : ℕ) (queue mark operation rows : List �
   pub marks-shown : Mark-columns p marks mark operation
   pub rows-shown : Row-columns p (λ j. j < count p) rows
 
--- the last operation on a queue, of n; 1,024 where there is none
+-- 01: "the queue's last operation", of n; 1,024 where there is none
 unfoldable pub last-shown : (queue : List ℕ) → (q n : ℕ) → ℕ
 last-shown queue q n = place-or 1024 (highest-below n (λ i. eqb (getD queue i 0) q))
 
--- i is the last operation or before it
+-- 01: i "is the queue's last operation or before it"; not "for a queue with no operations"
 unfoldable pub seen : (queue rows : List ℕ) → (last i : ℕ) → Bool
 seen queue rows last i = ltb last 1024 && ordered queue rows i last
 
--- the verdict where a mark is the last one: whether it is a free, whether its operation is seen, whether all up to it are
+-- 01: "held: its last mark is a use. reusable: the last mark is a free, and every operation with a mark on it is" seen. "stray use: the last
+-- mark is a free that is so placed, but another marked operation isn't. not ordered: otherwise"
 unfoldable pub verdict-after : (frees seen all : Bool) → Verdict
 verdict-after f s a = cond f (cond s (cond a Reusable StrayUse) NotOrdered) Held
 

@@ -26,8 +26,11 @@ unfoldable pub sent-entries : Plan → (j : ℕ) → List Entry
 sent-entries p j = gathered (row-entries p j)
 
 -- 01: "cut to a capacity as a merge is", "if more than the capacity remain .. the result is tainted"
+abbrev pub cut-to : (capacity : ℕ) → List Entry → Frontier
+cut-to c xs = pack (cut c xs) (ltb c (length xs))
+
 unfoldable pub sent : Plan → (j capacity : ℕ) → Frontier
-sent p j c = pack (cut c (sent-entries p j)) (ltb c (length (sent-entries p j)))
+sent p j c = cut-to c (sent-entries p j)
 
 -- 01: "21: question names no such operation, the number asked. 15: frontier capacity not 1..16, 0"; "then 21, then 15"
 unfoldable pub sent-refusal : Plan → (j capacity : ℕ) → Refusal

@@ -4,12 +4,11 @@ ghost use mathlib.Core.Path.{_≡_};
 ghost use mathlib.Core.Bool.{false};
 ghost use mathlib.Core.List.{[]};
 ghost use Prim.Native.Nat.{_+_, _≤_};
-ghost use lib.Dec.{ltb};
 ghost use lib.ListN.{length};
-ghost use Rattle.frontier.specs.Entries.{cut};
 ghost use Rattle.frontier.specs.Frontiers.{pack, gathered};
+ghost use Rattle.questions.specs.Sent.{cut-to};
 ghost use Rattle.questions.specs.SentMeaning.{Frontier-right};
-ghost use Rattle.questions.specs.SentWalk.{row-in, cut-to};
+ghost use Rattle.questions.specs.SentWalk.{row-in};
 
 // A frontier; or a refusal and its place, beside the empty untainted frontier.
 pub struct Sent {

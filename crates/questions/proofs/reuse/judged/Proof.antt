@@ -36,7 +36,8 @@ loop-less c = search needs
 loop-again : tie.Need-loop-again Inv-loop μ-loop
 loop-again c =
     judging-own (c .before .before .before .before .before .before .loop .inv) (c .before .before .before .before .before .loop-test .taken)
-    (ap (λ (z : ℕ). z % 512) (c .before .before .before .before .get16 .ensures)) (ap (λ (z : ℕ). z % 1024) (c .before .before .before .get162 .ensures)) (c .before .before .if1 .taken)
+    (ap (λ (z : ℕ). z % 512) (c .before .before .before .before .get16 .ensures))
+    (ap (λ (z : ℕ). z % 1024) (c .before .before .before .get162 .ensures)) (c .before .before .if1 .taken)
     (c .before .seen .ensures) (c .after .ensures)
 
 loop-less-2 : tie.Need-loop-less-2 Inv-loop μ-loop

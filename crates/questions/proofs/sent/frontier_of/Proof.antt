@@ -34,7 +34,8 @@ same-length-4 c = search needs
 returns-2 : tie.Need-returns-2
 returns-2 c =
     let read = c .before .before .before .before .before .before .before .before .before .check-read in
-    operation-refused (read .result) _ _ (read .ensures .0) (read .ensures .1 .0) (read .ensures .1 .1) (c .before .before .before .if1 .left) _ (c .before .if2 .taken) (c .refused2 .ensures)
+    operation-refused (read .result) _ _ (read .ensures .0) (read .ensures .1 .0) (read .ensures .1 .1)
+    (c .before .before .before .if1 .left) _ (c .before .if2 .taken) (c .refused2 .ensures)
 
 refused-requires-3 : tie.Need-refused-requires-3
 refused-requires-3 c κs = search needs
@@ -48,7 +49,8 @@ same-length-6 c = search needs
 returns-3 : tie.Need-returns-3
 returns-3 c =
     let read = c .before .before .before .before .before .before .before .before .before .before .check-read in
-    capacity-refused (read .result) _ _ (read .ensures .0) (read .ensures .1 .0) (read .ensures .1 .1) (c .before .before .before .before .if1 .left) _ (c .before .before .if2 .left) (inl (c .before .if3 .taken)) (c .refused3 .ensures)
+    capacity-refused (read .result) _ _ (read .ensures .0) (read .ensures .1 .0) (read .ensures .1 .1)
+    (c .before .before .before .before .if1 .left) _ (c .before .before .if2 .left) (inl (c .before .if3 .taken)) (c .refused3 .ensures)
 
 refused-requires-4 : tie.Need-refused-requires-4
 refused-requires-4 c κs = search needs
@@ -62,7 +64,8 @@ same-length-8 c = search needs
 returns-4 : tie.Need-returns-4
 returns-4 c =
     let read = c .before .before .before .before .before .before .before .before .before .before .before .check-read in
-    capacity-refused (read .result) _ _ (read .ensures .0) (read .ensures .1 .0) (read .ensures .1 .1) (c .before .before .before .before .before .if1 .left) _ (c .before .before .before .if2 .left) (inr (c .before .if4 .taken)) (c .refused4 .ensures)
+    capacity-refused (read .result) _ _ (read .ensures .0) (read .ensures .1 .0) (read .ensures .1 .1)
+    (c .before .before .before .before .before .if1 .left) _ (c .before .before .before .if2 .left) (inr (c .before .if4 .taken)) (c .refused4 .ensures)
 
 mul-send : tie.Need-mul-send
 mul-send c = search needs
@@ -70,7 +73,9 @@ mul-send c = search needs
 send-requires : tie.Need-send-requires
 send-requires c κs =
     let read = c .before .before .before .before .before .before .before .before .before .before .before .before .check-read in
-    row-there (read .result) _ _ (read .ensures .0) (read .ensures .1 .0) (read .ensures .1 .1) (c .before .before .before .before .before .before .if1 .left) (c .before .before .before .before .if2 .left) (c .before .before .before .if3 .left) (c .before .before .if4 .left)
+    row-there (read .result) _ _ (read .ensures .0) (read .ensures .1 .0) (read .ensures .1 .1)
+    (c .before .before .before .before .before .before .if1 .left) (c .before .before .before .before .if2 .left) (c .before .before .before .if3 .left)
+    (c .before .before .if4 .left)
 
 same-length-9 : tie.Need-same-length-9
 same-length-9 c = search needs
@@ -81,7 +86,9 @@ same-length-10 c = search needs
 returns-5 : tie.Need-returns-5
 returns-5 c =
     let read = c .before .before .before .before .before .before .before .before .before .before .before .before .before .check-read in
-    frontier-sent (read .result) _ _ (read .ensures .0) (read .ensures .1 .0) (read .ensures .1 .1) (c .before .before .before .before .before .before .before .if1 .left) (c .before .before .before .before .before .if2 .left) (c .before .before .before .before .if3 .left) (c .before .before .before .if4 .left) _ (c .send .ensures)
+    frontier-sent (read .result) _ _ (read .ensures .0) (read .ensures .1 .0) (read .ensures .1 .1)
+    (c .before .before .before .before .before .before .before .if1 .left) (c .before .before .before .before .before .if2 .left) (c .before .before .before .before .if3 .left)
+    (c .before .before .before .if4 .left) _ (c .send .ensures)
 
 pub frontier-of-spec : {M : Type 1} → statement M
 frontier-of-spec =

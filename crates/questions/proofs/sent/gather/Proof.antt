@@ -11,11 +11,6 @@ use Rattle.frontier.proofs.Raising.{raises}
 use Rattle.questions.proofs.SentWalk.{left-from, raised-none, raised-more, raised-all, raised-whole}
 use Rattle.questions.proofs.sent.gather.Statement.{statement}
 use Rattle.questions.proofs.sent.gather.Tie as tie
-use Rattle.questions.proofs.sent.gather.Reads as reads
-use Rattle.questions.proofs.sent.gather.Lts as lts
-use Rattle.frontier.proofs.Frontier.empty.Reads as empty-reads
-use Rattle.frontier.proofs.Frontier.raise.Reads as raise-reads
-use Rattle.questions.proofs.sent.wide.Reads as wide-reads
 
 abbrev Inv-loop : tie.InvT-loop
 Inv-loop numbers table queues first f₀ q₀ f q =

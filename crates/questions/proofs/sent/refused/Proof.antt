@@ -2,7 +2,6 @@
 use mathlib.Core.Path.{ap}
 use borrow.Author.Needs.{needs}
 use Rattle.frontier.specs.declared.Frontier.{Frontier}
-use Rattle.questions.specs.declared.sent.Sent.{Sent}
 use Rattle.questions.proofs.sent.refused.Statement.{statement}
 use Rattle.questions.proofs.sent.refused.Tie as tie
 

@@ -16,7 +16,8 @@ merge-requires c κs = search needs
 returns : tie.Need-returns
 returns c =
     let pre = c .before .before .before .before .before .pre in
-    cut-merged _ _ _ _ _ _ _ _ (pre .0) (pre .2) (pre .3) (c .before .before .before .gather .ensures) (c .before .before .empty .ensures) (c .before .merge .ensures .0)
+    cut-merged _ _ _ _ _ _ _ _ (pre .0) (pre .2) (pre .3)
+    (c .before .before .before .gather .ensures) (c .before .before .empty .ensures) (c .before .merge .ensures .0)
 
 pub send-spec : {M : Type 1} → statement M
 send-spec = tie.close (tie.spec gather-requires empty-requires merge-requires returns)
