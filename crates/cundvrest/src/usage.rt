@@ -1,0 +1,102 @@
+// What there is to ask, and what is said of a question that is none: one line on standard error.
+use crate::text;
+use libc::STDERR_FILENO;
+ghost use mathlib.Core.Path.{_≡_};
+ghost use lib.ListN.{length};
+
+pub fn help(out: &mut [u8]) -> usize {
+    text::words(
+        out,
+        0,
+        b"cundvrest: a proved checker for queue plans
+
+  cundvrest < PLAN                              check the plan: passed with its run and rows, or refused
+  cundvrest reuse QUEUE BUFFER < PLAN           may this queue fill the buffer again once the plan has run?
+  cundvrest frontier OPERATION CAPACITY < PLAN  the frontier sent out for an operation
+  cundvrest read < PLAN                         the numbers of the plan, one for each stored field
+  cundvrest write < NUMBERS > PLAN              the stored plan of such numbers
+  cundvrest help                                this text
+
+It prints one of these; N is the refusal and P its place.
+  passed 0, then size QUEUES SEMAPHORES BUFFERS OPERATIONS, run, ready, and a row for each operation
+  verdict N WORD        fresh, reusable, held, not-ordered or stray-use
+  frontier whole|tainted AXIS:EPOCH ..
+  refused N P
+     1 cut short       2 count over its limit     3 bytes follow          4 not in its list     5 axis twice
+     6 not the owner   7 signal not higher        8 wait for no signal   10 stuck              11 broken mark
+    12 no such queue  13 no such buffer          15 capacity not 1..16   21 no such operation
+
+All numbers are decimal. The launcher ./cundvrest exits 0 if passed or answered, 1 if refused, 2 on anything else.
+",
+    )
+}
+
+// The room for a line on standard error.
+fn line() -> [u8; 512]
+    ensures { λ r. ⌜ length r ≡ 512 ⌝ }
+{
+    [0; 512]
+}
+
+// A byte that prints, or a question mark.
+fn shown(b: u8) -> u8 {
+    if b < 32 {
+        return b'?';
+    }
+    if b > 126 {
+        return b'?';
+    }
+    b
+}
+
+// A word in quotes, its first bytes only.
+fn quoted(out: &mut [u8], at: usize, word: &[u8]) -> usize {
+    let mut end = text::byte(out, at, b'\'');
+    let mut i = 0;
+    while i < word.len() {
+        if i == 40 {
+            return text::words(out, end, b"..'");
+        }
+        end = text::byte(out, end, shown(word[i]));
+        i += 1;
+    }
+    text::byte(out, end, b'\'')
+}
+
+// A whole line.
+pub fn say(line: &[u8]) {
+    io::write_all(STDERR_FILENO, line);
+}
+
+// A line with a word in quotes.
+pub fn complain(before: &[u8], word: &[u8], after: &[u8]) {
+    let mut out = line();
+    let name = text::words(&mut out, 0, b"cundvrest: ");
+    let first = text::words(&mut out, name, before);
+    let second = quoted(&mut out, first, word);
+    let third = text::words(&mut out, second, after);
+    let end = text::byte(&mut out, third, b'\n');
+    text::write(STDERR_FILENO, &out, end);
+}
+
+// A line on a number of standard input that is none, or is too large.
+pub fn bad_number(before: u64, fault: u8) {
+    let mut out = line();
+    let name = text::words(&mut out, 0, b"cundvrest: standard input: behind ");
+    let first = text::number(&mut out, name, before);
+    let second = text::words(&mut out, first, b" numbers comes ");
+    let third = fault_words(&mut out, second, fault);
+    let end = text::words(
+        &mut out,
+        third,
+        b"; right: decimal digits, at most 18446744073709551615, white space between\n",
+    );
+    text::write(STDERR_FILENO, &out, end);
+}
+
+fn fault_words(out: &mut [u8], at: usize, fault: u8) -> usize {
+    if fault == 1 {
+        return text::words(out, at, b"no number");
+    }
+    text::words(out, at, b"one too large")
+}
