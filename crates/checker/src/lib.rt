@@ -1,4 +1,4 @@
-// The check of a stored plan: read into numbers, shown as columns, judged by the rules and the room, run, and judged by its order.
+// The check of a stored plan: shown as columns, judged by the rules and the room, run, and judged by its order.
 mod decide;
 mod leave;
 
@@ -42,13 +42,46 @@ pub fn counts(plan: &[u8]) -> Counted
 pub fn check_plan(plan: &[u8], table: &mut [u32], list: &mut [u32]) -> Told
     ensures { λ r. ⌜ Checked (now (plan .entry)) r (now (table .entry)) (now (table .exit)) (now (list .entry)) (now (list .exit)) ⌝ }
 {
-    let mut numbers = [0u64; 22868];
-    let c = check_read(plan, &mut numbers, table, list);
-    Told {
-        number: c.number,
-        place: c.place,
-        answer: 0,
+    let mut owner = [0u16; 64];
+    let mut queue = [0u16; 1024];
+    let mut wsem = [0u16; 3072];
+    let mut wval = [0u64; 3072];
+    let mut ssem = [0u16; 2048];
+    let mut sval = [0u64; 2048];
+    let mut sop = [0u16; 2048];
+    let mut mark = [0u16; 4096];
+    let mut mop = [0u16; 4096];
+    let l = plan_load::load(
+        plan,
+        &mut owner,
+        &mut queue,
+        &mut wsem,
+        &mut wval,
+        &mut ssem,
+        &mut sval,
+        &mut sop,
+        &mut mark,
+        &mut mop,
+    );
+    if l.number != 0 {
+        return plan_reader::refused(l.number, l.place);
     }
+    check_columns(
+        l.operations,
+        l.signals as usize,
+        l.marks as usize,
+        &owner,
+        &queue,
+        &wsem,
+        &wval,
+        &ssem,
+        &sval,
+        &sop,
+        &mark,
+        &mop,
+        table,
+        list,
+    )
 }
 
 // The check for those who ask on: with the plan's counts, and with its numbers in front of the lent ones.

@@ -3,3 +3,4 @@ pub mod Fields
 pub mod Cursors
 pub mod Counts
 pub mod Answers
+pub mod Heads

@@ -2,7 +2,8 @@
 use native.Mathlib.Omega.{arith}
 use borrow.Author.Needs.{needs}
 use Rattle.plan_format.specs.Stored.{plan-in}
-use Rattle.checker.proofs.Columns.{shape, owners-at, operations-at, as-many}
+use Rattle.plan_load.proofs.Limits.{shape}
+use Rattle.checker.proofs.Columns.{owners-at, operations-at, as-many}
 use Rattle.checker.proofs.check_numbers.Statement.{statement}
 use Rattle.checker.proofs.check_numbers.Tie as tie
 
@@ -39,7 +40,7 @@ same-length-2 c = search needs
 returns : tie.Need-returns
 returns c =
     λ bs holds.
-    let header = c .before .before .before .before .before .before .before .before .before .before .before .before .before .before .before .read-header in
+    let header = c .before .before .before .before .before .before .before .before .before .before .before .before .before .before .before .before .read-header in
     let few = header .ensures .1 in
     c .before .before .before .before .check-operations .ensures bs
     (record {

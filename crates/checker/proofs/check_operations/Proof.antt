@@ -1,7 +1,7 @@
 -- `check_operations` meets its contract: the columns are filled, and the rest is `check_columns`'s. Assumes nothing.
 use borrow.Author.Needs.{needs}
 use Rattle.plan_format.specs.Stored.{plan-in}
-use Rattle.checker.proofs.Columns.{limits}
+use Rattle.plan_load.proofs.Limits.{limits}
 use Rattle.checker.proofs.check_operations.Statement.{statement}
 use Rattle.checker.proofs.check_operations.Tie as tie
 
