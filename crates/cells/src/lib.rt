@@ -35,6 +35,13 @@ pub fn put32(a: &mut [u32], i: usize, v: usize)
 }
 
 // The number at i.
+pub fn get32(a: &[u32], i: usize) -> u32
+    ensures { λ r. ⌜ r ≡ getD (now (a .entry)) i 0 ⌝ }
+{
+    if i >= a.len() { 0 } else { a[i] }
+}
+
+// The number at i.
 pub fn get64(a: &[u64], i: usize) -> u64
     ensures { λ r. ⌜ r ≡ getD (now (a .entry)) i 0 ⌝ }
 {

@@ -15,3 +15,4 @@ pub mod Associate
 pub mod Dominates
 pub mod Lookups
 pub mod Raising
+pub mod Gathered

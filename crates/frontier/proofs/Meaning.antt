@@ -154,19 +154,19 @@ pub merge-all : (f g : Frontier) (c : ℕ) (r : Merged) → r ≡ merge f g c �
 merge-all f g c r e = (e, merge-right f g c r e)
 
 -- RAISE
+pub one-epoch : (x e axis : ℕ) → epoch-at (one-entry x e) axis ≡ cond (eqb x axis) e 0
+one-epoch x e axis =
+    by-cases (eqb e 0)
+    (λ t. unfold one-entry in (rw (t, eqb-true e 0 t) (epoch-none axis ∙ by-cases (eqb x axis) (λ u. rw u) (λ u. rw u))))
+    (λ t. unfold one-entry in (rw t (by-cases (eqb x axis)
+    (λ u. rw u (epoch-here (record { axis = x; epoch = e }) [] axis (eqb-true x axis u)))
+    (λ u. rw u (epoch-there (record { axis = x; epoch = e }) [] axis (eqb-false x axis u) ∙ epoch-none axis)))))
+
 one-full : (x e : ℕ) → Completion (pack (one-entry x e) false) (λ axis. cond (eqb x axis) e 0)
 one-full x e = record {
-  at-least = λ axis. rw (entries-pack (one-entry x e) false, one-epoch axis) (le-refl (cond (eqb x axis) e 0));
-  exact = λ t axis. rw (entries-pack (one-entry x e) false, one-epoch axis) refl;
+  at-least = λ axis. rw (entries-pack (one-entry x e) false, one-epoch x e axis) (le-refl (cond (eqb x axis) e 0));
+  exact = λ t axis. rw (entries-pack (one-entry x e) false, one-epoch x e axis) refl;
 }
-  where
-    one-epoch : (axis : ℕ) → epoch-at (one-entry x e) axis ≡ cond (eqb x axis) e 0
-    one-epoch axis =
-        by-cases (eqb e 0)
-        (λ t. unfold one-entry in (rw (t, eqb-true e 0 t) (epoch-none axis ∙ by-cases (eqb x axis) (λ u. rw u) (λ u. rw u))))
-        (λ t. unfold one-entry in (rw t (by-cases (eqb x axis)
-        (λ u. rw u (epoch-here (record { axis = x; epoch = e }) [] axis (eqb-true x axis u)))
-        (λ u. rw u (epoch-there (record { axis = x; epoch = e }) [] axis (eqb-false x axis u) ∙ epoch-none axis)))))
 
 pub raise-right : (f : Frontier) (x e c : ℕ) (r : Merged) → r ≡ raise f x e c → Raise-right f x e c r
 unfolding raise

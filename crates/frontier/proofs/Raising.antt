@@ -11,7 +11,7 @@ use lib.ListN.{length}
 use Rattle.basics.proofs.Tests.{by-cases}
 use Rattle.frontier.specs.declared.Frontier.{Frontier}
 use Rattle.frontier.specs.Entries.{Entry, put, union, cut}
-use Rattle.frontier.specs.Frontiers.{entries, pack, joined, merge, one-entry, raise}
+use Rattle.frontier.specs.Frontiers.{entries, pack, joined, merge, one-entry, gathered, raise}
 use Rattle.frontier.proofs.Sorted.{Sorted, sorted-union, union-associates, union-none}
 use Rattle.frontier.proofs.Pack.{entries-pack, well-formed-pack}
 use Rattle.frontier.proofs.Merge.{accepted, joined-whole, sorted-one, short-one}
@@ -58,11 +58,6 @@ raise-whole ys t a e c s h k =
 unfoldable pub raises : List Entry → Frontier → Frontier
 raises [] f = f
 raises (x ∷ xs) f = raises xs (raise f (x .axis) (x .epoch) 16 .frontier)
-
--- every entry of epoch above 0, sorted by axis, of equal axes the larger epoch
-unfoldable pub gathered : List Entry → List Entry
-gathered [] = []
-gathered (x ∷ xs) = union (one-entry (x .axis) (x .epoch)) (gathered xs)
 
 pub sorted-gathered : (xs : List Entry) → Sorted 0 (gathered xs)
 unfolding gathered

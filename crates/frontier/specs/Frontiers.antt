@@ -69,6 +69,11 @@ merge f g capacity =
 unfoldable pub one-entry : (axis epoch : ℕ) → List Entry
 one-entry a e = cond (eqb e 0) [] (record { axis = a; epoch = e } ∷ [])
 
+-- every entry of epoch above 0, sorted by axis, of equal axes the larger epoch
+unfoldable pub gathered : List Entry → List Entry
+gathered [] = []
+gathered (x ∷ xs) = union (one-entry (x .axis) (x .epoch)) (gathered xs)
+
 unfoldable pub raise : Frontier → (axis epoch capacity : ℕ) → Merged
 raise f a e capacity = merge f (pack (one-entry a e) false) capacity
 

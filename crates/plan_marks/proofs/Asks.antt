@@ -39,7 +39,7 @@ unfolding of-buffer marked-from marks-from
 of-from i b [] = refl
 of-from i b (o ∷ os) = of-append b (marked-of i (o .marks)) (marked-from (suc i) os) ∙ rw (of-marked i b (o .marks), of-from (suc i) b os)
 
-of-plan : (p : Plan) (b : ℕ) → of-buffer b (plan-marks p) ≡ buffer-marks p b
+pub of-plan : (p : Plan) (b : ℕ) → of-buffer b (plan-marks p) ≡ buffer-marks p b
 unfolding plan-marks buffer-marks
 of-plan p b = of-from 0 b (p .operations)
 

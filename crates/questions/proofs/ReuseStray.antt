@@ -1,0 +1,71 @@
+-- A plan that passes has no stray use: whoever has seen the last free of a buffer has seen every operation with a mark on it.
+-- Assumes nothing.
+use mathlib.Core.Path.{_≡_, sym, ap, _∙_, subst, subst₂}
+use mathlib.Core.Logic.{_⊎_, inl, inr}
+use mathlib.Core.List.{[], _∷_}
+use Prim.Native.Nat.{ℕ, zero, suc, _+_, _-_, _≤_, _<_}
+use native.Mathlib.Omega.{arith}
+use lib.Dec.{eqb}
+use lib.ListN.{length, length-append}
+use lib.Seq.{getD-append-seam}
+use borrow.Author.Tests.{eqb-true, eqb-false}
+use Rattle.basics.proofs.Tests.{by-cases}
+use Rattle.basics.proofs.Places.{mem-place}
+use Rattle.plan_format.specs.Plan.{Plan}
+use Rattle.plan_order.specs.Precedence.{Before}
+use Rattle.plan_order.specs.Holdings.{Placed, buffer-marks}
+use Rattle.plan_order.specs.Meaning.{mark-at, Frees, No-free, Forced, When}
+use Rattle.plan_order.specs.declared.Verdict.the-variants.{StrayUse}
+use Rattle.plan_order.proofs.Precedence.{before-chain, chain-before, before-join}
+use Rattle.plan_order.proofs.MarksMeaning.{marked-mark}
+
+module _ (p : Plan) where
+  abbrev At : (i j : ℕ) → Type 0
+  At i j = (i ≡ j) ⊎ Before p i j
+
+  at-join : (i j k : ℕ) → At i j → At j k → At i k
+  at-join i j k (inl e) b = subst (λ (z : ℕ). At z k) (sym e) b
+  at-join i j k (inr a) (inl e) = inr (subst (λ (z : ℕ). Before p i z) e a)
+  at-join i j k (inr a) (inr b) = inr (before-chain p i k (before-join p i j k a (chain-before p j k b)))
+
+module _ (p : Plan) (b : ℕ) (forced : (k : ℕ) → k < length (buffer-marks p b) → Forced p b k) where
+  abbrev by : (k : ℕ) → ℕ
+  by k = mark-at (buffer-marks p b) k .by
+
+  -- a mark and the free of its own holding
+  own-free : (k n : ℕ) → k ≤ n → n < length (buffer-marks p b) → No-free (buffer-marks p b) k n → Frees (buffer-marks p b) n → At p (by k) (by n)
+  own-free k n l inside none frees =
+      by-cases (eqb k n) (λ t. inl (ap by (eqb-true k n t)))
+      (λ f. forced k (omega arith) .own-free n (omega (arith, eqb-false k n f)) inside none frees)
+
+  -- a mark and any free from it on; no free is passed from k up to n
+  later-free : (left k n l : ℕ) → n + left ≡ l → k ≤ n → l < length (buffer-marks p b) → No-free (buffer-marks p b) k n →
+      Frees (buffer-marks p b) l → At p (by k) (by l)
+  later-free zero k n l e low inside none frees =
+      let same : n ≡ l = omega arith in
+      own-free k l (omega arith) inside (subst (λ (z : ℕ). No-free (buffer-marks p b) k z) same none) frees
+  later-free (suc left) k n l e low inside none frees =
+      by-cases (eqb (mark-at (buffer-marks p b) n .kind) 1)
+      (λ t. let free = eqb-true (mark-at (buffer-marks p b) n .kind) 1 t in
+      let next = forced (suc n) (omega arith) .free-before n (omega arith) free (λ m a c. absurd (omega arith)) in
+      at-join p (by k) (by n) (by l) (own-free k n low (omega arith) none free)
+      (at-join p (by n) (by (suc n)) (by l) (inr next)
+      (later-free left (suc n) (suc n) l (omega arith) (omega arith) inside (λ m a c. absurd (omega arith)) frees)))
+      (λ f. later-free left k (suc n) l (omega arith) (omega arith) inside
+      (λ m a c g. by-cases (eqb m n)
+      (λ s. eqb-false (mark-at (buffer-marks p b) n .kind) 1 f (subst (λ (z : ℕ). Frees (buffer-marks p b) z) (eqb-true m n s) g))
+      (λ s. none m a (omega (arith, eqb-false m n s)) g)) frees)
+
+  pub no-stray : (q : ℕ) → When p q b StrayUse → ⊥
+  unfolding When
+  no-stray q (m, (ns, e), frees, (j, last, seen), (i, marked, unseen)) =
+      let none : Placed = record { by = 0; kind = 0 } in
+      let (x, among, x-by) = marked-mark p b i marked in
+      let (k, inside, x-is) = mem-place (buffer-marks p b) none x among in
+      let l = length ns in
+      let long : length (buffer-marks p b) ≡ length ns + 1 = ap length e ∙ length-append ns (m ∷ []) in
+      let m-is : mark-at (buffer-marks p b) l ≡ m = rw e (getD-append-seam ns m [] none) in
+      let reached = later-free (l - k) k k l (omega arith) (omega arith) (omega arith) (λ n a c. absurd (omega arith))
+      (ap (λ (z : Placed). z .kind) m-is ∙ frees) in
+      let joined : At p i (m .by) = subst₂ (λ (y z : ℕ). At p y z) (ap (λ (z : Placed). z .by) x-is ∙ x-by) (ap (λ (z : Placed). z .by) m-is) reached in
+      unseen (j, last, at-join p i (m .by) j joined seen)

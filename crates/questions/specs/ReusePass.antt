@@ -1,0 +1,68 @@
+-- The verdict of the reuse question by the columns of a plan and its rows: one pass over the marks. Assumes nothing: these are definitions.
+use mathlib.Core.Path.{_≡_}
+use mathlib.Core.Bool.{Bool, _&&_, cond}
+use mathlib.Core.List.{List, [], _∷_}
+use Prim.Native.Nat.{ℕ, _+_, _≤_, _<_}
+use lib.Dec.{ltb, eqb}
+use lib.ListN.{length, getD, drop}
+use Rattle.basics.specs.Lists.{highest-below, place-or}
+use Rattle.plan_format.specs.Form.{first-form}
+use Rattle.plan_format.specs.Plan.{Plan, count, queues, operations-in}
+use Rattle.plan_format.specs.Sound.{Sound}
+use Rattle.plan_order.specs.declared.Verdict.{Verdict}
+use Rattle.plan_order.specs.declared.Verdict.the-variants.{Reusable, Held, NotOrdered, StrayUse}
+use Rattle.plan_columns.specs.Columns.{Marked, Queue-column, Mark-columns, Row-columns}
+use Rattle.plan_columns.specs.Shown.{Limits}
+use Rattle.plan_marks.specs.Passes.{ordered}
+use Rattle.checker.specs.declared.Counted.{Counted}
+
+-- the counts are within a plan's limits
+pub record Few (c : Counted) : Type 0 where
+  pub queues : c .queues ≤ 16
+  pub semaphores : c .semaphores ≤ 64
+  pub buffers : c .buffers ≤ 256
+  pub operations : c .operations ≤ 1024
+
+-- a sound plan: its operations among the numbers from a place on, and its rows
+pub record Numbered (p : Plan) (numbers : List ℕ) (first n : ℕ) (rows : List ℕ) : Type 0 where
+  pub sound : Sound p
+  pub limits : Limits p
+  pub many : count p ≡ n
+  pub inside : first ≤ 22868
+  pub operations : p .operations ≡ operations-in first-form n (drop first numbers)
+  pub rows-shown : Row-columns p (λ j. j < count p) rows
+
+-- the same with the plan's counts, each in front of its section
+pub record Opened (p : Plan) (c : Counted) (numbers rows : List ℕ) : Type 0 where
+  pub queues-are : c .queues ≡ queues p
+  pub buffers-are : c .buffers ≡ length (p .sizes)
+  pub numbered : Numbered p numbers (4 + c .queues + c .semaphores + c .buffers) (c .operations) rows
+
+-- a sound plan shown by columns, and its rows
+pub record Shown (p : Plan) (n marks : ℕ) (queue mark operation rows : List ℕ) : Type 0 where
+  pub sound : Sound p
+  pub many : count p ≡ n
+  pub few-buffers : length (p .sizes) ≤ 256
+  pub queues-shown : Queue-column p queue
+  pub marks-shown : Mark-columns p marks mark operation
+  pub rows-shown : Row-columns p (λ j. j < count p) rows
+
+-- 01: "the queue's last operation", of n; 1,024 where there is none
+unfoldable pub last-shown : (queue : List ℕ) → (q n : ℕ) → ℕ
+last-shown queue q n = place-or 1024 (highest-below n (λ i. eqb (getD queue i 0) q))
+
+-- 01: i "is the queue's last operation or before it"; not "for a queue with no operations"
+unfoldable pub seen : (queue rows : List ℕ) → (last i : ℕ) → Bool
+seen queue rows last i = ltb last 1024 && ordered queue rows i last
+
+-- 01: "held: its last mark is a use. reusable: the last mark is a free, and every operation with a mark on it is" seen. "stray use: the last
+-- mark is a free that is so placed, but another marked operation isn't. not ordered: otherwise"
+unfoldable pub verdict-after : (frees seen all : Bool) → Verdict
+verdict-after f s a = cond f (cond s (cond a Reusable StrayUse) NotOrdered) Held
+
+-- the verdict by the marks from a place on, after those before it: their verdict, and whether all of them are seen
+unfoldable pub verdict-from : (seen : ℕ → Bool) → (b : ℕ) → (so-far : Verdict) → (all : Bool) → List Marked → Verdict
+verdict-from f b v a [] = v
+verdict-from f b v a (m ∷ ms) =
+    let all-now = a && f (m .by) in
+    cond (eqb (m .buffer) b) (verdict-from f b (verdict-after (eqb (m .kind) 1) (f (m .by)) all-now) all-now ms) (verdict-from f b v a ms)
