@@ -68,6 +68,19 @@ fn refused(number: u32, place: usize) -> Loaded
     }
 }
 
+// A plan without a refusal, and what it has.
+fn whole(operations: u16, signals: u16, marks: u16) -> Loaded
+    ensures { λ r. ⌜ r ≡ record { number = 0; place = 0; operations = operations; signals = signals; marks = marks } ⌝ }
+{
+    Loaded {
+        number: 0,
+        place: 0,
+        operations,
+        signals,
+        marks,
+    }
+}
+
 // Fills the columns of a plan whose head is read.
 fn columns(
     plan: &[u8],
@@ -148,11 +161,5 @@ fn operations(
     if at < plan.len() {
         return refused(3, at);
     }
-    Loaded {
-        number: 0,
-        place: 0,
-        operations: many,
-        signals,
-        marks,
-    }
+    whole(many, signals, marks)
 }

@@ -82,15 +82,19 @@ returns-2 c =
     rw (c .refused2 .ensures)
     (λ nums head z. (refused-loads (load-more _ _ nums _ _ _ _ _ _ _ _ head (l .5 nums head z) (c .before .before .loop-test .left) (l .2) (c .before .if2 .taken)) (eqb-false 3 0 refl), λ e. absurd (eqb-false 3 0 refl e)))
 
+whole-requires : tie.Need-whole-requires Inv-loop μ-loop
+whole-requires c κs = search needs
+
 returns-3 : tie.Need-returns-3 Inv-loop μ-loop
 returns-3 c =
-    let l = c .before .before .loop .inv in
-    λ nums head z. (
-      load-columns _ _ nums _ _ _ _ _ _ _ _ head (l .5 nums head z) (c .before .loop-test .left) (l .2) (c .if2 .left) z,
-      λ _. load-owners _ _ nums _ _ _ _ _ _ _ _ head (l .5 nums head z) (c .before .loop-test .left) (l .2) (c .if2 .left) z,
-    )
+    let l = c .before .before .before .loop .inv in
+    let done = c .before .before .loop-test .left in
+    let end = c .before .if2 .left in
+    rw (c .whole .ensures)
+    (λ nums head z.
+    (load-columns _ _ nums _ _ _ _ _ _ _ _ head (l .5 nums head z) done (l .2) end z, λ _. load-owners _ _ nums _ _ _ _ _ _ _ _ head (l .5 nums head z) done (l .2) end z))
 
 pub operations-spec : {M : Type 1} → statement M
 operations-spec =
     tie.close
-    (tie.spec Inv-loop μ-loop cast-many loop-holds read-operation-requires refused-requires returns add-requires cast-signals cast-marks add-i loop-less loop-again refused-requires-2 returns-2 returns-3)
+    (tie.spec Inv-loop μ-loop cast-many loop-holds read-operation-requires refused-requires returns add-requires cast-signals cast-marks add-i loop-less loop-again refused-requires-2 returns-2 whole-requires returns-3)
