@@ -70,11 +70,11 @@ fn judge(
     let many = n as usize;
     if ran < many {
         let i = plan_run::stuck(n, queue, rows);
-        return plan_reader::refused(10, i);
+        return plan_format::refused(10, i);
     }
     let i = plan_marks::broken(n, marks, queue, mark, mop, rows);
     if i < many {
-        return plan_reader::refused(11, i);
+        return plan_format::refused(11, i);
     }
     Told {
         number: 0,

@@ -64,7 +64,7 @@ pub fn check_plan(plan: &[u8], table: &mut [u32], list: &mut [u32]) -> Told
         &mut mop,
     );
     if l.number != 0 {
-        return plan_reader::refused(l.number, l.place);
+        return plan_format::refused(l.number, l.place);
     }
     check_columns(
         l.operations,
@@ -276,10 +276,10 @@ fn room(n: u16, table: usize, list: usize) -> Told
 {
     let many = n as usize;
     if table < 16 * many {
-        return plan_reader::refused(9, 16 * many);
+        return plan_format::refused(9, 16 * many);
     }
     if list < 2 * many {
-        return plan_reader::refused(9, 2 * many);
+        return plan_format::refused(9, 2 * many);
     }
     Told {
         number: 0,

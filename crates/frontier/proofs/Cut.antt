@@ -115,7 +115,7 @@ all-exceed m b (x ∷ xs) s l h =
     rw (exceeds-or m x (λ q. omega arith) (h x (inl refl)))
     (omega (arith, all-exceed m (suc (x .axis)) xs (s .2) (omega arith) (λ y i. h y (inr i))))
 
-least-count : (m : Entry) (b : ℕ) (xs : List Entry) → Sorted b xs → In m xs → ((y : Entry) → In y xs → exceeds m y ≡ false) → length xs ≤ suc (exceeding m xs)
+pub least-count : (m : Entry) (b : ℕ) (xs : List Entry) → Sorted b xs → In m xs → ((y : Entry) → In y xs → exceeds m y ≡ false) → length xs ≤ suc (exceeding m xs)
 unfolding exceeding
 least-count m b [] s i h = absurd i
 least-count m b (x ∷ xs) s i h =

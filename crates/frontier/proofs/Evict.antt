@@ -1,7 +1,7 @@
 -- Eviction by a bound: where as many entries exceed the bound as the capacity holds, the cut keeps exactly those; and the least entry above
 -- a bound is the next bound. Assumes nothing.
 use mathlib.Core.Path.{_≡_, refl, sym, ap, _∙_}
-use mathlib.Core.Bool.{Bool, true, false}
+use mathlib.Core.Bool.{Bool, true, false, _&&_, cond}
 use mathlib.Core.Logic.{_⊎_, inl, inr}
 use mathlib.Core.List.{List, [], _∷_}
 use Prim.Native.Nat.{ℕ, suc, _+_, _≤_, _<_, zero-le}
@@ -13,10 +13,9 @@ use borrow.Author.Tests.{lt-ltb, le-ltb}
 use Rattle.basics.proofs.Tests.{by-cases, clash, is-true, is-false, either}
 use Rattle.basics.specs.Lists.{filter}
 use Rattle.frontier.specs.Entries.{Entry, exceeds, exceeding, cut}
-use Rattle.frontier.specs.Walks.{nearer}
 use Rattle.frontier.proofs.Sorted.{Sorted}
 use Rattle.frontier.proofs.Exceeds.{exceeds-not-itself, exceeds-chain, exceeds-or, exceeds-past, exceeds-same, exceeds-zero}
-use Rattle.frontier.proofs.Cut.{In, in-above, keep-all, cut-whole}
+use Rattle.frontier.proofs.Cut.{In, in-above}
 
 -- COUNTS OF TWO BOUNDS
 pub exceeding-same : (b m : Entry) (xs : List Entry) → ((y : Entry) → In y xs → exceeds y b ≡ exceeds y m) → exceeding b xs ≡ exceeding m xs
@@ -31,6 +30,15 @@ exceeding-mono b m (x ∷ xs) h =
     by-cases (exceeds x b)
     (λ t. rw (t, h x (inl refl) t) (omega (arith, exceeding-mono b m xs (λ y i. h y (inr i)))))
     (λ t. rw t (omega (arith, exceeding-mono b m xs (λ y i. h y (inr i)))))
+
+-- no fewer exceed an entry than what it does not exceed
+pub exceeding-over : (b x : Entry) (xs : List Entry) → exceeds x b ≡ false → exceeding b xs ≤ exceeding x xs
+exceeding-over b x xs e = exceeding-mono b x xs (λ y i t. is-true (exceeds y x) (λ v. clash (exceeds x b) (exceeds-past y x b t v) e))
+
+pub exceeding-none : (b : Entry) (xs : List Entry) → ((y : Entry) → In y xs → exceeds y b ≡ false) → exceeding b xs ≡ 0
+unfolding exceeding
+exceeding-none b [] h = refl
+exceeding-none b (x ∷ xs) h = rw (h x (inl refl), exceeding-none b xs (λ y i. h y (inr i)))
 
 -- fewer exceed an entry than exceed what it exceeds
 pub exceeding-less : (x b : Entry) (xs : List Entry) → In x xs → exceeds x b ≡ true → exceeding x xs < exceeding b xs
@@ -52,19 +60,23 @@ some-above b (x ∷ xs) h =
     let w = some-above b xs (omega arith) in (w .0, inr (w .1), w .2))
 
 -- THE LEAST ENTRY ABOVE A BOUND
+-- of an entry and the best so far, the one that is nearer above the bound
+unfoldable pub nearer : (b x best : Entry) → Entry
+nearer b x best = cond (exceeds x b && exceeds best x) x best
+
 unfoldable pub least-above : (b best : Entry) → List Entry → Entry
 least-above b best [] = best
 least-above b best (x ∷ xs) = least-above b (nearer b x best) xs
 
-pub nearer-below : (b x best : Entry) → exceeds x b ≡ false → best ≡ nearer b x best
+nearer-below : (b x best : Entry) → exceeds x b ≡ false → best ≡ nearer b x best
 unfolding nearer
 nearer-below b x best e = rw e
 
-pub nearer-past : (b x best : Entry) → exceeds x b ≡ true → exceeds best x ≡ false → best ≡ nearer b x best
+nearer-past : (b x best : Entry) → exceeds x b ≡ true → exceeds best x ≡ false → best ≡ nearer b x best
 unfolding nearer
 nearer-past b x best e f = rw (e, f)
 
-pub nearer-found : (b x best : Entry) → exceeds x b ≡ true → exceeds best x ≡ true → x ≡ nearer b x best
+nearer-found : (b x best : Entry) → exceeds x b ≡ true → exceeds best x ≡ true → x ≡ nearer b x best
 unfolding nearer
 nearer-found b x best e f = rw (e, f)
 
@@ -130,38 +142,20 @@ unfolding filter
 keep-same f g [] h = refl
 keep-same f g (x ∷ xs) h = rw (h x (inl refl), keep-same f g xs (λ y i. h y (inr i)))
 
-pub cut-by-bound : (b : Entry) (c : ℕ) (xs : List Entry) → exceeding b xs ≡ c → cut c xs ≡ filter (λ x. exceeds x b) xs
+-- no fewer than the capacity exceed the bound, and fewer exceed each entry above it
+pub cut-at : (b : Entry) (c : ℕ) (xs : List Entry) → c ≤ exceeding b xs → ((x : Entry) → In x xs → exceeds x b ≡ true → exceeding x xs < c) → cut c xs ≡ filter (λ x. exceeds x b) xs
 unfolding cut
-cut-by-bound b c xs e =
+cut-at b c xs m h =
     keep-same (λ x. ltb (exceeding x xs) c) (λ x. exceeds x b) xs (λ x i.
     by-cases (exceeds x b)
-    (λ t. lt-ltb (exceeding x xs) c (omega (arith, exceeding-less x b xs i t)) ∙ sym t)
-    (λ t. le-ltb (exceeding x xs) c (omega (
-      arith,
-      exceeding-mono b x xs (λ y j u.
-          is-true (exceeds y x) (λ v. clash (exceeds x b) (exceeds-past y x b u v) t)),
-    )) ∙ sym t))
+    (λ t. lt-ltb (exceeding x xs) c (h x i t) ∙ sym t)
+    (λ t. le-ltb (exceeding x xs) c (omega (arith, exceeding-over b x xs t)) ∙ sym t))
 
-exceeding-most : (b : Entry) (xs : List Entry) → exceeding b xs ≤ length xs
-unfolding exceeding
-exceeding-most b [] = zero-le
-exceeding-most b (x ∷ xs) = by-cases (exceeds x b) (λ t. rw t (omega (arith, exceeding-most b xs))) (λ t. rw t (omega (arith, exceeding-most b xs)))
+pub cut-by-bound : (b : Entry) (c : ℕ) (xs : List Entry) → exceeding b xs ≡ c → cut c xs ≡ filter (λ x. exceeds x b) xs
+cut-by-bound b c xs e = cut-at b c xs (omega arith) (λ x i t. omega (arith, exceeding-less x b xs i t))
 
-all-above : (b : Entry) (xs : List Entry) → exceeding b xs ≡ length xs → (x : Entry) → In x xs → exceeds x b ≡ true
-unfolding exceeding
-all-above b [] e x i = absurd i
-all-above b (y ∷ ys) e x i =
-    by-cases (exceeds y b)
-    (λ t. let e′ : 1 + exceeding b ys ≡ suc (length ys) = rw t at e in either i (λ q. rw q t) (λ j. all-above b ys (omega arith) x j))
-    (λ t. let e′ : 0 + exceeding b ys ≡ suc (length ys) = rw t at e in absurd (omega (arith, exceeding-most b ys)))
-
--- the bound that eviction starts from, and where it ends
+-- all exceed the zero entry
 pub bound-start : (c : ℕ) (xs : List Entry) → Sorted c xs → exceeding (record { axis = 0; epoch = 0 }) xs ≡ length xs
 unfolding exceeding
 bound-start c [] s = refl
 bound-start c (x ∷ xs) s = rw (exceeds-zero x (s .1)) (omega (arith, bound-start (suc (x .axis)) xs (s .2)))
-
-pub bound-end : (b : Entry) (c l : ℕ) (xs : List Entry) → exceeding b xs ≡ l → l ≤ c → (c ≤ l) ⊎ (l ≡ length xs) → cut c xs ≡ filter (λ x. exceeds x b) xs
-bound-end b c l xs e h w =
-    either w (λ m. cut-by-bound b c xs (omega arith))
-    (λ q. cut-whole c xs (omega arith) ∙ sym (keep-all (λ x. exceeds x b) xs (all-above b xs (e ∙ q))))

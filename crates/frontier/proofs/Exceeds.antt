@@ -1,6 +1,6 @@
 -- The order in which entries are kept, by epoch and then by axis: a strict total order on entries of distinct axes. Assumes nothing.
-use mathlib.Core.Path.{_≡_, refl, sym}
-use mathlib.Core.Bool.{Bool, true, false, _||_}
+use mathlib.Core.Path.{_≡_, sym}
+use mathlib.Core.Bool.{true, false, or-false}
 use mathlib.Core.Logic.{_⊎_, inl, inr}
 use Prim.Native.Nat.{_≤_, _<_}
 use native.Mathlib.Omega.{arith}
@@ -81,17 +81,13 @@ pub exceeds-zero : (x : Entry) → 0 < x .epoch → exceeds x (record { axis = 0
 exceeds-zero x h = by-epoch x (record { axis = 0; epoch = 0 }) h
 
 -- the test as the code makes it
-or-none : (a : Bool) → (a || false) ≡ a
-or-none true = refl
-or-none false = refl
-
 pub test-axis : (x b : Entry) → b .epoch ≡ x .epoch → ltb (b .axis) (x .axis) ≡ exceeds x b
 unfolding exceeds
 test-axis x b e = rw (le-ltb (b .epoch) (x .epoch) (omega arith), eq-eqb (b .epoch) (x .epoch) e)
 
 pub test-epoch : (x b : Entry) → (b .epoch ≡ x .epoch → ⊥) → ltb (b .epoch) (x .epoch) ≡ exceeds x b
 unfolding exceeds
-test-epoch x b n = rw (ne-eqb (b .epoch) (x .epoch) n) (sym (or-none (ltb (b .epoch) (x .epoch))))
+test-epoch x b n = rw (ne-eqb (b .epoch) (x .epoch) n) (sym (or-false (ltb (b .epoch) (x .epoch))))
 
 -- a larger epoch of the same axis exceeds what the smaller does
 pub exceeds-raised : (y z b : Entry) → exceeds y b ≡ true → y .axis ≡ z .axis → y .epoch ≤ z .epoch → exceeds z b ≡ true

@@ -1,66 +1,91 @@
 -- The walk that joins two frontiers: the next entry of the union of what is left, and what is written so far. Assumes nothing.
-use mathlib.Core.Path.{_≡_, sym, _∙_}
-use mathlib.Core.Bool.{Bool, true, _||_}
+use mathlib.Core.Path.{_≡_, refl, sym, ap, _∙_}
+use mathlib.Core.Bool.{Bool, true, false, or-true, false≢true}
 use mathlib.Core.List.{List, [], _∷_, _++_, append-assoc, append-nil}
-use Prim.Native.Nat.{ℕ, suc, _+_, _≤_, _<_, zero-le, max}
+use Prim.Native.Nat.{ℕ, suc, _+_, _-_, _≤_, _<_, zero-le, max}
 use native.Mathlib.Omega.{arith}
-use lib.Dec.{eqb, ltb}
-use lib.ListN.{length, getD, set, length-set}
-use borrow.Author.Tests.{eqb-true, eqb-false}
-use Rattle.basics.proofs.Tests.{by-cases}
+use lib.Dec.{eqb, ltb, leb}
+use lib.ListN.{length, getD, set, length-set, take, drop, replicate}
+use lib.Seq.{length-take-le}
+use borrow.Author.Tests.{eqb-true, eqb-false, ltb-true, ltb-false, leb-true, leb-false, le-leb, lt-ltb}
+use Rattle.basics.proofs.Tests.{by-cases, clash}
 use Rattle.frontier.specs.declared.Lookup.the-variants.{Listed, Absent}
-use Rattle.frontier.specs.Entries.{rising-from, union, cut}
-use Rattle.frontier.specs.Frontiers.{slot, slots, pack, joined}
-use Rattle.frontier.specs.Walks.{rest, floor, first-listed}
-use Rattle.frontier.proofs.Sorted.{Sorted, sorted, rising, sorted-union, lower, union-left, union-right, union-both}
-use Rattle.frontier.proofs.Slots.{rest-all, rest-more, rest-none, sorted-rest, slots-put, slots-length}
+use Rattle.frontier.specs.Entries.{Entry, rising-from, union, cut}
+use Rattle.frontier.specs.Frontiers.{slot, slots, all-zero, pack, joined}
+use Rattle.frontier.specs.Walks.{rest, floor, first-listed, leads}
+use Rattle.frontier.proofs.Sorted.{Sorted, sorted, rising, sorted-union, lower, union-commutes, union-left, union-both}
+use Rattle.frontier.proofs.Slots.{rest-all, rest-more, rest-none, sorted-rest, slots-put, slots-length, zero-past, zero-first, slots-first}
+use Rattle.frontier.proofs.Pack.{repack, all-zero-replicate}
+use Rattle.frontier.proofs.Merge.{joined-whole}
+
+-- WHICH SIDE LEADS
+module _ (xa xe : List ℕ) (xn i : ℕ) where
+  pub leads-none : (ys : List Entry) → xn ≤ i → false ≡ leads (rest xa xe xn i) ys
+  unfolding leads
+  leads-none ys h = rw (rest-none xa xe xn i h)
+
+  pub leads-alone : (ya ye : List ℕ) (yn j : ℕ) → i < xn → yn ≤ j → true ≡ leads (rest xa xe xn i) (rest ya ye yn j)
+  unfolding leads
+  leads-alone ya ye yn j h l = rw (rest-more xa xe xn i h, rest-none ya ye yn j l)
+
+  pub leads-both : (ya ye : List ℕ) (yn j : ℕ) → i < xn → j < yn → leb (getD xa i 0) (getD ya j 0) ≡ leads (rest xa xe xn i) (rest ya ye yn j)
+  unfolding leads slot
+  leads-both ya ye yn j h l = rw (rest-more xa xe xn i h, rest-more ya ye yn j l)
+
+  -- a side that leads has an entry
+  pub leads-some : (ys : List Entry) (t : Bool) → t ≡ leads (rest xa xe xn i) ys → t ≡ true → i < xn
+  leads-some ys t q e =
+      by-cases (ltb i xn) (λ l. ltb-true i xn l) (λ l. clash t e (q ∙ sym (leads-none ys (ltb-false i xn l))))
+
+  -- and so does one that lists an axis
+  pub listed-some : (a e : ℕ) → Listed e ≡ first-listed a (rest xa xe xn i) → i < xn
+  unfolding first-listed
+  listed-some a e q =
+      by-cases (ltb i xn) (λ t. ltb-true i xn t) (λ t. absurd (listed-absent (rw (rest-none xa xe xn i (ltb-false i xn t)) at q)))
+    where
+      listed-absent : {k : ℕ} → Listed k ≡ Absent → ⊥
+      listed-absent e = let z : _≡_ {A = ℕ} 0 1 = cc in omega arith
+
+-- where one side does not lead, the other does, if anything is left
+leads-other : (xs ys : List Entry) → 0 < length xs + length ys → leads xs ys ≡ false → leads ys xs ≡ true
+unfolding leads
+leads-other [] [] h e = absurd (omega arith)
+leads-other [] (y ∷ ys) h e = refl
+leads-other (x ∷ xs) [] h e = absurd (false≢true (sym e))
+leads-other (x ∷ xs) (y ∷ ys) h e = le-leb (y .axis) (x .axis) (omega (arith, leb-false (x .axis) (y .axis) e))
+
+-- an axis that leads and is absent on the other side lies below all of that side
+absent-below : (b : ℕ) (x : Entry) (xs ys : List Entry) → Sorted b ys → leads (x ∷ xs) ys ≡ true → Absent ≡ first-listed (x .axis) ys → Sorted (suc (x .axis)) ys
+unfolding leads first-listed
+absent-below b x xs [] s l e = tt
+absent-below b x xs (y ∷ ys) s l e =
+    (by-cases (eqb (y .axis) (x .axis)) (λ t. absurd (absent-listed (rw t at e))) (λ t. omega (arith, leb-true (x .axis) (y .axis) l, eqb-false (y .axis) (x .axis) t)), s .1, s .2)
+  where
+    absent-listed : {k : ℕ} → Absent ≡ Listed k → ⊥
+    absent-listed e = let z : _≡_ {A = ℕ} 0 1 = cc in omega arith
 
 -- TWO FRONTIERS: x from slot i on and y from slot j on
 module _ (xa xe ya ye : List ℕ) (xn yn i j : ℕ) (rx : rising-from 0 (slots xa xe xn 0) ≡ true) (ry : rising-from 0 (slots ya ye yn 0) ≡ true) where
-  left-from : i ≤ xn → Sorted (floor xa i) (rest xa xe xn i)
-  left-from h = sorted-rest xa xe xn i h (sorted 0 (slots xa xe xn 0) rx)
-
   right-from : j ≤ yn → Sorted (floor ya j) (rest ya ye yn j)
   right-from h = sorted-rest ya ye yn j h (sorted 0 (slots ya ye yn 0) ry)
 
   -- the slot and what comes after it
   left-at : i < xn → Sorted (floor xa i) (slot xa xe i ∷ rest xa xe xn (i + 1))
-  left-at h = rw (rest-more xa xe xn i h) at (left-from (omega arith))
+  left-at h = rw (rest-more xa xe xn i h) at (sorted-rest xa xe xn i (omega arith) (sorted 0 (slots xa xe xn 0) rx))
 
   right-at : j < yn → Sorted (floor ya j) (slot ya ye j ∷ rest ya ye yn (j + 1))
   right-at h = rw (rest-more ya ye yn j h) at (right-from (omega arith))
 
-  pub next-right-only : xn ≤ i → j < yn → union (rest xa xe xn i) (rest ya ye yn j) ≡ slot ya ye j ∷ union (rest xa xe xn i) (rest ya ye yn (j + 1))
-  unfolding union
-  next-right-only h l = rw (rest-none xa xe xn i h, rest-more ya ye yn j l)
-
-  pub next-left-only : i < xn → yn ≤ j → union (rest xa xe xn i) (rest ya ye yn j) ≡ slot xa xe i ∷ union (rest xa xe xn (i + 1)) (rest ya ye yn j)
+  pub next-absent : i < xn → j ≤ yn → leads (rest xa xe xn i) (rest ya ye yn j) ≡ true → Absent ≡ first-listed (getD xa i 0) (rest ya ye yn j) → union (rest xa xe xn i) (rest ya ye yn j) ≡ slot xa xe i ∷ union (rest xa xe xn (i + 1)) (rest ya ye yn j)
   unfolding slot
-  next-left-only h l =
-      rw (rest-more xa xe xn i h, rest-none ya ye yn j l)
-      (union-left (slot xa xe i) (rest xa xe xn (i + 1)) [] (left-at h .2) tt)
+  next-absent h l m e =
+      rw (rest-more xa xe xn i h)
+      (union-left (slot xa xe i) (rest xa xe xn (i + 1)) (rest ya ye yn j) (left-at h .2)
+      (absent-below (floor ya j) (slot xa xe i) (rest xa xe xn (i + 1)) (rest ya ye yn j) (right-from l) (rw (rest-more xa xe xn i h) at m) e))
 
-  pub next-right : i < xn → j < yn → getD ya j 0 < getD xa i 0 → union (rest xa xe xn i) (rest ya ye yn j) ≡ slot ya ye j ∷ union (rest xa xe xn i) (rest ya ye yn (j + 1))
-  unfolding slot
-  next-right h l m =
-      rw (rest-more xa xe xn i h, rest-more ya ye yn j l)
-      (union-right (slot ya ye j) (slot xa xe i ∷ rest xa xe xn (i + 1)) (rest ya ye yn (j + 1)) (right-at l .1)
-      (m, left-at h .1, left-at h .2) (right-at l .2))
-
-  pub next-left : i < xn → j < yn → getD xa i 0 ≤ getD ya j 0 → Absent ≡ first-listed (getD xa i 0) (rest ya ye yn j) → union (rest xa xe xn i) (rest ya ye yn j) ≡ slot xa xe i ∷ union (rest xa xe xn (i + 1)) (rest ya ye yn j)
+  pub next-listed : (e m : ℕ) → m ≡ max (getD xe i 0) e → i < xn → j < yn → Listed e ≡ first-listed (getD xa i 0) (rest ya ye yn j) → union (rest xa xe xn i) (rest ya ye yn j) ≡ record { axis = getD xa i 0; epoch = m } ∷ union (rest xa xe xn (i + 1)) (rest ya ye yn (j + 1))
   unfolding slot first-listed
-  next-left h l m e =
-      let e′ = rw (rest-more ya ye yn j l) at e in
-      rw (rest-more xa xe xn i h, rest-more ya ye yn j l)
-      (union-left (slot xa xe i) (rest xa xe xn (i + 1)) (slot ya ye j ∷ rest ya ye yn (j + 1)) (left-at h .2)
-      (by-cases (eqb (getD ya j 0) (getD xa i 0)) (λ t. absurd (absent-listed (rw t at e′))) (λ t. omega (arith, eqb-false (getD ya j 0) (getD xa i 0) t)), right-at l .1, right-at l .2))
-    where
-      absent-listed : {k : ℕ} → Absent ≡ Listed k → ⊥
-      absent-listed e = let z : _≡_ {A = ℕ} 0 1 = cc in omega arith
-
-  pub next-both : (e m : ℕ) → m ≡ max (getD xe i 0) e → i < xn → j < yn → Listed e ≡ first-listed (getD xa i 0) (rest ya ye yn j) → union (rest xa xe xn i) (rest ya ye yn j) ≡ record { axis = getD xa i 0; epoch = m } ∷ union (rest xa xe xn (i + 1)) (rest ya ye yn (j + 1))
-  unfolding slot first-listed
-  next-both e m g h l q =
+  next-listed e m g h l q =
       let q′ = rw (rest-more ya ye yn j l) at q in
       by-cases (eqb (getD ya j 0) (getD xa i 0))
       (λ t. let same = eqb-true (getD ya j 0) (getD xa i 0) t in
@@ -75,6 +100,21 @@ module _ (xa xe ya ye : List ℕ) (xn yn i j : ℕ) (rx : rising-from 0 (slots x
       listed-absent : {k : ℕ} → Listed k ≡ Absent → ⊥
       listed-absent e = let z : _≡_ {A = ℕ} 0 1 = cc in omega arith
 
+  pub right-leads : (t : Bool) → i + j < xn + yn → i ≤ xn → j ≤ yn → t ≡ leads (rest xa xe xn i) (rest ya ye yn j) → t ≡ false → leads (rest ya ye yn j) (rest xa xe xn i) ≡ true
+  right-leads t h l r q e =
+      leads-other (rest xa xe xn i) (rest ya ye yn j)
+      (omega (arith, slots-length xa xe (xn - i) i, slots-length ya ye (yn - j) j)) (sym q ∙ e)
+
+  rests-commute : (p q : ℕ) → p ≤ xn → q ≤ yn → union (rest xa xe xn p) (rest ya ye yn q) ≡ union (rest ya ye yn q) (rest xa xe xn p)
+  rests-commute p q h l =
+      union-commutes 0 (rest xa xe xn p) (rest ya ye yn q)
+      (lower (floor xa p) 0 (rest xa xe xn p) zero-le (sorted-rest xa xe xn p h (sorted 0 (slots xa xe xn 0) rx)))
+      (lower (floor ya q) 0 (rest ya ye yn q) zero-le (sorted-rest ya ye yn q l (sorted 0 (slots ya ye yn 0) ry)))
+
+  -- a step with the sides turned
+  pub next-turned : (x : Entry) (p q : ℕ) → i ≤ xn → j ≤ yn → p ≤ xn → q ≤ yn → union (rest ya ye yn j) (rest xa xe xn i) ≡ x ∷ union (rest ya ye yn q) (rest xa xe xn p) → union (rest xa xe xn i) (rest ya ye yn j) ≡ x ∷ union (rest xa xe xn p) (rest ya ye yn q)
+  next-turned x p q h l r m e = rests-commute i j h l ∙ e ∙ ap (λ zs. x ∷ zs) (sym (rests-commute p q r m))
+
 -- what is written so far, and the union of what is left, are the whole union
 pub record Join (xa xe ya ye axes epochs : List ℕ) (xn yn n i j : ℕ) : Type 0 where
   pub left-in : i ≤ xn
@@ -82,19 +122,23 @@ pub record Join (xa xe ya ye axes epochs : List ℕ) (xn yn n i j : ℕ) : Type 
   pub few : n ≤ i + j
   pub axes-32 : length axes ≡ 32
   pub epochs-32 : length epochs ≡ 32
+  pub zero-axes : all-zero (drop n axes) ≡ true
+  pub zero-epochs : all-zero (drop n epochs) ≡ true
   pub whole : slots axes epochs n 0 ++ union (rest xa xe xn i) (rest ya ye yn j) ≡ union (slots xa xe xn 0) (slots ya ye yn 0)
 
 module _ (xa xe ya ye axes epochs : List ℕ) (xn yn : ℕ) where
-  pub join-none : length axes ≡ 32 → length epochs ≡ 32 → Join xa xe ya ye axes epochs xn yn 0 0 0
+  pub join-none : axes ≡ replicate 32 0 → epochs ≡ replicate 32 0 → Join xa xe ya ye axes epochs xn yn 0 0 0
   unfolding slots Rattle.basics.specs.Lists.tabulate-from
-  join-none p q = record {
+  join-none p q = rw (p, q) (record {
     left-in = zero-le;
     right-in = zero-le;
     few = zero-le;
-    axes-32 = p;
-    epochs-32 = q;
+    axes-32 = refl;
+    epochs-32 = refl;
+    zero-axes = all-zero-replicate 32;
+    zero-epochs = all-zero-replicate 32;
     whole = rw (rest-all xa xe xn, rest-all ya ye yn);
-  }
+  })
 
   pub join-more : (n i j a e p q : ℕ) → Join xa xe ya ye axes epochs xn yn n i j → n < 32 → p ≤ xn → q ≤ yn → i + j < p + q → union (rest xa xe xn i) (rest ya ye yn j) ≡ record { axis = a; epoch = e } ∷ union (rest xa xe xn p) (rest ya ye yn q) → Join xa xe ya ye (set axes n a) (set epochs n e) xn yn (n + 1) p q
   join-more n i j a e p q w h l r m step = record {
@@ -103,6 +147,8 @@ module _ (xa xe ya ye axes epochs : List ℕ) (xn yn : ℕ) where
     few = omega (arith, w .few);
     axes-32 = length-set axes n a ∙ w .axes-32;
     epochs-32 = length-set epochs n e ∙ w .epochs-32;
+    zero-axes = zero-past axes n a (omega (arith, w .axes-32)) (w .zero-axes);
+    zero-epochs = zero-past epochs n e (omega (arith, w .epochs-32)) (w .zero-epochs);
     whole = rw (slots-put axes epochs n a e (omega (arith, w .axes-32)) (omega (arith, w .epochs-32)), append-assoc, ← step) (w .whole);
   }
 
@@ -121,6 +167,15 @@ module _ (xa xe ya ye axes epochs : List ℕ) (xn yn : ℕ) where
         (sorted-union 0 (slots xa xe xn 0) (slots ya ye yn 0) (sorted 0 (slots xa xe xn 0) rx) (sorted 0 (slots ya ye yn 0) ry))),
   )
 
-  pub join-packed : (n i j c : ℕ) (t : Bool) → Join xa xe ya ye axes epochs xn yn n i j → xn + yn ≤ i + j → pack (cut c (slots axes epochs n 0)) (t || ltb c n) ≡ joined (slots xa xe xn 0) (slots ya ye yn 0) t c
+  pub join-packed : (n i j c : ℕ) (t : Bool) → Join xa xe ya ye axes epochs xn yn n i j → xn + yn ≤ i + j → c < n → pack (cut c (slots axes epochs n 0)) true ≡ joined (slots xa xe xn 0) (slots ya ye yn 0) t c
   unfolding joined
-  join-packed n i j c t w h = rw (← join-end n i j w h, slots-length axes epochs n 0)
+  join-packed n i j c t w h l = rw (← join-end n i j w h, slots-length axes epochs n 0, lt-ltb c n l, or-true t)
+
+  -- what the capacity holds is not cut: the first slots are the frontier
+  pub join-whole : (n i j c : ℕ) (t : Bool) (r q : List ℕ) → Join xa xe ya ye axes epochs xn yn n i j → xn + yn ≤ i + j → n ≤ c → c ≤ 16 → r ≡ take 16 axes → q ≡ take 16 epochs → record { axes = r; epochs = q; len = n; tainted = t } ≡ joined (slots xa xe xn 0) (slots ya ye yn 0) t c
+  join-whole n i j c t r q w h l m e f =
+      let u = slots-first axes epochs 16 n (omega arith) ∙ join-end n i j w h in
+      rw (e, f) (repack (take 16 axes) (take 16 epochs) n t (omega arith) (length-take-le 16 axes (omega (arith, w .axes-32))) (length-take-le 16 epochs (omega (arith, w .epochs-32)))
+      (zero-first 16 n axes (w .zero-axes)) (zero-first 16 n epochs (w .zero-epochs))
+      ∙ ap (λ l. pack l t) u
+      ∙ sym (joined-whole (slots xa xe xn 0) (slots ya ye yn 0) t c (omega (arith, ap length (join-end n i j w h), slots-length axes epochs n 0))))

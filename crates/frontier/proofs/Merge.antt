@@ -1,7 +1,7 @@
 -- The laws of merge and raise: the refusals in their order, well-formed results, commutative always, idempotent where the capacity holds it.
 -- Assumes nothing.
 use mathlib.Core.Path.{_≡_, refl, sym, ap, _∙_}
-use mathlib.Core.Bool.{Bool, true, false, _||_}
+use mathlib.Core.Bool.{Bool, true, false, _&&_, _||_, cond, or-false}
 use mathlib.Core.List.{List, [], _∷_}
 use Prim.Native.Nat.{ℕ, _≤_, _<_, zero-le}
 use native.Mathlib.Nat.{le-refl}
@@ -12,12 +12,13 @@ use borrow.Author.Tests.{leb-true, le-ltb, le-leb, lt-leb, eqb-true, eqb-false, 
 use Rattle.basics.proofs.Tests.{by-cases}
 use Rattle.frontier.specs.declared.Frontier.{Frontier}
 use Rattle.frontier.specs.declared.Merged.{Merged}
-use Rattle.frontier.specs.Entries.{Entry, union, cut}
+use Rattle.frontier.specs.Entries.{Entry, rising-from, union, cut}
 use Rattle.frontier.specs.Frontiers.{entries, well-formed, pack, refusal, joined, merge-number, merge, one-entry}
+use Rattle.frontier.specs.Walks.{left-number}
 use Rattle.frontier.proofs.Sorted.{Sorted, sorted-union, union-commutes, union-idempotent}
 use Rattle.frontier.proofs.Cut.{sorted-cut, cut-length, cut-whole}
 use Rattle.frontier.proofs.Slots.{slots-length}
-use Rattle.frontier.proofs.Pack.{pack-entries, sorted-entries, well-formed-pack}
+use Rattle.frontier.proofs.Pack.{pack-entries, sorted-entries, well-formed-pack, both-fit}
 
 -- ONE ENTRY
 pub one-none : (a e : ℕ) → e ≡ 0 → [] ≡ one-entry a e
@@ -36,30 +37,60 @@ pub short-one : (a e : ℕ) → length (one-entry a e) ≤ 1
 unfolding one-entry
 short-one a e = by-cases (eqb e 0) (λ t. rw t zero-le) (λ t. rw t (le-refl 1))
 
+pub formed-one : (g : Frontier) (a e : ℕ) → g ≡ pack (one-entry a e) false → well-formed g ≡ true
+formed-one g a e q = rw q (well-formed-pack (one-entry a e) false (sorted-one a e) (omega (arith, short-one a e)))
+
 -- THE NUMBER
+-- the left side's number, as the code judges it
+pub judged-small : (f : Frontier) (c : ℕ) → c < 1 → 15 ≡ left-number f c
+unfolding left-number
+judged-small f c h = rw (lt-leb 1 c h)
+
+pub judged-large : (f : Frontier) (c : ℕ) → 16 < c → 15 ≡ left-number f c
+unfolding left-number
+judged-large f c h = rw (le-leb 1 c (omega arith), lt-leb c 16 h)
+
+pub judged-form : (f : Frontier) (c n : ℕ) (b : Bool) → 1 ≤ c → c ≤ 16 → well-formed f ≡ b → n ≡ cond b 0 14 → n ≡ left-number f c
+unfolding left-number
+judged-form f c n b h l e q = rw (le-leb 1 c h, le-leb c 16 l, e) q
+
 module _ (f g : Frontier) (c : ℕ) where
-  pub refused-small : c < 1 → refusal 15 ≡ merge f g c
-  unfolding merge merge-number
-  refused-small h = rw (lt-leb 1 c h)
+  pub refused-first : (n : ℕ) → n ≡ left-number f c → (n ≡ 0 → ⊥) → refusal n ≡ merge f g c
+  unfolding merge merge-number left-number
+  refused-first n e h =
+      by-cases (leb 1 c && leb c 16)
+      (λ t. by-cases (well-formed f) (λ p. absurd (h (rw (t, p) at e))) (λ p. let q : n ≡ 14 = rw (t, p) at e in rw (q, t, p)))
+      (λ t. let q : n ≡ 15 = rw t at e in rw (q, t))
 
-  pub refused-large : 16 < c → refusal 15 ≡ merge f g c
-  unfolding merge merge-number
-  refused-large h = rw (le-leb 1 c (omega arith), lt-leb c 16 h)
+  -- what 0 for the left side tells
+  pub record Left-accepted : Type 0 where
+    pub at-least-one : 1 ≤ c
+    pub at-most-sixteen : c ≤ 16
+    pub left : well-formed f ≡ true
 
-  pub refused-left : 1 ≤ c → c ≤ 16 → well-formed f ≡ false → refusal 14 ≡ merge f g c
-  unfolding merge merge-number
-  refused-left h l e = rw (le-leb 1 c h, le-leb c 16 l, e)
+  pub left-accepted : (n : ℕ) → n ≡ left-number f c → n ≡ 0 → Left-accepted
+  unfolding left-number
+  left-accepted n e z =
+      by-cases (leb 1 c) (λ a. by-cases (leb c 16) (λ b. by-cases (well-formed f)
+      (λ p. record { at-least-one = leb-true 1 c a; at-most-sixteen = leb-true c 16 b; left = p })
+      (λ p. absurd (let q : n ≡ 14 = rw (a, b, p) at e in omega arith)))
+      (λ b. absurd (let q : n ≡ 15 = rw (a, b) at e in omega arith)))
+      (λ a. absurd (let q : n ≡ 15 = rw a at e in omega arith))
 
-  pub refused-right : 1 ≤ c → c ≤ 16 → well-formed f ≡ true → well-formed g ≡ false → refusal 14 ≡ merge f g c
+  pub refused-right : Left-accepted → well-formed g ≡ false → refusal 14 ≡ merge f g c
   unfolding merge merge-number
-  refused-right h l e q = rw (le-leb 1 c h, le-leb c 16 l, e, q)
+  refused-right w q = rw (le-leb 1 c (w .at-least-one), le-leb c 16 (w .at-most-sixteen), w .left, q)
 
   pub accepted : 1 ≤ c → c ≤ 16 → well-formed f ≡ true → well-formed g ≡ true → record { number = 0; frontier = joined (entries f) (entries g) (f .tainted || g .tainted) c } ≡ merge f g c
   unfolding merge merge-number
   accepted h l e q = rw (le-leb 1 c h, le-leb c 16 l, e, q)
 
-  pub merged : (m : Frontier) → 1 ≤ c → c ≤ 16 → well-formed f ≡ true → well-formed g ≡ true → m ≡ joined (entries f) (entries g) (f .tainted || g .tainted) c → record { number = 0; frontier = m } ≡ merge f g c
-  merged m h l p q e = ap (λ (k : Frontier). record { number = 0; frontier = k }) e ∙ accepted h l p q
+  pub merged : (m : Frontier) → Left-accepted → well-formed g ≡ true → m ≡ joined (entries f) (entries g) (f .tainted || g .tainted) c → record { number = 0; frontier = m } ≡ merge f g c
+  merged m w q e = ap (λ (k : Frontier). record { number = 0; frontier = k }) e ∙ accepted (w .at-least-one) (w .at-most-sixteen) (w .left) q
+
+  -- what the walk asks
+  pub joins : Left-accepted → well-formed g ≡ true → ((f .len ≤ 16) × (g .len ≤ 16)) × (((rising-from 0 (entries f) ≡ true) × (rising-from 0 (entries g) ≡ true)) × ((1 ≤ c) × (c ≤ 16)))
+  joins w q = let b = both-fit f g (w .left) q in (b .0, (b .1, (w .at-least-one, w .at-most-sixteen)))
 
   -- what number 0 tells
   pub record Accepted : Type 0 where
@@ -140,8 +171,4 @@ joined-idempotent f c w h =
 -- WITHOUT A CUT
 pub joined-whole : (xs ys : List Entry) (t : Bool) (c : ℕ) → length (union xs ys) ≤ c → joined xs ys t c ≡ pack (union xs ys) t
 unfolding joined
-joined-whole xs ys t c h = rw (cut-whole c (union xs ys) h, le-ltb c (length (union xs ys)) h, or-none t)
-  where
-    or-none : (a : Bool) → (a || false) ≡ a
-    or-none true = refl
-    or-none false = refl
+joined-whole xs ys t c h = rw (cut-whole c (union xs ys) h, le-ltb c (length (union xs ys)) h, or-false t)

@@ -1,7 +1,7 @@
 -- A frontier built one axis at a time: raising at a capacity that holds every axis never cuts, so raises in any order gather the union; and a
 -- merge with the empty frontier cuts. Assumes nothing.
 use mathlib.Core.Path.{_≡_, refl, sym, ap, _∙_}
-use mathlib.Core.Bool.{Bool, true, false, _||_}
+use mathlib.Core.Bool.{Bool, false, _||_, or-false}
 use mathlib.Core.List.{List, [], _∷_}
 use Prim.Native.Nat.{ℕ, suc, _+_, _≤_, _<_, zero-le}
 use native.Mathlib.Nat.{le-refl}
@@ -19,10 +19,6 @@ use Rattle.frontier.proofs.Merge.{accepted, joined-whole, sorted-one, s
 tainted-pack : (xs : List Entry) (t : Bool) → pack xs t .tainted ≡ t
 unfolding pack
 tainted-pack xs t = refl
-
-or-none : (a : Bool) → (a || false) ≡ a
-or-none true = refl
-or-none false = refl
 
 -- a union is no longer than both sides together
 put-length : (x : Entry) (ys : List Entry) → length (put x ys) ≤ suc (length ys)
@@ -52,7 +48,7 @@ unfolding raise
 raise-whole ys t a e c s h k =
     merge-packed ys (one-entry a e) t false c s (sorted-one a e) (omega arith) (omega (arith, short-one a e)) (omega arith) k
     ∙ ap (λ (f : Frontier). record { number = 0; frontier = f })
-    (joined-whole ys (one-entry a e) (t || false) c (omega (arith, union-length ys (one-entry a e), short-one a e)) ∙ ap (pack (union ys (one-entry a e))) (or-none t))
+    (joined-whole ys (one-entry a e) (t || false) c (omega (arith, union-length ys (one-entry a e), short-one a e)) ∙ ap (pack (union ys (one-entry a e))) (or-false t))
 
 -- raises one after the other, at capacity sixteen
 unfoldable pub raises : List Entry → Frontier → Frontier
@@ -89,4 +85,4 @@ merge-empty ys t c s h l k =
     merge-packed ys [] t false c s tt h zero-le l k ∙ ap (λ (f : Frontier). record { number = 0; frontier = f }) same
   where
     same : joined ys [] (t || false) c ≡ pack (cut c ys) (t || ltb c (length ys))
-    same = unfold joined in (rw (union-none 0 ys s, or-none t) refl)
+    same = unfold joined in (rw (union-none 0 ys s, or-false t) refl)

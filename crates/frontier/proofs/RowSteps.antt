@@ -39,35 +39,35 @@ module _ (xs ys : List ℕ) (same : length xs ≡ length ys) (i : ℕ) where
 
 -- THE THREE ANSWERS
 module _ (first second : RefT (List ℕ)) where
-  pub first-reaches : row-reaches (first .now) (second .now) ≡ true → (first .now ≡ reaching-row (first .now) (second .now)) × As-it-lies first second first
+  pub first-reaches : row-reaches (first .now) (second .now) ≡ true → As-it-lies first second first × (first .now ≡ reaching-row (first .now) (second .now))
   unfolding reaching-row
   first-reaches e = (
-    rw e,
     record {
       is-first = λ t. refl;
       is-second = λ t u. clash (row-reaches (first .now) (second .now)) e t;
       is-empty = λ t u. clash (row-reaches (first .now) (second .now)) e t;
     },
+    rw e,
   )
 
-  pub second-reaches : row-reaches (first .now) (second .now) ≡ false → row-reaches (second .now) (first .now) ≡ true → (second .now ≡ reaching-row (first .now) (second .now)) × As-it-lies first second second
+  pub second-reaches : row-reaches (first .now) (second .now) ≡ false → row-reaches (second .now) (first .now) ≡ true → As-it-lies first second second × (second .now ≡ reaching-row (first .now) (second .now))
   unfolding reaching-row
   second-reaches e f = (
-    rw (e, f),
     record {
       is-first = λ t. clash (row-reaches (first .now) (second .now)) t e;
       is-second = λ t u. refl;
       is-empty = λ t u. clash (row-reaches (second .now) (first .now)) f u;
     },
+    rw (e, f),
   )
 
-  pub none-reaches : (r : RefT (List ℕ)) → r .ptr ≡ first .ptr → r .now ≡ [] → row-reaches (first .now) (second .now) ≡ false → row-reaches (second .now) (first .now) ≡ false → (r .now ≡ reaching-row (first .now) (second .now)) × As-it-lies first second r
+  pub none-reaches : (r : RefT (List ℕ)) → r .ptr ≡ first .ptr → r .now ≡ [] → row-reaches (first .now) (second .now) ≡ false → row-reaches (second .now) (first .now) ≡ false → As-it-lies first second r × (r .now ≡ reaching-row (first .now) (second .now))
   unfolding reaching-row
   none-reaches r p n e f = (
-    rw (e, f) n,
     record {
       is-first = λ t. clash (row-reaches (first .now) (second .now)) t e;
       is-second = λ t u. clash (row-reaches (second .now) (first .now)) u f;
       is-empty = λ t u. (p, n);
     },
+    rw (e, f) n,
   )

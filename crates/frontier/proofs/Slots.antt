@@ -1,15 +1,18 @@
 -- Slots of two arrays as a list of entries: from the front, from a place on, and with one slot more. Assumes nothing.
-use mathlib.Core.Path.{_≡_, refl, ap, ap₂, _∙_}
+use mathlib.Core.Path.{_≡_, refl, sym, ap, ap₂, _∙_}
+use mathlib.Core.Bool.{true}
 use mathlib.Core.List.{List, [], _∷_, _++_}
 use Prim.Native.Nat.{ℕ, zero, suc, _+_, _-_, _≤_, _<_}
 use native.Mathlib.Nat.{le-refl, sub-zero}
 use native.Mathlib.Numerals.{add-one}
 use native.Mathlib.Omega.{arith}
-use lib.ListN.{length, getD, set}
-use lib.Seq.{getD-set-same, getD-set-other}
+use lib.ListN.{length, getD, set, take, drop}
+use lib.Dec.{eqb}
+use lib.Seq.{getD-set-same, getD-set-other, getD-take, take-all, take-suc, take-suc-set, drop-cons, drop-set-lt}
 use Rattle.basics.specs.Lists.{tabulate-from}
+use Rattle.basics.proofs.Tests.{and-left, and-right, and-both}
 use Rattle.frontier.specs.Entries.{Entry}
-use Rattle.frontier.specs.Frontiers.{slot, slots}
+use Rattle.frontier.specs.Frontiers.{slot, slots, all-zero}
 use Rattle.frontier.specs.Walks.{rest, floor}
 use Rattle.frontier.proofs.Sorted.{Sorted, same-entry}
 
@@ -79,3 +82,38 @@ slots-put xs es n a e p q =
   where
     zero-plus : (n : ℕ) → 0 + n ≡ n
     zero-plus n = omega arith
+
+-- and what lies past it stays zero
+pub zero-past : (row : List ℕ) (n v : ℕ) → n < length row → all-zero (drop n row) ≡ true → all-zero (drop (n + 1) (set row n v)) ≡ true
+unfolding all-zero
+zero-past row n v h z =
+    rw (add-one n, drop-set-lt (suc n) row n v (omega arith))
+    (and-right (eqb (getD row n 0) 0) (all-zero (drop (suc n) row)) (rw (drop-cons row n 0 h) at z))
+
+-- THE FIRST SLOTS
+zero-take : (m : ℕ) (row : List ℕ) → all-zero row ≡ true → all-zero (take m row) ≡ true
+unfolding all-zero
+zero-take zero row z = refl
+zero-take (suc m) [] z = refl
+zero-take (suc m) (x ∷ row) z =
+    and-both (eqb x 0) (all-zero (take m row)) (and-left (eqb x 0) (all-zero row) z) (zero-take m row (and-right (eqb x 0) (all-zero row) z))
+
+pub zero-first : (m n : ℕ) (row : List ℕ) → all-zero (drop n row) ≡ true → all-zero (drop n (take m row)) ≡ true
+unfolding all-zero
+zero-first m zero row z = zero-take m row z
+zero-first zero (suc n) row z = refl
+zero-first (suc m) (suc n) [] z = refl
+zero-first (suc m) (suc n) (x ∷ row) z = zero-first m n row z
+
+pub slots-first : (xs es : List ℕ) (m n : ℕ) → n ≤ m → slots (take m xs) (take m es) n 0 ≡ slots xs es n 0
+unfolding slots slot
+slots-first xs es m n h =
+    tabulate-same n 0 (slot (take m xs) (take m es)) (slot xs es) (λ k l p. same-entry (getD-take m xs k 0 (omega arith)) (getD-take m es k 0 (omega arith)))
+
+-- one slot more is copied
+pub take-copied : (to from : List ℕ) (i : ℕ) → length to ≡ 16 → length from ≡ 32 → i < 16 → take i to ≡ take i from → take (i + 1) (set to i (getD from i 0)) ≡ take (i + 1) from
+take-copied to from i p q h e =
+    rw (add-one i) (take-suc-set to i (getD from i 0) (omega arith) ∙ ap (λ l. l ++ (getD from i 0 ∷ [])) e ∙ sym (take-suc from i 0 (omega arith)))
+
+pub first-copied : (to from : List ℕ) (i : ℕ) → i ≤ 16 → 16 ≤ i → length to ≡ 16 → take i to ≡ take i from → to ≡ take 16 from
+first-copied to from i h l e q = let z : i ≡ 16 = omega arith in sym (take-all 16 to (omega arith)) ∙ (rw z at q)

@@ -173,7 +173,7 @@ pub union-left : (x : Entry) (xs ys : List Entry) → Sorted (suc (x .axis)) xs 
 unfolding union
 union-left x xs ys s t = put-front x (union xs ys) (sorted-union (suc (x .axis)) xs ys s t)
 
-pub union-right : (y : Entry) (xs ys : List Entry) → 0 < y .epoch → Sorted (suc (y .axis)) xs → Sorted (suc (y .axis)) ys → union xs (y ∷ ys) ≡ y ∷ union xs ys
+union-right : (y : Entry) (xs ys : List Entry) → 0 < y .epoch → Sorted (suc (y .axis)) xs → Sorted (suc (y .axis)) ys → union xs (y ∷ ys) ≡ y ∷ union xs ys
 union-right y xs ys p s t =
     union-commutes (y .axis) xs (y ∷ ys) (lower (suc (y .axis)) (y .axis) xs (omega arith) s) (le-refl (y .axis), p, t)
     ∙ union-left y ys xs t s ∙ ap {B = List Entry} (λ zs. y ∷ zs) (union-commutes (suc (y .axis)) ys xs t s)

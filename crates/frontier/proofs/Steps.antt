@@ -1,6 +1,6 @@
 -- The steps of the walks over slots. Assumes nothing.
 use mathlib.Core.Path.{_≡_, refl, sym, ap}
-use mathlib.Core.Bool.{Bool, true, false, _&&_}
+use mathlib.Core.Bool.{true, false, _&&_, and-true, and-false}
 use mathlib.Core.List.{List}
 use Prim.Native.Nat.{ℕ, zero, suc, _+_, _-_, _≤_, _<_, zero-le}
 use native.Mathlib.Numerals.{add-one}
@@ -17,14 +17,6 @@ use Rattle.frontier.specs.Walks.{rest, floor, placed, skip-below, first-
 use Rattle.frontier.proofs.Slots.{rest-all, rest-more, rest-none}
 
 -- FORM
-
-and-false : (a : Bool) → (a && false) ≡ false
-and-false true = refl
-and-false false = refl
-
-and-true : (a : Bool) → (a && true) ≡ a
-and-true true = refl
-and-true false = refl
 
 pub placed-zero : (xs es : List ℕ) (i : ℕ) → getD es i 0 ≡ 0 → false ≡ placed xs es i
 unfolding placed

@@ -4,12 +4,9 @@ use mathlib.Core.List.{List, [], _∷_}
 use Prim.Native.Nat.{ℕ, suc, _+_, max}
 use lib.Dec.{ltb, leb, eqb}
 use Rattle.basics.specs.Lists.{filter}
+pub use Rattle.frontier.specs.declared.Entry.{Entry}
 use Rattle.frontier.specs.declared.Lookup.{Lookup}
 use Rattle.frontier.specs.declared.Lookup.the-variants.{Listed, Absent}
-
-pub record Entry : Type 0 where
-  pub axis : ℕ
-  pub epoch : ℕ
 
 -- "axes rising, epochs above 0": the first axis is at least `least`, each later one above the one before it
 unfoldable pub rising-from : (least : ℕ) → List Entry → Bool

@@ -1,13 +1,14 @@
 -- What the walks over lent slots answer. Assumes nothing: these are definitions.
-use mathlib.Core.Bool.{Bool, _&&_, cond}
+use mathlib.Core.Bool.{Bool, true, false, _&&_, cond}
 use mathlib.Core.List.{List, [], _∷_}
 use Prim.Native.Nat.{ℕ, zero, suc, _-_}
 use lib.Dec.{ltb, leb, eqb}
 use lib.ListN.{getD}
+use Rattle.frontier.specs.declared.Frontier.{Frontier}
 use Rattle.frontier.specs.declared.Lookup.{Lookup}
 use Rattle.frontier.specs.declared.Lookup.the-variants.{Listed, Absent}
-use Rattle.frontier.specs.Entries.{Entry, exceeds}
-use Rattle.frontier.specs.Frontiers.{slots}
+use Rattle.frontier.specs.Entries.{Entry}
+use Rattle.frontier.specs.Frontiers.{slots, well-formed}
 
 -- the entries from slot i on, of a frontier with n
 abbrev pub rest : (axes epochs : List ℕ) → (n i : ℕ) → List Entry
@@ -32,6 +33,12 @@ unfoldable pub first-listed : (axis : ℕ) → List Entry → Lookup
 first-listed a [] = Absent
 first-listed a (x ∷ xs) = cond (eqb (x .axis) a) (Listed (x .epoch)) Absent
 
--- of an entry and the best so far, the one that is nearer above the bound
-unfoldable pub nearer : (bound x best : Entry) → Entry
-nearer bound x best = cond (exceeds x bound && exceeds best x) x best
+-- the next axis of a union is that of xs: ys has none, or none that is smaller
+unfoldable pub leads : (xs ys : List Entry) → Bool
+leads [] ys = false
+leads (x ∷ xs) [] = true
+leads (x ∷ xs) (y ∷ ys) = leb (x .axis) (y .axis)
+
+-- a merge's number before the right side is judged: "Check 15 first, then 14 for the left"
+unfoldable pub left-number : Frontier → (capacity : ℕ) → ℕ
+left-number f capacity = cond (leb 1 capacity && leb capacity 16) (cond (well-formed f) 0 14) 15

@@ -3,6 +3,7 @@ mod walks; // walks over the lent slots of one or two frontiers
 
 use walks::formed;
 use walks::join;
+use walks::judged;
 use walks::listed_at;
 use walks::reaches;
 use walks::seek;
@@ -19,6 +20,12 @@ pub struct Frontier {
     pub epochs: [u64; Frontier::SLOTS],
     pub len: usize,
     pub tainted: bool,
+}
+
+// An axis and its epoch.
+pub struct Entry {
+    pub axis: u64,
+    pub epoch: u64,
 }
 
 // What a frontier says of an axis: its epoch, or nothing.
@@ -46,7 +53,7 @@ impl Frontier {
     pub const SLOTS: usize = 16;
 
     // The largest capacity.
-    pub const MOST: u32 = 16;
+    pub const MOST: u32 = Self::SLOTS as u32;
 
     // The empty untainted frontier.
     pub fn empty() -> Self
@@ -84,14 +91,9 @@ impl Frontier {
         ensures { λ r. ⌜ r ≡ merge self other capacity ⌝ }
         ensures { λ r. ⌜ Merge-right self other capacity r ⌝ }
     {
-        if capacity < 1 {
-            return refused(15);
-        }
-        if Self::MOST < capacity {
-            return refused(15);
-        }
-        if !formed(&self.axes, &self.epochs, self.len) {
-            return refused(14);
+        let number = judged(&self.axes, &self.epochs, self.len, capacity);
+        if number != 0 {
+            return refused(number);
         }
         if !formed(&other.axes, &other.epochs, other.len) {
             return refused(14);
@@ -112,12 +114,30 @@ impl Frontier {
         }
     }
 
-    // One axis raised to an epoch: a merge with one entry, with the empty frontier for epoch 0.
+    // One axis raised to an epoch: a merge with one entry, with the empty frontier for epoch 0. That side is well-formed and is not judged.
     pub fn raise(self, axis: u64, epoch: u64, capacity: u32) -> Merged
         ensures { λ r. ⌜ r ≡ raise self axis epoch capacity ⌝ }
         ensures { λ r. ⌜ Raise-right self axis epoch capacity r ⌝ }
     {
-        self.merge(Self::one(axis, epoch), capacity)
+        let number = judged(&self.axes, &self.epochs, self.len, capacity);
+        if number != 0 {
+            return refused(number);
+        }
+        let other = Self::one(axis, epoch);
+        let frontier = join(
+            &self.axes,
+            &self.epochs,
+            self.len,
+            &other.axes,
+            &other.epochs,
+            other.len,
+            capacity as usize,
+            self.tainted,
+        );
+        Merged {
+            number: 0,
+            frontier,
+        }
     }
 
     // Whether every entry of the other is reached, as far as the taints let it be known.
@@ -191,8 +211,8 @@ fn answer_of(reached: bool, tainted: bool, other: bool) -> Dominance
 // Of two lent rows of epochs, the one that reaches the other in every place, as it lies: the first where they are equal. If neither does, or
 // the lengths differ, an empty part of the first.
 pub fn reaching<'a>(first: &'a [u64], second: &'a [u64]) -> &'a [u64]
-    ensures { λ r. ⌜ now r ≡ reaching-row (now (first .entry)) (now (second .entry)) ⌝ }
     ensures { λ r. ⌜ As-it-lies (first .entry) (second .entry) r ⌝ }
+    ensures { λ r. ⌜ now r ≡ reaching-row (now (first .entry)) (now (second .entry)) ⌝ }
 {
     if row_reaches(first, second) {
         return first;

@@ -1,31 +1,25 @@
 // Walks over the lent slots of one frontier or two: form, lookup, reach, union and cut.
+use crate::Entry;
 use crate::Frontier;
 use crate::Lookup;
 ghost use mathlib.Core.Path.{_≡_};
-ghost use mathlib.Core.Bool.{true, false};
+ghost use mathlib.Core.Bool.{true, false, cond};
 ghost use mathlib.Core.List.{List, _∷_};
 ghost use Prim.Native.Nat.{ℕ, _+_, _≤_, _<_, max};
-ghost use lib.ListN.{length, drop};
+ghost use lib.ListN.{length, drop, take};
 ghost use Rattle.basics.specs.Lists.{filter};
 ghost use Rattle.frontier.specs.Entries.{rising-from, union, exceeds, exceeding, cut};
 ghost use Rattle.frontier.specs.Frontiers.{slots, all-zero, well-formed, pack, joined, reached};
-ghost use Rattle.frontier.specs.Walks.{rest, placed, skip-below, first-listed, nearer};
+ghost use Rattle.frontier.specs.Walks.{rest, placed, skip-below, first-listed, leads, left-number};
 
 // The axes or the epochs of a frontier.
 pub type Slots = [u64; Frontier::SLOTS];
 
 // The next entry of a union, and where each side goes on.
 pub struct Step {
-    pub axis: u64,
-    pub epoch: u64,
+    pub entry: Entry,
     pub left: usize,
     pub right: usize,
-}
-
-// An entry that the kept ones exceed.
-pub struct Bound {
-    pub axis: u64,
-    pub epoch: u64,
 }
 
 // Slot i has an epoch above 0, and its axis is above that of the slot before.
@@ -89,6 +83,23 @@ pub fn formed<'a>(axes: &'a Slots, epochs: &'a Slots, len: usize) -> bool
     zero_from(epochs, len)
 }
 
+// 15 for a capacity that is not 1 to 16, then 14 for slots that are not well-formed; 0 where a merge goes on.
+pub fn judged<'a>(axes: &'a Slots, epochs: &'a Slots, len: usize, capacity: u32) -> u32
+    requires { ⌜ (length (now axes) ≡ 16) × (length (now epochs) ≡ 16) ⌝ }
+    ensures { λ r. ⌜ r ≡ left-number (record { axes = now (axes .entry); epochs = now (epochs .entry); len = len; tainted = false }) capacity ⌝ }
+{
+    if capacity < 1 {
+        return 15;
+    }
+    if Frontier::MOST < capacity {
+        return 15;
+    }
+    if !formed(axes, epochs, len) {
+        return 14;
+    }
+    0
+}
+
 // The first slot from `from` on whose axis is not below the one sought, or the length.
 pub fn seek(axes: &Slots, len: usize, from: usize, axis: u64) -> usize
     requires { ⌜ (from ≤ len) × (len ≤ 16) ⌝ }
@@ -147,6 +158,56 @@ pub fn reaches<'a>(
     true
 }
 
+// The next axis of the union of x from slot i and y from slot j is x's: y has none, or none that is smaller.
+fn leads_at<'a>(xa: &'a Slots, xn: usize, i: usize, ya: &'a Slots, yn: usize, j: usize) -> bool
+    requires { ⌜ (xn ≤ 16) × (yn ≤ 16) ⌝ }
+    ensures { λ r. ⌜ ((xe ye : List ℕ) → r ≡ leads (rest (now (xa .entry)) xe xn i) (rest (now (ya .entry)) ye yn j)) ⌝ }
+{
+    if xn <= i {
+        return false;
+    }
+    if yn <= j {
+        return true;
+    }
+    xa[i] <= ya[j]
+}
+
+// The entry in slot i of x, which leads: with the larger epoch if y lists its axis, with x's own if it is absent there.
+fn leading<'a>(
+    xa: &'a Slots,
+    xe: &'a Slots,
+    xn: usize,
+    i: usize,
+    ya: &'a Slots,
+    ye: &'a Slots,
+    yn: usize,
+    j: usize,
+) -> Step
+    requires { ⌜ (xn ≤ 16) × (yn ≤ 16) × (i < xn) × (j ≤ yn) ⌝ }
+    requires { ⌜ (rising-from 0 (slots (now xa) (now xe) xn 0) ≡ true) × (rising-from 0 (slots (now ya) (now ye) yn 0) ≡ true) ⌝ }
+    requires { ⌜ leads (rest (now xa) (now xe) xn i) (rest (now ya) (now ye) yn j) ≡ true ⌝ }
+    ensures { λ s. ⌜ (s .left ≤ xn) × (s .right ≤ yn) × (i + j < s .left + s .right) ⌝ }
+    ensures { λ s. ⌜ union (rest (now (xa .entry)) (now (xe .entry)) xn i) (rest (now (ya .entry)) (now (ye .entry)) yn j) ≡ s .entry ∷ union (rest (now (xa .entry)) (now (xe .entry)) xn (s .left)) (rest (now (ya .entry)) (now (ye .entry)) yn (s .right)) ⌝ }
+{
+    let axis = xa[i];
+    let epoch = xe[i];
+    let Lookup::Listed(other) = listed_at(ya, ye, yn, j, axis) else {
+        return Step {
+            entry: Entry { axis, epoch },
+            left: i + 1,
+            right: j,
+        };
+    };
+    Step {
+        entry: Entry {
+            axis,
+            epoch: larger(epoch, other),
+        },
+        left: i + 1,
+        right: j + 1,
+    }
+}
+
 // The next entry of the union of x from slot i and y from slot j: the smaller axis, with the larger epoch where both list it.
 fn next<'a>(
     xa: &'a Slots,
@@ -161,47 +222,17 @@ fn next<'a>(
     requires { ⌜ (xn ≤ 16) × (yn ≤ 16) × (i ≤ xn) × (j ≤ yn) × (i + j < xn + yn) ⌝ }
     requires { ⌜ (rising-from 0 (slots (now xa) (now xe) xn 0) ≡ true) × (rising-from 0 (slots (now ya) (now ye) yn 0) ≡ true) ⌝ }
     ensures { λ s. ⌜ (s .left ≤ xn) × (s .right ≤ yn) × (i + j < s .left + s .right) ⌝ }
-    ensures { λ s. ⌜ union (rest (now (xa .entry)) (now (xe .entry)) xn i) (rest (now (ya .entry)) (now (ye .entry)) yn j) ≡ record { axis = s .axis; epoch = s .epoch } ∷ union (rest (now (xa .entry)) (now (xe .entry)) xn (s .left)) (rest (now (ya .entry)) (now (ye .entry)) yn (s .right)) ⌝ }
+    ensures { λ s. ⌜ union (rest (now (xa .entry)) (now (xe .entry)) xn i) (rest (now (ya .entry)) (now (ye .entry)) yn j) ≡ s .entry ∷ union (rest (now (xa .entry)) (now (xe .entry)) xn (s .left)) (rest (now (ya .entry)) (now (ye .entry)) yn (s .right)) ⌝ }
 {
-    if xn <= i {
-        return Step {
-            axis: ya[j],
-            epoch: ye[j],
-            left: i,
-            right: j + 1,
-        };
+    if leads_at(xa, xn, i, ya, yn, j) {
+        return leading(xa, xe, xn, i, ya, ye, yn, j);
     }
-    let axis = xa[i];
-    let epoch = xe[i];
-    if yn <= j {
-        return Step {
-            axis,
-            epoch,
-            left: i + 1,
-            right: j,
-        };
-    }
-    if ya[j] < axis {
-        return Step {
-            axis: ya[j],
-            epoch: ye[j],
-            left: i,
-            right: j + 1,
-        };
-    }
-    let Lookup::Listed(other) = listed_at(ya, ye, yn, j, axis) else {
-        return Step {
-            axis,
-            epoch,
-            left: i + 1,
-            right: j,
-        };
-    };
+    let s = leading(ya, ye, yn, j, xa, xe, xn, i);
+    let entry = s.entry;
     Step {
-        axis,
-        epoch: larger(epoch, other),
-        left: i + 1,
-        right: j + 1,
+        entry,
+        left: s.right,
+        right: s.left,
     }
 }
 
@@ -225,7 +256,7 @@ pub fn join<'a>(
 ) -> Frontier
     requires { ⌜ (xn ≤ 16) × (yn ≤ 16) ⌝ }
     requires { ⌜ (rising-from 0 (slots (now xa) (now xe) xn 0) ≡ true) × (rising-from 0 (slots (now ya) (now ye) yn 0) ≡ true) ⌝ }
-    requires { ⌜ capacity ≤ 16 ⌝ }
+    requires { ⌜ (1 ≤ capacity) × (capacity ≤ 16) ⌝ }
     ensures { λ r. ⌜ r ≡ joined (slots (now (xa .entry)) (now (xe .entry)) xn 0) (slots (now (ya .entry)) (now (ye .entry)) yn 0) tainted capacity ⌝ }
 {
     let mut axes = [0u64; 32];
@@ -235,77 +266,138 @@ pub fn join<'a>(
     let mut j: usize = 0;
     while i + j < xn + yn {
         let s = next(xa, xe, xn, i, ya, ye, yn, j);
-        axes[n] = s.axis;
-        epochs[n] = s.epoch;
+        axes[n] = s.entry.axis;
+        epochs[n] = s.entry.epoch;
         n += 1;
         i = s.left;
         j = s.right;
     }
+    if n <= capacity {
+        return Frontier {
+            axes: first_slots(&axes),
+            epochs: first_slots(&epochs),
+            len: n,
+            tainted,
+        };
+    }
     let bound = bound_of(&axes, &epochs, n, capacity);
-    trim(&axes, &epochs, n, bound, tainted | (capacity < n))
+    trim(&axes, &epochs, n, bound, true)
 }
 
-// Entry (axis, epoch) exceeds the bound: by its epoch, at equal epochs by its axis.
-fn above(axis: u64, epoch: u64, bound: Bound) -> bool
-    ensures { λ r. ⌜ r ≡ exceeds (record { axis = axis; epoch = epoch }) (record { axis = bound .axis; epoch = bound .epoch }) ⌝ }
+// The first sixteen slots.
+fn first_slots(row: &[u64; 32]) -> Slots
+    requires { ⌜ length (now row) ≡ 32 ⌝ }
+    ensures { λ r. ⌜ r ≡ take 16 (now (row .entry)) ⌝ }
 {
-    if bound.epoch == epoch {
-        return bound.axis < axis;
+    let mut first = [0u64; Frontier::SLOTS];
+    let mut i: usize = 0;
+    while i < Frontier::SLOTS {
+        first[i] = row[i];
+        i += 1;
     }
-    bound.epoch < epoch
+    first
 }
 
-// The entry, if it lies between the bound and the best so far; else the best.
-fn nearer_of(bound: Bound, axis: u64, epoch: u64, best: Bound) -> Bound
-    ensures { λ r. ⌜ record { axis = r .axis; epoch = r .epoch } ≡ nearer (record { axis = bound .axis; epoch = bound .epoch }) (record { axis = axis; epoch = epoch }) (record { axis = best .axis; epoch = best .epoch }) ⌝ }
+// An entry exceeds a bound: by its epoch, at equal epochs by its axis.
+fn above(entry: Entry, bound: Entry) -> bool
+    ensures { λ r. ⌜ r ≡ exceeds entry bound ⌝ }
 {
-    if !above(axis, epoch, bound) {
-        return best;
+    if bound.epoch == entry.epoch {
+        return bound.axis < entry.axis;
     }
-    let entry = Bound { axis, epoch };
-    if !above(best.axis, best.epoch, entry) {
-        return best;
-    }
-    entry
+    bound.epoch < entry.epoch
 }
 
-// The least entry above the bound: one entry fewer exceeds it.
-fn next_least<'a>(axes: &'a [u64], epochs: &'a [u64], len: usize, bound: Bound) -> Bound
-    requires { ⌜ (len ≤ length (now axes)) × (len ≤ length (now epochs)) × (rising-from 0 (slots (now axes) (now epochs) len 0) ≡ true) ⌝ }
-    requires { ⌜ 0 < exceeding (record { axis = bound .axis; epoch = bound .epoch }) (slots (now axes) (now epochs) len 0) ⌝ }
-    ensures { λ r. ⌜ exceeding (record { axis = bound .axis; epoch = bound .epoch }) (slots (now (axes .entry)) (now (epochs .entry)) len 0) ≡ exceeding (record { axis = r .axis; epoch = r .epoch }) (slots (now (axes .entry)) (now (epochs .entry)) len 0) + 1 ⌝ }
+// How many entries exceed one.
+fn count_above<'a>(axes: &'a [u64], epochs: &'a [u64], len: usize, bound: Entry) -> usize
+    requires { ⌜ (len ≤ length (now axes)) × (len ≤ length (now epochs)) ⌝ }
+    ensures { λ r. ⌜ r ≡ exceeding bound (slots (now (axes .entry)) (now (epochs .entry)) len 0) ⌝ }
 {
-    let mut best = Bound {
-        axis: 18446744073709551615,
-        epoch: 18446744073709551615,
-    };
+    let mut n: usize = 0;
     let mut i: usize = 0;
     while i < len {
-        best = nearer_of(bound, axes[i], epochs[i], best);
+        let axis = axes[i];
+        let epoch = epochs[i];
+        i += 1;
+        if !above(Entry { axis, epoch }, bound) {
+            continue;
+        }
+        n += 1;
+    }
+    n
+}
+
+// The smaller of two entries.
+fn lesser(best: Entry, entry: Entry) -> Entry
+    ensures { λ r. ⌜ r ≡ cond (exceeds best entry) entry best ⌝ }
+{
+    if above(best, entry) {
+        return entry;
+    }
+    best
+}
+
+// The least entry: all others exceed it.
+fn least<'a>(axes: &'a [u64], epochs: &'a [u64], len: usize) -> Entry
+    requires { ⌜ (len ≤ length (now axes)) × (len ≤ length (now epochs)) × (rising-from 0 (slots (now axes) (now epochs) len 0) ≡ true) ⌝ }
+    requires { ⌜ 0 < len ⌝ }
+    ensures { λ r. ⌜ exceeding r (slots (now (axes .entry)) (now (epochs .entry)) len 0) + 1 ≡ len ⌝ }
+{
+    let mut best = Entry {
+        axis: axes[0],
+        epoch: epochs[0],
+    };
+    let mut i: usize = 1;
+    while i < len {
+        let axis = axes[i];
+        let epoch = epochs[i];
+        best = lesser(best, Entry { axis, epoch });
         i += 1;
     }
     best
 }
 
-// The bound that the entries kept at a capacity exceed.
-fn bound_of<'a>(axes: &'a [u64], epochs: &'a [u64], len: usize, capacity: usize) -> Bound
+// The bound that the entries kept at a capacity exceed: the greatest that is cut. If more than one is, it is counted how many exceed each
+// entry between the greatest known to be cut and the least known to be kept.
+fn bound_of<'a>(axes: &'a [u64], epochs: &'a [u64], len: usize, capacity: usize) -> Entry
     requires { ⌜ (len ≤ length (now axes)) × (len ≤ length (now epochs)) × (rising-from 0 (slots (now axes) (now epochs) len 0) ≡ true) ⌝ }
-    ensures { λ r. ⌜ cut capacity (slots (now (axes .entry)) (now (epochs .entry)) len 0) ≡ filter (λ x. exceeds x (record { axis = r .axis; epoch = r .epoch })) (slots (now (axes .entry)) (now (epochs .entry)) len 0) ⌝ }
+    requires { ⌜ (1 ≤ capacity) × (capacity < len) ⌝ }
+    ensures { λ r. ⌜ cut capacity (slots (now (axes .entry)) (now (epochs .entry)) len 0) ≡ filter (λ x. exceeds x r) (slots (now (axes .entry)) (now (epochs .entry)) len 0) ⌝ }
 {
-    let mut bound = Bound { axis: 0, epoch: 0 };
-    let mut left = len;
-    while capacity < left {
-        bound = next_least(axes, epochs, len, bound);
-        left -= 1;
+    if len - 1 == capacity {
+        return least(axes, epochs, len);
     }
-    bound
+    let mut lost = Entry { axis: 0, epoch: 0 };
+    let mut kept = Entry {
+        axis: 18446744073709551615,
+        epoch: 18446744073709551615,
+    };
+    let mut i: usize = 0;
+    while i < len {
+        let axis = axes[i];
+        let epoch = epochs[i];
+        let entry = Entry { axis, epoch };
+        i += 1;
+        if !above(entry, lost) {
+            continue;
+        }
+        if !above(kept, entry) {
+            continue;
+        }
+        if count_above(axes, epochs, len, entry) < capacity {
+            kept = entry;
+        } else {
+            lost = entry;
+        }
+    }
+    lost
 }
 
 // The entries above the bound, as a frontier.
-fn trim<'a>(axes: &'a [u64], epochs: &'a [u64], len: usize, bound: Bound, tainted: bool) -> Frontier
+fn trim<'a>(axes: &'a [u64], epochs: &'a [u64], len: usize, bound: Entry, tainted: bool) -> Frontier
     requires { ⌜ (len ≤ length (now axes)) × (len ≤ length (now epochs)) ⌝ }
-    requires { ⌜ length (filter (λ x. exceeds x (record { axis = bound .axis; epoch = bound .epoch })) (slots (now axes) (now epochs) len 0)) ≤ 16 ⌝ }
-    ensures { λ r. ⌜ r ≡ pack (filter (λ x. exceeds x (record { axis = bound .axis; epoch = bound .epoch })) (slots (now (axes .entry)) (now (epochs .entry)) len 0)) tainted ⌝ }
+    requires { ⌜ length (filter (λ x. exceeds x bound) (slots (now axes) (now epochs) len 0)) ≤ 16 ⌝ }
+    ensures { λ r. ⌜ r ≡ pack (filter (λ x. exceeds x bound) (slots (now (axes .entry)) (now (epochs .entry)) len 0)) tainted ⌝ }
 {
     let mut kept = [0u64; Frontier::SLOTS];
     let mut at = [0u64; Frontier::SLOTS];
@@ -315,7 +407,7 @@ fn trim<'a>(axes: &'a [u64], epochs: &'a [u64], len: usize, bound: Bound, tainte
         let axis = axes[i];
         let epoch = epochs[i];
         i += 1;
-        if !above(axis, epoch, bound) {
+        if !above(Entry { axis, epoch }, bound) {
             continue;
         }
         kept[n] = axis;

@@ -6,7 +6,7 @@ use Prim.Native.Nat.{ℕ, suc, _≤_, _<_}
 use native.Mathlib.Omega.{arith}
 use lib.Dec.{ltb}
 use lib.ListN.{length}
-use borrow.Author.Tests.{ltb-true}
+use borrow.Author.Tests.{ltb-true, lt-ltb}
 use Rattle.basics.proofs.Tests.{by-cases}
 use Rattle.plan_format.specs.Grammar.{field, nothing}
 use Rattle.plan_format.specs.Form.{Form, queue-count, semaphore-count, buffer-count, any-number, below, a-queue, a-semaphore, a-buffer, a-kind, point, mark, part, operation}
@@ -61,6 +61,10 @@ pub below-lt : (l v : ℕ) → below l v ≡ 0 → v < l
 unfolding below
 below-lt l v e = by-cases (ltb v l) (λ t. ltb-true v l t) (λ f. absurd (let z : 4 ≡ 0 = rw f at e in omega arith))
 
+pub passes-below : (l v n : ℕ) → l ≡ n → v < n → below l v ≡ 0
+unfolding below
+passes-below l v n e h = rw (e, lt-ltb v n h)
+
 glued : (pt : List ℕ) {vs v₁ v₂ v₃ v₄ v₅ v₆ v₇ ws ss ms : List ℕ} {q w s m : ℕ} →
     vs ≡ v₁ ++ v₂ → v₁ ≡ q ∷ [] → v₂ ≡ pt ++ v₃ → v₃ ≡ v₄ ++ v₅ → v₄ ≡ w ∷ ws → v₅ ≡ v₆ ++ v₇ → v₆ ≡ s ∷ ss → v₇ ≡ m ∷ ms →
     vs ≡ q ∷ (pt ++ (w ∷ (ws ++ (s ∷ (ss ++ (m ∷ ms))))))
@@ -76,19 +80,19 @@ module _ (D : Spelt) where
       go false q = ap (λ z. suc (length z)) (q .numbers-are)
 
   module _ (F : Form) (q s b : ℕ) where
-    is-queue : (got : List ℕ) (v : ℕ) → Kept q s b got → a-queue got v ≡ 0 → v < q
+    pub is-queue : (got : List ℕ) (v : ℕ) → Kept q s b got → a-queue got v ≡ 0 → v < q
     unfolding a-queue
     is-queue got v g e = subst (λ z. v < z) (kept-now q s b got g .queues) (below-lt (queue-count got) v e)
 
-    is-semaphore : (got : List ℕ) (v : ℕ) → Kept q s b got → a-semaphore got v ≡ 0 → v < s
+    pub is-semaphore : (got : List ℕ) (v : ℕ) → Kept q s b got → a-semaphore got v ≡ 0 → v < s
     unfolding a-semaphore
     is-semaphore got v g e = subst (λ z. v < z) (kept-now q s b got g .semaphores) (below-lt (semaphore-count got) v e)
 
-    is-buffer : (got : List ℕ) (v : ℕ) → Kept q s b got → a-buffer got v ≡ 0 → v < b
+    pub is-buffer : (got : List ℕ) (v : ℕ) → Kept q s b got → a-buffer got v ≡ 0 → v < b
     unfolding a-buffer
     is-buffer got v g e = subst (λ z. v < z) (kept-now q s b got g .buffers) (below-lt (buffer-count got) v e)
 
-    is-kind : (got : List ℕ) (v : ℕ) → Kept q s b got → a-kind got v ≡ 0 → v < 2
+    pub is-kind : (got : List ℕ) (v : ℕ) → Kept q s b got → a-kind got v ≡ 0 → v < 2
     unfolding a-kind
     is-kind got v g e = below-lt 2 v e
 

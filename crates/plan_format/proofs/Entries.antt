@@ -27,6 +27,15 @@ row-cons c got k v vs e r = record { long = ap suc (r .long); pass = pass }
     pass zero l = rw append-nil e
     pass (suc i) l = ap (λ z. c z (getD vs i 0)) (sym (append-assoc got (v ∷ []) (take i vs))) ∙ r .pass i (le-of-suc-le-suc l)
 
+pub row-head : (c : Check) (got : List ℕ) (k v : ℕ) (vs : List ℕ) → Row c got (suc k) (v ∷ vs) → c got v ≡ 0
+row-head c got k v vs r = rw append-nil at (r .pass 0 (omega arith))
+
+pub row-tail : (c : Check) (got : List ℕ) (k v : ℕ) (vs : List ℕ) → Row c got (suc k) (v ∷ vs) → Row c (got ++ (v ∷ [])) k vs
+row-tail c got k v vs r = record {
+  long = omega (arith, r .long);
+  pass = λ i l. ap (λ z. c z (getD vs i 0)) (append-assoc got (v ∷ []) (take i vs)) ∙ r .pass (suc i) (omega arith);
+}
+
 pairs-cons : (P Q : ℕ → Type 0) (k a b : ℕ) (vs : List ℕ) → P a → Q b → Pairs P Q k vs → Pairs P Q (suc k) (a ∷ b ∷ vs)
 pairs-cons P Q k a b vs p q r = record { long = omega (arith, r .long); firsts = firsts; seconds = seconds }
   where

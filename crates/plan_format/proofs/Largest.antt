@@ -7,7 +7,7 @@ use native.Mathlib.Nat.{not-suc-le-zero}
 use native.Mathlib.Omega.{arith}
 use lib.Dec.{ltb, eqb, lit<, lit≤}
 use lib.ListN.{length, getD, take, length-append}
-use borrow.Author.Tests.{ltb-true, lt-ltb, eqb-true, eqb-false}
+use borrow.Author.Tests.{ltb-true, eqb-true, eqb-false}
 use Rattle.basics.specs.Lists.{member, all-below, tabulate-from}
 use Rattle.basics.proofs.Tests.{by-cases, and-left, and-right}
 use Rattle.plan_format.specs.Refusal.{none-given}
@@ -17,7 +17,7 @@ use Rattle.plan_format.specs.Stored.{listed, spelled}
 use Rattle.plan_format.proofs.Parses.{Takes, Exact, Nothing, Then, Field, Counted, Parses}
 use Rattle.plan_format.proofs.Entries.{Row}
 use Rattle.plan_format.proofs.Making.{Spells-in, a-field, after, a-list, no-more, repeated, repeated-long, entries, row-entries}
-use Rattle.plan_format.proofs.Blocks.{Kept, kept-now, kept-more}
+use Rattle.plan_format.proofs.Blocks.{Kept, kept-now, kept-more, passes-below}
 use Rattle.plan_format.proofs.Sections.{sections-kept}
 use Rattle.plan_format.proofs.RoundTrip.{spelled-parsed, numbers-whole}
 
@@ -58,10 +58,6 @@ axes-row = record { long = refl; pass = λ i l. eqb-true _ 0 (all-below-at 16 (�
 axes-small : (i : ℕ) → i < 16 → getD axes i 0 < 256 ^ 8
 unfolding axes tabulate-from all-below
 axes-small i l = ltb-true _ _ (all-below-at 16 (λ k. ltb (getD axes k 0) (256 ^ 8)) refl i l)
-
-passes-below : (l v n : ℕ) → l ≡ n → v < n → below l v ≡ 0
-unfolding below
-passes-below l v n e h = rw (e, lt-ltb v n h)
 
 abbrev K : List ℕ → Type 0
 K = Kept 16 64 256

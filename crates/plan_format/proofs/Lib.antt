@@ -17,6 +17,10 @@ pub mod Operations
 pub mod Sections
 pub mod Shape
 pub mod Plans
+pub mod PlanNumbers
+pub mod EveryPlan
+pub mod OnlyPlans
+pub mod Taking
 pub mod Sizes
 pub mod Making
 pub mod Largest

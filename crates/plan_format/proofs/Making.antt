@@ -1,15 +1,15 @@
 -- Parses made of given numbers, with the length of their bytes. Assumes nothing.
-use mathlib.Core.Path.{_≡_, refl, ap, ap₂, _∙_, subst}
-use mathlib.Core.List.{List, [], _∷_, _++_, append-assoc, append-nil}
+use mathlib.Core.Path.{_≡_, refl, ap₂, _∙_, subst}
+use mathlib.Core.List.{List, [], _∷_, _++_}
 use Prim.Native.Nat.{ℕ, zero, suc, _+_, _*_, _^_, _≤_, _<_}
 use native.Mathlib.Nat.{suc-mul}
 use native.Mathlib.Omega.{arith}
-use lib.ListN.{length, getD, take, length-append}
+use lib.ListN.{length, getD, length-append}
 use Rattle.plan_format.specs.Grammar.{Check, digits, count-check}
 use Rattle.plan_format.proofs.Bytes.{length-digits}
 use Rattle.plan_format.proofs.Parses.{Takes, Exact, Nothing, Then, Many, Holds, Field, Counted}
 use Rattle.plan_format.proofs.Fields.{count-passes}
-use Rattle.plan_format.proofs.Entries.{Row}
+use Rattle.plan_format.proofs.Entries.{Row, row-head, row-tail}
 
 pub record Spells-in (P : Takes) (n : ℕ) (got vs : List ℕ) : Type 0 where
   pub ds : List ℕ
@@ -72,12 +72,7 @@ row-entries w c zero got [] r f = subst (λ z. Spells-in Nothing z got []) (let 
 row-entries w c zero got (v ∷ vs) r f = absurd (omega (arith, r .long))
 row-entries w c (suc k) got [] r f = absurd (omega (arith, r .long))
 row-entries w c (suc k) got (v ∷ vs) r f =
-    let rest : Row c (got ++ (v ∷ [])) k vs = record {
-      long = omega (arith, r .long);
-      pass = λ i l. ap (λ z. c z (getD vs i 0)) (append-assoc got (v ∷ []) (take i vs)) ∙ r .pass (suc i) (omega arith);
-    } in
     let e : w + k * w ≡ suc k * w = omega (arith, suc-mul k w) in
-    let here : c got v ≡ 0 = rw append-nil at (r .pass 0 (omega arith)) in
     subst (λ z. Spells-in (Many (Field Exact w c) (suc k)) z got (v ∷ vs)) e
-    (after (Field Exact w c) (Many (Field Exact w c) k) w (k * w) got (v ∷ []) vs (a-field w c got v (f 0 (omega arith)) here)
-    (row-entries w c k (got ++ (v ∷ [])) vs rest (λ i l. f (suc i) (omega arith))))
+    (after (Field Exact w c) (Many (Field Exact w c) k) w (k * w) got (v ∷ []) vs (a-field w c got v (f 0 (omega arith)) (row-head c got k v vs r))
+    (row-entries w c k (got ++ (v ∷ [])) vs (row-tail c got k v vs r) (λ i l. f (suc i) (omega arith))))

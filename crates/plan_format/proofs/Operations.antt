@@ -15,10 +15,10 @@ use Rattle.plan_format.proofs.Blocks.{Block}
 module _ (F : Form) (q : ℕ) (part : List ℕ) (w s m : ℕ) (ws ss ms : List ℕ) (lp : suc (length part) ≡ heading F) (lw : length ws ≡ 2 * w)
     (ls : length ss ≡ 2 * s)
     (lm : length ms ≡ 2 * m) (rest : List ℕ) where
-  block : List ℕ
+  unfoldable pub block : List ℕ
   block = q ∷ (part ++ (w ∷ (ws ++ (s ∷ (ss ++ (m ∷ ms))))))
 
-  whole : List ℕ
+  unfoldable pub whole : List ℕ
   whole = block ++ rest
 
   split-w : whole ≡ (q ∷ part) ++ (w ∷ (ws ++ (s ∷ (ss ++ (m ∷ (ms ++ rest))))))
@@ -43,11 +43,11 @@ module _ (F : Form) (q : ℕ) (part : List ℕ) (w s m : ℕ) (ws ss ms : List �
   at-m = at-seam whole (q ∷ (part ++ (w ∷ (ws ++ (s ∷ ss))))) (ms ++ rest) m (heading F + 2 + 2 * w + 2 * s) split-m
       (simp length-append (omega arith))
 
-  long-is : operation-long F whole ≡ length block
+  pub long-is : operation-long F whole ≡ length block
   unfolding operation-long block
   long-is = rw (at-w, at-s, at-m) (simp length-append (omega arith))
 
-  operation-is : operation-in F whole ≡ record { queue = q; waits = points-in w ws; signals = points-in s ss; marks = marks-in m ms }
+  pub operation-is : operation-in F whole ≡ record { queue = q; waits = points-in w ws; signals = points-in s ss; marks = marks-in m ms }
   unfolding operation-in
   operation-is =
       rw (

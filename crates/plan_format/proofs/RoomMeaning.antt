@@ -1,6 +1,7 @@
 -- Room: 9 exactly if it is too short, and only after the faults of a reading. Assumes nothing.
 use mathlib.Core.Path.{_≡_, refl, sym, ap, _∙_}
 use mathlib.Core.Bool.{Bool, false, cond}
+use mathlib.Core.Logic.{_⊎_, inl, inr}
 use mathlib.Core.List.{List}
 use Prim.Native.Nat.{ℕ, _≤_}
 use native.Mathlib.Omega.{arith}
@@ -29,6 +30,9 @@ room-after : (a : Refusal) (needed room : ℕ) → a .number ≤ 5 → Room-afte
 room-after a n k five =
     let b = room-for n k in
     let m = room-for-means n k in
+    let f = or-else a b in
+    let number-first : (a .number ≡ 0 → ⊥) → f .number ≡ a .number = λ h. ap (λ (g : Refusal). g .number) (or-else-first a b (other-given a h)) in
+    let number-second : a .number ≡ 0 → f .number ≡ b .number = λ z. ap (λ (g : Refusal). g .number) (or-else-second a b z) in
     record {
       fault-first = λ h. or-else-first a b (other-given a h);
       then-room = λ e. let same = or-else-second a b e in record {
@@ -39,9 +43,13 @@ room-after a n k five =
           (λ t. let z = eqb-true (a .number) 0 t in (
             z,
             by-cases (ltb k n) (λ u. ltb-true k n u) (λ u.
-                absurd (omega (arith, ap (λ (f : Refusal). f .number) (or-else-second a b z), m .enough (ltb-false k n u) .0))),
+                absurd (omega (arith, number-second z, m .enough (ltb-false k n u) .0))),
           ))
-          (λ f. absurd (omega (arith, ap (λ (g : Refusal). g .number) (or-else-first a b (other-given a (eqb-false (a .number) 0 f))))));
+          (λ u. absurd (omega (arith, number-first (eqb-false (a .number) 0 u))));
+      only = by-cases (eqb (a .number) 0)
+          (λ t. let z = eqb-true (a .number) 0 t in by-cases (ltb k n) (λ u. inr (number-second z ∙ m .short (ltb-true k n u) .0))
+          (λ u. inl (omega (arith, number-second z, m .enough (ltb-false k n u) .0))))
+          (λ u. inl (omega (arith, number-first (eqb-false (a .number) 0 u))));
     }
 
 pub read-room : (bs : List ℕ) (room : ℕ) → Room-after (scanned bs .fault) (length (scanned bs .got)) room (read-refusal bs room)

@@ -125,7 +125,7 @@ module _ (D : Spelt) (F : Form) where
 
 -- ---- the plan
 module _ (F : Form) (q s b n : ℕ) (axes owners sizes blocks : List ℕ) (la : length axes ≡ q) (lo : length owners ≡ s) (lb : length sizes ≡ b) where
-  whole : List ℕ
+  unfoldable pub whole : List ℕ
   whole = q ∷ (axes ++ (s ∷ (owners ++ (b ∷ (sizes ++ (n ∷ blocks))))))
 
   seam-s : whole ≡ (q ∷ axes) ++ (s ∷ (owners ++ (b ∷ (sizes ++ (n ∷ blocks)))))
@@ -149,7 +149,7 @@ module _ (F : Form) (q s b n : ℕ) (axes owners sizes blocks : List ℕ) (la : 
     operations = at-seam whole (q ∷ (axes ++ (s ∷ (owners ++ (b ∷ sizes))))) blocks n (3 + q + s + b) seam-n (simp length-append (omega arith));
   }
 
-  plan-at : plan-of F whole ≡ record { axes = axes; owners = owners; sizes = sizes; operations = operations-in F n blocks }
+  pub plan-at : plan-of F whole ≡ record { axes = axes; owners = owners; sizes = sizes; operations = operations-in F n blocks }
   unfolding plan-of
   plan-at =
       rw (counts-at .queues, counts-at .semaphores, counts-at .buffers, counts-at .operations, to-axes, to-owners, to-sizes, to-blocks)

@@ -42,7 +42,7 @@ member-getD [] i l = absurd (not-suc-le-zero l)
 member-getD (x ∷ xs) zero l = member-here x xs
 member-getD (x ∷ xs) (suc i) l = member-there (getD xs i 0) x xs (member-getD xs i (le-of-suc-le-suc l))
 
-distinct : (q k : ℕ) (axes : List ℕ) → Row new-axis (q ∷ []) k axes → (i j : ℕ) → i < j → j < k → getD axes i 0 ≡ getD axes j 0 → ⊥
+pub distinct : (q k : ℕ) (axes : List ℕ) → Row new-axis (q ∷ []) k axes → (i j : ℕ) → i < j → j < k → getD axes i 0 ≡ getD axes j 0 → ⊥
 unfolding new-axis
 distinct q k axes r i j l h e =
     let there : member (getD axes j 0) (take j axes) ≡ true =

@@ -3,6 +3,7 @@ pub mod Grammar
 pub mod Form
 pub mod Sections
 pub mod Plan
+pub mod Limits
 pub mod Sound
 pub mod Stored
 pub mod Promise

@@ -28,6 +28,8 @@ pub record Room-after (fault : Refusal) (needed room : ℕ) (f : Refusal) : Type
   pub fault-first : (fault .number ≡ 0 → ⊥) → f ≡ fault
   pub then-room : fault .number ≡ 0 → Room-for-means needed room f
   pub nine : (f .number ≡ 9) → (fault .number ≡ 0) × (room < needed)
+  -- 01: "Neither gives 6 to 8."
+  pub only : (f .number ≤ 5) ⊎ (f .number ≡ 9)
 
 -- ---- 2, 4 and 5: a field's number is n exactly if what is said of it holds, else 0
 pub record Given-when (answer n : ℕ) (P : Type 0) : Type 0 where

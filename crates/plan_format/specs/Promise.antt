@@ -1,12 +1,34 @@
--- What a reader of stored plans relies on beyond the definitions. Assumes nothing: this is a statement.
+-- What a reader of stored plans relies on beyond the definitions. Assumes nothing: these are statements.
 use mathlib.Core.Path.{_≡_}
 use mathlib.Core.Bool.{true}
-use mathlib.Core.List.{List}
+use mathlib.Core.Logic.{_↔_}
+use mathlib.Core.List.{List, []}
 use Prim.Native.Nat.{ℕ}
-use Rattle.plan_format.specs.Stored.{all-bytes, scanned}
+use lib.ListN.{length}
+use Rattle.plan_format.specs.Refusal.{none-given}
+use Rattle.plan_format.specs.Grammar.{scan}
+use Rattle.plan_format.specs.Form.{first-form}
+use Rattle.plan_format.specs.Plan.{Plan, plan-of}
+use Rattle.plan_format.specs.Stored.{all-bytes, scanned, listed, plan-in, spelled}
+use Rattle.plan_format.specs.Limits.{Within, numbers-of, bytes-of}
 
 -- 01: "One plan, one string of bytes."
 unfoldable pub One-string : Type 0
 One-string =
     (bs cs : List ℕ) → all-bytes bs ≡ true → all-bytes cs ≡ true → scanned bs .fault .number ≡ 0 → scanned cs .fault .number ≡ 0 →
     scanned bs .got ≡ scanned cs .got → bs ≡ cs
+
+-- a plan is read from its bytes, and written from its numbers
+pub record Stored-plan (p : Plan) : Type 0 where
+  pub are-bytes : all-bytes (bytes-of p) ≡ true
+  pub read : scanned (bytes-of p) ≡ scan [] (length (bytes-of p)) (numbers-of p) none-given
+  pub plan-read : plan-in (bytes-of p) ≡ p
+  pub taken : listed (numbers-of p) ≡ scan [] (length (numbers-of p)) (numbers-of p) none-given
+  pub plan-taken : plan-of first-form (numbers-of p) ≡ p
+  pub written : spelled (numbers-of p) ≡ bytes-of p
+
+-- 01: "Stored plan"; "No number is given on other grounds.": reader and writer take every plan within the limits, and nothing else
+pub record Takes-plans : Type 0 where
+  pub every : (p : Plan) → Within p → Stored-plan p
+  pub read : (bs : List ℕ) → all-bytes bs ≡ true → (scanned bs .fault .number ≡ 0) ↔ (Within (plan-in bs) × (bs ≡ bytes-of (plan-in bs)))
+  pub taken : (xs : List ℕ) → (listed xs .fault .number ≡ 0) ↔ (Within (plan-of first-form xs) × (xs ≡ numbers-of (plan-of first-form xs)))

@@ -1,4 +1,4 @@
-// What every call on a stored plan hands back, and the search that judges an axis; the format itself is in specs/.
+// What every call on a stored plan hands back, a refusal among it, and the search that judges an axis; the format itself is in specs/.
 ghost use mathlib.Core.Path.{_≡_};
 ghost use lib.ListN.{drop};
 ghost use Rattle.basics.specs.Lists.{member};
@@ -8,6 +8,17 @@ pub struct Told {
     pub number: u32,
     pub place: u64,
     pub answer: u64,
+}
+
+// A refusal at a place.
+pub fn refused(number: u32, place: usize) -> Told
+    ensures { λ r. ⌜ r ≡ record { number = number; place = place; answer = 0 } ⌝ }
+{
+    Told {
+        number,
+        place: place as u64,
+        answer: 0,
+    }
 }
 
 // Whether a number stands in a list behind the first: an axis among the axes, the count being in front of them.

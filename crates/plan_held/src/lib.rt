@@ -1,90 +1,16 @@
 // A reader that holds the bytes of a stored plan and its place in them: thin functions over it, and one above them with plain parameters.
 use plan_format::Told;
+use plan_reader::rule::Field;
+use plan_reader::rule::Rule;
 ghost use mathlib.Core.Path.{_≡_};
-ghost use Prim.Native.Nat.{_+_, _≤_};
-ghost use lib.ListN.{length, take, drop};
-ghost use Rattle.plan_format.specs.Grammar.{value};
+ghost use lib.ListN.{drop};
 ghost use Rattle.plan_format.specs.Stored.{Read-says};
-ghost use Rattle.plan_held.specs.Held.{Field-read};
+ghost use Rattle.plan_reader.specs.Judging.{field-read};
 
 // The bytes of a plan, lent, and a place in them.
 pub struct Reader<'a> {
     pub src: &'a [u8],
     pub at: usize,
-}
-
-// How a field is judged: its bytes, 1 to 8; the least and the most that it may hold; the refusal of any other number.
-pub struct Rule {
-    pub width: usize,
-    pub least: u64,
-    pub most: u64,
-    pub over: u32,
-}
-
-// The refusal of a field, or 0 and its number.
-pub struct Field {
-    pub number: u32,
-    pub value: u64,
-}
-
-// A byte as a number.
-fn wide(x: u8) -> u64
-    ensures { λ r. ⌜ r ≡ x ⌝ }
-{
-    x as u64
-}
-
-// The little-endian number in `width` bytes from `at`.
-fn word(src: &[u8], at: usize, width: usize) -> u64
-    requires { ⌜ (width ≤ 8) × (at + width ≤ length (now src)) ⌝ }
-    ensures { λ r. ⌜ r ≡ value (take width (drop at (now (src .entry)))) ⌝ }
-{
-    let mut v: u64 = 0;
-    let mut i = width;
-    while 0 < i {
-        i -= 1;
-        v = v * 256 + wide(src[at + i]);
-    }
-    v
-}
-
-// The field at a place of the bytes. One that is cut short is 1 whatever it holds.
-fn field_at(src: &[u8], at: usize, rule: Rule) -> Field
-    ensures { λ r. ⌜ Field-read (now (src .entry)) at rule r ⌝ }
-{
-    let width = rule.width;
-    if 8 < width {
-        return Field {
-            number: 1,
-            value: 0,
-        };
-    }
-    if src.len() < at {
-        return Field {
-            number: 1,
-            value: 0,
-        };
-    }
-    if src.len() - at < width {
-        return Field {
-            number: 1,
-            value: 0,
-        };
-    }
-    let value = word(src, at, width);
-    if value < rule.least {
-        return Field {
-            number: rule.over,
-            value,
-        };
-    }
-    if rule.most < value {
-        return Field {
-            number: rule.over,
-            value,
-        };
-    }
-    Field { number: 0, value }
 }
 
 // A reader at the first byte.
@@ -96,9 +22,9 @@ pub fn new<'a>(src: &'a [u8]) -> Reader<'a>
 
 // The field at the reader's place.
 pub fn next_field<'a>(r: Reader<'a>, rule: Rule) -> Field
-    ensures { λ f. ⌜ Field-read (now (r .entry .src)) (r .entry .at) rule f ⌝ }
+    ensures { λ f. ⌜ f ≡ field-read (now (r .entry .src)) (r .entry .at) rule ⌝ }
 {
-    field_at(r.src, r.at, rule)
+    plan_reader::rule::field_at(r.src, r.at, rule)
 }
 
 // The reader handed on, at another place of the same bytes.
@@ -108,11 +34,11 @@ pub fn moved<'a>(r: Reader<'a>, at: usize) -> Reader<'a>
     Reader { src: r.src, at }
 }
 
-// The whole plan that the reader holds, wherever the reader stands: the answer of `plan_reader::read_plan`.
+// The plan that stands from the reader's place on, its places counted from there.
 pub fn read_whole<'a>(r: Reader<'a>, room: &mut [u64]) -> Told
-    ensures { λ t. ⌜ Read-says (now (r .entry .src)) t (now (room .entry)) (now (room .exit)) ⌝ }
+    ensures { λ t. ⌜ Read-says (drop (r .entry .at) (now (r .entry .src))) t (now (room .entry)) (now (room .exit)) ⌝ }
 {
-    plan_reader::read_plan(r.src, room)
+    plan_reader::read_from(r.src, r.at, room)
 }
 
 // A plan read through the struct. Callers need no struct.

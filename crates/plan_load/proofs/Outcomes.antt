@@ -2,10 +2,10 @@
 use mathlib.Core.Path.{_≡_, refl, sym, ap, _∙_, subst}
 use mathlib.Core.Bool.{true}
 use mathlib.Core.List.{List, [], _∷_, _++_, append-assoc, append-nil}
-use Prim.Native.Nat.{ℕ, suc, _+_, _*_, _≤_, _<_}
+use Prim.Native.Nat.{ℕ, _+_, _-_, _*_, _≤_, _<_}
 use native.Mathlib.Omega.{arith}
-use lib.ListN.{length, take, drop, length-append, length-take, length-drop, take-append-drop}
-use lib.Seq.{take-length, take-all, drop-append-seam, take-at}
+use lib.ListN.{length, take, drop, replicate, length-append, length-take, length-drop, length-replicate, take-append-drop}
+use lib.Seq.{take-append-seam, drop-append-seam, take-at}
 use Rattle.plan_format.specs.Refusal.{none-given, given}
 use Rattle.plan_format.specs.Grammar.{bytes, Scan, scan, times, read-by}
 use Rattle.plan_format.specs.Form.{first-form}
@@ -30,17 +30,23 @@ use Rattle.plan_load.proofs.Blocks.{Small}
 use Rattle.plan_load.proofs.Limits.{shape, few-semaphores, limits}
 use Rattle.plan_load.proofs.Loading.{step, Load, read-next, goes-on, few-numbers}
 
--- a cursor behind all numbers
+-- a cursor behind all numbers, which stand in front of the most that a plan has
 abbrev behind : (number at : ℕ) → (all : List ℕ) → Cursor
 behind n a all = record { number = n; at = a; got = length all; value = 0 }
 
-here-behind : (bs : List ℕ) (r : Cursor) (all : List ℕ) → here bs (behind (r .number) (r .at) all) all ≡ scan (drop (r .at) bs) (r .at) all (fault-of r)
-unfolding here fault-of
-here-behind bs r all = ap (λ (l : List ℕ). scan (drop (r .at) bs) (r .at) l (fault-of r)) (take-length all)
+abbrev padded : List ℕ → List ℕ
+padded all = all ++ replicate (22868 - length all) 0
 
-here-clean-behind : (bs : List ℕ) (at : ℕ) (all : List ℕ) → here bs (behind 0 at all) all ≡ scan (drop at bs) at all none-given
+padded-long : (all : List ℕ) → length all ≤ 22868 → length (padded all) ≡ 22868
+padded-long all l = length-append all (replicate (22868 - length all) 0) ∙ omega (arith, length-replicate {A = ℕ} (22868 - length all) 0)
+
+here-behind : (bs : List ℕ) (r : Cursor) (all : List ℕ) → here bs (behind (r .number) (r .at) all) (padded all) ≡ scan (drop (r .at) bs) (r .at) all (fault-of r)
 unfolding here fault-of
-here-clean-behind bs at all = ap (λ (l : List ℕ). scan (drop at bs) at l none-given) (take-length all)
+here-behind bs r all = ap (λ (l : List ℕ). scan (drop (r .at) bs) (r .at) l (fault-of r)) (take-append-seam all (replicate (22868 - length all) 0))
+
+here-clean-behind : (bs : List ℕ) (at : ℕ) (all : List ℕ) → here bs (behind 0 at all) (padded all) ≡ scan (drop at bs) at all none-given
+unfolding here fault-of
+here-clean-behind bs at all = ap (λ (l : List ℕ). scan (drop at bs) at l none-given) (take-append-seam all (replicate (22868 - length all) 0))
 
 -- after a refusal no more operations are read
 times-stops : (h : Head) (s : Scan) (i n : ℕ) → given (times i (step h) s .fault) ≡ true → i ≤ n → times n (step h) s ≡ times i (step h) s
@@ -64,45 +70,57 @@ module _ (bs : List ℕ) (h : Head) (nums queue₀ wsem₀ wval₀ ssem₀ sval�
       abbrev all-read : List ℕ
       all-read = (heading ++ l .blocks) ++ take (r .got) w-now
 
-      stopped : times (i + 1) (step h) (here bs (head-cursor h) nums) ≡ here bs (behind (r .number) (r .at) all-read) all-read
+      stopped : times (i + 1) (step h) (here bs (head-cursor h) nums) ≡ here bs (behind (r .number) (r .at) all-read) (padded all-read)
       stopped = read-next bs h nums queue₀ wsem₀ wval₀ ssem₀ sval₀ sop₀ mark₀ mop₀ l on w w-now r o ∙ sym (here-behind bs r all-read)
 
-      refused-plan : Plan-read bs (behind (r .number) (r .at) all-read) all-read
+      few-read : length all-read ≤ h .got + 22 * h .operations
+      few-read =
+          omega (arith, l .few, few-heading, length-append (heading ++ l .blocks) (take (r .got) w-now), length-append heading (l .blocks), few-numbers (h .queues) (h .semaphores) (h .buffers) bs at w w-now r o (l .inside))
+
+      refused-plan : Plan-read bs (behind (r .number) (r .at) all-read) (padded all-read)
       refused-plan =
-          head .plan (behind (r .number) (r .at) all-read) all-read
-          (times-stops h (here bs (head-cursor h) nums) (i + 1) (h .operations) (ap (λ (s : Scan). given (s .fault)) stopped ∙ here-given bs (behind (r .number) (r .at) all-read) all-read z) (omega arith) ∙ stopped)
+          head .plan (behind (r .number) (r .at) all-read) (padded all-read)
+          (times-stops h (here bs (head-cursor h) nums) (i + 1) (h .operations) (ap (λ (s : Scan). given (s .fault)) stopped ∙ here-given bs (behind (r .number) (r .at) all-read) (padded all-read) z) (omega arith) ∙ stopped)
           (goes-on (h .queues) (h .semaphores) (h .buffers) bs at w w-now r o (l .inside))
-          (omega (arith, l .few, few-heading, length-append (heading ++ l .blocks) (take (r .got) w-now), length-append heading (l .blocks), few-numbers (h .queues) (h .semaphores) (h .buffers) bs at w w-now r o (l .inside)))
+          few-read
 
       pub load-refused : (r .number ≡ scanned bs .fault .number) × (r .at ≡ scanned bs .fault .place)
-      load-refused = let t = read-refused refused-plan z .told in (t .number, t .place)
+      load-refused = let t = read-refused refused-plan (padded-long all-read (omega (arith, few-read, head .few, head .few-operations))) z .told in (t .number, t .place)
 
     -- ---- all operations
     module _ (done : h .operations ≤ i) (few : i ≤ h .operations) where
       abbrev all : List ℕ
       all = heading ++ l .blocks
 
-      whole-plan : Plan-read bs (behind 0 at all) all
+      few-all : length all ≤ h .got + 22 * h .operations
+      few-all = omega (arith, l .few, few-heading, length-append heading (l .blocks))
+
+      long : length (padded all) ≡ 22868
+      long = padded-long all (omega (arith, few-all, head .few, head .few-operations))
+
+      whole-plan : Plan-read bs (behind 0 at all) (padded all)
       whole-plan =
           let e : h .operations ≡ i = omega arith in
-          head .plan (behind 0 at all) all
+          head .plan (behind 0 at all) (padded all)
           (ap (λ (k : ℕ). times k (step h) (here bs (head-cursor h) nums)) e ∙ l .read ∙ sym (here-clean-behind bs at all))
           (l .inside)
-          (omega (arith, l .few, few-heading, length-append heading (l .blocks)))
+          few-all
 
       pub load-more : at < length bs → (3 ≡ scanned bs .fault .number) × (at ≡ scanned bs .fault .place)
-      load-more u = let t = read-more whole-plan refl u .told in (t .number, t .place)
+      load-more u = let t = read-more whole-plan long refl u .told in (t .number, t .place)
 
       module _ (end : length bs ≤ at) (z : h .number ≡ 0) where
-        numbers : Numbers-read bs (record { number = 0; place = 0; answer = length all }) all
-        numbers = read-whole whole-plan refl end (omega arith)
+        numbers : Numbers-read bs (record { number = 0; place = 0; answer = length all }) (padded all)
+        numbers = read-whole whole-plan long refl end
 
         clean : scanned bs .fault .number ≡ 0
         clean = sym (numbers .told .number)
 
         scanned-are : scanned bs .got ≡ all
         scanned-are =
-            sym (numbers .numbers refl) ∙ take-all (length (scanned bs .got)) all (omega (arith, answer-long (scanned bs .fault) (scanned bs .got) (numbers .told) [] refl))
+            sym (numbers .numbers refl)
+            ∙ ap (λ (k : ℕ). take k (padded all)) (sym (answer-long (scanned bs .fault) (scanned bs .got) (numbers .told) [] refl))
+            ∙ take-append-seam all (replicate (22868 - length all) 0)
 
         front : Heading (h .queues) (h .semaphores) (h .buffers) (h .operations) heading
         front = head .heading z
@@ -154,11 +172,14 @@ refused-loads (n, p) z = record { number = n; place = p; many = λ e. absurd (z 
 -- ---- the head
 module _ {bs : List ℕ} {h : Head} {nums : List ℕ} (head : Head-read bs h nums) where
   pub head-refused : (h .number ≡ 0 → ⊥) → (h .number ≡ scanned bs .fault .number) × (h .at ≡ scanned bs .fault .place)
-  unfolding head-cursor
+  unfolding head-cursor here
   head-refused z =
       let s = here bs (head-cursor h) nums in
       let stays = read-stays bytes (operation-below (h .queues) (h .semaphores) (h .buffers)) s (here-given bs (head-cursor h) nums z) in
-      let t = read-refused (head .plan (head-cursor h) nums (times-stays (h .operations) (step h) s stays) (head .inside) (omega arith)) z .told in
+      let all = take (h .got) nums in
+      let e = times-stays (h .operations) (step h) s stays ∙ sym (here-behind bs (head-cursor h) all) in
+      let few : length all ≤ h .got = omega (arith, length-take (h .got) nums) in
+      let t = read-refused (head .plan (behind (h .number) (h .at) all) (padded all) e (head .inside) (omega arith)) (padded-long all (omega (arith, head .few))) z .told in
       (t .number, t .place)
 
   head-long : h .number ≡ 0 → (h .queues ≤ 340) × (2 + h .queues + h .semaphores ≤ length nums)

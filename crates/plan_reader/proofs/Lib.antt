@@ -4,3 +4,5 @@ pub mod Cursors
 pub mod Counts
 pub mod Answers
 pub mod Heads
+pub mod Rules
+pub mod Parts

@@ -87,9 +87,10 @@ pub record Head-read (bs : List ℕ) (h : Head) (nums-now : List ℕ) : Type 0 w
 unfoldable pub Operation-read : (q m b : ℕ) → (bs : List ℕ) → (at : ℕ) → (window : List ℕ) → Cursor → (window-now : List ℕ) → Type 0
 Operation-read q m b bs at w r w-now = Reads (operation-below q m b) 22 bs (record { number = 0; at = min at (length bs); got = 0; value = 0 }) w r w-now
 
--- 01: "A read plan is a list of numbers, one for each field in stored order, counts included, at most 22,868"; on a refusal the numbers
--- are free
+-- 01: "A read plan is a list of numbers, one for each field in stored order, counts included, at most 22,868"; past them, and on a
+-- refusal, the numbers are free
 pub record Numbers-read (bs : List ℕ) (r : Told) (nums-now : List ℕ) : Type 0 where
   pub told : Tells (scanned bs .fault) (length (scanned bs .got)) r
   pub numbers : r .number ≡ 0 → take (length (scanned bs .got)) nums-now ≡ scanned bs .got
   pub few : r .answer ≤ 22868
+  pub long : length nums-now ≡ 22868

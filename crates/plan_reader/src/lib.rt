@@ -2,28 +2,19 @@
 mod cursor;
 mod field;
 mod operation;
+pub mod rule;
 mod section;
 mod word;
 
 use crate::cursor::Cursor;
 use plan_format::Told;
+use plan_format::refused;
 ghost use mathlib.Core.Path.{_≡_};
 ghost use Prim.Native.Nat.{_≤_, min};
-ghost use lib.ListN.{length, take};
+ghost use lib.ListN.{length, take, drop};
 ghost use Rattle.basics.specs.Lists.{in-front};
 ghost use Rattle.plan_format.specs.Stored.{Read-says};
 ghost use Rattle.plan_reader.specs.Reading.{Head-read, Operation-read, Numbers-read};
-
-// A refusal at a place.
-pub fn refused(number: u32, place: usize) -> Told
-    ensures { λ r. ⌜ r ≡ record { number = number; place = place; answer = 0 } ⌝ }
-{
-    Told {
-        number,
-        place: place as u64,
-        answer: 0,
-    }
-}
 
 // What stands in front of the operations: the refusal met there, or 0; the place and how many numbers are stored behind it; the four counts.
 pub struct Head {
@@ -131,4 +122,14 @@ pub fn read_plan(plan: &[u8], room: &mut [u64]) -> Told
         place: 0,
         answer: told.answer,
     }
+}
+
+// The same of the bytes from `at` on, with places counted from there; past the end there are none.
+pub fn read_from(plan: &[u8], at: usize, room: &mut [u64]) -> Told
+    ensures { λ r. ⌜ Read-says (drop at (now (plan .entry))) r (now (room .entry)) (now (room .exit)) ⌝ }
+{
+    if plan.len() < at {
+        return read_plan(&plan[..0], room);
+    }
+    read_plan(&plan[at..], room)
 }

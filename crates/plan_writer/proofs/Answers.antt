@@ -33,7 +33,7 @@ fault-place : (c : Cursor) → (c .number ≡ 0 → ⊥) → fault-of c .place �
 unfolding fault-of refusal
 fault-place c z = rw (ne-eqb (c .number) 0 z)
 
-module _ {xs : List ℕ} {c : Cursor} {bytes : List ℕ} (p : Plan-written xs c bytes) where
+module _ {xs : List ℕ} {c : Cursor} {bytes : List ℕ} (p : Plan-written xs c bytes) (long : length bytes ≡ 63686) where
   -- a refusal on the way
   pub written-refused : (c .number ≡ 0 → ⊥) → Bytes-written xs (record { number = c .number; place = c .at; answer = 0 }) bytes
   unfolding here scan
@@ -44,6 +44,7 @@ module _ {xs : List ℕ} {c : Cursor} {bytes : List ℕ} (p : Plan-written xs c 
             (record { number = sym (fault-number c z); place = sym (fault-place c z); answer-is = rw (here-given xs c z) });
         bytes = λ e. absurd (z e);
         few = omega arith;
+        long = long;
       }
 
   -- numbers behind the last section
@@ -58,13 +59,14 @@ module _ {xs : List ℕ} {c : Cursor} {bytes : List ℕ} (p : Plan-written xs c 
             (record { number = refl; place = refl; answer-is = refl });
         bytes = λ e. absurd (eqb-false 3 0 refl e);
         few = omega arith;
+        long = long;
       }
 
   -- a whole plan
-  pub written-whole : c .number ≡ 0 → length xs ≤ c .at → c .put ≤ length bytes → Bytes-written xs (record { number = c .number; place = 0; answer = c .put }) bytes
+  pub written-whole : c .number ≡ 0 → length xs ≤ c .at → Bytes-written xs (record { number = c .number; place = 0; answer = c .put }) bytes
   unfolding scan none-given given
-  written-whole z h k =
-      let l : length (spelled xs) ≡ c .put = ap length (spelled-is p z) ∙ length-take-le (c .put) bytes k in
+  written-whole z h =
+      let l : length (spelled xs) ≡ c .put = ap length (spelled-is p z) ∙ length-take-le (c .put) bytes (omega (arith, p .few)) in
       record {
         told =
             tells xs (scan (drop (c .at) xs) (c .at) (take (c .at) xs) none-given)
@@ -73,6 +75,7 @@ module _ {xs : List ℕ} {c : Cursor} {bytes : List ℕ} (p : Plan-written xs c 
             (record { number = z; place = refl; answer-is = sym l });
         bytes = λ e. ap (λ (n : ℕ). take n bytes) l ∙ sym (spelled-is p z);
         few = p .few;
+        long = long;
       }
 
 -- bytes that were written fit the array that they were put into

@@ -56,8 +56,10 @@ pub record Plan-written (xs : List ℕ) (r : Cursor) (bytes-now : List ℕ) : Ty
   pub inside : r .at ≤ length xs
   pub few : r .put ≤ 63686
 
--- 01: "The writer takes such a list and refuses by 1 to 5"; the answer is the length in bytes; on a refusal the bytes are free
+-- 01: "The writer takes such a list and refuses by 1 to 5"; the answer is the length in bytes; past it, and on a refusal, the
+-- bytes are free
 pub record Bytes-written (xs : List ℕ) (r : Told) (bytes-now : List ℕ) : Type 0 where
   pub told : Tells (listed xs .fault) (length (spelled xs)) r
   pub bytes : r .number ≡ 0 → take (length (spelled xs)) bytes-now ≡ spelled xs
   pub few : r .answer ≤ 63686
+  pub long : length bytes-now ≡ 63686

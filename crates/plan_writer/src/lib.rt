@@ -6,6 +6,7 @@ mod operation;
 mod section;
 
 use plan_format::Told;
+use plan_format::refused;
 ghost use mathlib.Core.Path.{_≡_};
 ghost use Prim.Native.Nat.{_≤_};
 ghost use lib.ListN.{length, take};
@@ -13,19 +14,8 @@ ghost use Rattle.basics.specs.Lists.{in-front};
 ghost use Rattle.plan_format.specs.Stored.{Write-says};
 ghost use Rattle.plan_writer.specs.Writing.{Bytes-written};
 
-// A refusal at a place.
-fn refused(number: u32, place: usize) -> Told
-    ensures { λ r. ⌜ r ≡ record { number = number; place = place; answer = 0 } ⌝ }
-{
-    Told {
-        number,
-        place: place as u64,
-        answer: 0,
-    }
-}
-
 // The bytes of a list of numbers, or the first of refusals 1 to 5; the answer is how many bytes there are.
-pub fn write_bytes(numbers: &[u64], bytes: &mut [u8; 63686]) -> Told
+fn write_bytes(numbers: &[u64], bytes: &mut [u8; 63686]) -> Told
     ensures { λ r. ⌜ Bytes-written (now (numbers .entry)) r (now (bytes .exit)) ⌝ }
 {
     let c = section::sections(numbers, bytes);

@@ -41,10 +41,10 @@ fn answer(c: Counted, q: usize, b: usize, numbers: &[u64; 22868], table: &[u32])
     ensures { λ r. ⌜ ((p : Plan) → Opened p c (now (numbers .entry)) (now (table .entry)) → Tells (question-refusal p q b) (number-of (verdict-of p q b)) r) ⌝ }
 {
     if c.queues <= q {
-        return plan_reader::refused(12, q);
+        return plan_format::refused(12, q);
     }
     if c.buffers <= b {
-        return plan_reader::refused(13, b);
+        return plan_format::refused(13, b);
     }
     let first = 4 + c.queues + c.semaphores + c.buffers;
     let v = verdict_of_numbers(numbers, first, c.operations as u16, q, b, table);

@@ -9,104 +9,7 @@ ghost use lib.ListN.{length};
 fn t3() -> [u8; 96]
     ensures { λ r. ⌜ length r ≡ 96 ⌝ }
 {
-    [
-        3,
-        1,
-        0,
-        0,
-        0,
-        0,
-        0,
-        0,
-        0,
-        2,
-        0,
-        0,
-        0,
-        0,
-        0,
-        0,
-        0,
-        3,
-        0,
-        0,
-        0,
-        0,
-        0,
-        0,
-        0,
-        2,
-        0,
-        1,
-        1,
-        0,
-        16,
-        0,
-        0,
-        0,
-        3,
-        0,
-        0,
-        0,
-        1,
-        0,
-        1,
-        0,
-        0,
-        0,
-        0,
-        0,
-        0,
-        0,
-        1,
-        0,
-        0,
-        0,
-        1,
-        1,
-        0,
-        1,
-        0,
-        0,
-        0,
-        0,
-        0,
-        0,
-        0,
-        1,
-        1,
-        1,
-        0,
-        0,
-        0,
-        0,
-        0,
-        0,
-        0,
-        2,
-        0,
-        0,
-        0,
-        0,
-        0,
-        1,
-        2,
-        1,
-        1,
-        1,
-        0,
-        0,
-        0,
-        0,
-        0,
-        0,
-        0,
-        0,
-        1,
-        0,
-        0,
-        0,
-    ]
+    *b"\x03\x01\x00\x00\x00\x00\x00\x00\x00\x02\x00\x00\x00\x00\x00\x00\x00\x03\x00\x00\x00\x00\x00\x00\x00\x02\x00\x01\x01\x00\x10\x00\x00\x00\x03\x00\x00\x00\x01\x00\x01\x00\x00\x00\x00\x00\x00\x00\x01\x00\x00\x00\x01\x01\x00\x01\x00\x00\x00\x00\x00\x00\x00\x01\x01\x01\x00\x00\x00\x00\x00\x00\x00\x02\x00\x00\x00\x00\x00\x01\x02\x01\x01\x01\x00\x00\x00\x00\x00\x00\x00\x00\x01\x00\x00\x00"
 }
 
 fn head(text: &[u8]) {
@@ -141,6 +44,15 @@ fn cut(n: usize)
     read(&plan[..n]);
 }
 
+// T3 with one byte changed, cut after `n` bytes.
+fn changed_cut(at: usize, byte: u8, n: usize)
+    requires { ⌜ (at < 96) × (n ≤ 96) ⌝ }
+{
+    let mut plan = t3();
+    plan[at] = byte;
+    read(&plan[..n]);
+}
+
 // Every cut of T3, and T3.
 fn cuts() {
     for n in 0..97usize {
@@ -167,12 +79,19 @@ fn changed_pair(at: usize, low: u8, high: u8)
     read(&plan);
 }
 
-// T3 with bytes behind it.
+// 96 zeros and a megabyte of them.
+fn zeros() -> [u8; 1048672]
+    ensures { λ r. ⌜ length r ≡ 1048672 ⌝ }
+{
+    [0; 1048672]
+}
+
+// T3 with zeros behind it.
 fn longer(more: usize)
-    requires { ⌜ more ≤ 65440 ⌝ }
+    requires { ⌜ more ≤ 1048576 ⌝ }
 {
     let plan = t3();
-    let mut long = io::large_buffer();
+    let mut long = zeros();
     let mut i = 0;
     while i < 96 {
         long[i] = plan[i];
@@ -181,31 +100,42 @@ fn longer(more: usize)
     read(&long[..96 + more]);
 }
 
-// 64 numbers, each 7.
-fn sevens() -> [u64; 64]
-    ensures { λ r. ⌜ length r ≡ 64 ⌝ }
+// 40 numbers, each 7.
+fn sevens() -> [u64; 40]
+    ensures { λ r. ⌜ length r ≡ 40 ⌝ }
 {
-    [7; 64]
+    [7; 40]
 }
 
-// T3 read into room for `size` numbers, each 7: what is handed back, then the first of them, the last that T3 has, and the one behind it.
+fn show_number(n: u64) {
+    head(b" ");
+    number(n);
+}
+
+// Numbers, on a line.
+fn show_numbers(numbers: &[u64; 40]) {
+    for i in 0..40usize {
+        show_number(numbers[i]);
+    }
+    head(b"\n");
+}
+
+// T3 read into the first `size` of 40 numbers, each 7: what is handed back, then the numbers.
 fn into_room(size: usize)
-    requires { ⌜ size ≤ 64 ⌝ }
+    requires { ⌜ size ≤ 40 ⌝ }
 {
     let plan = t3();
     let mut room = sevens();
     show(plan_reader::read_plan(&plan, &mut room[..size]));
-    number(room[0]);
-    head(b" ");
-    number(room[37]);
-    head(b" ");
-    number(room[38]);
-    head(b"\n");
+    show_numbers(&room);
 }
 
 fn main() {
     head(b"cut short\n");
     cuts();
+    head(b"cut inside a field whose part would be 5, 4\n");
+    changed_cut(9, 1, 10);
+    changed_cut(93, 1, 94);
     head(b"counts one over their limits\n");
     changed(0, 17);
     changed(25, 65);
@@ -228,7 +158,7 @@ fn main() {
     changed(17, 2);
     head(b"bytes behind the last section\n");
     longer(1);
-    longer(65440);
+    longer(1048576);
     head(b"room\n");
     into_room(37);
     into_room(38);

@@ -105,6 +105,25 @@ fn cuts() {
     }
 }
 
+// 38 zeros and a megabyte of them.
+fn zeros() -> [u64; 131110]
+    ensures { λ r. ⌜ length r ≡ 131110 ⌝ }
+{
+    [0; 131110]
+}
+
+// T3 with a megabyte of zeros behind it.
+fn longer() {
+    let numbers = t3();
+    let mut long = zeros();
+    let mut i = 0;
+    while i < 38 {
+        long[i] = numbers[i];
+        i += 1;
+    }
+    write(&long);
+}
+
 // T3 with one number changed.
 fn changed(at: usize, number: u64)
     requires { ⌜ at < 38 ⌝ }
@@ -162,6 +181,7 @@ fn main() {
     head(b"numbers behind the last field\n");
     first(39);
     first(40);
+    longer();
     head(b"sizes of buffers\n");
     changed(8, 4294967295);
     changed(8, 4294967296);

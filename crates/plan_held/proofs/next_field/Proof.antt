@@ -1,4 +1,5 @@
--- `next_field` meets its contract: a walk of its MIR, by hand. The struct is taken apart, and `field_at` is called on the slice, the place and the rule.
+-- `next_field` meets its contract: a walk of its MIR, by hand. The struct is taken apart, and `field_at` is called on the slice, the place and the
+-- rule.
 -- All that the proof knows of `field_at` is that it meets its contract. The struct is Copy: one copy of what it owns is kept whole for the exit.
 -- Assumes nothing.
 use mathlib.Core.Path.{_≡_, refl}
@@ -18,9 +19,11 @@ use ghost.Atoms.{Atoms, sem}
 use contract.Lifetimes.{Lfts}
 use contract.Monad.{Fun, fact}
 use contract.Running.{givenOf, tables, tablesOf}
-use types.Kit.{Given, ‵, raw, _⊛_, given, ⋆, some, later, _$_, _∵_, !, qed, by, move, drop, use1, use2, split, join, learn, pick, fsplit, fjoin, suffices, frame, await, done}
+use types.Kit.{Given, ‵, raw, _⊛_, given, ⋆, some, later, _$_, _∵_, !, qed, by, move, drop, use1, use2, split, join, learn, pick, fsplit, fjoin}
+use types.Kit.{suffices, frame, await, done}
 use types.Part.{whole, sub, look-in}
-use types.Run.{look, init, forget, stop, fld, from, load, of-opd, and-then, no-more, assigns, land, returns, enter, alloc1, alloc0, params1, pass1, pass0, free1, free0}
+use types.Run.{look, init, forget, stop, fld, from, load, of-opd, and-then, no-more, assigns, land, returns, enter, alloc1, alloc0, params1, pass1}
+use types.Run.{pass0, free1, free0}
 use sound.WpLaws.{FmC, fmOf, WpFn-mono}
 use denote.RattleType.{RattleType, owns}
 use denote.Laws.{Is, shows}
@@ -42,20 +45,20 @@ use denote.Triple.Table.{entered, cited}
 use denote.Triple.Walked.{says, Stays, stay-none, walkOf, goes-none, Walks, ends-at, walked, walk-meets}
 use denote.Exit.{yes}
 use denote.Triple.Clauses.{ensured, lasts}
-use Rattle.plan_held.specs.Held.{Field-read}
+use Rattle.plan_reader.specs.Judging.{field-read}
 use Rattle.plan_held.specs.declared.Reader.{Reader}
-use Rattle.plan_held.specs.declared.Field.{Field}
+use Rattle.plan_reader.specs.declared.rule.Field.{Field}
 use Rattle.plan_held.proofs.Reader as T
 use Rattle.plan_held.proofs.Reader.Laws as T′
-use Rattle.plan_held.specs.declared.Rule.{Rule}
-use Rattle.plan_held.proofs.Rule as Q
-use Rattle.plan_held.proofs.Rule.Laws as Q′
-use Rattle.plan_held.proofs.Field as S
-use Rattle.plan_held.proofs.Field.Laws as S′
-use Rattle.plan_held.proofs.field_at as step
-use Rattle.plan_held.proofs.field_at.Symbol as at-def
-use Rattle.plan_held.proofs.field_at.Symbol.{name as #plan-held·field-at}
-use Rattle.plan_held.proofs.field_at.Met as at-thm
+use Rattle.plan_reader.specs.declared.rule.Rule.{Rule}
+use Rattle.plan_reader.proofs.rule.Rule as Q
+use Rattle.plan_reader.proofs.rule.Rule.Laws as Q′
+use Rattle.plan_reader.proofs.rule.Field as S
+use Rattle.plan_reader.proofs.rule.Field.Laws as S′
+use Rattle.plan_reader.proofs.rule.field_at as step
+use Rattle.plan_reader.proofs.rule.field_at.Symbol as at-def
+use Rattle.plan_reader.proofs.rule.field_at.Symbol.{name as #field-at}
+use Rattle.plan_reader.proofs.rule.field_at.Met as at-thm
 use Rattle.plan_held.proofs.next_field.Key.{name as #plan-held·next-field}
 use Rattle.plan_held.proofs.next_field as field
 use Rattle.plan_held.proofs.next_field.Statement as stated
@@ -73,7 +76,8 @@ module _ {M : Type 1} (𝓤 : URA M) (H : Heap 𝓤) (A : Atoms 𝓤) (mem : Mem
   abbrev FieldAt : Contract 𝓤
   FieldAt = tripleOf 𝓤 H A step.signature (step.spec 𝓤 H A mem run)
 
-module _ {M : Type 1} (𝓤 : URA M) (H : Heap 𝓤) (A : Atoms 𝓤) (W : Given 𝓤 H A) (mem : Memory → SProp 𝓤) (run : Routine → Fun 𝓤) (κ : Lft) (q : Share) (d : Reader) (rule : Rule) (rule-is : Is Q.the-row rule (LL.val Q.the-type Q′.the-laws rule ∷ [])) where
+module _ {M : Type 1} (𝓤 : URA M) (H : Heap 𝓤) (A : Atoms 𝓤) (W : Given 𝓤 H A) (mem : Memory → SProp 𝓤) (run : Routine → Fun 𝓤) (κ : Lft) (q : Share)
+    (d : Reader) (rule : Rule) (rule-is : Is Q.the-row rule (LL.val Q.the-type Q′.the-laws rule ∷ [])) where
   abbrev mach : Val
   mach = T′.lowered d
 
@@ -86,7 +90,7 @@ module _ {M : Type 1} (𝓤 : URA M) (H : Heap 𝓤) (A : Atoms 𝓤) (W : Given
   mr = LL.val Q.the-type Q′.the-laws rule
 
   abbrev Says : Field → Type 0
-  Says = Field-read (now (d .src)) (d .at) rule
+  Says f = f ≡ field-read (now (d .src)) (d .at) rule
 
   abbrev Post : Val → SProp 𝓤
   Post = walkOf 𝓤 H A field.ended stayed (field.clauses 𝓤 H A mem run) .post (((κ, tt), (q, tt), tt, (d, (rule, tt)), (mach ∷ [], (mr ∷ [], tt))), tt)
@@ -112,16 +116,21 @@ module _ {M : Type 1} (𝓤 : URA M) (H : Heap 𝓤) (A : Atoms 𝓤) (W : Given
   to = (((κ, tt), (q, tt), tt, (d .src, (d .at, (rule, tt))), passed), tt)
 
   asked : ent 𝓤 (onEntry 𝓤 H A step.signature (κ, tt) (q, tt) (d .src, (d .at, (rule, tt))) passed) (FieldAt 𝓤 H A mem run .pre to)
-  asked = qed W ((‵ (flft κ q) ⊛ ‵ ftrue) ∷ ‵ (owns (ShrSlice (named 0) κ u8 ∷ usize ∷ Q.the-row ∷ []) (d .src, (d .at, (rule, tt))) passed) ∷ []) ∵ join ! $ frame ! $ done !
+  asked = qed W ((‵ (flft κ q) ⊛ ‵ ftrue) ∷ ‵ (owns (ShrSlice (named 0) κ u8 ∷ usize ∷ Q.the-row ∷ []) (d .src, (d .at, (rule, tt))) passed) ∷ []) ∵
+      join ! $ frame ! $ done !
 
   -- what the struct owns gives what the callee asks, and is kept
-  apart : d .at < 2 ^ 64 → ent 𝓤 (onEntry 𝓤 H A field.signature (κ, tt) (q, tt) (d, (rule, tt)) (mach ∷ [], (mr ∷ [], tt))) (sep 𝓤 (FieldAt 𝓤 H A mem run .pre to) (sem 𝓤 H A Own))
+  apart : d .at < 2 ^ 64 → ent 𝓤 (onEntry 𝓤 H A field.signature (κ, tt) (q, tt) (d, (rule, tt)) (mach ∷ [], (mr ∷ [], tt)))
+      (sep 𝓤 (FieldAt 𝓤 H A mem run .pre to) (sem 𝓤 H A Own))
   apart fits =
       qed W ((‵ (flft κ q) ⊛ ‵ ftrue) ∷ ‵ (owns (B (κ, tt) ∷ Q.the-row ∷ []) (d, (rule, tt)) (mach ∷ [], (mr ∷ [], tt))) ∷ []) ∵
-      move ! (1 ∷ []) $ fsplit ! $ move ! (1 ∷ []) $ drop ! $ use1 W (‵ Own ⊛ ‵ Own) (LL.copy D (T′.the-copy (namedLft 1 0 tt (κ, tt))) 𝓤 H A W .twice d (mach ∷ [])) $ split ! $
-      use1 W (given (mach ∷ [] ≡ mach ∷ []) (‵ (all-own (D .parts) L vd))) (own-open 𝓤 H A W D L vd mach) $ learn ! (λ _. use1 W (‵ (ownAt (D .parts) L 0 (d .src)) ⊛ ‵ (rest (D .parts) L 0 vd)) (own-out 𝓤 H A W (D .parts) L 0 vd) $ split ! $
+      move ! (1 ∷ []) $ fsplit ! $ move ! (1 ∷ []) $ drop ! $
+      use1 W (‵ Own ⊛ ‵ Own) (LL.copy D (T′.the-copy (namedLft 1 0 tt (κ, tt))) 𝓤 H A W .twice d (mach ∷ [])) $ split ! $
+      use1 W (given (mach ∷ [] ≡ mach ∷ []) (‵ (all-own (D .parts) L vd))) (own-open 𝓤 H A W D L vd mach) $
+      learn ! (λ _. use1 W (‵ (ownAt (D .parts) L 0 (d .src)) ⊛ ‵ (rest (D .parts) L 0 vd)) (own-out 𝓤 H A W (D .parts) L 0 vd) $ split ! $
       -- [what src owns; what at owns; what the struct owns; the token]
-      move ! (1 ∷ []) $ drop ! $ nothing ! $ owned ! Q.the-row (Is Q.the-row) (LL.makes Q.the-type Q′.the-plain 𝓤 H A) rule _ rule-is $ fjoin ! $ owned ! usize (Is usize) (uint-makes 𝓤 H A W w64) (d .at) _ (refl, fits) $ fjoin ! $ move ! (1 ∷ 0 ∷ []) $ fjoin ! $
+      move ! (1 ∷ []) $ drop ! $ nothing ! $ owned ! Q.the-row (Is Q.the-row) (LL.makes Q.the-type Q′.the-plain 𝓤 H A) rule _ rule-is $ fjoin ! $
+      owned ! usize (Is usize) (uint-makes 𝓤 H A W w64) (d .at) _ (refl, fits) $ fjoin ! $ move ! (1 ∷ 0 ∷ []) $ fjoin ! $
       move ! (2 ∷ 0 ∷ []) $ use2 W (raw (FieldAt 𝓤 H A mem run .pre to)) asked $ frame ! $ done !)
 
   -- of the callee's `ensured`, the clause alone: it has no `&mut`, so what is said of last values is dropped
@@ -131,36 +140,53 @@ module _ {M : Type 1} (𝓤 : URA M) (H : Heap 𝓤) (A : Atoms 𝓤) (W : Given
   exits : (r : Field) (u : Val) → Says r → ent 𝓤 (⋆ 𝓤 H A (‵ (S.the-row .own r (u ∷ [])) ∷ (‵ (flft κ q) ⊛ ‵ ftrue) ∷ ‵ Own ∷ [])) (Post u)
   exits r u e =
       qed W (‵ (S.the-row .own r (u ∷ [])) ∷ (‵ (flft κ q) ⊛ ‵ ftrue) ∷ ‵ Own ∷ []) ∵
-      suffices ! _ (ends-at 𝓤 H A field.ended stayed (field.clauses 𝓤 H A mem run) W (((κ, tt), (q, tt), tt, (d, (rule, tt)), (mach ∷ [], (mr ∷ [], tt))), tt) u r (tt, (tt, tt)) (tt, (tt, tt))) $ says ! e $
-      move ! (1 ∷ []) $ frame ! $ nothing ! $ owned ! Q.the-row (Is Q.the-row) (LL.makes Q.the-type Q′.the-plain 𝓤 H A) rule _ rule-is $ fjoin ! $ move ! (2 ∷ 0 ∷ []) $ fjoin ! $ frame ! $ done !
+      suffices ! _ (ends-at 𝓤 H A field.ended stayed (field.clauses 𝓤 H A mem run) W
+      (((κ, tt), (q, tt), tt, (d, (rule, tt)), (mach ∷ [], (mr ∷ [], tt))), tt) u r (tt, (tt, tt)) (tt, (tt, tt))) $ says ! e $
+      move ! (1 ∷ []) $ frame ! $ nothing ! $ owned ! Q.the-row (Is Q.the-row) (LL.makes Q.the-type Q′.the-plain 𝓤 H A) rule _ rule-is $ fjoin ! $
+      move ! (2 ∷ 0 ∷ []) $ fjoin ! $ frame ! $ done !
 
-  module _ (C : Calls 𝓤 H) (Λ : Loops 𝓤 H) (fm : FmC 𝓤 H (W .laws) C) (known : Triple 𝓤 (C #plan-held·field-at) (FieldAt 𝓤 H A mem run)) where
-    walk : Holds (hasTy (T′.mir (named 0)) mach) × WT mach → ent 𝓤 (onEntry 𝓤 H A field.signature (κ, tt) (q, tt) (d, (rule, tt)) (mach ∷ [], (mr ∷ [], tt))) (WpFn 𝓤 H C Λ code.function (mach ∷ mr ∷ []) Post)
+  module _ (C : Calls 𝓤 H) (Λ : Loops 𝓤 H) (fm : FmC 𝓤 H (W .laws) C) (known : Triple 𝓤 (C #field-at) (FieldAt 𝓤 H A mem run)) where
+    walk : Holds (hasTy (T′.mir (named 0)) mach) × WT mach
+        → ent 𝓤 (onEntry 𝓤 H A field.signature (κ, tt) (q, tt) (d, (rule, tt)) (mach ∷ [], (mr ∷ [], tt)))
+        (WpFn 𝓤 H C Λ code.function (mach ∷ mr ∷ []) Post)
     walk wt =
-        qed W (raw (onEntry 𝓤 H A field.signature (κ, tt) (q, tt) (d, (rule, tt)) (mach ∷ [], (mr ∷ [], tt))) ∷ []) ∵ enter ! C Λ code.function (mach ∷ mr ∷ []) _ $
-        alloc1 ! (λ l₀. alloc1 ! (λ l₁. alloc1 ! (λ l₂. alloc1 ! (λ l₃. alloc1 ! (λ l₄. alloc0 ! $ params1 ! $ pass1 ! (init ! 6 refl wt) $ pass1 ! (init ! 4 refl (LL.lawful Q.the-type Q′.the-laws 𝓤 H A W .typed rule _ rule-is .0)) $ pass0 ! $
-        assigns ! (of-opd ! (load ! (from ! (fld ! refl (stop !))) (look-in ! 6 (sub ! 0 refl (whole !))))) (from ! (stop !)) (init ! 2 refl (tt, wt .1 .0)) $
-        assigns ! (of-opd ! (load ! (from ! (fld ! refl (stop !))) (look-in ! 6 (sub ! 1 refl (whole !))))) (from ! (stop !)) (init ! 0 refl (tt, wt .1 .1 .0)) $
+        qed W (raw (onEntry 𝓤 H A field.signature (κ, tt) (q, tt) (d, (rule, tt)) (mach ∷ [], (mr ∷ [], tt))) ∷ []) ∵ enter ! C Λ code.function
+        (mach ∷ mr ∷ []) _ $
+        alloc1 ! (λ l₀. alloc1 ! (λ l₁. alloc1 ! (λ l₂. alloc1 ! (λ l₃. alloc1 ! (λ l₄. alloc0 ! $ params1 ! $ pass1 ! (init ! 6 refl wt) $
+        pass1 ! (init ! 4 refl (LL.lawful Q.the-type Q′.the-laws 𝓤 H A W .typed rule _ rule-is .0)) $ pass0 ! $
+        assigns ! (of-opd ! (load ! (from ! (fld ! refl (stop !))) (look-in ! 6 (sub ! 0 refl (whole !))))) (from ! (stop !))
+        (init ! 2 refl (tt, wt .1 .0)) $
+        assigns ! (of-opd ! (load ! (from ! (fld ! refl (stop !))) (look-in ! 6 (sub ! 1 refl (whole !))))) (from ! (stop !))
+        (init ! 0 refl (tt, wt .1 .1 .0)) $
         move ! (10 ∷ []) $ use1 W (raw (FieldAt 𝓤 H A mem run .pre to) ⊛ ‵ Own) (apart (wt .1 .1 .0 .fits)) $ split ! $
-        calls-at ! fm (FieldAt 𝓤 H A mem run) known to (and-then ! (load ! (from ! (stop !)) (look ! 4 refl)) (and-then ! (load ! (from ! (stop !)) (look ! 2 refl)) (and-then ! (load ! (from ! (stop !)) (look ! 6 refl)) (no-more !)))) (λ u.
-        use1 W (later (some (λ (r : Field). ((‵ (flft κ q) ⊛ ‵ ftrue) ⊛ ‵ (S.the-row .own r (u ∷ []))) ⊛ raw (ensured 𝓤 H A step.ended (step.clauses 𝓤 H A mem run) (κ, tt) (d .src, (d .at, (rule, tt))) tt r)))) (id⊢ 𝓤 _) $ await ! tt $ pick ! (λ r.
+        calls-at ! fm (FieldAt 𝓤 H A mem run) known to
+        (and-then ! (load ! (from ! (stop !)) (look ! 4 refl))
+        (and-then ! (load ! (from ! (stop !)) (look ! 2 refl)) (and-then ! (load ! (from ! (stop !)) (look ! 6 refl)) (no-more !)))) (λ u.
+        use1 W (later (some (λ (r : Field). ((‵ (flft κ q) ⊛ ‵ ftrue) ⊛ ‵ (S.the-row .own r (u ∷ []))) ⊛ raw
+        (ensured 𝓤 H A step.ended (step.clauses 𝓤 H A mem run) (κ, tt) (d .src, (d .at, (rule, tt))) tt r)))) (id⊢ 𝓤 _) $ await ! tt $ pick ! (λ r.
         split ! $ move ! (1 ∷ []) $ use1 W (raw (fact 𝓤 (Says r))) (said r) $ heard ! (Says r) (λ e. split ! $ move ! (1 ∷ []) $
         -- [the result; the token; what the struct owns; _3; …; _2; …; _1; …; room for _0; …]
         peeks ! S.the-row (Is S.the-row) (shows 𝓤 H A S.the-row) r (u ∷ []) (λ is.
         land ! (from ! (stop !)) (init ! 11 refl (LL.lawful S.the-type S′.the-laws 𝓤 H A W .typed r _ is .0)) $
         returns ! (look ! 11 refl) $ forget ! 3 refl $ forget ! 5 refl $ forget ! 7 refl $ forget ! 9 refl $ forget ! 11 refl $
-        move ! (11 ∷ 12 ∷ []) $ free1 ! $ move ! (9 ∷ 10 ∷ []) $ free1 ! $ move ! (7 ∷ 8 ∷ []) $ free1 ! $ move ! (5 ∷ 6 ∷ []) $ free1 ! $ move ! (3 ∷ 4 ∷ []) $ free1 ! $ free0 ! $ by ! (exits r u e))))))))))
+        move ! (11 ∷ 12 ∷ []) $ free1 ! $ move ! (9 ∷ 10 ∷ []) $ free1 ! $ move ! (7 ∷ 8 ∷ []) $ free1 ! $ move ! (5 ∷ 6 ∷ []) $ free1 ! $
+        move ! (3 ∷ 4 ∷ []) $ free1 ! $ free0 ! $ by ! (exits r u e))))))))))
 
 module _ {M : Type 1} (𝓤 : URA M) (H : Heap 𝓤) (A : Atoms 𝓤) (W : Given 𝓤 H A) (mem : Memory → SProp 𝓤) (run : Routine → Fun 𝓤) where
-  field-walks : (C : Calls 𝓤 H) (Λ : Loops 𝓤 H) → FmC 𝓤 H (W .laws) C → Triple 𝓤 (C #plan-held·field-at) (FieldAt 𝓤 H A mem run)
+  field-walks : (C : Calls 𝓤 H) (Λ : Loops 𝓤 H) → FmC 𝓤 H (W .laws) C → Triple 𝓤 (C #field-at) (FieldAt 𝓤 H A mem run)
       → Walks 𝓤 H A field.ended stayed (WpFn 𝓤 H C Λ code.function) (field.clauses 𝓤 H A mem run)
-  field-walks C Λ fm known = walked 𝓤 H A field.ended stayed (field.clauses 𝓤 H A mem run) (WpFn 𝓤 H C Λ code.function) (λ κs. (LL.vals (T.the-type (namedLft 1 0 tt κs)) (T′.the-laws (namedLft 1 0 tt κs)), (LL.vals Q.the-type Q′.the-laws, tt))) (λ κs. (LL.tells (T.the-type (namedLft 1 0 tt κs)) (T′.the-laws (namedLft 1 0 tt κs)), (LL.tells Q.the-type Q′.the-laws, tt)))
-      (λ κs qs bounds a g are. via 𝓤 _ (fst∗ 𝓤 _ (emp 𝓤)) (walk 𝓤 H A W mem run (κs .0) (qs .0) (a .0) (a .1 .0) (are .1 .0) C Λ fm known (LL.lawful (T.the-type (namedLft 1 0 tt κs)) (T′.the-laws (namedLft 1 0 tt κs)) 𝓤 H A W .typed (a .0) _ (are .0) .0)))
+  field-walks C Λ fm known = walked 𝓤 H A field.ended stayed (field.clauses 𝓤 H A mem run) (WpFn 𝓤 H C Λ code.function)
+      (λ κs. (LL.vals (T.the-type (namedLft 1 0 tt κs)) (T′.the-laws (namedLft 1 0 tt κs)), (LL.vals Q.the-type Q′.the-laws, tt)))
+      (λ κs. (LL.tells (T.the-type (namedLft 1 0 tt κs)) (T′.the-laws (namedLft 1 0 tt κs)), (LL.tells Q.the-type Q′.the-laws, tt)))
+      (λ κs qs bounds a g are. via 𝓤 _ (fst∗ 𝓤 _ (emp 𝓤)) (walk 𝓤 H A W mem run (κs .0) (qs .0) (a .0) (a .1 .0) (are .1 .0) C Λ fm known
+      (LL.lawful (T.the-type (namedLft 1 0 tt κs)) (T′.the-laws (namedLft 1 0 tt κs)) 𝓤 H A W .typed (a .0) _ (are .0) .0)))
 
 field-meets : {M : Type 1} (𝓤 : URA M) (H : Heap 𝓤) (A : Atoms 𝓤) (W : Given 𝓤 H A) (mem : Memory → SProp 𝓤) (run : Routine → Fun 𝓤) (𝓣 : Tables 𝓤 H)
-    → Triple 𝓤 (𝓣 .C #plan-held·field-at) (FieldAt 𝓤 H A mem run)
+    → Triple 𝓤 (𝓣 .C #field-at) (FieldAt 𝓤 H A mem run)
     → Meets 𝓤 H A field.signature (WpFn 𝓤 H (𝓣 .C) (𝓣 .Λ) code.function) (field.spec 𝓤 H A mem run)
-field-meets 𝓤 H A W mem run 𝓣 known = walk-meets 𝓤 H A field.ended stayed W (goes-none 𝓤 H A W 1 B yes (λ κs x f. refl), (goes-none 𝓤 H A W 1 (λ _. Q.the-row) yes (λ κs x f. refl), tt)) (field.clauses 𝓤 H A mem run) (WpFn 𝓤 H (𝓣 .C) (𝓣 .Λ) code.function) (WpFn-mono 𝓤 H (W .laws) 𝓣 code.function)
+field-meets 𝓤 H A W mem run 𝓣 known = walk-meets 𝓤 H A field.ended stayed W
+    (goes-none 𝓤 H A W 1 B yes (λ κs x f. refl), (goes-none 𝓤 H A W 1 (λ _. Q.the-row) yes (λ κs x f. refl), tt)) (field.clauses 𝓤 H A mem run)
+    (WpFn 𝓤 H (𝓣 .C) (𝓣 .Λ) code.function) (WpFn-mono 𝓤 H (W .laws) 𝓣 code.function)
     (field-walks 𝓤 H A W mem run (𝓣 .C) (𝓣 .Λ) (fmOf 𝓤 H (W .laws) 𝓣) known)
 
 pub next-field-spec : {M : Type 1} → stated.statement M
@@ -169,4 +195,5 @@ next-field-spec 𝓤 H 𝓜 𝓖 𝓡 =
     entered 𝓤 H (tripleOf 𝓤 H (𝓖 .A) field.signature (field.spec 𝓤 H (𝓖 .A) (𝓜 .mem) (𝓡 .run)))
     (tables 𝓤 H 𝓜 𝓡 code.env .C) (tables 𝓤 H 𝓜 𝓡 code.env .Λ) #plan-held·next-field code.function (code.unfolded 𝓤 H 𝓜 𝓡)
     (field-meets 𝓤 H (𝓖 .A) (givenOf 𝓤 H 𝓜 𝓖) (𝓜 .mem) (𝓡 .run) (tablesOf 𝓤 H 𝓜 (tables 𝓤 H 𝓜 𝓡 code.env))
-    (cited 𝓤 H (FieldAt 𝓤 H (𝓖 .A) (𝓜 .mem) (𝓡 .run)) 𝓜 𝓡 code.env #plan-held·field-at at-def.routine code.calls-plan-held·field-at (at-thm.met 𝓤 H 𝓜 𝓖 𝓡)))
+    (cited 𝓤 H (FieldAt 𝓤 H (𝓖 .A) (𝓜 .mem) (𝓡 .run)) 𝓜 𝓡 code.env #field-at at-def.routine code.calls-plan-reader·rule·field-at
+    (at-thm.met 𝓤 H 𝓜 𝓖 𝓡)))

@@ -13,18 +13,18 @@ refused-requires c κs = search needs
 
 returns : tie.Need-returns
 returns c =
-    rw (c .refused .ensures) (read-refused (c .before .before .before .sections .ensures) (c .before .if1 .taken))
+    rw (c .refused .ensures) (read-refused (c .before .before .before .sections .ensures) (omega arith) (c .before .if1 .taken))
 
 refused-requires-2 : tie.Need-refused-requires-2
 refused-requires-2 c κs = search needs
 
 returns-2 : tie.Need-returns-2
 returns-2 c =
-    rw (c .refused2 .ensures) (read-more (c .before .before .before .before .sections .ensures) (c .before .before .if1 .left) (c .before .if2 .taken))
+    rw (c .refused2 .ensures) (read-more (c .before .before .before .before .sections .ensures) (omega arith) (c .before .before .if1 .left) (c .before .if2 .taken))
 
 returns-3 : tie.Need-returns-3
 returns-3 c =
-    read-whole (c .before .before .before .sections .ensures) (c .before .if1 .left) (c .if2 .left) (omega arith)
+    read-whole (c .before .before .before .sections .ensures) (omega arith) (c .before .if1 .left) (c .if2 .left)
 
 pub read-numbers-spec : {M : Type 1} → statement M
 read-numbers-spec =

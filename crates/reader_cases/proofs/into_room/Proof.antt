@@ -28,41 +28,8 @@ read-plan-requires c κs = search needs
 show-requires : tie.Need-show-requires
 show-requires c κs = search needs
 
-array-read-number : tie.Need-array-read-number
-array-read-number c = search needs
-
-number-requires : tie.Need-number-requires
-number-requires c κs = search needs
-
-slice-aggregate-head : tie.Need-slice-aggregate-head
-slice-aggregate-head c = search needs
-
-head-requires : tie.Need-head-requires
-head-requires c κs = search needs
-
-array-read-number-2 : tie.Need-array-read-number-2
-array-read-number-2 c = search needs
-
-number-requires-2 : tie.Need-number-requires-2
-number-requires-2 c κs = search needs
-
-slice-aggregate-head-2 : tie.Need-slice-aggregate-head-2
-slice-aggregate-head-2 c = search needs
-
-head-requires-2 : tie.Need-head-requires-2
-head-requires-2 c κs = search needs
-
-array-read-number-3 : tie.Need-array-read-number-3
-array-read-number-3 c = search needs
-
-number-requires-3 : tie.Need-number-requires-3
-number-requires-3 c κs = search needs
-
-slice-aggregate-head-3 : tie.Need-slice-aggregate-head-3
-slice-aggregate-head-3 c = search needs
-
-head-requires-3 : tie.Need-head-requires-3
-head-requires-3 c κs = search needs
+show-numbers-requires : tie.Need-show-numbers-requires
+show-numbers-requires c κs = search needs
 
 returns : tie.Need-returns
 returns c = search needs
@@ -70,4 +37,4 @@ returns c = search needs
 pub into-room-spec : {M : Type 1} → statement M
 into-room-spec =
     tie.close
-    (tie.spec t3-requires sevens-requires slice-aggregate-read-plan array-borrow-prefix-room slice-aggregate-read-plan-2 read-plan-requires show-requires array-read-number number-requires slice-aggregate-head head-requires array-read-number-2 number-requires-2 slice-aggregate-head-2 head-requires-2 array-read-number-3 number-requires-3 slice-aggregate-head-3 head-requires-3 returns)
+    (tie.spec t3-requires sevens-requires slice-aggregate-read-plan array-borrow-prefix-room slice-aggregate-read-plan-2 read-plan-requires show-requires show-numbers-requires returns)

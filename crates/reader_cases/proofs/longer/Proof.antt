@@ -1,4 +1,4 @@
--- `longer` is safe and ends: the buffer keeps its length.
+-- `longer` is safe and ends: the zeros keep their length.
 use mathlib.Core.Path.{sym, _≡_}
 use Prim.Native.Nat.{_+_, _-_, _≤_}
 use native.Mathlib.Omega.{arith}
@@ -9,7 +9,7 @@ use Rattle.reader_cases.proofs.longer.Statement.{statement}
 use Rattle.reader_cases.proofs.longer.Tie as tie
 
 abbrev Inv-loop : tie.InvT-loop
-Inv-loop more plan long₀ i₀ long i = (i ≤ 96) × (length long ≡ 65536)
+Inv-loop more plan long₀ i₀ long i = (i ≤ 96) × (length long ≡ 1048672)
 
 abbrev μ-loop : tie.MeasureT-loop
 μ-loop more plan long₀ i₀ long i = 96 - i
@@ -17,8 +17,8 @@ abbrev μ-loop : tie.MeasureT-loop
 t3-requires : tie.Need-t3-requires Inv-loop μ-loop
 t3-requires c κs = search needs
 
-large-buffer-requires : tie.Need-large-buffer-requires Inv-loop μ-loop
-large-buffer-requires c κs = search needs
+zeros-requires : tie.Need-zeros-requires Inv-loop μ-loop
+zeros-requires c κs = search needs
 
 loop-holds : tie.Need-loop-holds Inv-loop μ-loop
 loop-holds c = search needs
@@ -57,4 +57,4 @@ returns c = search needs
 pub longer-spec : {M : Type 1} → statement M
 longer-spec =
     tie.close
-    (tie.spec Inv-loop μ-loop t3-requires large-buffer-requires loop-holds array-read-long array-write-long add-i loop-less loop-again add-long array-share-prefix-long slice-aggregate-read read-requires returns)
+    (tie.spec Inv-loop μ-loop t3-requires zeros-requires loop-holds array-read-long array-write-long add-i loop-less loop-again add-long array-share-prefix-long slice-aggregate-read read-requires returns)

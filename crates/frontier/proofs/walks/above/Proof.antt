@@ -4,10 +4,10 @@ use Rattle.frontier.proofs.walks.above.Statement.{statement}
 use Rattle.frontier.proofs.walks.above.Tie as tie
 
 returns : tie.Need-returns
-returns c = test-axis _ _ (c .before .if1 .taken)
+returns c = test-axis _ _ (c .before .before .if1 .taken)
 
 returns-2 : tie.Need-returns-2
-returns-2 c = test-epoch _ _ (c .before .if1 .left)
+returns-2 c = test-epoch _ _ (c .before .before .if1 .left)
 
 pub above-spec : {M : Type 1} → statement M
 above-spec = tie.close (tie.spec returns returns-2)

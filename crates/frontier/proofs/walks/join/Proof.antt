@@ -2,7 +2,7 @@
 use Prim.Native.Nat.{_+_, _-_}
 use mathlib.Core.Path.{refl, _∙_}
 use borrow.Author.Needs.{needs}
-use Rattle.frontier.proofs.Join.{Join, join-none, join-more, join-fits, join-packed}
+use Rattle.frontier.proofs.Join.{Join, join-none, join-more, join-fits, join-packed, join-whole}
 use Rattle.frontier.proofs.Trim.{cut-fits, cut-packed}
 use Rattle.frontier.proofs.walks.join.Statement.{statement}
 use Rattle.frontier.proofs.walks.join.Tie as tie
@@ -14,7 +14,7 @@ abbrev μ-loop : tie.MeasureT-loop
 μ-loop xa xe xn ya ye yn capacity tainted axes₀ epochs₀ n₀ i₀ j₀ axes epochs n i j = xn + yn - (i + j)
 
 loop-holds : tie.Need-loop-holds Inv-loop μ-loop
-loop-holds c = join-none _ _ _ _ _ _ _ _ (search needs) (search needs)
+loop-holds c = join-none _ _ _ _ _ _ _ _ refl refl
 
 add-loop : tie.Need-add-loop Inv-loop μ-loop
 add-loop c = search needs
@@ -46,6 +46,15 @@ loop-less c = search needs
 loop-again : tie.Need-loop-again Inv-loop μ-loop
 loop-again c = join-more _ _ _ _ _ _ _ _ _ _ _ _ _ _ _ (c .before .before .loop .inv) (search needs) (c .next .ensures .0 .0) (c .next .ensures .0 .1) (c .next .ensures .0 .2) (c .next .ensures .1)
 
+first-slots-requires : tie.Need-first-slots-requires Inv-loop μ-loop
+first-slots-requires c κs = c .before .before .before .loop .inv .axes-32
+
+first-slots-requires-2 : tie.Need-first-slots-requires-2 Inv-loop μ-loop
+first-slots-requires-2 c κs = c .before .before .before .before .before .loop .inv .epochs-32
+
+returns : tie.Need-returns Inv-loop μ-loop
+returns c = join-whole _ _ _ _ _ _ _ _ _ _ _ _ _ _ _ (c .before .before .before .before .before .before .loop .inv) (c .before .before .before .before .before .loop-test .left) (c .before .before .before .before .if1 .taken) (c .before .before .before .before .before .before .before .pre .1 .1 .1) (c .before .before .first-slots .ensures) (c .first-slots2 .ensures)
+
 slice-aggregate-bound-of : tie.Need-slice-aggregate-bound-of Inv-loop μ-loop
 slice-aggregate-bound-of c = search needs
 
@@ -53,7 +62,7 @@ slice-aggregate-bound-of-2 : tie.Need-slice-aggregate-bound-of-2 Inv-loop μ-loo
 slice-aggregate-bound-of-2 c = search needs
 
 bound-of-requires : tie.Need-bound-of-requires Inv-loop μ-loop
-bound-of-requires c κs = join-fits _ _ _ _ _ _ _ _ _ _ _ (c .before .before .before .loop .inv) (c .before .before .loop-test .left) (c .before .before .before .before .pre .1 .0 .0) (c .before .before .before .before .pre .1 .0 .1) (c .before .before .before .before .pre .0 .0) (c .before .before .before .before .pre .0 .1)
+bound-of-requires c κs = (join-fits _ _ _ _ _ _ _ _ _ _ _ (c .before .before .before .before .loop .inv) (c .before .before .before .loop-test .left) (c .before .before .before .before .before .pre .1 .0 .0) (c .before .before .before .before .before .pre .1 .0 .1) (c .before .before .before .before .before .pre .0 .0) (c .before .before .before .before .before .pre .0 .1), (c .before .before .before .before .before .pre .1 .1 .0, c .before .before .if1 .left))
 
 slice-aggregate-trim : tie.Need-slice-aggregate-trim Inv-loop μ-loop
 slice-aggregate-trim c = search needs
@@ -62,10 +71,12 @@ slice-aggregate-trim-2 : tie.Need-slice-aggregate-trim-2 Inv-loop μ-loop
 slice-aggregate-trim-2 c = search needs
 
 trim-requires : tie.Need-trim-requires Inv-loop μ-loop
-trim-requires c κs = let w = join-fits _ _ _ _ _ _ _ _ _ _ _ (c .before .before .before .before .before .before .loop .inv) (c .before .before .before .before .before .loop-test .left) (c .before .before .before .before .before .before .before .pre .1 .0 .0) (c .before .before .before .before .before .before .before .pre .1 .0 .1) (c .before .before .before .before .before .before .before .pre .0 .0) (c .before .before .before .before .before .before .before .pre .0 .1) in ((w .0, w .1), cut-fits _ _ _ _ _ (w .2) (c .before .before .before .before .before .before .before .pre .1 .1) (c .before .before .bound-of .ensures))
+trim-requires c κs =
+    let w = join-fits _ _ _ _ _ _ _ _ _ _ _ (c .before .before .before .before .before .before .before .loop .inv) (c .before .before .before .before .before .before .loop-test .left) (c .before .before .before .before .before .before .before .before .pre .1 .0 .0) (c .before .before .before .before .before .before .before .before .pre .1 .0 .1) (c .before .before .before .before .before .before .before .before .pre .0 .0) (c .before .before .before .before .before .before .before .before .pre .0 .1) in
+    ((w .0, w .1), cut-fits _ _ _ _ _ (w .2) (c .before .before .before .before .before .before .before .before .pre .1 .1 .1) (c .before .before .bound-of .ensures))
 
-returns : tie.Need-returns Inv-loop μ-loop
-returns c = cut-packed _ _ _ _ (c .trim .ensures) (c .before .before .before .bound-of .ensures) refl ∙ join-packed _ _ _ _ _ _ _ _ _ _ _ _ _ (c .before .before .before .before .before .before .before .loop .inv) (c .before .before .before .before .before .before .loop-test .left)
+returns-2 : tie.Need-returns-2 Inv-loop μ-loop
+returns-2 c = cut-packed _ _ _ _ (c .trim .ensures) (c .before .before .before .bound-of .ensures) refl ∙ join-packed _ _ _ _ _ _ _ _ _ _ _ _ _ (c .before .before .before .before .before .before .before .before .loop .inv) (c .before .before .before .before .before .before .before .loop-test .left) (c .before .before .before .before .before .before .if1 .left)
 
 pub join-spec : {M : Type 1} → statement M
 join-spec =
@@ -84,10 +95,13 @@ join-spec =
     add-n
     loop-less
     loop-again
+    first-slots-requires
+    first-slots-requires-2
+    returns
     slice-aggregate-bound-of
     slice-aggregate-bound-of-2
     bound-of-requires
     slice-aggregate-trim
     slice-aggregate-trim-2
     trim-requires
-    returns)
+    returns-2)

@@ -1,134 +1,35 @@
--- `next` meets its contract: which side is next, or both. Assumes nothing.
-use Prim.Native.Nat.{_-_}
-use mathlib.Core.Path.{sym, _∙_}
+-- `next` meets its contract: the side that leads, turned back where that is the right one. Assumes nothing.
+use mathlib.Core.Path.{refl, sym, _∙_}
+use native.Mathlib.Omega.{arith}
 use borrow.Author.Needs.{needs}
-use Rattle.frontier.specs.Frontiers.{slot}
-use Rattle.frontier.proofs.Join.{next-right-only, next-left-only, next-right, next-left, next-both}
+use Rattle.frontier.proofs.Join.{leads-some, right-leads, next-turned}
 use Rattle.frontier.proofs.walks.next.Statement.{statement}
 use Rattle.frontier.proofs.walks.next.Tie as tie
 
-mul-t13 : tie.Need-mul-t13
-mul-t13 c = search needs
+leads-at-requires : tie.Need-leads-at-requires
+leads-at-requires c κs = search needs
 
-element-copy-out-t16 : tie.Need-element-copy-out-t16
-element-copy-out-t16 c = search needs
-
-mul-t17 : tie.Need-mul-t17
-mul-t17 c = search needs
-
-element-copy-out-t20 : tie.Need-element-copy-out-t20
-element-copy-out-t20 c = search needs
-
-add-t21 : tie.Need-add-t21
-add-t21 c = search needs
+leading-requires : tie.Need-leading-requires
+leading-requires c κs =
+    let p = c .before .before .pre in
+    let q = c .before .leads-at .ensures _ _ in
+    ((p .0 .0, p .0 .1, leads-some _ _ _ _ _ _ q (c .if1 .taken), p .0 .3), (p .1, sym q ∙ c .if1 .taken))
 
 returns : tie.Need-returns
-unfolding slot
-returns c = (search needs, next-right-only _ _ _ _ _ _ _ _ (c .before .before .before .pre .1 .0) (c .before .before .before .pre .1 .1) (c .before .before .if1 .taken) (search needs))
+returns c = search needs
 
-mul-axis : tie.Need-mul-axis
-mul-axis c = search needs
-
-element-copy-out-axis : tie.Need-element-copy-out-axis
-element-copy-out-axis c = search needs
-
-mul-epoch : tie.Need-mul-epoch
-mul-epoch c = search needs
-
-element-copy-out-epoch : tie.Need-element-copy-out-epoch
-element-copy-out-epoch c = search needs
-
-add-t28 : tie.Need-add-t28
-add-t28 c = search needs
+leading-requires-2 : tie.Need-leading-requires-2
+leading-requires-2 c κs =
+    let p = c .before .before .pre in
+    let e = right-leads _ _ _ _ _ _ _ _ (p .1 .0) (p .1 .1) _ (p .0 .4) (p .0 .2) (p .0 .3) (c .before .leads-at .ensures _ _) (c .if1 .left) in
+    ((p .0 .1, p .0 .0, leads-some _ _ _ _ _ _ refl e, p .0 .2), ((p .1 .1, p .1 .0), e))
 
 returns-2 : tie.Need-returns-2
-unfolding slot
-returns-2 c = (search needs, next-left-only _ _ _ _ _ _ _ _ (c .before .before .before .before .pre .1 .0) (c .before .before .before .before .pre .1 .1) (c .before .before .before .if1 .left) (c .if2 .taken))
-
-mul-if3 : tie.Need-mul-if3
-mul-if3 c = search needs
-
-element-copy-out-if3 : tie.Need-element-copy-out-if3
-element-copy-out-if3 c = search needs
-
-mul-t31 : tie.Need-mul-t31
-mul-t31 c = search needs
-
-element-copy-out-t34 : tie.Need-element-copy-out-t34
-element-copy-out-t34 c = search needs
-
-mul-t35 : tie.Need-mul-t35
-mul-t35 c = search needs
-
-element-copy-out-t38 : tie.Need-element-copy-out-t38
-element-copy-out-t38 c = search needs
-
-add-t39 : tie.Need-add-t39
-add-t39 c = search needs
-
-returns-3 : tie.Need-returns-3
-unfolding slot
-returns-3 c = (search needs, next-right _ _ _ _ _ _ _ _ (c .before .before .before .before .before .before .before .before .pre .1 .0) (c .before .before .before .before .before .before .before .before .pre .1 .1) (c .before .before .before .before .before .before .before .if1 .left) (c .before .before .before .before .if2 .left) (c .before .before .if3 .taken))
-
-listed-at-requires : tie.Need-listed-at-requires
-listed-at-requires c κs = search needs
-
-enum-known-other : tie.Need-enum-known-other
-enum-known-other c = search needs
-
-enum-told : tie.Need-enum-told
-enum-told c = search needs
-
-add-t41 : tie.Need-add-t41
-add-t41 c = search needs
-
-returns-4 : tie.Need-returns-4
-unfolding slot
-returns-4 c = (search needs, next-left _ _ _ _ _ _ _ _ (c .before .before .before .before .before .before .before .before .before .pre .1 .0) (c .before .before .before .before .before .before .before .before .before .pre .1 .1) (c .before .before .before .before .before .before .before .before .if1 .left) (c .before .before .before .before .before .if2 .left) (c .before .before .before .if3 .left) (sym (c .enum-told .given .1) ∙ c .before .before .listed-at .ensures))
-
-larger-requires : tie.Need-larger-requires
-larger-requires c κs = search needs
-
-add-t22 : tie.Need-add-t22
-add-t22 c = search needs
-
-add-t42 : tie.Need-add-t42
-add-t42 c = search needs
-
-returns-5 : tie.Need-returns-5
-unfolding slot
-returns-5 c = (search needs, next-both _ _ _ _ _ _ _ _ (c .before .before .before .before .before .before .before .before .before .before .before .pre .1 .0) (c .before .before .before .before .before .before .before .before .before .before .before .pre .1 .1) (c .before .before .other .given .0 .0) _ (c .larger .ensures) (c .before .before .before .before .before .before .before .before .before .before .if1 .left) (c .before .before .before .before .before .before .before .if2 .left) (sym (c .before .before .other .given .1) ∙ c .before .before .before .before .listed-at .ensures))
+returns-2 c =
+    let p = c .before .before .before .before .pre in
+    let w = c .before .leading2 .ensures in
+    ((w .0 .1, w .0 .0, omega (arith, w .0 .2)), next-turned _ _ _ _ _ _ _ _ (p .1 .0) (p .1 .1) _ _ _ (p .0 .2) (p .0 .3) (w .0 .1) (w .0 .0) (w .1))
 
 pub next-spec : {M : Type 1} → statement M
 next-spec =
-    tie.close
-    (tie.spec
-    mul-t13
-    element-copy-out-t16
-    mul-t17
-    element-copy-out-t20
-    add-t21
-    returns
-    mul-axis
-    element-copy-out-axis
-    mul-epoch
-    element-copy-out-epoch
-    add-t28
-    returns-2
-    mul-if3
-    element-copy-out-if3
-    mul-t31
-    element-copy-out-t34
-    mul-t35
-    element-copy-out-t38
-    add-t39
-    returns-3
-    listed-at-requires
-    enum-known-other
-    enum-told
-    add-t41
-    returns-4
-    larger-requires
-    add-t22
-    add-t42
-    returns-5)
+    tie.close (tie.spec leads-at-requires leading-requires returns leading-requires-2 returns-2)

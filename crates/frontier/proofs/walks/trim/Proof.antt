@@ -10,7 +10,7 @@ use Rattle.frontier.proofs.walks.trim.Statement.{statement}
 use Rattle.frontier.proofs.walks.trim.Tie as tie
 
 abbrev Inv-loop : tie.InvT-loop
-Inv-loop axes epochs len bound tainted kept₀ at₀ n₀ i₀ kept at n i = (i ≤ len) × Trim (λ x. exceeds x (record { axis = bound .axis; epoch = bound .epoch })) axes epochs kept at len n i
+Inv-loop axes epochs len bound tainted kept₀ at₀ n₀ i₀ kept at n i = (i ≤ len) × Trim (λ x. exceeds x bound) axes epochs kept at len n i
 
 abbrev μ-loop : tie.MeasureT-loop
 μ-loop axes epochs len bound tainted kept₀ at₀ n₀ i₀ kept at n i = len - i

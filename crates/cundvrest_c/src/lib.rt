@@ -1,0 +1,124 @@
+// The C interface, declared in include/cundvrest.h: each function lends what it is lent to a proved function and stores what comes back.
+mod lent; // what the lent numbers stand for
+
+ghost use mathlib.Core.Path.{_≡_};
+ghost use mathlib.Core.Bool.{true, _&&_, _||_};
+ghost use lib.Dec.{leb};
+ghost use Rattle.plan_format.specs.Stored.{Read-says, Write-says};
+ghost use Rattle.plan_order.specs.Promise.{Checked};
+ghost use Rattle.questions.specs.Reuse.{Asked};
+ghost use Rattle.questions.specs.SentMeaning.{Frontier-right};
+ghost use Rattle.frontier.specs.Frontiers.{merge, raise, dominance};
+ghost use Rattle.frontier.specs.Meaning.{Merge-right, Raise-right, Dominance-means};
+ghost use Rattle.cundvrest_c.specs.Lent.{told-of, frontier-of, oversized, Merge-says, merged-of, Oversized-refused, Sent-says, sent-of, dominance-told, dominance-of};
+
+// The numbers of a stored plan in front of the room; the answer is how many there are.
+#[no_mangle]
+pub extern "C" fn cundvrest_read(plan: &[u8], room: &mut [u64], told: &mut [u64; 3])
+    ensures { λ _. ⌜ Read-says (now (plan .entry)) (told-of (now (told .exit))) (now (room .entry)) (now (room .exit)) ⌝ }
+{
+    lent::tell(plan_reader::read_plan(plan, room), told);
+}
+
+// The bytes of a list of numbers in front of the room; the answer is how many there are.
+#[no_mangle]
+pub extern "C" fn cundvrest_write(numbers: &[u64], room: &mut [u8], told: &mut [u64; 3])
+    ensures { λ _. ⌜ Write-says (now (numbers .entry)) (told-of (now (told .exit))) (now (room .entry)) (now (room .exit)) ⌝ }
+{
+    lent::tell(plan_writer::write_plan(numbers, room), told);
+}
+
+// The check of a stored plan: the rows and the run in table and list.
+#[no_mangle]
+pub extern "C" fn cundvrest_check(
+    plan: &[u8],
+    table: &mut [u32],
+    list: &mut [u32],
+    told: &mut [u64; 3],
+)
+    ensures { λ _. ⌜ Checked (now (plan .entry)) (told-of (now (told .exit))) (now (table .entry)) (now (table .exit)) (now (list .entry)) (now (list .exit)) ⌝ }
+{
+    lent::tell(checker::check_plan(plan, table, list), told);
+}
+
+// The reuse question: whether a queue may take a buffer anew; the answer is the verdict.
+#[no_mangle]
+pub extern "C" fn cundvrest_reuse(
+    plan: &[u8],
+    queue: u32,
+    buffer: u32,
+    table: &mut [u32],
+    list: &mut [u32],
+    told: &mut [u64; 3],
+)
+    ensures { λ _. ⌜ Asked (now (plan .entry)) queue buffer (told-of (now (told .exit))) (now (table .entry)) (now (table .exit)) (now (list .entry)) (now (list .exit)) ⌝ }
+{
+    lent::tell(
+        questions::reuse_question(plan, queue, buffer, table, list),
+        told,
+    );
+}
+
+// The frontier sent out for an operation, cut to the capacity.
+#[no_mangle]
+pub extern "C" fn cundvrest_frontier(
+    plan: &[u8],
+    operation: u32,
+    capacity: u32,
+    table: &mut [u32],
+    list: &mut [u32],
+    frontier: &mut [u64; 34],
+    told: &mut [u64; 3],
+)
+    ensures { λ _. ⌜ Frontier-right (now (plan .entry)) operation capacity (sent-of (now (told .exit)) (now (frontier .exit))) (now (table .entry)) (now (table .exit)) (now (list .entry)) (now (list .exit)) ⌝ }
+    ensures { λ _. ⌜ Sent-says (sent-of (now (told .exit)) (now (frontier .exit))) (now (told .exit)) (now (frontier .exit)) ⌝ }
+{
+    let r = questions::frontier_of(plan, operation, capacity, table, list);
+    lent::hand(r.number, r.place, r.frontier, frontier, told);
+}
+
+// The larger epoch of each axis, cut to the capacity.
+#[no_mangle]
+pub extern "C" fn cundvrest_merge(
+    left: &[u64; 34],
+    right: &[u64; 34],
+    capacity: u32,
+    merged: &mut [u64; 34],
+    told: &mut [u64; 3],
+)
+    ensures { λ _. ⌜ Merge-says (merge (frontier-of (now (left .entry))) (frontier-of (now (right .entry))) capacity) (now (told .exit)) (now (merged .exit)) ⌝ }
+    ensures { λ _. ⌜ Merge-right (frontier-of (now (left .entry))) (frontier-of (now (right .entry))) capacity (merged-of (now (told .exit)) (now (merged .exit))) ⌝ }
+    ensures { λ _. ⌜ Oversized-refused (oversized (now (left .entry)) || oversized (now (right .entry))) (leb 1 capacity && leb capacity 16) (now (told .exit)) ⌝ }
+{
+    let r = lent::frontier(left).merge(lent::frontier(right), capacity);
+    lent::hand(r.number, 0, r.frontier, merged, told);
+}
+
+// One axis raised to an epoch.
+#[no_mangle]
+pub extern "C" fn cundvrest_raise(
+    old: &[u64; 34],
+    axis: u64,
+    epoch: u64,
+    capacity: u32,
+    raised: &mut [u64; 34],
+    told: &mut [u64; 3],
+)
+    ensures { λ _. ⌜ Merge-says (raise (frontier-of (now (old .entry))) axis epoch capacity) (now (told .exit)) (now (raised .exit)) ⌝ }
+    ensures { λ _. ⌜ Raise-right (frontier-of (now (old .entry))) axis epoch capacity (merged-of (now (told .exit)) (now (raised .exit))) ⌝ }
+    ensures { λ _. ⌜ Oversized-refused (oversized (now (old .entry))) (leb 1 capacity && leb capacity 16) (now (told .exit)) ⌝ }
+{
+    let r = lent::frontier(old).raise(axis, epoch, capacity);
+    lent::hand(r.number, 0, r.frontier, raised, told);
+}
+
+// Whether the left frontier dominates the right one: 0 no, 1 yes, 2 unknown.
+#[no_mangle]
+pub extern "C" fn cundvrest_dominates(left: &[u64; 34], right: &[u64; 34], told: &mut [u64; 3])
+    ensures { λ _. ⌜ told-of (now (told .exit)) ≡ dominance-told (dominance (frontier-of (now (left .entry))) (frontier-of (now (right .entry)))) ⌝ }
+    ensures { λ _. ⌜ Dominance-means (frontier-of (now (left .entry))) (frontier-of (now (right .entry))) (dominance-of (told-of (now (told .exit)))) ⌝ }
+    ensures { λ _. ⌜ Oversized-refused (oversized (now (left .entry)) || oversized (now (right .entry))) true (now (told .exit)) ⌝ }
+{
+    let r = lent::frontier(left).dominates(lent::frontier(right));
+    lent::tell(lent::dominance(r), told);
+}

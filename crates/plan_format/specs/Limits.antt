@@ -1,0 +1,86 @@
+-- The plans that can be stored, said of a plan itself: the limits, the list of its numbers, and its bytes. None of this knows the grammar.
+-- Assumes nothing: these are definitions.
+use mathlib.Core.Path.{_≡_}
+use mathlib.Core.List.{List, [], _∷_, _++_, flatMap}
+use Prim.Native.Nat.{ℕ, _^_, _≤_, _<_}
+use lib.ListN.{length, getD}
+use Rattle.plan_format.specs.Grammar.{digits}
+use Rattle.plan_format.specs.Plan.{Point, Mark, Operation, Plan}
+
+abbrev pub Each : {A : Type 0} → (A → Type 0) → List A → Type 0
+Each P [] = Unit {0}
+Each P (x ∷ xs) = P x × Each P xs
+
+-- 01: "each wait a semaphore (1 byte) and a value (8 bytes)", "A signal of 2^64−1 is allowed"
+pub record Point-within (semaphores : ℕ) (x : Point) : Type 0 where
+  pub semaphore : x .semaphore < semaphores
+  pub value : x .value < 2 ^ 64
+
+-- 01: "each mark a buffer (2 bytes) and a kind (1 byte: 0 use, 1 free)"
+pub record Mark-within (buffers : ℕ) (m : Mark) : Type 0 where
+  pub buffer : m .buffer < buffers
+  pub kind : m .kind ≤ 1
+
+-- 01: "An operation: queue (1 byte); wait count (1 byte, 0..3) ..; signal count (1 byte, 0..2) ..; mark count (1 byte, 0..4)"
+pub record Operation-within (queues semaphores buffers : ℕ) (o : Operation) : Type 0 where
+  pub queue : o .queue < queues
+  pub few-waits : length (o .waits) ≤ 3
+  pub waits : Each (Point-within semaphores) (o .waits)
+  pub few-signals : length (o .signals) ≤ 2
+  pub signals : Each (Point-within semaphores) (o .signals)
+  pub few-marks : length (o .marks) ≤ 4
+  pub marks : Each (Mark-within buffers) (o .marks)
+
+-- 01: "queues, 0..16: axis, 8 bytes, all distinct", "semaphores, 0..64: owner: a queue", "buffers, 0..256: size in bytes, 4 bytes, any number",
+-- "operations, 0..1,024"
+pub record Within (p : Plan) : Type 0 where
+  pub few-queues : length (p .axes) ≤ 16
+  pub axes : Each (λ a. a < 2 ^ 64) (p .axes)
+  pub axes-distinct : (i k : ℕ) → i < k → k < length (p .axes) → getD (p .axes) i 0 ≡ getD (p .axes) k 0 → ⊥
+  pub few-semaphores : length (p .owners) ≤ 64
+  pub owners : Each (λ q. q < length (p .axes)) (p .owners)
+  pub few-buffers : length (p .sizes) ≤ 256
+  pub sizes : Each (λ n. n < 2 ^ 32) (p .sizes)
+  pub few-operations : length (p .operations) ≤ 1024
+  pub operations : Each (Operation-within (length (p .axes)) (length (p .owners)) (length (p .sizes))) (p .operations)
+
+-- ---- 01: "A read plan is a list of numbers, one for each field in stored order, counts included"
+unfoldable pub counted-numbers : {A : Type 0} → (entry : A → List ℕ) → List A → List ℕ
+counted-numbers f xs = length xs ∷ flatMap f xs
+
+unfoldable pub one-number : ℕ → List ℕ
+one-number v = v ∷ []
+
+unfoldable pub point-numbers : Point → List ℕ
+point-numbers x = x .semaphore ∷ x .value ∷ []
+
+unfoldable pub mark-numbers : Mark → List ℕ
+mark-numbers m = m .buffer ∷ m .kind ∷ []
+
+unfoldable pub operation-numbers : Operation → List ℕ
+operation-numbers o =
+    o .queue ∷ (counted-numbers point-numbers (o .waits) ++ (counted-numbers point-numbers (o .signals) ++ counted-numbers mark-numbers (o .marks)))
+
+unfoldable pub numbers-of : Plan → List ℕ
+numbers-of p =
+    counted-numbers one-number (p .axes)
+    ++ (counted-numbers one-number (p .owners) ++ (counted-numbers one-number (p .sizes) ++ counted-numbers operation-numbers (p .operations)))
+
+-- ---- 01: "Four sections in fixed order, each after its count. All numbers are unsigned, little-endian."
+unfoldable pub counted-bytes : {A : Type 0} → (count-width : ℕ) → (entry : A → List ℕ) → List A → List ℕ
+counted-bytes w f xs = digits w (length xs) ++ flatMap f xs
+
+unfoldable pub point-bytes : Point → List ℕ
+point-bytes x = digits 1 (x .semaphore) ++ digits 8 (x .value)
+
+unfoldable pub mark-bytes : Mark → List ℕ
+mark-bytes m = digits 2 (m .buffer) ++ digits 1 (m .kind)
+
+unfoldable pub operation-bytes : Operation → List ℕ
+operation-bytes o =
+    digits 1 (o .queue) ++ (counted-bytes 1 point-bytes (o .waits) ++ (counted-bytes 1 point-bytes (o .signals) ++ counted-bytes 1 mark-bytes (o .marks)))
+
+unfoldable pub bytes-of : Plan → List ℕ
+bytes-of p =
+    counted-bytes 1 (digits 8) (p .axes)
+    ++ (counted-bytes 1 (digits 1) (p .owners) ++ (counted-bytes 2 (digits 4) (p .sizes) ++ counted-bytes 2 operation-bytes (p .operations)))

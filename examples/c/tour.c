@@ -1,0 +1,93 @@
+/* Every function once, on a thread whose stack is CUNDVREST_STACK: a plan is written from numbers, read back, checked and asked, and frontiers
+ * are compared and merged. Prints what each call told. */
+#include <pthread.h>
+#include <stdio.h>
+
+#include "cundvrest.h"
+
+#define COUNT(array) (sizeof(array) / sizeof((array)[0]))
+
+/* Three queues with axes 10, 20 and 30; semaphore 0 owned by queue 0, semaphore 1 by queue 1; a buffer of 4,096 bytes; three operations. */
+static const uint64_t numbers[] = {
+    3, 10, 20, 30,
+    2, 0, 1,
+    1, 4096,
+    3,
+    /* queue; waits; signals; marks */
+    0, 0, 1, 0, 1, 1, 0, 0,
+    1, 1, 0, 1, 1, 1, 1, 2, 0, 0, 0, 1,
+    2, 1, 1, 1, 0, 1, 0, 0
+};
+
+static void show(const char *call, const uint64_t told[3])
+{
+    printf("%s %lu %lu %lu\n", call, (unsigned long)told[0], (unsigned long)told[1], (unsigned long)told[2]);
+}
+
+static void show_frontier(const uint64_t f[CUNDVREST_FRONTIER])
+{
+    uint64_t i;
+    printf("  %s", f[33] == 0 ? "whole" : "tainted");
+    for (i = 0; i < f[32]; i++)
+        printf(" %lu:%lu", (unsigned long)f[i], (unsigned long)f[16 + i]);
+    putchar('\n');
+}
+
+static void *tour(void *unused)
+{
+    static uint8_t plan[CUNDVREST_MOST_BYTES];
+    static uint64_t back[CUNDVREST_MOST_NUMBERS];
+    uint32_t table[3 * CUNDVREST_TABLE_WIDTH], list[3 * CUNDVREST_LIST_WIDTH];
+    uint64_t first[CUNDVREST_FRONTIER], last[CUNDVREST_FRONTIER], raised[CUNDVREST_FRONTIER], merged[CUNDVREST_FRONTIER];
+    uint64_t told[3];
+    size_t length;
+    static const uint8_t nothing[6] = {0};
+
+    cundvrest_write(numbers, COUNT(numbers), plan, sizeof plan, told);
+    show("write", told);
+    length = (size_t)told[2];
+    cundvrest_read(plan, length, back, COUNT(back), told);
+    show("read", told);
+    cundvrest_check(plan, length, table, COUNT(table), list, COUNT(list), told);
+    show("check", told);
+    cundvrest_reuse(plan, length, 2, 0, table, COUNT(table), list, COUNT(list), told);
+    show("reuse", told);
+    cundvrest_frontier(plan, length, 0, 16, table, COUNT(table), list, COUNT(list), first, told);
+    show("frontier", told);
+    show_frontier(first);
+    cundvrest_frontier(plan, length, 2, 16, table, COUNT(table), list, COUNT(list), last, told);
+    show("frontier", told);
+    show_frontier(last);
+    cundvrest_dominates(last, first, told);
+    show("dominates", told);
+    cundvrest_dominates(first, last, told);
+    show("dominates", told);
+    cundvrest_raise(first, 40, 7, 16, raised, told);
+    show("raise", told);
+    show_frontier(raised);
+    cundvrest_merge(raised, last, 2, merged, told);
+    show("merge", told);
+    show_frontier(merged);
+    cundvrest_merge(raised, last, 17, merged, told);
+    show("merge", told);
+    show_frontier(merged);
+
+    /* a length of 0 needs no memory */
+    cundvrest_read(NULL, 0, NULL, 0, told);
+    show("read", told);
+    cundvrest_check(nothing, sizeof nothing, NULL, 0, NULL, 0, told);
+    show("check", told);
+    return unused;
+}
+
+int main(void)
+{
+    pthread_attr_t attributes;
+    pthread_t thread;
+    if (pthread_attr_init(&attributes) != 0 || pthread_attr_setstacksize(&attributes, CUNDVREST_STACK) != 0
+        || pthread_create(&thread, &attributes, tour, NULL) != 0 || pthread_join(thread, NULL) != 0) {
+        fputs("no thread\n", stderr);
+        return 2;
+    }
+    return fflush(stdout) == 0 ? 0 : 2;
+}

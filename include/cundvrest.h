@@ -1,0 +1,152 @@
+/* Cundvrest: a proved checker for queue plans. The C interface.
+ *
+ * Link with libcundvrest_c.a, built by `rt staticlib cundvrest_c`, for x86-64
+ * Linux. The archive needs nothing but memcpy, memset and the like of the C
+ * library. Every function is proved to meet a contract that is an equation with
+ * the definitions of the rules, for every input: crates/cundvrest_c.
+ *
+ * TOLD. Every call writes all three numbers of `told`: number, place, answer.
+ * The number is 0, or that of a refusal; the place says where:
+ *
+ *    0  passed, or answered                       0
+ *    1  a field runs past the end                 the field's first byte
+ *    2  a count is over its limit                 the count's first byte
+ *    3  bytes follow the last section             the first such byte
+ *    4  owner, queue, semaphore or buffer not
+ *       in its list, or a kind above 1            the field's first byte
+ *    5  an axis appears twice                     first byte of the later one
+ *    6  signal by a queue that isn't the owner    operation
+ *    7  signal not higher than the last, or 0     operation
+ *    8  wait above the highest signal of its
+ *       semaphore, and above 0                    operation
+ *    9  table, list or room too short             the length needed
+ *   10  stuck: there is no full run               lowest operation in no run
+ *   11  a broken mark                             lowest operation with one
+ *   12  the question names no such queue          the number asked
+ *   13  the question names no such buffer         the number asked
+ *   14  a frontier is badly formed                0
+ *   15  the capacity is not 1 to 16               0
+ *   21  the question names no such operation      the number asked
+ *
+ * Of several the first in the rules' order is given: 1 to 5 as they are met in
+ * reading, then 6 and 7, 8, 9, 10, 11, and what belongs to the question. The
+ * answer is 0 beside every refusal and where a call has nothing to answer.
+ *
+ * LENT MEMORY. A length counts elements, not bytes. Every pointer must be valid
+ * and aligned for its type and length while the call lasts, and no memory that
+ * the call writes may overlap anything else that it is lent. No call keeps a
+ * pointer or allocates. A pointer beside a length of 0 is not followed and may
+ * be null; any other must not be null.
+ *
+ * THREADS AND STACK. There is no state between calls, so calls on separate
+ * memory may run at the same time on any threads. A call uses less than
+ * CUNDVREST_STACK bytes of its thread's stack, whatever the input. Measured:
+ * reuse 380 kB, check and frontier 310 kB, read 190 kB, write 65 kB, the others
+ * 3 kB.
+ */
+#ifndef CUNDVREST_H
+#define CUNDVREST_H
+
+#include <stddef.h>
+#include <stdint.h>
+
+#ifdef __cplusplus
+extern "C" {
+#endif
+
+/* The longest stored plan in bytes, and the most numbers of a read one. */
+#define CUNDVREST_MOST_BYTES 63686
+#define CUNDVREST_MOST_NUMBERS 22868
+
+/* The most operations of a plan; how many numbers table and list have for each. */
+#define CUNDVREST_MOST_OPERATIONS 1024
+#define CUNDVREST_TABLE_WIDTH 16
+#define CUNDVREST_LIST_WIDTH 2
+
+/* The numbers of a frontier: 16 axes, 16 epochs, length, taint (0 or 1). */
+#define CUNDVREST_FRONTIER 34
+
+/* The stack that a call may use, in bytes. */
+#define CUNDVREST_STACK 524288
+
+/* Verdicts: the answer of cundvrest_reuse. */
+#define CUNDVREST_FRESH 0
+#define CUNDVREST_REUSABLE 1
+#define CUNDVREST_HELD 2
+#define CUNDVREST_NOT_ORDERED 3
+#define CUNDVREST_STRAY_USE 4
+
+/* Dominance: the answer of cundvrest_dominates. */
+#define CUNDVREST_NO 0
+#define CUNDVREST_YES 1
+#define CUNDVREST_UNKNOWN 2
+
+/* Reads a stored plan into numbers, one for each field in stored order, counts
+ * included. Refusals 1 to 5 and 9. The answer is how many numbers there are:
+ * they stand in front of the room, and past them nothing is touched. A refusal
+ * leaves the room untouched. */
+void cundvrest_read(const uint8_t *plan, size_t plan_len,
+                    uint64_t *room, size_t room_len, uint64_t told[3]);
+
+/* Writes such numbers as a stored plan. Refusals 1 to 5, each with a position in
+ * the numbers as its place, and 9. The answer is how many bytes there are: they
+ * stand in front of the room, and past them nothing is touched. A refusal leaves
+ * the room untouched. */
+void cundvrest_write(const uint64_t *numbers, size_t numbers_len,
+                     uint8_t *room, size_t room_len, uint64_t told[3]);
+
+/* Checks a stored plan of n operations, by the rules and by its order. Refusals
+ * 1 to 11. On a pass, the first 16 * n numbers of the table are the rows: row j,
+ * column q is how many operations on queue q are operation j or before it; the
+ * first n numbers of the list are the standard run, and the n after them how
+ * many queues were ready before each step. Refusals 1 to 9 leave both untouched;
+ * 10 and 11 leave zeros in those numbers. Past them nothing is ever touched. */
+void cundvrest_check(const uint8_t *plan, size_t plan_len,
+                     uint32_t *table, size_t table_len,
+                     uint32_t *list, size_t list_len, uint64_t told[3]);
+
+/* May the queue take the buffer anew, after its last operation? The plan is
+ * checked first: refusals 1 to 13. The answer is a verdict. An answer, 12 and 13
+ * leave the rows and the run, as a pass of cundvrest_check does; 1 to 11 leave
+ * what they leave there. */
+void cundvrest_reuse(const uint8_t *plan, size_t plan_len,
+                     uint32_t queue, uint32_t buffer,
+                     uint32_t *table, size_t table_len,
+                     uint32_t *list, size_t list_len, uint64_t told[3]);
+
+/* The frontier that is sent out for an operation: its row's entries above 0
+ * under the queues' axes, cut to the capacity. The plan is checked first:
+ * refusals 1 to 11, then 21, then 15. An answer, 21 and 15 leave the rows and the
+ * run. A refusal writes the empty untainted frontier, which is 34 zeros. */
+void cundvrest_frontier(const uint8_t *plan, size_t plan_len,
+                        uint32_t operation, uint32_t capacity,
+                        uint32_t *table, size_t table_len,
+                        uint32_t *list, size_t list_len,
+                        uint64_t frontier[34], uint64_t told[3]);
+
+/* Frontiers. Well formed: at most 16 entries, axes rising, epochs above 0, slots
+ * past the length zero, taint 0 or 1. Anything else is refusal 14. */
+
+/* The larger epoch of each axis. If more than the capacity remain, those with
+ * the largest epochs stay, of equal epochs the larger axis, and the result is
+ * tainted; it is also tainted if either side was. Refusals 15, then 14 for the
+ * left, then for the right; they write the empty untainted frontier. */
+void cundvrest_merge(const uint64_t left[34], const uint64_t right[34],
+                     uint32_t capacity, uint64_t merged[34], uint64_t told[3]);
+
+/* One axis raised to an epoch: the merge with that one entry, and with the empty
+ * frontier for epoch 0. Refusals 15, then 14. */
+void cundvrest_raise(const uint64_t old[34], uint64_t axis, uint64_t epoch,
+                     uint32_t capacity, uint64_t raised[34], uint64_t told[3]);
+
+/* Does the left frontier reach every entry of the right one? An axis that is not
+ * listed is never met, and a taint leaves unknown what it may hide. The answer
+ * is yes, no or unknown. Refusal 14, the left first. */
+void cundvrest_dominates(const uint64_t left[34], const uint64_t right[34],
+                         uint64_t told[3]);
+
+#ifdef __cplusplus
+}
+#endif
+
+#endif
