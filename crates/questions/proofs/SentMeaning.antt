@@ -10,7 +10,8 @@ use lib.ListN.{length, getD}
 use borrow.Author.Tests.{ltb-true, ltb-false, lt-ltb, le-ltb}
 use Rattle.basics.proofs.Tests.{by-cases, either}
 use Rattle.basics.proofs.Tables.{tabulate-length}
-use Rattle.frontier.specs.Entries.{Entry, find, cut}
+use Rattle.frontier.specs.declared.Entry.{Entry}
+use Rattle.frontier.specs.Entries.{find, cut}
 use Rattle.frontier.specs.Frontiers.{entries, well-formed, pack, merge, reached, answer, dominance}
 use Rattle.frontier.specs.Meaning.{epoch-of, epoch-at, Completion}
 use Rattle.frontier.specs.declared.Frontier.{Frontier}

@@ -10,7 +10,7 @@ use lib.ListN.{length, getD, take, drop, length-append, length-take}
 use lib.Seq.{getD-take, getD-drop}
 use Rattle.basics.specs.Lists.{tabulate-from, in-front}
 use Rattle.basics.proofs.Tables.{tabulate-length}
-use Rattle.frontier.specs.Entries.{Entry}
+use Rattle.frontier.specs.declared.Entry.{Entry}
 use Rattle.frontier.specs.Frontiers.{pack, gathered, raise, merge}
 use Rattle.frontier.specs.declared.Frontier.{Frontier}
 use Rattle.frontier.specs.declared.Merged.{Merged}

@@ -6,7 +6,8 @@ use Prim.Native.Nat.{ℕ}
 use lib.Dec.{ltb, leb}
 use lib.ListN.{length, getD}
 use Rattle.basics.specs.Lists.{tabulate-from}
-use Rattle.frontier.specs.Entries.{Entry, cut}
+use Rattle.frontier.specs.declared.Entry.{Entry}
+use Rattle.frontier.specs.Entries.{cut}
 use Rattle.frontier.specs.Frontiers.{pack, gathered}
 use Rattle.frontier.specs.declared.Frontier.{Frontier}
 use Rattle.plan_format.specs.Refusal.{Refusal, refusal, none-given, given, or-else}

@@ -3,7 +3,7 @@ use mathlib.Core.List.{List}
 use Prim.Native.Nat.{ℕ, _+_}
 use lib.ListN.{getD}
 use Rattle.basics.specs.Lists.{tabulate-from}
-use Rattle.frontier.specs.Entries.{Entry}
+use Rattle.frontier.specs.declared.Entry.{Entry}
 
 -- the entries of so many queues from one on, of the row that begins at `first` in the table; the axes stand after their count
 unfoldable pub row-in : (numbers table : List ℕ) → (first many start : ℕ) → List Entry
