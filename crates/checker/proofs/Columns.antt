@@ -2,7 +2,7 @@
 use mathlib.Core.Path.{_≡_, sym, ap, _∙_, subst}
 use mathlib.Core.List.{List}
 use Prim.Native.Nat.{ℕ, _+_, _≤_}
-use lib.ListN.{length, take, drop}
+use lib.ListN.{length, drop}
 use Rattle.plan_format.specs.Form.{first-form}
 use Rattle.plan_format.specs.Plan.{Plan, count, operations-in, plan-of}
 use Rattle.plan_format.specs.Sound.{rules-refusal}
@@ -20,23 +20,15 @@ use Rattle.plan_run.specs.Run.{Shown as Sources-shown, Rows-of}
 use Rattle.checker.specs.declared.Header.{Header}
 use Rattle.checker.specs.Counting.{header-of, Holds}
 use Rattle.checker.specs.Passing.{Read, Ruled, Resolved, Run-shown}
-use Rattle.checker.proofs.Numbers.{plan-same, lengths-are}
+use Rattle.checker.proofs.Numbers.{plan-same}
 
--- ---- its columns, from its numbers
+-- ---- its operations, among its numbers
 module _ {bs nums : List ℕ} (h : Holds bs nums) (c : Header) (e : c ≡ header-of nums) where
-  pub owners-at : plan-in bs .owners ≡ take (c .semaphores) (drop (2 + c .queues) nums)
-  unfolding plan-of
-  owners-at =
-      subst (λ (x : Header). plan-in bs .owners ≡ take (x .semaphores) (drop (2 + x .queues) nums)) (sym e) (ap (λ (p : Plan). p .owners) (sym (plan-same h)))
-
   pub operations-at : plan-in bs .operations ≡ operations-in first-form (c .operations) (drop (4 + c .queues + c .semaphores + c .buffers) nums)
   unfolding plan-of
   operations-at =
       subst (λ (x : Header). plan-in bs .operations ≡ operations-in first-form (x .operations) (drop (4 + x .queues + x .semaphores + x .buffers) nums)) (sym e)
       (ap (λ (p : Plan). p .operations) (sym (plan-same h)))
-
-  pub as-many : count (plan-in bs) ≡ c .operations
-  as-many = sym (ap (λ (x : Header). x .operations) (e ∙ lengths-are h))
 
 -- ---- its columns, loaded from its bytes
 module _ {bs queue wsem wval ssem sval sop mark mop : List ℕ} {r : Loaded} (l : Loads bs r queue wsem wval ssem sval sop mark mop) (z : r .number ≡ 0) where
