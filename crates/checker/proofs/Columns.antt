@@ -2,61 +2,44 @@
 use mathlib.Core.Path.{_≡_, sym, ap, _∙_, subst}
 use mathlib.Core.List.{List}
 use Prim.Native.Nat.{ℕ, _+_, _≤_}
-use lib.ListN.{length, take, drop}
+use lib.ListN.{length, drop}
 use Rattle.plan_format.specs.Form.{first-form}
 use Rattle.plan_format.specs.Plan.{Plan, count, operations-in, plan-of}
 use Rattle.plan_format.specs.Sound.{rules-refusal}
 use Rattle.plan_format.specs.Stored.{scanned, plan-in, plan-refusal}
 use Rattle.plan_format.proofs.Judged.{or-else-second, or-else-none}
-use Rattle.plan_format.proofs.Shape.{Shaped}
-use Rattle.plan_format.proofs.Plans.{scanned-shape, sound-in}
+use Rattle.plan_format.proofs.Plans.{sound-in}
 use Rattle.plan_order.specs.Runs.{standard}
-use Rattle.plan_columns.specs.Columns.{Source-column}
-use Rattle.plan_columns.specs.Shown.{Limits}
+use Rattle.plan_columns.specs.Columns.{Owner-column, Source-column}
+use Rattle.plan_load.specs.Loading.{Loads}
+use Rattle.plan_load.specs.declared.Loaded.{Loaded}
+use Rattle.plan_load.proofs.Limits.{shape, few-semaphores}
 use Rattle.plan_rules.specs.Walks.{Shown as Rules-shown}
 use Rattle.plan_waits.specs.Groups.{Shown as Waits-shown}
 use Rattle.plan_run.specs.Run.{Shown as Sources-shown, Rows-of}
 use Rattle.checker.specs.declared.Header.{Header}
 use Rattle.checker.specs.Counting.{header-of, Holds}
 use Rattle.checker.specs.Passing.{Read, Ruled, Resolved, Run-shown}
-use Rattle.checker.proofs.Numbers.{plan-same, lengths-are}
+use Rattle.checker.proofs.Numbers.{plan-same}
 
--- ---- a plan that the reader does not refuse
-module _ (bs : List ℕ) (clean : scanned bs .fault .number ≡ 0) where
-  pub shape : Shaped first-form (plan-in bs)
-  shape = scanned-shape bs clean
-
-  pub few-semaphores : length (plan-in bs .owners) ≤ 64
-  unfolding first-form
-  few-semaphores = shape .few-semaphores
-
-  pub limits : Limits (plan-in bs)
-  limits = record {
-    few-queues = shape .few-queues;
-    few-semaphores = few-semaphores;
-    few-buffers = shape .few-buffers;
-    few-operations = shape .few-operations;
-    in-range = shape .in-range;
-    few-waits = λ i l. shape .few i l .waits;
-    few-signals = λ i l. shape .few i l .signals;
-    few-marks = λ i l. shape .few i l .marks;
-  }
-
--- ---- its columns, from its numbers
+-- ---- its operations, among its numbers
 module _ {bs nums : List ℕ} (h : Holds bs nums) (c : Header) (e : c ≡ header-of nums) where
-  pub owners-at : plan-in bs .owners ≡ take (c .semaphores) (drop (2 + c .queues) nums)
-  unfolding plan-of
-  owners-at =
-      subst (λ (x : Header). plan-in bs .owners ≡ take (x .semaphores) (drop (2 + x .queues) nums)) (sym e) (ap (λ (p : Plan). p .owners) (sym (plan-same h)))
-
   pub operations-at : plan-in bs .operations ≡ operations-in first-form (c .operations) (drop (4 + c .queues + c .semaphores + c .buffers) nums)
   unfolding plan-of
   operations-at =
       subst (λ (x : Header). plan-in bs .operations ≡ operations-in first-form (x .operations) (drop (4 + x .queues + x .semaphores + x .buffers) nums)) (sym e)
       (ap (λ (p : Plan). p .operations) (sym (plan-same h)))
 
-  pub as-many : count (plan-in bs) ≡ c .operations
-  as-many = sym (ap (λ (x : Header). x .operations) (e ∙ lengths-are h))
+-- ---- its columns, loaded from its bytes
+module _ {bs queue wsem wval ssem sval sop mark mop : List ℕ} {r : Loaded} (l : Loads bs r queue wsem wval ssem sval sop mark mop) (z : r .number ≡ 0) where
+  loaded-clean : scanned bs .fault .number ≡ 0
+  loaded-clean = sym (l .number) ∙ z
+
+  pub loaded-few : r .operations ≤ 1024
+  loaded-few = subst (λ (k : ℕ). k ≤ 1024) (l .many z) (shape bs loaded-clean .few-operations)
+
+  pub loaded-read : (owner : List ℕ) → Owner-column (plan-in bs) owner → Read bs (r .operations) (r .signals) (r .marks) owner queue wsem wval ssem sval sop mark mop
+  loaded-read owner o = record { read = loaded-clean; many = l .many z; owners-shown = o; columns = l .columns z }
 
 -- ---- what each pass is given
 module _ {bs : List ℕ} {n signals marks : ℕ} {owner queue wsem wval ssem sval sop mark mop : List ℕ}

@@ -2,22 +2,14 @@
 use mathlib.Core.Path.{_≡_}
 use mathlib.Core.List.{List}
 use Prim.Native.Nat.{ℕ, _≤_}
-use lib.ListN.{length, drop}
-use Rattle.plan_format.specs.Form.{first-form}
-use Rattle.plan_format.specs.Plan.{Plan, count, operations-in}
+use lib.ListN.{length}
+use Rattle.plan_format.specs.Plan.{Plan, count}
 use Rattle.plan_format.specs.Sound.{Sound}
 use Rattle.plan_format.specs.Stored.{scanned, plan-in, plan-refusal}
 use Rattle.plan_order.specs.Runs.{standard}
 use Rattle.plan_columns.specs.Columns.{Owner-column, Queue-column, Mark-columns, Source-column}
 use Rattle.plan_columns.specs.Shown.{Shown}
 use Rattle.plan_run.specs.Run.{Rows-of}
-
--- a plan that the reader does not refuse: its operations among the numbers from a place on, its owners in their column
-pub record Numbered (bytes numbers : List ℕ) (first n : ℕ) (owner : List ℕ) : Type 0 where
-  pub read : scanned bytes .fault .number ≡ 0
-  pub many : count (plan-in bytes) ≡ n
-  pub owners-shown : Owner-column (plan-in bytes) owner
-  pub operations : plan-in bytes .operations ≡ operations-in first-form n (drop first numbers)
 
 -- columns of a plan that the reader does not refuse
 pub record Read (bytes : List ℕ) (n signals marks : ℕ) (owner queue wsem wval ssem sval sop mark mop : List ℕ) : Type 0 where

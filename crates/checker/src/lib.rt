@@ -1,4 +1,4 @@
-// The check of a stored plan: read into numbers, shown as columns, judged by the rules and the room, run, and judged by its order.
+// The check of a stored plan: shown as columns, judged by the rules and the room, run, and judged by its order.
 mod decide;
 mod leave;
 
@@ -10,7 +10,7 @@ ghost use Rattle.plan_format.specs.Stored.{scanned, Tells};
 ghost use Rattle.plan_order.specs.Check.{room-refusal, Check-says};
 ghost use Rattle.plan_order.specs.Promise.{Checked};
 ghost use Rattle.checker.specs.Counting.{Sizes-told, Counts-told, header-of, Sized, Holds};
-ghost use Rattle.checker.specs.Passing.{Numbered, Read};
+ghost use Rattle.checker.specs.Passing.{Read};
 
 // How many queues, semaphores, buffers and operations a plan has; or the reader's refusal and its place.
 pub struct Counted {
@@ -42,13 +42,46 @@ pub fn counts(plan: &[u8]) -> Counted
 pub fn check_plan(plan: &[u8], table: &mut [u32], list: &mut [u32]) -> Told
     ensures { λ r. ⌜ Checked (now (plan .entry)) r (now (table .entry)) (now (table .exit)) (now (list .entry)) (now (list .exit)) ⌝ }
 {
-    let mut numbers = [0u64; 22868];
-    let c = check_read(plan, &mut numbers, table, list);
-    Told {
-        number: c.number,
-        place: c.place,
-        answer: 0,
+    let mut owner = [0u16; 64];
+    let mut queue = [0u16; 1024];
+    let mut wsem = [0u16; 3072];
+    let mut wval = [0u64; 3072];
+    let mut ssem = [0u16; 2048];
+    let mut sval = [0u64; 2048];
+    let mut sop = [0u16; 2048];
+    let mut mark = [0u16; 4096];
+    let mut mop = [0u16; 4096];
+    let l = plan_load::load(
+        plan,
+        &mut owner,
+        &mut queue,
+        &mut wsem,
+        &mut wval,
+        &mut ssem,
+        &mut sval,
+        &mut sop,
+        &mut mark,
+        &mut mop,
+    );
+    if l.number != 0 {
+        return plan_format::refused(l.number, l.place);
     }
+    check_columns(
+        l.operations,
+        l.signals as usize,
+        l.marks as usize,
+        &owner,
+        &queue,
+        &wsem,
+        &wval,
+        &ssem,
+        &sval,
+        &sop,
+        &mark,
+        &mop,
+        table,
+        list,
+    )
 }
 
 // The check for those who ask on: with the plan's counts, and with its numbers in front of the lent ones.
@@ -63,10 +96,7 @@ pub fn check_read(
     ensures { λ _. ⌜ (scanned (now (plan .entry)) .fault .number ≡ 0 → Holds (now (plan .entry)) (now (numbers .exit))) ⌝ }
 {
     let c = read_counts(plan, numbers);
-    if c.number != 0 {
-        return c;
-    }
-    let told = check_numbers(numbers, table, list);
+    let told = check_plan(plan, table, list);
     Counted {
         number: told.number,
         place: told.place,
@@ -120,71 +150,6 @@ fn read_header(numbers: &[u64; 22868]) -> Header
         buffers,
         operations,
     }
-}
-
-// The check of a plan whose numbers are read.
-fn check_numbers(numbers: &[u64; 22868], table: &mut [u32], list: &mut [u32]) -> Told
-    requires { ⌜ Sized (header-of (now numbers)) ⌝ }
-    ensures { λ r. ⌜ ((bs : List ℕ) → Holds bs (now (numbers .entry)) →
-        Check-says bs r (now (table .entry)) (now (table .exit)) (now (list .entry)) (now (list .exit))) ⌝ }
-{
-    let h = read_header(numbers);
-    let mut owner = [0u16; 64];
-    plan_columns::owners(numbers, 2 + h.queues, h.semaphores, &mut owner);
-    let first = 4 + h.queues + h.semaphores + h.buffers;
-    check_operations(numbers, first, h.operations as u16, &owner, table, list)
-}
-
-// The check of a plan of n operations whose owners are shown, the first operation's numbers at `first`.
-fn check_operations(
-    numbers: &[u64; 22868],
-    first: usize,
-    n: u16,
-    owner: &[u16; 64],
-    table: &mut [u32],
-    list: &mut [u32],
-) -> Told
-    requires { ⌜ (first ≤ 22868) × (n ≤ 1024) ⌝ }
-    ensures { λ r. ⌜ ((bs : List ℕ) → Numbered bs (now (numbers .entry)) first n (now (owner .entry)) →
-        Check-says bs r (now (table .entry)) (now (table .exit)) (now (list .entry)) (now (list .exit))) ⌝ }
-{
-    let mut queue = [0u16; 1024];
-    let mut wsem = [0u16; 3072];
-    let mut wval = [0u64; 3072];
-    let mut ssem = [0u16; 2048];
-    let mut sval = [0u64; 2048];
-    let mut sop = [0u16; 2048];
-    let mut mark = [0u16; 4096];
-    let mut mop = [0u16; 4096];
-    let filled = plan_columns::fill(
-        numbers,
-        first,
-        n,
-        &mut queue,
-        &mut wsem,
-        &mut wval,
-        &mut ssem,
-        &mut sval,
-        &mut sop,
-        &mut mark,
-        &mut mop,
-    );
-    check_columns(
-        n,
-        filled.signals,
-        filled.marks,
-        owner,
-        &queue,
-        &wsem,
-        &wval,
-        &ssem,
-        &sval,
-        &sop,
-        &mark,
-        &mop,
-        table,
-        list,
-    )
 }
 
 // The check of a plan that is shown by columns: refusals 6 to 8, then 9, then the order.

@@ -9,7 +9,7 @@ ghost use Rattle.plan_format.specs.Form.{first-form};
 ghost use Rattle.plan_format.specs.Plan.{Plan, operations-in, queues};
 ghost use Rattle.plan_columns.specs.Columns.{Owner-column};
 ghost use Rattle.plan_columns.specs.Shown.{Limits, Shown};
-ghost use Rattle.plan_columns.specs.Filling.{owner-numbers, wait-semaphores, wait-values, signal-semaphores, signal-values, mark-codes, repeated, Added};
+ghost use Rattle.plan_columns.specs.Filling.{owner-numbers, wait-semaphores, wait-values, signal-semaphores, signal-values, mark-codes, repeated, next-at, Added};
 
 // How many signals and marks a plan has.
 pub struct Filled {
@@ -25,7 +25,7 @@ struct Place {
 }
 
 // Fills the column of owners: `many` numbers from `first` on.
-pub fn owners(numbers: &[u64; 22868], first: usize, many: usize, owner: &mut [u16; 64])
+pub fn owners(numbers: &[u64], first: usize, many: usize, owner: &mut [u16; 64])
     ensures { λ _. ⌜ ((p : Plan) → p .owners ≡ take many (drop first (now (numbers .entry))) → first ≤ 22868 → many ≤ 64 → queues p ≤ 16 → ((s : ℕ) → s < length (p .owners) → getD (p .owners) s 0 < queues p) → Owner-column p (now (owner .exit))) ⌝ }
 {
     owned(numbers, lower(first, 22868), lower(many, 64), owner);
@@ -77,7 +77,7 @@ pub fn fill(
 }
 
 // Stores numbers from a place on.
-fn owned(numbers: &[u64; 22868], at: usize, many: usize, owner: &mut [u16])
+fn owned(numbers: &[u64], at: usize, many: usize, owner: &mut [u16])
     requires { ⌜ (at ≤ 22868) × (many ≤ 64) ⌝ }
     ensures { λ _. ⌜ now (owner .exit) ≡ sets (now (owner .entry)) 0 (owner-numbers (now (numbers .entry)) many at) ⌝ }
 {
@@ -88,9 +88,50 @@ fn owned(numbers: &[u64; 22868], at: usize, many: usize, owner: &mut [u16])
     }
 }
 
+// Stores operation i, read into a window, behind the signals and marks of those before it; gives how many there are with its own.
+pub fn add(
+    window: &[u64; 22],
+    i: u16,
+    signals: u16,
+    marks: u16,
+    queue: &mut [u16; 1024],
+    wsem: &mut [u16; 3072],
+    wval: &mut [u64; 3072],
+    ssem: &mut [u16; 2048],
+    sval: &mut [u64; 2048],
+    sop: &mut [u16; 2048],
+    mark: &mut [u16; 4096],
+    mop: &mut [u16; 4096],
+) -> Filled
+    ensures { λ r. ⌜ Added (now (window .entry)) i 0 signals marks (now (queue .entry)) (now (wsem .entry)) (now (wval .entry)) (now (ssem .entry)) (now (sval .entry)) (now (sop .entry)) (now (mark .entry)) (now (mop .entry)) (now (queue .exit)) (now (wsem .exit)) (now (wval .exit)) (now (ssem .exit)) (now (sval .exit)) (now (sop .exit)) (now (mark .exit)) (now (mop .exit)) (next-at (now (window .entry)) 0) (r .signals) (r .marks) ⌝ }
+{
+    let before = Place {
+        at: 0,
+        signals: signals as usize,
+        marks: marks as usize,
+    };
+    let after = operation(
+        window,
+        i as usize,
+        before,
+        queue,
+        wsem,
+        wval,
+        ssem,
+        sval,
+        sop,
+        mark,
+        mop,
+    );
+    Filled {
+        signals: after.signals,
+        marks: after.marks,
+    }
+}
+
 // Stores operation i, and gives the place of the next one.
 fn operation(
-    numbers: &[u64; 22868],
+    numbers: &[u64],
     i: usize,
     place: Place,
     queue: &mut [u16; 1024],
@@ -120,13 +161,7 @@ fn operation(
 }
 
 // Stores the three waits of operation i, a wait for 0 in place of each that it lacks; gives how many it has.
-fn waits(
-    numbers: &[u64; 22868],
-    at: usize,
-    i: usize,
-    semaphore: &mut [u16],
-    value: &mut [u64],
-) -> usize
+fn waits(numbers: &[u64], at: usize, i: usize, semaphore: &mut [u16], value: &mut [u64]) -> usize
     requires { ⌜ (at ≤ 4000000) × (i < 65536) ⌝ }
     ensures { λ r. ⌜ r ≡ getD (now (numbers .entry)) at 0 % 4 ⌝ }
     ensures { λ r. ⌜ now (semaphore .exit) ≡ sets (now (semaphore .entry)) (3 * i) (wait-semaphores (now (numbers .entry)) r at) ⌝ }
@@ -145,7 +180,7 @@ fn waits(
 }
 
 // The number at a place where j is below a count, else 0.
-fn waited(numbers: &[u64; 22868], at: usize, j: usize, many: usize) -> u64
+fn waited(numbers: &[u64], at: usize, j: usize, many: usize) -> u64
     ensures { λ r. ⌜ r ≡ cond (ltb j many) (getD (now (numbers .entry)) at 0) 0 ⌝ }
 {
     let x = cells::get64(numbers, at);
@@ -154,7 +189,7 @@ fn waited(numbers: &[u64; 22868], at: usize, j: usize, many: usize) -> u64
 
 // Stores the signals of operation i; gives how many it has.
 fn signals(
-    numbers: &[u64; 22868],
+    numbers: &[u64],
     at: usize,
     i: usize,
     had: usize,
@@ -183,7 +218,7 @@ fn signals(
 
 // Stores the marks of operation i; gives how many it has.
 fn marks(
-    numbers: &[u64; 22868],
+    numbers: &[u64],
     at: usize,
     i: usize,
     had: usize,
@@ -208,7 +243,7 @@ fn marks(
 }
 
 // The number at a place, 0 past the end.
-pub fn number(numbers: &[u64; 22868], at: usize) -> usize
+pub fn number(numbers: &[u64], at: usize) -> usize
     ensures { λ r. ⌜ r ≡ getD (now (numbers .entry)) at 0 ⌝ }
 {
     cells::get64(numbers, at) as usize

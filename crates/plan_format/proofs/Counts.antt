@@ -36,17 +36,19 @@ pub owners-alike : (got : List ℕ) (q : ℕ) → ((rest : List ℕ) → queue-c
 unfolding a-queue below limited
 owners-alike got q e = counted-alike (field-alike (λ rest v. ap (λ (n : ℕ). cond (ltb v n) 0 4) (e rest)))
 
-pub operations-alike : {got : List ℕ} {q m b : ℕ} → Kept q m b got → Alike got (counted 0 1024 2 (operation first-form)) (counted 0 1024 2 (operation-below q m b))
+pub operation-alike : {got : List ℕ} {q m b : ℕ} → Kept q m b got → Alike got (operation first-form) (operation-below q m b)
 unfolding operation operation-below point point-below mark mark-below part first-form a-queue a-semaphore a-buffer a-kind below limited
-operations-alike {got} {q} {m} {b} k =
+operation-alike {got} {q} {m} {b} k =
     let limit : (f : List ℕ → ℕ) (n : ℕ) → ((rest : List ℕ) → f (got ++ rest) ≡ n) → (rest : List ℕ) (v : ℕ) → _≡_ {A = ℕ} (cond (ltb v (f (got ++ rest))) 0 4) (cond (ltb v n) 0 4) = λ f n e rest v. ap (λ (x : ℕ). cond (ltb v x) 0 4) (e rest) in
     let points = seq-alike (field-alike (limit semaphore-count m (λ rest. k rest .semaphores))) (field-alike (λ rest v. refl)) in
-    counted-alike
-    (seq-alike (field-alike (limit queue-count q (λ rest. k rest .queues)))
+    seq-alike (field-alike (limit queue-count q (λ rest. k rest .queues)))
     (seq-alike nothing-alike
     (seq-alike (counted-alike points)
     (seq-alike (counted-alike points)
-    (counted-alike (seq-alike (field-alike (limit buffer-count b (λ rest. k rest .buffers))) (field-alike (λ rest v. refl))))))))
+    (counted-alike (seq-alike (field-alike (limit buffer-count b (λ rest. k rest .buffers))) (field-alike (λ rest v. refl)))))))
+
+pub operations-alike : {got : List ℕ} {q m b : ℕ} → Kept q m b got → Alike got (counted 0 1024 2 (operation first-form)) (counted 0 1024 2 (operation-below q m b))
+operations-alike k = counted-alike (operation-alike k)
 
 -- the counts that three sections begin with
 pub counts-of : {got₁ got₂ got₃ : List ℕ} {q m b : ℕ} (axes owners sizes : List ℕ) → got₁ ≡ q ∷ axes → got₂ ≡ got₁ ++ (m ∷ owners) → got₃ ≡ got₂ ++ (b ∷ sizes) → length axes ≡ q → length owners ≡ m → length sizes ≡ b → Kept q m b got₃

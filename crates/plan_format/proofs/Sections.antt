@@ -168,6 +168,12 @@ module _ (F : Form) (q s b n : ℕ) (axes owners sizes blocks : List ℕ) (la : 
       to-blocks : drop (4 + q + s + b) whole ≡ blocks
       to-blocks = after-seam whole (q ∷ (axes ++ (s ∷ (owners ++ (b ∷ sizes))))) blocks n (4 + q + s + b) seam-n (simp length-append (omega arith))
 
+-- the plan of sections that are as long as their counts say
+pub plan-whole : (F : Form) (q s b n : ℕ) (axes owners sizes blocks : List ℕ) → length axes ≡ q → length owners ≡ s → length sizes ≡ b →
+    plan-of F (q ∷ (axes ++ (s ∷ (owners ++ (b ∷ (sizes ++ (n ∷ blocks))))))) ≡ record { axes = axes; owners = owners; sizes = sizes; operations = operations-in F n blocks }
+unfolding whole
+plan-whole F q s b n axes owners sizes blocks la lo lb = plan-at F q s b n axes owners sizes blocks la lo lb
+
 pub plan-is : (F : Form) (xs : List ℕ) (c : Sections F xs) →
     plan-of F xs ≡ record { axes = c .axes; owners = c .owners; sizes = c .sizes; operations = operations-in F (c .operations) (c .blocks) }
 unfolding whole

@@ -37,15 +37,19 @@ unfolding repeat read-by
 reads-none g m bs c nums h = record { read = refl; inside = h; few = omega arith; as-long = refl }
 
 -- a count, and so many of a thing
-pub reads-counted : {g : Grammar} {bs : List ℕ} {c start r : Cursor} {nums nums₁ nums₂ : List ℕ} {w most : ℕ} (m : ℕ) → Limited w (most + 1) 2 bs c nums start nums₁ → (n : ℕ) → n ≡ start .value → Reads (repeat n g) (m * n) bs start nums₁ r nums₂ → Reads (counted 0 most w g) (1 + m * most) bs c nums r nums₂
+pub counted-read : (g : Grammar) {bs : List ℕ} {c start : Cursor} {nums nums₁ : List ℕ} {w : ℕ} (most : ℕ) → Limited w (most + 1) 2 bs c nums start nums₁ → (n : ℕ) → n ≡ start .value →
+    read-by bytes (counted 0 most w g) (here bs c nums) ≡ read-by bytes (repeat n g) (here bs start nums₁)
 unfolding here scan fault-of limited read-by
-reads-counted {g} {bs} {c} {start} {nums = nums} {nums₁} {w = w} {most} m p n e q =
+counted-read g {bs} {c} {start} {nums} {nums₁} {w} most p n e =
+    read-counted bytes 0 most w n g (here bs c nums) (here bs start nums₁)
+    (field-same bytes w (λ v. count-check 0 most v) (λ v. limited (most + 1) 2 (take (c .got) nums) v) (here bs c nums)
+    (count-limited most (bytes .front w (drop (c .at) bs))) ∙ p .reads .read)
+    (λ z. p .value-is (fault-none start z) ∙ sym e)
+
+pub reads-counted : {g : Grammar} {bs : List ℕ} {c start r : Cursor} {nums nums₁ nums₂ : List ℕ} {w most : ℕ} (m : ℕ) → Limited w (most + 1) 2 bs c nums start nums₁ → (n : ℕ) → n ≡ start .value → Reads (repeat n g) (m * n) bs start nums₁ r nums₂ → Reads (counted 0 most w g) (1 + m * most) bs c nums r nums₂
+reads-counted {g} {most = most} m p n e q =
     record {
-      read =
-          read-counted bytes 0 most w n g (here bs c nums) (here bs start nums₁)
-          (field-same bytes w (λ v. count-check 0 most v) (λ v. limited (most + 1) 2 (take (c .got) nums) v) (here bs c nums)
-          (count-limited most (bytes .front w (drop (c .at) bs))) ∙ p .reads .read)
-          (λ z. p .value-is (fault-none start z) ∙ sym e) ∙ q .read;
+      read = counted-read g most p n e ∙ q .read;
       inside = q .inside;
       few = omega (arith, mul-le-mul-left m (let h : n ≤ most = omega (arith, p .value-below) in h), p .reads .few, q .few);
       as-long = q .as-long ∙ p .reads .as-long;

@@ -3,5 +3,6 @@ pub mod Fields
 pub mod Cursors
 pub mod Counts
 pub mod Answers
+pub mod Heads
 pub mod Rules
 pub mod Parts

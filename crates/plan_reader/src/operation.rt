@@ -63,7 +63,7 @@ fn marks(plan: &[u8], c: Cursor, buffers: u64, numbers: &mut [u64]) -> Cursor
 }
 
 // One operation.
-fn operation(
+pub fn operation(
     plan: &[u8],
     c: Cursor,
     queues: u64,

@@ -7,7 +7,7 @@ ghost use Prim.Native.Nat.{_≤_};
 ghost use lib.ListN.{length, getD};
 ghost use Rattle.plan_format.specs.Grammar.{counted, field};
 ghost use Rattle.plan_format.specs.Sections.{axis-field, size-field, limited};
-ghost use Rattle.plan_reader.specs.Reading.{Room, Reads, Plan-read};
+ghost use Rattle.plan_reader.specs.Reading.{Room, Reads, Front-read, Plan-read};
 
 // The section of queues.
 fn axes(plan: &[u8], c: Cursor, numbers: &mut [u64]) -> Cursor
@@ -73,10 +73,19 @@ fn entry(numbers: &[u64], i: usize) -> u64
     if i < numbers.len() { numbers[i] } else { 0 }
 }
 
-// The four sections; a count stands in front of its section.
-pub fn sections(plan: &[u8], numbers: &mut [u64]) -> Cursor
-    requires { ⌜ 22868 ≤ length (now numbers) ⌝ }
-    ensures { λ r. ⌜ Plan-read (now (plan .entry)) r (now (numbers .exit)) ⌝ }
+// What stands in front of the operations: the three sections read, and their counts.
+pub struct Front {
+    pub cursor: Cursor,
+    pub queues: u64,
+    pub semaphores: u64,
+    pub buffers: u64,
+}
+
+// The first three sections; a count stands in front of its section.
+pub fn first_sections(plan: &[u8], numbers: &mut [u64]) -> Front
+    requires { ⌜ 340 ≤ length (now numbers) ⌝ }
+    ensures { λ r. ⌜ Front-read (now (plan .entry)) (r .cursor) (r .queues) (r .semaphores) (r .buffers) (now (numbers .exit)) ⌝ }
+    ensures { λ _. ⌜ length (now (numbers .exit)) ≡ length (now (numbers .entry)) ⌝ }
 {
     let start = Cursor {
         number: 0,
@@ -90,5 +99,20 @@ pub fn sections(plan: &[u8], numbers: &mut [u64]) -> Cursor
     let semaphores = entry(numbers, second.got);
     let fourth = sizes(plan, third, numbers);
     let buffers = entry(numbers, third.got);
-    operation::operations(plan, fourth, queues, semaphores, buffers, numbers)
+    Front {
+        cursor: fourth,
+        queues,
+        semaphores,
+        buffers,
+    }
+}
+
+// The four sections.
+pub fn sections(plan: &[u8], numbers: &mut [u64]) -> Cursor
+    requires { ⌜ 22868 ≤ length (now numbers) ⌝ }
+    ensures { λ r. ⌜ Plan-read (now (plan .entry)) r (now (numbers .exit)) ⌝ }
+{
+    let f = first_sections(plan, numbers);
+    let c = f.cursor;
+    operation::operations(plan, c, f.queues, f.semaphores, f.buffers, numbers)
 }

@@ -27,7 +27,8 @@ use Rattle.plan_columns.specs.Columns.{Row-columns}
 use Rattle.checker.specs.Counting.{Sizes-told, header-of, Sized, Holds}
 use Rattle.checker.specs.declared.Counted.{Counted}
 use Rattle.checker.proofs.Numbers.{with-counts, sized, lengths-are}
-use Rattle.checker.proofs.Columns.{limits, operations-at}
+use Rattle.plan_load.proofs.Limits.{limits}
+use Rattle.checker.proofs.Columns.{operations-at}
 use Rattle.questions.specs.ReusePass.{Few, Opened}
 
 -- ---- the outcome of a passed check leaves the rows and the run

@@ -20,7 +20,7 @@ add-number-2 : tie.Need-add-number-2
 add-number-2 c = search needs
 
 add-number-3 : tie.Need-add-number-3
-add-number-3 c = omega (arith, few-second (c .before .before .args .numbers .now) (c .before .before .pre) (c .before .number .ensures) (c .number2 .ensures))
+add-number-3 c = omega (arith, few-second (c .before .before .before .before .before .args .numbers .now) (c .before .before .before .before .before .pre) (c .before .before .before .number .ensures) (c .before .number2 .ensures))
 
 number-requires-3 : tie.Need-number-requires-3
 number-requires-3 c κs = search needs
@@ -29,18 +29,18 @@ add-number-4 : tie.Need-add-number-4
 add-number-4 c = search needs
 
 add-number-5 : tie.Need-add-number-5
-add-number-5 c = omega (arith, few-second (c .before .before .before .args .numbers .now) (c .before .before .before .pre) (c .before .before .number .ensures) (c .before .number2 .ensures))
+add-number-5 c = omega (arith, few-second (c .before .before .before .before .before .before .before .args .numbers .now) (c .before .before .before .before .before .before .before .pre) (c .before .before .before .before .before .number .ensures) (c .before .before .before .number2 .ensures))
 
 add-number-6 : tie.Need-add-number-6
-add-number-6 c = omega (arith, few-second (c .before .before .before .args .numbers .now) (c .before .before .before .pre) (c .before .before .number .ensures) (c .before .number2 .ensures), few-third (c .before .before .before .args .numbers .now) (c .before .before .before .pre) (c .before .before .number .ensures) (c .before .number2 .ensures) (c .number3 .ensures))
+add-number-6 c = omega (arith, few-second (c .before .before .before .before .before .before .before .args .numbers .now) (c .before .before .before .before .before .before .before .pre) (c .before .before .before .before .before .number .ensures) (c .before .before .before .number2 .ensures), few-third (c .before .before .before .before .before .before .before .args .numbers .now) (c .before .before .before .before .before .before .before .pre) (c .before .before .before .before .before .number .ensures) (c .before .before .before .number2 .ensures) (c .before .number3 .ensures))
 
 number-requires-4 : tie.Need-number-requires-4
 number-requires-4 c κs = search needs
 
 returns : tie.Need-returns
 returns c =
-    let right = header-is (c .before .before .before .before .args .numbers .now) (c .before .before .before .number .ensures) (c .before .before .number2 .ensures) (c .before .number3 .ensures) (c .number4 .ensures) in
-    (right, subst Sized (sym right) (c .before .before .before .before .pre))
+    let right = header-is (c .before .before .before .before .before .before .before .before .args .numbers .now) (c .before .before .before .before .before .before .number .ensures) (c .before .before .before .before .number2 .ensures) (c .before .before .number3 .ensures) (c .number4 .ensures) in
+    (right, subst Sized (sym right) (c .before .before .before .before .before .before .before .before .pre))
 
 pub read-header-spec : {M : Type 1} → statement M
 read-header-spec = tie.close (tie.spec number-requires add-number number-requires-2 add-number-2 add-number-3 number-requires-3 add-number-4 add-number-5 add-number-6 number-requires-4 returns)

@@ -24,7 +24,7 @@ loop-holds : tie.Need-loop-holds Inv-loop μ-loop
 loop-holds c = (filling-none, search needs, omega (arith, c .lower .ensures))
 
 operation-requires : tie.Need-operation-requires Inv-loop μ-loop
-operation-requires c κs = omega (arith, c .before .before .before .before .before .before .before .before .before .loop .inv .0 .near, c .before .before .before .before .before .before .before .before .before .loop .inv .0 .few-signals, c .before .before .before .before .before .before .before .before .before .loop .inv .0 .few-marks)
+operation-requires c κs = omega (arith, c .before .before .before .before .before .before .before .before .before .before .loop .inv .0 .near, c .before .before .before .before .before .before .before .before .before .before .loop .inv .0 .few-signals, c .before .before .before .before .before .before .before .before .before .before .loop .inv .0 .few-marks)
 
 add-i : tie.Need-add-i Inv-loop μ-loop
 add-i c = search needs
@@ -33,7 +33,7 @@ loop-less : tie.Need-loop-less Inv-loop μ-loop
 loop-less c = search needs
 
 loop-again : tie.Need-loop-again Inv-loop μ-loop
-loop-again c = (filling-next (c .before .before .before .before .before .before .before .before .before .before .loop .inv .0) (c .before .before .before .before .before .before .before .before .before .loop-test .taken) (c .operation .ensures), c .before .before .before .before .before .before .before .before .before .before .loop .inv .1, c .before .before .before .before .before .before .before .before .before .before .loop .inv .2)
+loop-again c = (filling-next (c .before .before .before .before .before .before .before .before .before .before .before .loop .inv .0) (c .before .before .before .before .before .before .before .before .before .before .loop-test .taken) (c .operation .ensures), c .before .before .before .before .before .before .before .before .before .before .before .loop .inv .1, c .before .before .before .before .before .before .before .before .before .before .before .loop .inv .2)
 
 returns : tie.Need-returns Inv-loop μ-loop
 returns c =

@@ -54,14 +54,14 @@ add-t37 : tie.Need-add-t37
 add-t37 c = search needs
 
 add-t38 : tie.Need-add-t38
-add-t38 c = search needs
+add-t38 c = omega (arith, c .before .before .before .before .signals .ensures .0, c .before .before .before .before .before .before .before .before .before .before .before .before .before .before .before .pre .2)
 
 add-t39 : tie.Need-add-t39
-add-t39 c = omega (arith, c .before .before .marks .ensures .0, c .before .before .before .before .before .before .before .before .before .before .before .before .before .before .before .pre .3)
+add-t39 c = omega (arith, c .before .before .marks .ensures .0, c .before .before .before .before .before .before .before .before .before .before .before .before .before .before .before .before .pre .3)
 
 returns : tie.Need-returns
 returns c =
-    let a = c .before .before .before .before .before .before .before .before .before .before .before .before .before .before .before .args in
+    let a = c .before .before .before .before .before .before .before .before .before .before .before .before .before .before .before .before .args in
     let w = c .before .before .before .before .before .before .before .before .before .waits .ensures .0 in
     let s = c .before .before .before .before .before .signals .ensures .0 in
     let m = c .before .before .marks .ensures .0 in

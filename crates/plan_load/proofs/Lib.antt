@@ -1,0 +1,6 @@
+pub mod Limits
+pub mod Blind
+pub mod Blocks
+pub mod Windows
+pub mod Loading
+pub mod Outcomes

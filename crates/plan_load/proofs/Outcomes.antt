@@ -1,0 +1,198 @@
+-- What a loading comes to: the reader's refusal, or the columns of the plan. Assumes nothing.
+use mathlib.Core.Path.{_≡_, refl, sym, ap, _∙_, subst}
+use mathlib.Core.Bool.{true}
+use mathlib.Core.List.{List, [], _∷_, _++_, append-assoc, append-nil}
+use Prim.Native.Nat.{ℕ, _+_, _-_, _*_, _≤_, _<_}
+use native.Mathlib.Omega.{arith}
+use lib.ListN.{length, take, drop, replicate, length-append, length-take, length-drop, length-replicate, take-append-drop}
+use lib.Seq.{take-append-seam, drop-append-seam, take-at}
+use Rattle.plan_format.specs.Refusal.{none-given, given}
+use Rattle.plan_format.specs.Grammar.{bytes, Scan, scan, times, read-by}
+use Rattle.plan_format.specs.Form.{first-form}
+use Rattle.plan_format.specs.Plan.{Plan, count, queues, operations-in, plan-of}
+use Rattle.plan_format.specs.Sections.{operation-below}
+use Rattle.plan_format.specs.Stored.{scanned, plan-in}
+use Rattle.plan_format.proofs.Answers.{answer-long}
+use Rattle.plan_format.proofs.Faults.{times-stays, read-stays}
+use Rattle.plan_format.proofs.Operations.{operations-long}
+use Rattle.plan_format.proofs.Repeats.{repeat, read-repeat, repeat-stops}
+use Rattle.plan_format.proofs.Seams.{after-seam}
+use Rattle.plan_format.proofs.Sections.{plan-whole}
+use Rattle.plan_columns.proofs.Plans.{filling-end}
+use Rattle.plan_reader.specs.declared.Head.{Head}
+use Rattle.plan_reader.specs.declared.cursor.Cursor.{Cursor}
+use Rattle.plan_reader.specs.Reading.{fault-of, here, head-cursor, Plan-read, Numbers-read, Heading, Head-read, Operation-read}
+use Rattle.plan_reader.proofs.Answers.{read-refused, read-more, read-whole}
+use Rattle.plan_reader.proofs.Fields.{here-given}
+use Rattle.plan_load.specs.declared.Loaded.{Loaded}
+use Rattle.plan_load.specs.Loading.{Loads}
+use Rattle.plan_load.proofs.Blocks.{Small}
+use Rattle.plan_load.proofs.Limits.{shape, few-semaphores, limits}
+use Rattle.plan_load.proofs.Loading.{step, Load, read-next, goes-on, few-numbers}
+
+-- a cursor behind all numbers, which stand in front of the most that a plan has
+abbrev behind : (number at : ℕ) → (all : List ℕ) → Cursor
+behind n a all = record { number = n; at = a; got = length all; value = 0 }
+
+abbrev padded : List ℕ → List ℕ
+padded all = all ++ replicate (22868 - length all) 0
+
+padded-long : (all : List ℕ) → length all ≤ 22868 → length (padded all) ≡ 22868
+padded-long all l = length-append all (replicate (22868 - length all) 0) ∙ omega (arith, length-replicate {A = ℕ} (22868 - length all) 0)
+
+here-behind : (bs : List ℕ) (r : Cursor) (all : List ℕ) → here bs (behind (r .number) (r .at) all) (padded all) ≡ scan (drop (r .at) bs) (r .at) all (fault-of r)
+unfolding here fault-of
+here-behind bs r all = ap (λ (l : List ℕ). scan (drop (r .at) bs) (r .at) l (fault-of r)) (take-append-seam all (replicate (22868 - length all) 0))
+
+here-clean-behind : (bs : List ℕ) (at : ℕ) (all : List ℕ) → here bs (behind 0 at all) (padded all) ≡ scan (drop at bs) at all none-given
+unfolding here fault-of
+here-clean-behind bs at all = ap (λ (l : List ℕ). scan (drop at bs) at l none-given) (take-append-seam all (replicate (22868 - length all) 0))
+
+-- after a refusal no more operations are read
+times-stops : (h : Head) (s : Scan) (i n : ℕ) → given (times i (step h) s .fault) ≡ true → i ≤ n → times n (step h) s ≡ times i (step h) s
+times-stops h s i n g l =
+    let op = operation-below (h .queues) (h .semaphores) (h .buffers) in
+    sym (read-repeat bytes n op s)
+    ∙ repeat-stops bytes op s i n (ap (λ (z : Scan). given (z .fault)) (read-repeat bytes i op s) ∙ g) l
+    ∙ read-repeat bytes i op s
+
+module _ (bs : List ℕ) (h : Head) (nums queue₀ wsem₀ wval₀ ssem₀ sval₀ sop₀ mark₀ mop₀ : List ℕ) (head : Head-read bs h nums) where
+  abbrev heading : List ℕ
+  heading = take (h .got) nums
+
+  few-heading : length heading ≤ h .got
+  few-heading = omega (arith, length-take (h .got) nums)
+
+  module _ {queue wsem wval ssem sval sop mark mop : List ℕ} {i at signals marks : ℕ}
+      (l : Load bs h nums queue₀ wsem₀ wval₀ ssem₀ sval₀ sop₀ mark₀ mop₀ queue wsem wval ssem sval sop mark mop i at signals marks) where
+    -- ---- an operation that is refused
+    module _ (on : i < h .operations) (w w-now : List ℕ) (r : Cursor) (o : Operation-read (h .queues) (h .semaphores) (h .buffers) bs at w r w-now) (z : r .number ≡ 0 → ⊥) where
+      abbrev all-read : List ℕ
+      all-read = (heading ++ l .blocks) ++ take (r .got) w-now
+
+      stopped : times (i + 1) (step h) (here bs (head-cursor h) nums) ≡ here bs (behind (r .number) (r .at) all-read) (padded all-read)
+      stopped = read-next bs h nums queue₀ wsem₀ wval₀ ssem₀ sval₀ sop₀ mark₀ mop₀ l on w w-now r o ∙ sym (here-behind bs r all-read)
+
+      few-read : length all-read ≤ h .got + 22 * h .operations
+      few-read =
+          omega (arith, l .few, few-heading, length-append (heading ++ l .blocks) (take (r .got) w-now), length-append heading (l .blocks), few-numbers (h .queues) (h .semaphores) (h .buffers) bs at w w-now r o (l .inside))
+
+      refused-plan : Plan-read bs (behind (r .number) (r .at) all-read) (padded all-read)
+      refused-plan =
+          head .plan (behind (r .number) (r .at) all-read) (padded all-read)
+          (times-stops h (here bs (head-cursor h) nums) (i + 1) (h .operations) (ap (λ (s : Scan). given (s .fault)) stopped ∙ here-given bs (behind (r .number) (r .at) all-read) (padded all-read) z) (omega arith) ∙ stopped)
+          (goes-on (h .queues) (h .semaphores) (h .buffers) bs at w w-now r o (l .inside))
+          few-read
+
+      pub load-refused : (r .number ≡ scanned bs .fault .number) × (r .at ≡ scanned bs .fault .place)
+      load-refused = let t = read-refused refused-plan (padded-long all-read (omega (arith, few-read, head .few, head .few-operations))) z .told in (t .number, t .place)
+
+    -- ---- all operations
+    module _ (done : h .operations ≤ i) (few : i ≤ h .operations) where
+      abbrev all : List ℕ
+      all = heading ++ l .blocks
+
+      few-all : length all ≤ h .got + 22 * h .operations
+      few-all = omega (arith, l .few, few-heading, length-append heading (l .blocks))
+
+      long : length (padded all) ≡ 22868
+      long = padded-long all (omega (arith, few-all, head .few, head .few-operations))
+
+      whole-plan : Plan-read bs (behind 0 at all) (padded all)
+      whole-plan =
+          let e : h .operations ≡ i = omega arith in
+          head .plan (behind 0 at all) (padded all)
+          (ap (λ (k : ℕ). times k (step h) (here bs (head-cursor h) nums)) e ∙ l .read ∙ sym (here-clean-behind bs at all))
+          (l .inside)
+          few-all
+
+      pub load-more : at < length bs → (3 ≡ scanned bs .fault .number) × (at ≡ scanned bs .fault .place)
+      load-more u = let t = read-more whole-plan long refl u .told in (t .number, t .place)
+
+      module _ (end : length bs ≤ at) (z : h .number ≡ 0) where
+        numbers : Numbers-read bs (record { number = 0; place = 0; answer = length all }) (padded all)
+        numbers = read-whole whole-plan long refl end
+
+        clean : scanned bs .fault .number ≡ 0
+        clean = sym (numbers .told .number)
+
+        scanned-are : scanned bs .got ≡ all
+        scanned-are =
+            sym (numbers .numbers refl)
+            ∙ ap (λ (k : ℕ). take k (padded all)) (sym (answer-long (scanned bs .fault) (scanned bs .got) (numbers .told) [] refl))
+            ∙ take-append-seam all (replicate (22868 - length all) 0)
+
+        front : Heading (h .queues) (h .semaphores) (h .buffers) (h .operations) heading
+        front = head .heading z
+
+        all-are : all ≡ h .queues ∷ (front .axes ++ (h .semaphores ∷ (front .owners ++ (h .buffers ∷ (front .sizes ++ (h .operations ∷ l .blocks))))))
+        all-are = ap (λ (x : List ℕ). x ++ l .blocks) (front .numbers-are) ∙ simp append-assoc
+
+        plan-is : plan-in bs ≡ record { axes = front .axes; owners = front .owners; sizes = front .sizes; operations = operations-in first-form (h .operations) (l .blocks) }
+        unfolding plan-in
+        plan-is =
+            ap (plan-of first-form) (scanned-are ∙ all-are)
+            ∙ plan-whole first-form (h .queues) (h .semaphores) (h .buffers) (h .operations) (front .axes) (front .owners) (front .sizes) (l .blocks) (front .axes-long) (front .owners-long) (front .sizes-long)
+
+        small : Small (h .queues) (h .semaphores) (h .buffers)
+        unfolding queues
+        small = record {
+          few-queues = omega (arith, shape bs clean .few-queues, ap (λ (p : Plan). length (p .axes)) plan-is, front .axes-long);
+          few-semaphores = omega (arith, few-semaphores bs clean, ap (λ (p : Plan). length (p .owners)) plan-is, front .owners-long);
+          few-buffers = omega (arith, shape bs clean .few-buffers, ap (λ (p : Plan). length (p .sizes)) plan-is, front .sizes-long);
+        }
+
+        operations-are : plan-in bs .operations ≡ operations-in first-form (h .operations) (drop (length heading) (all ++ []))
+        operations-are =
+            ap (λ (p : Plan). p .operations) plan-is
+            ∙ ap (operations-in first-form (h .operations)) (sym (ap (λ (x : List ℕ). drop (length heading) x) (append-nil all) ∙ drop-append-seam heading (l .blocks)))
+
+        pub load-columns : Loads bs (record { number = 0; place = 0; operations = h .operations; signals = signals; marks = marks }) queue wsem wval ssem sval sop mark mop
+        unfolding count
+        load-columns = record {
+          number = numbers .told .number;
+          place = numbers .told .place;
+          many = λ _. ap (λ (p : Plan). length (p .operations)) plan-is ∙ operations-long first-form (h .operations) (l .blocks);
+          columns = λ _. filling-end (plan-in bs) (limits bs clean) (all ++ []) (h .operations) (length heading) operations-are done (l .filled small []);
+        }
+
+        pub load-owners : plan-in bs .owners ≡ take (h .semaphores) (drop (2 + h .queues) nums)
+        load-owners =
+            let split : nums ≡ (h .queues ∷ front .axes) ++ (h .semaphores ∷ (front .owners ++ ((h .buffers ∷ (front .sizes ++ (h .operations ∷ []))) ++ drop (h .got) nums))) =
+            sym (take-append-drop (h .got) nums) ∙ ap (λ (x : List ℕ). x ++ drop (h .got) nums) (front .numbers-are) ∙ simp append-assoc in
+            ap (λ (p : Plan). p .owners) plan-is
+            ∙ sym (ap (λ (x : List ℕ). take (h .semaphores) x) (after-seam nums (h .queues ∷ front .axes) (front .owners ++ ((h .buffers ∷ (front .sizes ++ (h .operations ∷ []))) ++ drop (h .got) nums)) (h .semaphores) (2 + h .queues) split (omega (arith, front .axes-long)))
+            ∙ take-at (front .owners) ((h .buffers ∷ (front .sizes ++ (h .operations ∷ []))) ++ drop (h .got) nums) (h .semaphores) (front .owners-long))
+
+-- a refusal shows nothing
+pub refused-loads : {bs queue wsem wval ssem sval sop mark mop : List ℕ} {number place : ℕ} → (number ≡ scanned bs .fault .number) × (place ≡ scanned bs .fault .place) → (number ≡ 0 → ⊥) →
+    Loads bs (record { number = number; place = place; operations = 0; signals = 0; marks = 0 }) queue wsem wval ssem sval sop mark mop
+refused-loads (n, p) z = record { number = n; place = p; many = λ e. absurd (z e); columns = λ e. absurd (z e) }
+
+-- ---- the head
+module _ {bs : List ℕ} {h : Head} {nums : List ℕ} (head : Head-read bs h nums) where
+  pub head-refused : (h .number ≡ 0 → ⊥) → (h .number ≡ scanned bs .fault .number) × (h .at ≡ scanned bs .fault .place)
+  unfolding head-cursor here
+  head-refused z =
+      let s = here bs (head-cursor h) nums in
+      let stays = read-stays bytes (operation-below (h .queues) (h .semaphores) (h .buffers)) s (here-given bs (head-cursor h) nums z) in
+      let all = take (h .got) nums in
+      let e = times-stays (h .operations) (step h) s stays ∙ sym (here-behind bs (head-cursor h) all) in
+      let few : length all ≤ h .got = omega (arith, length-take (h .got) nums) in
+      let t = read-refused (head .plan (behind (h .number) (h .at) all) (padded all) e (head .inside) (omega arith)) (padded-long all (omega (arith, head .few))) z .told in
+      (t .number, t .place)
+
+  head-long : h .number ≡ 0 → (h .queues ≤ 340) × (2 + h .queues + h .semaphores ≤ length nums)
+  head-long z =
+      let front = head .heading z in
+      let rest = front .owners ++ (h .buffers ∷ (front .sizes ++ (h .operations ∷ []))) in
+      let long : length (take (h .got) nums) ≡ 2 + h .queues + length rest = ap (λ (x : List ℕ). length x) (front .numbers-are) ∙ omega (arith, front .axes-long, length-append (front .axes) (h .semaphores ∷ rest)) in
+      let owned = length-append (front .owners) (h .buffers ∷ (front .sizes ++ (h .operations ∷ []))) in
+      (omega (arith, head .few, length-take (h .got) nums, long), omega (arith, length-take (h .got) nums, long, owned, front .owners-long))
+
+  pub head-few : h .number ≡ 0 → h .queues ≤ 340
+  head-few z = head-long z .0
+
+  pub head-semaphores : h .number ≡ 0 → {owners : List ℕ} → owners ≡ take (h .semaphores) (drop (2 + h .queues) nums) → length owners ≡ h .semaphores
+  head-semaphores z e =
+      ap (λ (x : List ℕ). length x) e ∙ omega (arith, head-long z .1, length-take (h .semaphores) (drop (2 + h .queues) nums), length-drop (2 + h .queues) nums)

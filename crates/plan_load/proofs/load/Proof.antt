@@ -1,0 +1,25 @@
+-- `load` meets its contract: a refusal in the head, or the columns behind it. Assumes nothing.
+use borrow.Author.Needs.{needs}
+use Rattle.plan_load.proofs.Outcomes.{head-refused, refused-loads}
+use Rattle.plan_load.proofs.load.Statement.{statement}
+use Rattle.plan_load.proofs.load.Tie as tie
+
+read-head-requires : tie.Need-read-head-requires
+read-head-requires c κs = search needs
+
+refused-requires : tie.Need-refused-requires
+refused-requires c κs = search needs
+
+returns : tie.Need-returns
+returns c =
+    let taken = c .before .if1 .taken in
+    rw (c .refused .ensures) (refused-loads (head-refused (c .before .before .before .read-head .ensures) taken) taken, λ e. absurd (taken e))
+
+columns-requires : tie.Need-columns-requires
+columns-requires c κs = (c .before .before .before .before .before .before .before .before .before .before .before .before .read-head .ensures, c .before .before .before .before .before .before .before .before .before .before .if1 .left)
+
+returns-2 : tie.Need-returns-2
+returns-2 c = c .columns .ensures
+
+pub load-spec : {M : Type 1} → statement M
+load-spec = tie.close (tie.spec read-head-requires refused-requires returns columns-requires returns-2)

@@ -1,0 +1,165 @@
+// A stored plan read straight into its columns: each operation into a window of numbers, and from there behind the operations before it.
+use plan_reader::Head;
+ghost use mathlib.Core.Path.{_≡_};
+ghost use mathlib.Core.List.{List};
+ghost use Prim.Native.Nat.{ℕ, _+_, _≤_};
+ghost use lib.ListN.{take, drop};
+ghost use Rattle.plan_format.specs.Stored.{plan-in};
+ghost use Rattle.plan_columns.specs.Columns.{Owner-column};
+ghost use Rattle.plan_reader.specs.Reading.{Head-read};
+ghost use Rattle.plan_load.specs.Loading.{Loads};
+
+// How many operations, signals and marks a plan has; or the reader's refusal and its place.
+pub struct Loaded {
+    pub number: u32,
+    pub place: usize,
+    pub operations: u16,
+    pub signals: u16,
+    pub marks: u16,
+}
+
+// Fills the columns of a stored plan.
+pub fn load(
+    plan: &[u8],
+    owner: &mut [u16; 64],
+    queue: &mut [u16; 1024],
+    wsem: &mut [u16; 3072],
+    wval: &mut [u64; 3072],
+    ssem: &mut [u16; 2048],
+    sval: &mut [u64; 2048],
+    sop: &mut [u16; 2048],
+    mark: &mut [u16; 4096],
+    mop: &mut [u16; 4096],
+) -> Loaded
+    ensures { λ r. ⌜ Loads (now (plan .entry)) r (now (queue .exit)) (now (wsem .exit)) (now (wval .exit)) (now (ssem .exit)) (now (sval .exit)) (now (sop .exit)) (now (mark .exit)) (now (mop .exit)) ⌝ }
+    ensures { λ r. ⌜ (r .number ≡ 0 → Owner-column (plan-in (now (plan .entry))) (now (owner .exit))) ⌝ }
+{
+    let mut numbers = [0u64; 340];
+    let h = plan_reader::read_head(plan, &mut numbers);
+    if h.number != 0 {
+        return refused(h.number, h.at);
+    }
+    columns(
+        plan,
+        h,
+        &numbers,
+        owner,
+        queue,
+        wsem,
+        wval,
+        ssem,
+        sval,
+        sop,
+        mark,
+        mop,
+    )
+}
+
+// A refusal at a place.
+fn refused(number: u32, place: usize) -> Loaded
+    ensures { λ r. ⌜ r ≡ record { number = number; place = place; operations = 0; signals = 0; marks = 0 } ⌝ }
+{
+    Loaded {
+        number,
+        place,
+        operations: 0,
+        signals: 0,
+        marks: 0,
+    }
+}
+
+// A plan without a refusal, and what it has.
+fn whole(operations: u16, signals: u16, marks: u16) -> Loaded
+    ensures { λ r. ⌜ r ≡ record { number = 0; place = 0; operations = operations; signals = signals; marks = marks } ⌝ }
+{
+    Loaded {
+        number: 0,
+        place: 0,
+        operations,
+        signals,
+        marks,
+    }
+}
+
+// Fills the columns of a plan whose head is read.
+fn columns(
+    plan: &[u8],
+    h: Head,
+    numbers: &[u64; 340],
+    owner: &mut [u16; 64],
+    queue: &mut [u16; 1024],
+    wsem: &mut [u16; 3072],
+    wval: &mut [u64; 3072],
+    ssem: &mut [u16; 2048],
+    sval: &mut [u64; 2048],
+    sop: &mut [u16; 2048],
+    mark: &mut [u16; 4096],
+    mop: &mut [u16; 4096],
+) -> Loaded
+    requires { ⌜ Head-read (now plan) h (now numbers) × (h .number ≡ 0) ⌝ }
+    ensures { λ r. ⌜ Loads (now (plan .entry)) r (now (queue .exit)) (now (wsem .exit)) (now (wval .exit)) (now (ssem .exit)) (now (sval .exit)) (now (sop .exit)) (now (mark .exit)) (now (mop .exit)) ⌝ }
+    ensures { λ r. ⌜ (r .number ≡ 0 → Owner-column (plan-in (now (plan .entry))) (now (owner .exit))) ⌝ }
+{
+    plan_columns::owners(numbers, 2 + h.queues as usize, h.semaphores as usize, owner);
+    operations(plan, h, queue, wsem, wval, ssem, sval, sop, mark, mop)
+}
+
+// Fills the columns of the operations behind a head.
+fn operations(
+    plan: &[u8],
+    h: Head,
+    queue: &mut [u16; 1024],
+    wsem: &mut [u16; 3072],
+    wval: &mut [u64; 3072],
+    ssem: &mut [u16; 2048],
+    sval: &mut [u64; 2048],
+    sop: &mut [u16; 2048],
+    mark: &mut [u16; 4096],
+    mop: &mut [u16; 4096],
+) -> Loaded
+    requires { ⌜ h .operations ≤ 1024 ⌝ }
+    ensures { λ r. ⌜ ((nums : List ℕ) → Head-read (now (plan .entry)) h nums → h .number ≡ 0 →
+        Loads (now (plan .entry)) r (now (queue .exit)) (now (wsem .exit)) (now (wval .exit)) (now (ssem .exit)) (now (sval .exit)) (now (sop .exit)) (now (mark .exit)) (now (mop .exit)) × (r .number ≡ 0 → plan-in (now (plan .entry)) .owners ≡ take (h .semaphores) (drop (2 + h .queues) nums))) ⌝ }
+{
+    let many = h.operations as u16;
+    let mut window = [0u64; 22];
+    let mut at = h.at;
+    let mut signals: u16 = 0;
+    let mut marks: u16 = 0;
+    let mut i: u16 = 0;
+    while i < many {
+        let o = plan_reader::read_operation(
+            plan,
+            at,
+            h.queues,
+            h.semaphores,
+            h.buffers,
+            &mut window,
+        );
+        if o.number != 0 {
+            return refused(o.number, o.at);
+        }
+        let all = plan_columns::add(
+            &window,
+            i,
+            signals,
+            marks,
+            queue,
+            wsem,
+            wval,
+            ssem,
+            sval,
+            sop,
+            mark,
+            mop,
+        );
+        at = o.at;
+        signals = all.signals as u16;
+        marks = all.marks as u16;
+        i += 1;
+    }
+    if at < plan.len() {
+        return refused(3, at);
+    }
+    whole(many, signals, marks)
+}
