@@ -84,7 +84,8 @@ pub fn check_plan(plan: &[u8], table: &mut [u32], list: &mut [u32]) -> Told
     )
 }
 
-// The check for those who ask on: with the plan's counts, and with its numbers in front of the lent ones.
+// The check for those who ask on: with the plan's counts, and with its numbers in front of the lent ones. Past them, and where the reader
+// refuses the plan, the lent numbers are free.
 pub fn check_read(
     plan: &[u8],
     numbers: &mut [u64; 22868],

@@ -152,6 +152,7 @@ module _ (bs : List ℕ) (h : Head) (nums queue₀ wsem₀ wval₀ ssem₀ sval�
         load-columns = record {
           number = numbers .told .number;
           place = numbers .told .place;
+          none = λ z. absurd (z refl);
           many = λ _. ap (λ (p : Plan). length (p .operations)) plan-is ∙ operations-long first-form (h .operations) (l .blocks);
           columns = λ _. filling-end (plan-in bs) (limits bs clean) (all ++ []) (h .operations) (length heading) operations-are done (l .filled small []);
         }
@@ -167,7 +168,7 @@ module _ (bs : List ℕ) (h : Head) (nums queue₀ wsem₀ wval₀ ssem₀ sval�
 -- a refusal shows nothing
 pub refused-loads : {bs queue wsem wval ssem sval sop mark mop : List ℕ} {number place : ℕ} → (number ≡ scanned bs .fault .number) × (place ≡ scanned bs .fault .place) → (number ≡ 0 → ⊥) →
     Loads bs (record { number = number; place = place; operations = 0; signals = 0; marks = 0 }) queue wsem wval ssem sval sop mark mop
-refused-loads (n, p) z = record { number = n; place = p; many = λ e. absurd (z e); columns = λ e. absurd (z e) }
+refused-loads (n, p) z = record { number = n; place = p; none = λ _. (refl, refl, refl); many = λ e. absurd (z e); columns = λ e. absurd (z e) }
 
 -- ---- the head
 module _ {bs : List ℕ} {h : Head} {nums : List ℕ} (head : Head-read bs h nums) where
