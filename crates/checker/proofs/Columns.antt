@@ -1,10 +1,9 @@
 -- What the passes are given: the columns of a stored plan that is read, ruled and resolved. Assumes nothing.
-use mathlib.Core.Path.{_≡_, sym, ap, _∙_, subst}
+use mathlib.Core.Path.{_≡_, sym, _∙_, subst}
 use mathlib.Core.List.{List}
-use Prim.Native.Nat.{ℕ, _+_, _≤_}
-use lib.ListN.{length, drop}
-use Rattle.plan_format.specs.Form.{first-form}
-use Rattle.plan_format.specs.Plan.{Plan, count, operations-in, plan-of}
+use Prim.Native.Nat.{ℕ, _≤_}
+use lib.ListN.{length}
+use Rattle.plan_format.specs.Plan.{count}
 use Rattle.plan_format.specs.Sound.{rules-refusal}
 use Rattle.plan_format.specs.Stored.{scanned, plan-in, plan-refusal}
 use Rattle.plan_format.proofs.Judged.{or-else-second, or-else-none}
@@ -17,18 +16,7 @@ use Rattle.plan_load.proofs.Limits.{shape, few-semaphores}
 use Rattle.plan_rules.specs.Walks.{Shown as Rules-shown}
 use Rattle.plan_waits.specs.Groups.{Shown as Waits-shown}
 use Rattle.plan_run.specs.Run.{Shown as Sources-shown, Rows-of}
-use Rattle.checker.specs.declared.Header.{Header}
-use Rattle.checker.specs.Counting.{header-of, Holds}
 use Rattle.checker.specs.Passing.{Read, Ruled, Resolved, Run-shown}
-use Rattle.checker.proofs.Numbers.{plan-same}
-
--- ---- its operations, among its numbers
-module _ {bs nums : List ℕ} (h : Holds bs nums) (c : Header) (e : c ≡ header-of nums) where
-  pub operations-at : plan-in bs .operations ≡ operations-in first-form (c .operations) (drop (4 + c .queues + c .semaphores + c .buffers) nums)
-  unfolding plan-of
-  operations-at =
-      subst (λ (x : Header). plan-in bs .operations ≡ operations-in first-form (x .operations) (drop (4 + x .queues + x .semaphores + x .buffers) nums)) (sym e)
-      (ap (λ (p : Plan). p .operations) (sym (plan-same h)))
 
 -- ---- its columns, loaded from its bytes
 module _ {bs queue wsem wval ssem sval sop mark mop : List ℕ} {r : Loaded} (l : Loads bs r queue wsem wval ssem sval sop mark mop) (z : r .number ≡ 0) where

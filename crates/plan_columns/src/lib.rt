@@ -1,14 +1,12 @@
-// Columns of a plan: flat arrays that the passes of the check read, filled from the numbers of a read plan.
+// Columns of a plan: flat arrays that the passes of the check read, filled from the numbers of each operation.
 ghost use mathlib.Core.Path.{_≡_};
 ghost use mathlib.Core.Bool.{cond};
 ghost use Prim.Native.Nat.{ℕ, _*_, _%_, _<_, _≤_, min};
 ghost use lib.Dec.{ltb};
 ghost use lib.ListN.{length, getD, take, drop};
 ghost use lib.Seq.{sets};
-ghost use Rattle.plan_format.specs.Form.{first-form};
-ghost use Rattle.plan_format.specs.Plan.{Plan, operations-in, queues};
+ghost use Rattle.plan_format.specs.Plan.{Plan, queues};
 ghost use Rattle.plan_columns.specs.Columns.{Owner-column};
-ghost use Rattle.plan_columns.specs.Shown.{Limits, Shown};
 ghost use Rattle.plan_columns.specs.Filling.{owner-numbers, wait-semaphores, wait-values, signal-semaphores, signal-values, mark-codes, repeated, next-at, Added};
 
 // How many signals and marks a plan has.
@@ -29,51 +27,6 @@ pub fn owners(numbers: &[u64], first: usize, many: usize, owner: &mut [u16; 64])
     ensures { λ _. ⌜ ((p : Plan) → p .owners ≡ take many (drop first (now (numbers .entry))) → first ≤ 22868 → many ≤ 64 → queues p ≤ 16 → ((s : ℕ) → s < length (p .owners) → getD (p .owners) s 0 < queues p) → Owner-column p (now (owner .exit))) ⌝ }
 {
     owned(numbers, lower(first, 22868), lower(many, 64), owner);
-}
-
-// Fills the columns of n operations from the numbers, the first operation's at `first`.
-pub fn fill(
-    numbers: &[u64; 22868],
-    first: usize,
-    n: u16,
-    queue: &mut [u16; 1024],
-    wsem: &mut [u16; 3072],
-    wval: &mut [u64; 3072],
-    ssem: &mut [u16; 2048],
-    sval: &mut [u64; 2048],
-    sop: &mut [u16; 2048],
-    mark: &mut [u16; 4096],
-    mop: &mut [u16; 4096],
-) -> Filled
-    ensures { λ r. ⌜ ((p : Plan) → p .operations ≡ operations-in first-form n (drop first (now (numbers .entry))) → first ≤ 22868 → Limits p → Shown p (r .signals) (r .marks) (now (queue .exit)) (now (wsem .exit)) (now (wval .exit)) (now (ssem .exit)) (now (sval .exit)) (now (sop .exit)) (now (mark .exit)) (now (mop .exit))) ⌝ }
-{
-    let many = n as usize;
-    let mut place = Place {
-        at: lower(first, 22868),
-        signals: 0,
-        marks: 0,
-    };
-    let mut i: usize = 0;
-    while i < many {
-        place = operation(
-            numbers,
-            i,
-            place,
-            queue,
-            wsem,
-            wval,
-            ssem,
-            sval,
-            sop,
-            mark,
-            mop,
-        );
-        i += 1;
-    }
-    Filled {
-        signals: place.signals,
-        marks: place.marks,
-    }
 }
 
 // Stores numbers from a place on.

@@ -1,6 +1,6 @@
 -- What is known once the check has passed a plan: it is sound, its numbers stand in front of those read, and its rows in front of the table.
 -- Assumes nothing.
-use mathlib.Core.Path.{_≡_, sym, ap, _∙_, subst}
+use mathlib.Core.Path.{_≡_, refl, sym, ap, _∙_, subst}
 use mathlib.Core.Bool.{not}
 use mathlib.Core.Logic.{inl}
 use mathlib.Core.List.{List}
@@ -27,9 +27,10 @@ use Rattle.plan_columns.specs.Columns.{Row-columns}
 use Rattle.checker.specs.Counting.{Sizes-told, header-of, Sized, Holds}
 use Rattle.checker.specs.declared.Counted.{Counted}
 use Rattle.checker.proofs.Numbers.{with-counts, sized, lengths-are}
+use Rattle.plan_load.specs.Loading.{Loads}
+use Rattle.plan_load.specs.declared.Loaded.{Loaded}
 use Rattle.plan_load.proofs.Limits.{limits}
-use Rattle.checker.proofs.Columns.{operations-at}
-use Rattle.questions.specs.ReusePass.{Few, Opened}
+use Rattle.questions.specs.ReusePass.{Few, Opened, Stored, Shown}
 
 -- ---- the outcome of a passed check leaves the rows and the run
 pub passed-leaves : (bs : List ℕ) (t l : ℕ) → check-outcome bs t l .refusal .number ≡ 0 → check-outcome bs t l .leaves ≡ rows-and-run
@@ -109,17 +110,25 @@ module _ {bs : List ℕ} {c : Counted} {t x l y : List ℕ} (sizes : Sizes-told 
         let s = subst Sized (sym header-is) (sized holds) in
         record { queues = s .few-queues; semaphores = s .few-semaphores; buffers = s .few-buffers; operations = s .few-operations }
 
-    pub opened : Opened (plan-in bs) c nums x
-    opened = record {
-      queues-are = queues-are;
-      buffers-are = buffers-are;
-      numbered =
-          record {
-            sound = sound;
-            limits = limits bs read;
-            many = operations-are;
-            inside = omega (arith, few .queues, few .semaphores, few .buffers);
-            operations = operations-at holds (with-counts (c .queues) (c .semaphores) (c .buffers) (c .operations)) header-is;
-            rows-shown = rows-shown;
-          };
-    }
+  pub opened : Opened (plan-in bs) c bs x
+  opened = record {
+    queues-are = queues-are;
+    buffers-are = buffers-are;
+    stored = record { sound = sound; read = read; plan-is = refl; rows-shown = rows-shown };
+  }
+
+-- ---- a stored plan, loaded into columns
+pub loaded-shown : {p : Plan} {bs x queue wsem wval ssem sval sop mark mop : List ℕ} {r : Loaded} → Stored p bs x →
+    Loads bs r queue wsem wval ssem sval sop mark mop → Shown p (r .operations) (r .marks) queue mark mop x
+loaded-shown {p} {bs} {x} {queue} {mark = mark} {mop} {r} s l =
+    let z : r .number ≡ 0 = l .number ∙ s .read in
+    let columns = l .columns z in
+    subst (λ (p : Plan). Shown p (r .operations) (r .marks) queue mark mop x) (s .plan-is)
+    (record {
+      sound = subst Sound (sym (s .plan-is)) (s .sound);
+      many = l .many z;
+      few-buffers = limits bs (s .read) .few-buffers;
+      queues-shown = columns .queues-shown;
+      marks-shown = columns .marks-shown;
+      rows-shown = subst (λ (p : Plan). Row-columns p (λ j. j < count p) x) (sym (s .plan-is)) (s .rows-shown);
+    })

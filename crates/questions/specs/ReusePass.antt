@@ -2,17 +2,16 @@
 use mathlib.Core.Path.{_≡_}
 use mathlib.Core.Bool.{Bool, _&&_, cond}
 use mathlib.Core.List.{List, [], _∷_}
-use Prim.Native.Nat.{ℕ, _+_, _≤_, _<_}
+use Prim.Native.Nat.{ℕ, _≤_, _<_}
 use lib.Dec.{ltb, eqb}
-use lib.ListN.{length, getD, drop}
+use lib.ListN.{length, getD}
 use Rattle.basics.specs.Lists.{highest-below, place-or}
-use Rattle.plan_format.specs.Form.{first-form}
-use Rattle.plan_format.specs.Plan.{Plan, count, queues, operations-in}
+use Rattle.plan_format.specs.Plan.{Plan, count, queues}
 use Rattle.plan_format.specs.Sound.{Sound}
+use Rattle.plan_format.specs.Stored.{scanned, plan-in}
 use Rattle.plan_order.specs.declared.Verdict.{Verdict}
 use Rattle.plan_order.specs.declared.Verdict.the-variants.{Reusable, Held, NotOrdered, StrayUse}
 use Rattle.plan_columns.specs.Columns.{Marked, Queue-column, Mark-columns, Row-columns}
-use Rattle.plan_columns.specs.Shown.{Limits}
 use Rattle.plan_marks.specs.Passes.{ordered}
 use Rattle.checker.specs.declared.Counted.{Counted}
 
@@ -23,20 +22,18 @@ pub record Few (c : Counted) : Type 0 where
   pub buffers : c .buffers ≤ 256
   pub operations : c .operations ≤ 1024
 
--- a sound plan: its operations among the numbers from a place on, and its rows
-pub record Numbered (p : Plan) (numbers : List ℕ) (first n : ℕ) (rows : List ℕ) : Type 0 where
+-- a sound plan that bytes store, and its rows
+pub record Stored (p : Plan) (bytes rows : List ℕ) : Type 0 where
   pub sound : Sound p
-  pub limits : Limits p
-  pub many : count p ≡ n
-  pub inside : first ≤ 22868
-  pub operations : p .operations ≡ operations-in first-form n (drop first numbers)
+  pub read : scanned bytes .fault .number ≡ 0
+  pub plan-is : plan-in bytes ≡ p
   pub rows-shown : Row-columns p (λ j. j < count p) rows
 
--- the same with the plan's counts, each in front of its section
-pub record Opened (p : Plan) (c : Counted) (numbers rows : List ℕ) : Type 0 where
+-- the same with the plan's counts
+pub record Opened (p : Plan) (c : Counted) (bytes rows : List ℕ) : Type 0 where
   pub queues-are : c .queues ≡ queues p
   pub buffers-are : c .buffers ≡ length (p .sizes)
-  pub numbered : Numbered p numbers (4 + c .queues + c .semaphores + c .buffers) (c .operations) rows
+  pub stored : Stored p bytes rows
 
 -- a sound plan shown by columns, and its rows
 pub record Shown (p : Plan) (n marks : ℕ) (queue mark operation rows : List ℕ) : Type 0 where

@@ -11,7 +11,7 @@ ghost use Rattle.plan_order.specs.Reuse.{verdict as verdict-of, number-of, ques
 ghost use Rattle.plan_order.specs.declared.Verdict.the-variants.{Fresh};
 ghost use Rattle.plan_marks.specs.Passes.{shown-from};
 ghost use Rattle.questions.specs.Reuse.{Asked};
-ghost use Rattle.questions.specs.ReusePass.{Few, Opened, Numbered, Shown, last-shown, seen as is-seen, verdict-after, verdict-from};
+ghost use Rattle.questions.specs.ReusePass.{Opened, Stored, Shown, last-shown, seen as is-seen, verdict-after, verdict-from};
 
 // The reuse question: a verdict as the answer; or the refusal of the plan, of the queue or of the buffer.
 pub fn reuse_question(
@@ -32,13 +32,12 @@ pub fn reuse_question(
             answer: 0,
         };
     }
-    answer(c, queue as usize, buffer as usize, &numbers, table)
+    answer(c, queue as usize, buffer as usize, plan, table)
 }
 
-// The question on a plan that passes, by its counts, its numbers and its rows in the table.
-fn answer(c: Counted, q: usize, b: usize, numbers: &[u64; 22868], table: &[u32]) -> Told
-    requires { ⌜ Few c ⌝ }
-    ensures { λ r. ⌜ ((p : Plan) → Opened p c (now (numbers .entry)) (now (table .entry)) → Tells (question-refusal p q b) (number-of (verdict-of p q b)) r) ⌝ }
+// The question on a plan that passes, by its counts, its bytes and its rows in the table.
+fn answer(c: Counted, q: usize, b: usize, plan: &[u8], table: &[u32]) -> Told
+    ensures { λ r. ⌜ ((p : Plan) → Opened p c (now (plan .entry)) (now (table .entry)) → Tells (question-refusal p q b) (number-of (verdict-of p q b)) r) ⌝ }
 {
     if c.queues <= q {
         return plan_format::refused(12, q);
@@ -46,8 +45,7 @@ fn answer(c: Counted, q: usize, b: usize, numbers: &[u64; 22868], table: &[u32])
     if c.buffers <= b {
         return plan_format::refused(13, b);
     }
-    let first = 4 + c.queues + c.semaphores + c.buffers;
-    let v = verdict_of_numbers(numbers, first, c.operations as u16, q, b, table);
+    let v = verdict_of_plan(plan, q, b, table);
     Told {
         number: 0,
         place: 0,
@@ -55,17 +53,11 @@ fn answer(c: Counted, q: usize, b: usize, numbers: &[u64; 22868], table: &[u32])
     }
 }
 
-// The verdict on a buffer for a queue, by the numbers of a plan of n operations, the first one's at `first`, and its rows in the table.
-fn verdict_of_numbers(
-    numbers: &[u64; 22868],
-    first: usize,
-    n: u16,
-    q: usize,
-    b: usize,
-    table: &[u32],
-) -> Verdict
-    ensures { λ r. ⌜ ((p : Plan) → Numbered p (now (numbers .entry)) first n (now (table .entry)) → r ≡ verdict-of p q b) ⌝ }
+// The verdict on a buffer for a queue, by the bytes of a plan and its rows in the table.
+fn verdict_of_plan(plan: &[u8], q: usize, b: usize, table: &[u32]) -> Verdict
+    ensures { λ r. ⌜ ((p : Plan) → Stored p (now (plan .entry)) (now (table .entry)) → r ≡ verdict-of p q b) ⌝ }
 {
+    let mut owner = [0u16; 64];
     let mut queue = [0u16; 1024];
     let mut wsem = [0u16; 3072];
     let mut wval = [0u64; 3072];
@@ -74,10 +66,9 @@ fn verdict_of_numbers(
     let mut sop = [0u16; 2048];
     let mut mark = [0u16; 4096];
     let mut mop = [0u16; 4096];
-    let filled = plan_columns::fill(
-        numbers,
-        first,
-        n,
+    let l = plan_load::load(
+        plan,
+        &mut owner,
         &mut queue,
         &mut wsem,
         &mut wval,
@@ -87,7 +78,16 @@ fn verdict_of_numbers(
         &mut mark,
         &mut mop,
     );
-    verdict(q, b, n, filled.marks, &queue, &mark, &mop, table)
+    verdict(
+        q,
+        b,
+        l.operations,
+        l.marks as usize,
+        &queue,
+        &mark,
+        &mop,
+        table,
+    )
 }
 
 // The verdict on a buffer for a queue, by the columns of a plan of n operations.

@@ -18,20 +18,8 @@ refused-requires-2 c κs = search needs
 returns-2 : tie.Need-returns-2
 returns-2 c = λ p o. rw (c .refused2 .ensures) (no-buffer o _ _ (c .before .before .before .if1 .left) (c .before .if2 .taken))
 
-add-first : tie.Need-add-first
-add-first c = search needs
-
-add-first-2 : tie.Need-add-first-2
-add-first-2 c = search needs
-
-add-first-3 : tie.Need-add-first-3
-add-first-3 c = search needs
-
-cast-verdict-of-numbers : tie.Need-cast-verdict-of-numbers
-cast-verdict-of-numbers c = search needs
-
-verdict-of-numbers-requires : tie.Need-verdict-of-numbers-requires
-verdict-of-numbers-requires c κs = search needs
+verdict-of-plan-requires : tie.Need-verdict-of-plan-requires
+verdict-of-plan-requires c κs = search needs
 
 number-of-requires : tie.Need-number-of-requires
 number-of-requires c κs = search needs
@@ -39,8 +27,8 @@ number-of-requires c κs = search needs
 returns-3 : tie.Need-returns-3
 returns-3 c =
     λ p o.
-    answered o _ _ (c .before .before .before .before .before .before .before .before .if1 .left) (c .before .before .before .before .before .before .if2 .left)
-    (c .number-of .ensures ∙ ap number-of (c .before .verdict-of-numbers .ensures p (o .numbered)))
+    answered o _ _ (c .before .before .before .before .if1 .left) (c .before .before .if2 .left)
+    (c .number-of .ensures ∙ ap number-of (c .before .verdict-of-plan .ensures p (o .stored)))
 
 pub answer-spec : {M : Type 1} → statement M
 answer-spec =
@@ -50,10 +38,6 @@ answer-spec =
     returns
     refused-requires-2
     returns-2
-    add-first
-    add-first-2
-    add-first-3
-    cast-verdict-of-numbers
-    verdict-of-numbers-requires
+    verdict-of-plan-requires
     number-of-requires
     returns-3)

@@ -1,5 +1,5 @@
 -- `reuse::reuse_question` meets its contract: the check's refusal, or what `answer` says of a plan that passes. Assumes nothing.
-use Rattle.questions.proofs.Passed.{read, few, opened}
+use Rattle.questions.proofs.Passed.{opened}
 use Rattle.questions.proofs.ReuseAsked.{asked, plan-refused, then-asked}
 use borrow.Author.Needs.{needs}
 use Rattle.questions.proofs.reuse.reuse_question.Statement.{statement}
@@ -18,10 +18,7 @@ returns : tie.Need-returns
 returns c = asked _ _ _ _ _ _ _ _ (plan-refused _ _ (c .before .before .before .before .before .before .check-read .ensures .0) (c .if1 .taken))
 
 answer-requires : tie.Need-answer-requires
-answer-requires c κs =
-    let check = c .before .before .before .before .before .before .before .before .check-read .ensures in
-    let passed = c .before .before .if1 .left in
-    few (check .1 .0) (check .0) passed (check .1 .1 (read (check .1 .0) (check .0) passed))
+answer-requires c κs = search needs
 
 same-length-3 : tie.Need-same-length-3
 same-length-3 c = search needs
@@ -31,10 +28,10 @@ same-length-4 c = search needs
 
 returns-2 : tie.Need-returns-2
 returns-2 c =
-    let check = c .before .before .before .before .before .before .before .before .before .check-read .ensures in
-    let passed = c .before .before .before .if1 .left in
+    let check = c .before .before .before .before .before .before .before .before .check-read .ensures in
+    let passed = c .before .before .if1 .left in
     asked _ _ _ _ _ _ _ _ (then-asked _ _ (check .0) passed
-    (c .answer .ensures _ (opened (check .1 .0) (check .0) passed (check .1 .1 (read (check .1 .0) (check .0) passed)))))
+    (c .answer .ensures _ (opened (check .1 .0) (check .0) passed)))
 
 pub reuse-question-spec : {M : Type 1} → statement M
 reuse-question-spec =
