@@ -22,7 +22,7 @@ struct Place {
     marks: usize,
 }
 
-// Fills the column of owners: `many` numbers from `first` on.
+// Fills the column of owners: `many` numbers from `first` on. Where they are no plan's owners the column is free.
 pub fn owners(numbers: &[u64], first: usize, many: usize, owner: &mut [u16; 64])
     ensures { λ _. ⌜ ((p : Plan) → p .owners ≡ take many (drop first (now (numbers .entry))) → first ≤ 22868 → many ≤ 64 → queues p ≤ 16 → ((s : ℕ) → s < length (p .owners) → getD (p .owners) s 0 < queues p) → Owner-column p (now (owner .exit))) ⌝ }
 {

@@ -8,7 +8,7 @@ ghost use Rattle.basics.specs.Lists.{place-or};
 ghost use Rattle.plan_marks.specs.Shown.{Shown};
 ghost use Rattle.plan_marks.specs.Passes.{mark-of, shown-from, noted, no-frees, ordered as is-ordered, late as is-late, early as is-early, first-late, first-early};
 
-// The lowest operation with a broken mark; n where there is none.
+// The lowest operation with a broken mark; n where there is none. Where the columns show no plan the answer is free.
 pub fn broken(
     n: u16,
     marks: usize,

@@ -75,7 +75,7 @@ fn reachable(n: u16, wsem: &[u16; 3072], wval: &[u64; 3072], last: &[u64; 64]) -
     }
 }
 
-// The first of refusals 6 to 8 that a plan's columns deserve.
+// The first of refusals 6 to 8 that a plan's columns deserve. Where they show no plan the answer is free.
 pub fn judge(
     n: u16,
     signals: usize,

@@ -14,7 +14,7 @@ ghost use Rattle.plan_columns.specs.Columns.{Queue-column};
 ghost use Rattle.plan_run.specs.Run.{Shown, Cleared, Rows-of, Ran};
 
 // The standard run into `list`, with the number ready before each step from place n on, and the row of each operation that ran into `rows`,
-// which are all zero before; how many operations ran.
+// which are all zero before; how many operations ran. Where the columns show no plan, the answer, the list and the rows are free.
 pub fn run(
     n: u16,
     queue: &[u16; 1024],
@@ -49,7 +49,7 @@ pub fn run(
     )
 }
 
-// The lowest operation that did not run: its row is zero at its own queue. n if each ran.
+// The lowest operation that did not run: its row is zero at its own queue. n if each ran. Where no plan is shown the answer is free.
 pub fn stuck(n: u16, queue: &[u16; 1024], rows: &[u16; 16416]) -> usize
     ensures { λ r. ⌜ ((p : Plan) → Sound p → count p ≡ n → Queue-column p (now (queue .entry)) → Rows-of p (standard p) (now (rows .entry)) →
         r ≡ place-or n (missing p)) ⌝ }
