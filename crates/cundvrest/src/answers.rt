@@ -97,7 +97,7 @@ pub fn read(plan: &[u8], out: &mut [u8]) -> usize
     ensures { λ r. ⌜ Puts (read-text (now (plan .entry))) (now (out .entry)) 0 (now (out .exit)) r ⌝ }
 {
     let mut numbers = [0u64; 22868];
-    let told = plan_reader::read_plan(plan, &mut numbers);
+    let told = plan_held::read_held(plan, &mut numbers);
     if told.number != 0 {
         return refused(out, told.number, told.place);
     }

@@ -7,11 +7,11 @@ use borrow.Author.Needs.{needs}
 use Rattle.cundvrest.proofs.answers.read.Statement.{statement}
 use Rattle.cundvrest.proofs.answers.read.Tie as tie
 
-slice-aggregate-read-plan : tie.Need-slice-aggregate-read-plan
-slice-aggregate-read-plan c = search needs
+slice-aggregate-read-held : tie.Need-slice-aggregate-read-held
+slice-aggregate-read-held c = search needs
 
-read-plan-requires : tie.Need-read-plan-requires
-read-plan-requires c κs = search needs
+read-held-requires : tie.Need-read-held-requires
+read-held-requires c κs = search needs
 
 refused-requires : tie.Need-refused-requires
 refused-requires c κs = search needs
@@ -21,7 +21,7 @@ same-length c = search needs
 
 returns : tie.Need-returns
 returns c =
-    rw (← (read-refused _ _ _ (c .before .before .before .before .before .before .before .read-plan .result) (c .before .before .before .before .before .before .before .read-plan .ensures) (length-replicate {A = ℕ} 22868 0) (c .before .before .before .before .if1 .taken))) (c .before .before .refused .ensures)
+    rw (← (read-refused _ _ _ (c .before .before .before .before .before .before .before .read-held .result) (c .before .before .before .before .before .before .before .read-held .ensures) (length-replicate {A = ℕ} 22868 0) (c .before .before .before .before .if1 .taken))) (c .before .before .refused .ensures)
 
 slice-aggregate-line : tie.Need-slice-aggregate-line
 slice-aggregate-line c = search needs
@@ -37,15 +37,15 @@ same-length-2 c = search needs
 
 returns-2 : tie.Need-returns-2
 returns-2 c =
-    rw (← (read-listed _ _ _ (c .before .before .before .before .before .before .before .before .before .before .before .before .read-plan .result) (c .before .before .before .before .before .before .before .before .before .before .before .before .read-plan .ensures) (length-replicate {A = ℕ} 22868 0) (c .before .before .before .before .before .before .before .before .before .if1 .left)))
+    rw (← (read-listed _ _ _ (c .before .before .before .before .before .before .before .before .before .before .before .before .read-held .result) (c .before .before .before .before .before .before .before .before .before .before .before .before .read-held .ensures) (length-replicate {A = ℕ} 22868 0) (c .before .before .before .before .before .before .before .before .before .if1 .left)))
     (puts-both (c .before .before .before .before .before .before .line .ensures) (c .before .before .byte .ensures))
 
 pub read-spec : {M : Type 1} → statement M
 read-spec =
     tie.close
     (tie.spec
-    slice-aggregate-read-plan
-    read-plan-requires
+    slice-aggregate-read-held
+    read-held-requires
     refused-requires
     same-length
     returns
