@@ -4,7 +4,7 @@ use mathlib.Core.Path.{_≡_}
 use mathlib.Core.List.{List, [], _∷_, _++_}
 use Prim.Native.Nat.{ℕ, suc, _+_, _*_, _≤_, _<_}
 use lib.ListN.{length, getD}
-use Rattle.plan_format.specs.Plan.{Point, Mark, Operation, Plan, count, op}
+use Rattle.plan_format.specs.Plan.{Point, Mark, Operation, Plan, count, op, queues}
 use Rattle.plan_order.specs.Precedence.{Signal, plan-signals, Resolution, free, on, never, resolve}
 use Rattle.plan_order.specs.Rows.{row}
 
@@ -13,6 +13,10 @@ no-point = record { semaphore = 0; value = 0 }
 
 abbrev pub no-signal : Signal
 no-signal = record { operation = 0; position = 0; semaphore = 0; value = 0 }
+
+-- the axis of each queue, behind how many there are
+unfoldable pub Axis-column : Plan → (head : List ℕ) → Type 0
+Axis-column p head = (q : ℕ) → q < queues p → getD head (1 + q) 0 ≡ getD (p .axes) q 0
 
 -- the owner of each semaphore
 unfoldable pub Owner-column : Plan → (owner : List ℕ) → Type 0

@@ -1,10 +1,10 @@
 -- What a loading comes to: the reader's refusal, or the columns of the plan. Assumes nothing.
 use mathlib.Core.Path.{_≡_, refl, sym, ap, _∙_, subst}
-use mathlib.Core.Bool.{true}
+use mathlib.Core.Bool.{true, cond}
 use mathlib.Core.List.{List, [], _∷_, _++_, append-assoc, append-nil}
-use Prim.Native.Nat.{ℕ, _+_, _-_, _*_, _≤_, _<_}
+use Prim.Native.Nat.{ℕ, suc, _+_, _-_, _*_, _≤_, _<_}
 use native.Mathlib.Omega.{arith}
-use lib.ListN.{length, take, drop, replicate, length-append, length-take, length-drop, length-replicate, take-append-drop}
+use lib.ListN.{length, getD, take, drop, replicate, length-append, length-take, length-drop, length-replicate, take-append-drop, List·getD-append}
 use lib.Seq.{take-append-seam, drop-append-seam, take-at}
 use Rattle.plan_format.specs.Refusal.{none-given, given}
 use Rattle.plan_format.specs.Grammar.{bytes, Scan, scan, times, read-by}
@@ -13,11 +13,13 @@ use Rattle.plan_format.specs.Plan.{Plan, count, queues, operations-in, plan-of}
 use Rattle.plan_format.specs.Sections.{operation-below}
 use Rattle.plan_format.specs.Stored.{scanned, plan-in}
 use Rattle.plan_format.proofs.Answers.{answer-long}
+use Rattle.plan_format.proofs.Judged.{zero-not-given, other-given}
 use Rattle.plan_format.proofs.Faults.{times-stays, read-stays}
 use Rattle.plan_format.proofs.Operations.{operations-long}
 use Rattle.plan_format.proofs.Repeats.{repeat, read-repeat, repeat-stops}
 use Rattle.plan_format.proofs.Seams.{after-seam}
 use Rattle.plan_format.proofs.Sections.{plan-whole}
+use Rattle.plan_columns.specs.Columns.{Axis-column}
 use Rattle.plan_columns.proofs.Plans.{filling-end}
 use Rattle.plan_reader.specs.declared.Head.{Head}
 use Rattle.plan_reader.specs.declared.cursor.Cursor.{Cursor}
@@ -147,28 +149,60 @@ module _ (bs : List ℕ) (h : Head) (nums queue₀ wsem₀ wval₀ ssem₀ sval�
             ap (λ (p : Plan). p .operations) plan-is
             ∙ ap (operations-in first-form (h .operations)) (sym (ap (λ (x : List ℕ). drop (length heading) x) (append-nil all) ∙ drop-append-seam heading (l .blocks)))
 
-        pub load-columns : Loads bs (record { number = 0; place = 0; operations = h .operations; signals = signals; marks = marks }) queue wsem wval ssem sval sop mark mop
+        -- the numbers in front of the operations, and what stands behind them
+        split : nums ≡ (h .queues ∷ front .axes) ++ (h .semaphores ∷ (front .owners ++ ((h .buffers ∷ (front .sizes ++ (h .operations ∷ []))) ++ drop (h .got) nums)))
+        split =
+            sym (take-append-drop (h .got) nums) ∙ ap (λ (x : List ℕ). x ++ drop (h .got) nums) (front .numbers-are) ∙ simp append-assoc
+
+        not-refused : {n m : ℕ} → n ≡ m → n ≡ cond (given (scanned bs .fault)) 0 m
+        not-refused e = rw (zero-not-given (scanned bs .fault) clean) e
+
+        load-axes : Axis-column (plan-in bs) nums
+        unfolding Axis-column queues
+        load-axes q l =
+            let long : q < length (front .axes) = omega (arith, ap (λ (p : Plan). length (p .axes)) plan-is) in
+            let second : 1 + q ≡ suc q = omega arith in
+            let rest = h .semaphores ∷ (front .owners ++ ((h .buffers ∷ (front .sizes ++ (h .operations ∷ []))) ++ drop (h .got) nums)) in
+            ap (λ (x : List ℕ). getD x (1 + q) 0) split
+            ∙ ap (λ (k : ℕ). getD ((h .queues ∷ front .axes) ++ rest) k 0) second
+            ∙ List·getD-append (front .axes) rest 0 q long
+            ∙ ap (λ (p : Plan). getD (p .axes) q 0) (sym plan-is)
+
+        pub load-columns : Loads bs (record { number = 0; place = 0; queues = h .queues; semaphores = h .semaphores; buffers = h .buffers; operations = h .operations; signals = signals; marks = marks }) nums queue wsem wval ssem sval sop mark mop
         unfolding count
         load-columns = record {
           number = numbers .told .number;
           place = numbers .told .place;
+          sizes = record {
+            queues-are = not-refused (sym (ap (λ (p : Plan). length (p .axes)) plan-is ∙ front .axes-long));
+            semaphores-are = not-refused (sym (ap (λ (p : Plan). length (p .owners)) plan-is ∙ front .owners-long));
+            buffers-are = not-refused (sym (ap (λ (p : Plan). length (p .sizes)) plan-is ∙ front .sizes-long));
+            operations-are = not-refused (sym (ap (λ (p : Plan). length (p .operations)) plan-is ∙ operations-long first-form (h .operations) (l .blocks)));
+          };
           none = λ z. absurd (z refl);
-          many = λ _. ap (λ (p : Plan). length (p .operations)) plan-is ∙ operations-long first-form (h .operations) (l .blocks);
+          axes = λ _. load-axes;
           columns = λ _. filling-end (plan-in bs) (limits bs clean) (all ++ []) (h .operations) (length heading) operations-are done (l .filled small []);
         }
 
         pub load-owners : plan-in bs .owners ≡ take (h .semaphores) (drop (2 + h .queues) nums)
         load-owners =
-            let split : nums ≡ (h .queues ∷ front .axes) ++ (h .semaphores ∷ (front .owners ++ ((h .buffers ∷ (front .sizes ++ (h .operations ∷ []))) ++ drop (h .got) nums))) =
-            sym (take-append-drop (h .got) nums) ∙ ap (λ (x : List ℕ). x ++ drop (h .got) nums) (front .numbers-are) ∙ simp append-assoc in
             ap (λ (p : Plan). p .owners) plan-is
             ∙ sym (ap (λ (x : List ℕ). take (h .semaphores) x) (after-seam nums (h .queues ∷ front .axes) (front .owners ++ ((h .buffers ∷ (front .sizes ++ (h .operations ∷ []))) ++ drop (h .got) nums)) (h .semaphores) (2 + h .queues) split (omega (arith, front .axes-long)))
             ∙ take-at (front .owners) ((h .buffers ∷ (front .sizes ++ (h .operations ∷ []))) ++ drop (h .got) nums) (h .semaphores) (front .owners-long))
 
 -- a refusal shows nothing
-pub refused-loads : {bs queue wsem wval ssem sval sop mark mop : List ℕ} {number place : ℕ} → (number ≡ scanned bs .fault .number) × (place ≡ scanned bs .fault .place) → (number ≡ 0 → ⊥) →
-    Loads bs (record { number = number; place = place; operations = 0; signals = 0; marks = 0 }) queue wsem wval ssem sval sop mark mop
-refused-loads (n, p) z = record { number = n; place = p; none = λ _. (refl, refl, refl); many = λ e. absurd (z e); columns = λ e. absurd (z e) }
+pub refused-loads : {bs head queue wsem wval ssem sval sop mark mop : List ℕ} {number place : ℕ} → (number ≡ scanned bs .fault .number) × (place ≡ scanned bs .fault .place) → (number ≡ 0 → ⊥) →
+    Loads bs (record { number = number; place = place; queues = 0; semaphores = 0; buffers = 0; operations = 0; signals = 0; marks = 0 }) head queue wsem wval ssem sval sop mark mop
+refused-loads {bs} (n, p) z =
+    let nothing : (m : ℕ) → 0 ≡ cond (given (scanned bs .fault)) 0 m = λ m. rw (other-given (scanned bs .fault) (λ e. z (n ∙ e))) in
+    record {
+      number = n;
+      place = p;
+      sizes = record { queues-are = nothing _; semaphores-are = nothing _; buffers-are = nothing _; operations-are = nothing _ };
+      none = λ _. (refl, refl);
+      axes = λ e. absurd (z e);
+      columns = λ e. absurd (z e);
+    }
 
 -- ---- the head
 module _ {bs : List ℕ} {h : Head} {nums : List ℕ} (head : Head-read bs h nums) where

@@ -9,18 +9,22 @@ ghost use Rattle.plan_columns.specs.Columns.{Owner-column};
 ghost use Rattle.plan_reader.specs.Reading.{Head-read};
 ghost use Rattle.plan_load.specs.Loading.{Loads};
 
-// How many operations, signals and marks a plan has; or the reader's refusal and its place.
+// How many queues, semaphores, buffers, operations, signals and marks a plan has; or the reader's refusal and its place.
 pub struct Loaded {
     pub number: u32,
     pub place: usize,
+    pub queues: u64,
+    pub semaphores: u64,
+    pub buffers: u64,
     pub operations: u16,
     pub signals: u16,
     pub marks: u16,
 }
 
-// Fills the columns of a stored plan.
+// Fills the columns of a stored plan, and takes the numbers in front of its operations.
 pub fn load(
     plan: &[u8],
+    head: &mut [u64; 340],
     owner: &mut [u16; 64],
     queue: &mut [u16; 1024],
     wsem: &mut [u16; 3072],
@@ -31,18 +35,17 @@ pub fn load(
     mark: &mut [u16; 4096],
     mop: &mut [u16; 4096],
 ) -> Loaded
-    ensures { λ r. ⌜ Loads (now (plan .entry)) r (now (queue .exit)) (now (wsem .exit)) (now (wval .exit)) (now (ssem .exit)) (now (sval .exit)) (now (sop .exit)) (now (mark .exit)) (now (mop .exit)) ⌝ }
+    ensures { λ r. ⌜ Loads (now (plan .entry)) r (now (head .exit)) (now (queue .exit)) (now (wsem .exit)) (now (wval .exit)) (now (ssem .exit)) (now (sval .exit)) (now (sop .exit)) (now (mark .exit)) (now (mop .exit)) ⌝ }
     ensures { λ r. ⌜ (r .number ≡ 0 → Owner-column (plan-in (now (plan .entry))) (now (owner .exit))) ⌝ }
 {
-    let mut numbers = [0u64; 340];
-    let h = plan_reader::read_head(plan, &mut numbers);
+    let h = plan_reader::read_head(plan, head);
     if h.number != 0 {
         return refused(h.number, h.at);
     }
     columns(
         plan,
         h,
-        &numbers,
+        head,
         owner,
         queue,
         wsem,
@@ -57,11 +60,14 @@ pub fn load(
 
 // A refusal at a place.
 fn refused(number: u32, place: usize) -> Loaded
-    ensures { λ r. ⌜ r ≡ record { number = number; place = place; operations = 0; signals = 0; marks = 0 } ⌝ }
+    ensures { λ r. ⌜ r ≡ record { number = number; place = place; queues = 0; semaphores = 0; buffers = 0; operations = 0; signals = 0; marks = 0 } ⌝ }
 {
     Loaded {
         number,
         place,
+        queues: 0,
+        semaphores: 0,
+        buffers: 0,
         operations: 0,
         signals: 0,
         marks: 0,
@@ -69,12 +75,15 @@ fn refused(number: u32, place: usize) -> Loaded
 }
 
 // A plan without a refusal, and what it has.
-fn whole(operations: u16, signals: u16, marks: u16) -> Loaded
-    ensures { λ r. ⌜ r ≡ record { number = 0; place = 0; operations = operations; signals = signals; marks = marks } ⌝ }
+fn whole(h: Head, operations: u16, signals: u16, marks: u16) -> Loaded
+    ensures { λ r. ⌜ r ≡ record { number = 0; place = 0; queues = h .queues; semaphores = h .semaphores; buffers = h .buffers; operations = operations; signals = signals; marks = marks } ⌝ }
 {
     Loaded {
         number: 0,
         place: 0,
+        queues: h.queues,
+        semaphores: h.semaphores,
+        buffers: h.buffers,
         operations,
         signals,
         marks,
@@ -85,7 +94,7 @@ fn whole(operations: u16, signals: u16, marks: u16) -> Loaded
 fn columns(
     plan: &[u8],
     h: Head,
-    numbers: &[u64; 340],
+    head: &[u64; 340],
     owner: &mut [u16; 64],
     queue: &mut [u16; 1024],
     wsem: &mut [u16; 3072],
@@ -96,11 +105,11 @@ fn columns(
     mark: &mut [u16; 4096],
     mop: &mut [u16; 4096],
 ) -> Loaded
-    requires { ⌜ Head-read (now plan) h (now numbers) × (h .number ≡ 0) ⌝ }
-    ensures { λ r. ⌜ Loads (now (plan .entry)) r (now (queue .exit)) (now (wsem .exit)) (now (wval .exit)) (now (ssem .exit)) (now (sval .exit)) (now (sop .exit)) (now (mark .exit)) (now (mop .exit)) ⌝ }
+    requires { ⌜ Head-read (now plan) h (now head) × (h .number ≡ 0) ⌝ }
+    ensures { λ r. ⌜ Loads (now (plan .entry)) r (now (head .exit)) (now (queue .exit)) (now (wsem .exit)) (now (wval .exit)) (now (ssem .exit)) (now (sval .exit)) (now (sop .exit)) (now (mark .exit)) (now (mop .exit)) ⌝ }
     ensures { λ r. ⌜ (r .number ≡ 0 → Owner-column (plan-in (now (plan .entry))) (now (owner .exit))) ⌝ }
 {
-    plan_columns::owners(numbers, 2 + h.queues as usize, h.semaphores as usize, owner);
+    plan_columns::owners(head, 2 + h.queues as usize, h.semaphores as usize, owner);
     operations(plan, h, queue, wsem, wval, ssem, sval, sop, mark, mop)
 }
 
@@ -119,7 +128,7 @@ fn operations(
 ) -> Loaded
     requires { ⌜ h .operations ≤ 1024 ⌝ }
     ensures { λ r. ⌜ ((nums : List ℕ) → Head-read (now (plan .entry)) h nums → h .number ≡ 0 →
-        Loads (now (plan .entry)) r (now (queue .exit)) (now (wsem .exit)) (now (wval .exit)) (now (ssem .exit)) (now (sval .exit)) (now (sop .exit)) (now (mark .exit)) (now (mop .exit)) × (r .number ≡ 0 → plan-in (now (plan .entry)) .owners ≡ take (h .semaphores) (drop (2 + h .queues) nums))) ⌝ }
+        Loads (now (plan .entry)) r nums (now (queue .exit)) (now (wsem .exit)) (now (wval .exit)) (now (ssem .exit)) (now (sval .exit)) (now (sop .exit)) (now (mark .exit)) (now (mop .exit)) × (r .number ≡ 0 → plan-in (now (plan .entry)) .owners ≡ take (h .semaphores) (drop (2 + h .queues) nums))) ⌝ }
 {
     let many = h.operations as u16;
     let mut window = [0u64; 22];
@@ -161,5 +170,5 @@ fn operations(
     if at < plan.len() {
         return refused(3, at);
     }
-    whole(many, signals, marks)
+    whole(h, many, signals, marks)
 }
