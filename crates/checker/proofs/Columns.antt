@@ -6,7 +6,7 @@ use lib.ListN.{length}
 use Rattle.plan_format.specs.Plan.{count}
 use Rattle.plan_format.specs.Sound.{rules-refusal}
 use Rattle.plan_format.specs.Stored.{scanned, plan-in, plan-refusal}
-use Rattle.plan_format.proofs.Judged.{or-else-second, or-else-none}
+use Rattle.plan_format.proofs.Judged.{zero-not-given, or-else-second, or-else-none}
 use Rattle.plan_format.proofs.Plans.{sound-in}
 use Rattle.plan_order.specs.Runs.{standard}
 use Rattle.plan_columns.specs.Columns.{Owner-column, Source-column}
@@ -16,18 +16,38 @@ use Rattle.plan_load.proofs.Limits.{shape, few-semaphores}
 use Rattle.plan_rules.specs.Walks.{Shown as Rules-shown}
 use Rattle.plan_waits.specs.Groups.{Shown as Waits-shown}
 use Rattle.plan_run.specs.Run.{Shown as Sources-shown, Rows-of}
-use Rattle.checker.specs.Passing.{Read, Ruled, Resolved, Run-shown}
+use Rattle.checker.specs.Counting.{Sizes-told, Counts-told, counts-of}
+use Rattle.checker.specs.Passing.{Known-columns, Read, Ruled, Resolved, Run-shown}
 
--- ---- its columns, loaded from its bytes
-module _ {bs queue wsem wval ssem sval sop mark mop : List ℕ} {r : Loaded} (l : Loads bs r queue wsem wval ssem sval sop mark mop) (z : r .number ≡ 0) where
-  loaded-clean : scanned bs .fault .number ≡ 0
-  loaded-clean = sym (l .number) ∙ z
+-- ---- its counts and columns, loaded from its bytes
+module _ {bs head queue wsem wval ssem sval sop mark mop : List ℕ} {r : Loaded} (l : Loads bs r head queue wsem wval ssem sval sop mark mop) where
+  pub loaded-sizes : (n i : ℕ) → Sizes-told bs (counts-of r n i)
+  loaded-sizes n i =
+      let s = l .sizes in
+      record { queues = s .queues-are; semaphores = s .semaphores-are; buffers = s .buffers-are; operations = s .operations-are }
 
-  pub loaded-few : r .operations ≤ 1024
-  loaded-few = subst (λ (k : ℕ). k ≤ 1024) (l .many z) (shape bs loaded-clean .few-operations)
+  pub loaded-counts : Counts-told bs (counts-of r (r .number) (r .place))
+  loaded-counts = record { number = l .number; place = l .place; sizes = loaded-sizes (r .number) (r .place) }
 
-  pub loaded-read : (owner : List ℕ) → Owner-column (plan-in bs) owner → Read bs (r .operations) (r .signals) (r .marks) owner queue wsem wval ssem sval sop mark mop
-  loaded-read owner o = record { read = loaded-clean; many = l .many z; owners-shown = o; columns = l .columns z }
+  pub loaded-known : Known-columns bs (r .marks) head queue mark mop
+  loaded-known = record {
+    axes-shown = λ z. l .axes (l .number ∙ z);
+    queues-shown = λ z. l .columns (l .number ∙ z) .queues-shown;
+    marks-shown = λ z. l .columns (l .number ∙ z) .marks-shown;
+  }
+
+  module _ (z : r .number ≡ 0) where
+    loaded-clean : scanned bs .fault .number ≡ 0
+    loaded-clean = sym (l .number) ∙ z
+
+    loaded-many : count (plan-in bs) ≡ r .operations
+    loaded-many = sym (l .sizes .operations-are ∙ rw (zero-not-given (scanned bs .fault) loaded-clean))
+
+    pub loaded-few : r .operations ≤ 1024
+    loaded-few = subst (λ (k : ℕ). k ≤ 1024) loaded-many (shape bs loaded-clean .few-operations)
+
+    pub loaded-read : (owner : List ℕ) → Owner-column (plan-in bs) owner → Read bs (r .operations) (r .signals) (r .marks) owner queue wsem wval ssem sval sop mark mop
+    loaded-read owner o = record { read = loaded-clean; many = loaded-many; owners-shown = o; columns = l .columns z }
 
 -- ---- what each pass is given
 module _ {bs : List ℕ} {n signals marks : ℕ} {owner queue wsem wval ssem sval sop mark mop : List ℕ}

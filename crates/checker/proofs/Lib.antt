@@ -1,4 +1,3 @@
-pub mod Numbers
 pub mod Columns
 pub mod Answers
 pub mod Orders

@@ -3,16 +3,18 @@ mod decide;
 mod leave;
 
 use plan_format::Told;
+use plan_load::Loaded;
 ghost use mathlib.Core.Path.{_≡_};
 ghost use mathlib.Core.List.{List};
 ghost use Prim.Native.Nat.{ℕ, _≤_};
-ghost use Rattle.plan_format.specs.Stored.{scanned, Tells};
+ghost use Rattle.plan_format.specs.Stored.{Tells};
 ghost use Rattle.plan_order.specs.Check.{room-refusal, Check-says};
 ghost use Rattle.plan_order.specs.Promise.{Checked};
-ghost use Rattle.checker.specs.Counting.{Sizes-told, Counts-told, header-of, Sized, Holds};
-ghost use Rattle.checker.specs.Passing.{Read};
+ghost use Rattle.checker.specs.Counting.{Sizes-told, Counts-told, known-of, counts-of};
+ghost use Rattle.checker.specs.Passing.{Read, Known-columns};
 
-// How many queues, semaphores, buffers and operations a plan has; or the reader's refusal and its place.
+// How many queues, semaphores, buffers and operations a plan has; or a refusal and its place beside them. Each is 0 where the reader refuses
+// the plan.
 pub struct Counted {
     pub number: u32,
     pub place: u64,
@@ -22,26 +24,17 @@ pub struct Counted {
     pub operations: usize,
 }
 
-// The four counts, as they stand among the numbers of a plan.
-struct Header {
-    queues: usize,
-    semaphores: usize,
-    buffers: usize,
-    operations: usize,
+// The same, and how many marks the plan has.
+pub struct Known {
+    pub counted: Counted,
+    pub marks: usize,
 }
 
-// The counts of a stored plan.
+// The counts of a stored plan, or the reader's refusal.
 pub fn counts(plan: &[u8]) -> Counted
     ensures { λ r. ⌜ Counts-told (now (plan .entry)) r ⌝ }
 {
-    let mut numbers = [0u64; 22868];
-    read_counts(plan, &mut numbers)
-}
-
-// The check of a stored plan: 0, and the rows and the run in table and list; or the first refusal and its place.
-pub fn check_plan(plan: &[u8], table: &mut [u32], list: &mut [u32]) -> Told
-    ensures { λ r. ⌜ Checked (now (plan .entry)) r (now (table .entry)) (now (table .exit)) (now (list .entry)) (now (list .exit)) ⌝ }
-{
+    let mut head = [0u64; 340];
     let mut owner = [0u16; 64];
     let mut queue = [0u16; 1024];
     let mut wsem = [0u16; 3072];
@@ -53,6 +46,7 @@ pub fn check_plan(plan: &[u8], table: &mut [u32], list: &mut [u32]) -> Told
     let mut mop = [0u16; 4096];
     let l = plan_load::load(
         plan,
+        &mut head,
         &mut owner,
         &mut queue,
         &mut wsem,
@@ -63,93 +57,110 @@ pub fn check_plan(plan: &[u8], table: &mut [u32], list: &mut [u32]) -> Told
         &mut mark,
         &mut mop,
     );
-    if l.number != 0 {
-        return plan_format::refused(l.number, l.place);
+    with_counts(l, l.number, l.place as u64)
+}
+
+// The check of a stored plan: 0, and the rows and the run in table and list; or the first refusal and its place.
+pub fn check_plan(plan: &[u8], table: &mut [u32], list: &mut [u32]) -> Told
+    ensures { λ r. ⌜ Checked (now (plan .entry)) r (now (table .entry)) (now (table .exit)) (now (list .entry)) (now (list .exit)) ⌝ }
+{
+    let c = check_counted(plan, table, list);
+    Told {
+        number: c.number,
+        place: c.place,
+        answer: 0,
     }
-    check_columns(
+}
+
+// The check with the plan's counts beside its answer.
+pub fn check_counted(plan: &[u8], table: &mut [u32], list: &mut [u32]) -> Counted
+    ensures { λ r. ⌜ Checked (now (plan .entry)) (record { number = r .number; place = r .place; answer = 0 }) (now (table .entry)) (now (table .exit)) (now (list .entry)) (now (list .exit)) ⌝ }
+    ensures { λ r. ⌜ Sizes-told (now (plan .entry)) r ⌝ }
+{
+    let mut head = [0u64; 340];
+    let mut queue = [0u16; 1024];
+    let mut mark = [0u16; 4096];
+    let mut mop = [0u16; 4096];
+    let k = check_known(plan, &mut head, &mut queue, &mut mark, &mut mop, table, list);
+    k.counted
+}
+
+// The check for those who ask on: with the plan's axes behind their count, its queues and its marks in lent columns, which are free where the
+// reader refuses the plan.
+pub fn check_known(
+    plan: &[u8],
+    head: &mut [u64; 340],
+    queue: &mut [u16; 1024],
+    mark: &mut [u16; 4096],
+    mop: &mut [u16; 4096],
+    table: &mut [u32],
+    list: &mut [u32],
+) -> Known
+    ensures { λ r. ⌜ Checked (now (plan .entry)) (record { number = r .counted .number; place = r .counted .place; answer = 0 }) (now (table .entry)) (now (table .exit)) (now (list .entry)) (now (list .exit)) ⌝ }
+    ensures { λ r. ⌜ Sizes-told (now (plan .entry)) (r .counted) ⌝ }
+    ensures { λ r. ⌜ Known-columns (now (plan .entry)) (r .marks) (now (head .exit)) (now (queue .exit)) (now (mark .exit)) (now (mop .exit)) ⌝ }
+{
+    let mut owner = [0u16; 64];
+    let mut wsem = [0u16; 3072];
+    let mut wval = [0u64; 3072];
+    let mut ssem = [0u16; 2048];
+    let mut sval = [0u64; 2048];
+    let mut sop = [0u16; 2048];
+    let l = plan_load::load(
+        plan,
+        head,
+        &mut owner,
+        queue,
+        &mut wsem,
+        &mut wval,
+        &mut ssem,
+        &mut sval,
+        &mut sop,
+        mark,
+        mop,
+    );
+    if l.number != 0 {
+        return with_marks(l, l.number, l.place as u64);
+    }
+    let told = check_columns(
         l.operations,
         l.signals as usize,
         l.marks as usize,
         &owner,
-        &queue,
+        queue,
         &wsem,
         &wval,
         &ssem,
         &sval,
         &sop,
-        &mark,
-        &mop,
+        mark,
+        mop,
         table,
         list,
-    )
+    );
+    with_marks(l, told.number, told.place)
 }
 
-// The check for those who ask on: with the plan's counts, and with its numbers in front of the lent ones. Past them, and where the reader
-// refuses the plan, the lent numbers are free.
-pub fn check_read(
-    plan: &[u8],
-    numbers: &mut [u64; 22868],
-    table: &mut [u32],
-    list: &mut [u32],
-) -> Counted
-    ensures { λ r. ⌜ Checked (now (plan .entry)) (record { number = r .number; place = r .place; answer = 0 }) (now (table .entry)) (now (table .exit)) (now (list .entry)) (now (list .exit)) ⌝ }
-    ensures { λ r. ⌜ Sizes-told (now (plan .entry)) r ⌝ }
-    ensures { λ _. ⌜ (scanned (now (plan .entry)) .fault .number ≡ 0 → Holds (now (plan .entry)) (now (numbers .exit))) ⌝ }
+// The counts of a loaded plan, beside a number and its place.
+fn with_counts(l: Loaded, number: u32, place: u64) -> Counted
+    ensures { λ r. ⌜ r ≡ counts-of l number place ⌝ }
 {
-    let c = read_counts(plan, numbers);
-    let told = check_plan(plan, table, list);
     Counted {
-        number: told.number,
-        place: told.place,
-        queues: c.queues,
-        semaphores: c.semaphores,
-        buffers: c.buffers,
-        operations: c.operations,
+        number,
+        place,
+        queues: l.queues as usize,
+        semaphores: l.semaphores as usize,
+        buffers: l.buffers as usize,
+        operations: l.operations as usize,
     }
 }
 
-// Reads the numbers of a stored plan, and gives its counts.
-fn read_counts(plan: &[u8], numbers: &mut [u64; 22868]) -> Counted
-    ensures { λ r. ⌜ Counts-told (now (plan .entry)) r ⌝ }
-    ensures { λ _. ⌜ (scanned (now (plan .entry)) .fault .number ≡ 0 → Holds (now (plan .entry)) (now (numbers .exit))) ⌝ }
+fn with_marks(l: Loaded, number: u32, place: u64) -> Known
+    ensures { λ r. ⌜ r ≡ known-of l number place ⌝ }
 {
-    let told = plan_reader::read_numbers(plan, numbers);
-    if told.number != 0 {
-        return Counted {
-            number: told.number,
-            place: told.place,
-            queues: 0,
-            semaphores: 0,
-            buffers: 0,
-            operations: 0,
-        };
-    }
-    let h = read_header(numbers);
-    Counted {
-        number: told.number,
-        place: told.place,
-        queues: h.queues,
-        semaphores: h.semaphores,
-        buffers: h.buffers,
-        operations: h.operations,
-    }
-}
-
-// The counts among the numbers of a plan, each in front of its section.
-fn read_header(numbers: &[u64; 22868]) -> Header
-    requires { ⌜ Sized (header-of (now numbers)) ⌝ }
-    ensures { λ r. ⌜ r ≡ header-of (now (numbers .entry)) ⌝ }
-    ensures { λ r. ⌜ Sized r ⌝ }
-{
-    let queues = plan_columns::number(numbers, 0);
-    let semaphores = plan_columns::number(numbers, 1 + queues);
-    let buffers = plan_columns::number(numbers, 2 + queues + semaphores);
-    let operations = plan_columns::number(numbers, 3 + queues + semaphores + buffers);
-    Header {
-        queues,
-        semaphores,
-        buffers,
-        operations,
+    Known {
+        counted: with_counts(l, number, place),
+        marks: l.marks as usize,
     }
 }
 
