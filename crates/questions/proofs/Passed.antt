@@ -1,10 +1,10 @@
--- What is known once the check has passed a plan: it is sound, its numbers stand in front of those read, and its rows in front of the table.
--- Assumes nothing.
-use mathlib.Core.Path.{_≡_, refl, sym, ap, _∙_, subst}
+-- What is known once the check has passed a plan: it is sound, its counts and columns are those lent, and its rows stand in front of the
+-- table. Assumes nothing.
+use mathlib.Core.Path.{_≡_, sym, ap, _∙_, subst}
 use mathlib.Core.Bool.{not}
 use mathlib.Core.Logic.{inl}
 use mathlib.Core.List.{List}
-use Prim.Native.Nat.{ℕ, _+_, _*_, _<_}
+use Prim.Native.Nat.{ℕ, _+_, _*_, _≤_, _<_}
 use native.Mathlib.Omega.{arith}
 use lib.ListN.{length}
 use borrow.Author.Tests.{not-true}
@@ -23,14 +23,12 @@ use Rattle.plan_order.specs.Promise.{unrefused, Checked}
 use Rattle.plan_order.proofs.CheckMeaning.{answer-unrefused}
 use Rattle.plan_order.proofs.OutcomeMeaning.{Left-case, left-untouched, left-zeros, left-rows, check-left-case}
 use Rattle.plan_order.proofs.Rows.{row-at, rows-at, rows-length}
-use Rattle.plan_columns.specs.Columns.{Row-columns}
-use Rattle.checker.specs.Counting.{Sizes-told, header-of, Sized, Holds}
+use Rattle.plan_columns.specs.Columns.{Axis-column, Row-columns}
+use Rattle.checker.specs.Counting.{Sizes-told}
+use Rattle.checker.specs.Passing.{Known-columns}
 use Rattle.checker.specs.declared.Counted.{Counted}
-use Rattle.checker.proofs.Numbers.{with-counts, sized, lengths-are}
-use Rattle.plan_load.specs.Loading.{Loads}
-use Rattle.plan_load.specs.declared.Loaded.{Loaded}
 use Rattle.plan_load.proofs.Limits.{limits}
-use Rattle.questions.specs.ReusePass.{Few, Opened, Stored, Shown}
+use Rattle.questions.specs.ReusePass.{Opened}
 
 -- ---- the outcome of a passed check leaves the rows and the run
 pub passed-leaves : (bs : List ℕ) (t l : ℕ) → check-outcome bs t l .refusal .number ≡ 0 → check-outcome bs t l .leaves ≡ rows-and-run
@@ -79,7 +77,7 @@ module _ {bs : List ℕ} {c : Counted} {t x l y : List ℕ} (sizes : Sizes-told 
   pub rows-shown : Row-columns (plan-in bs) (λ j. j < count (plan-in bs)) x
   rows-shown = subst (λ (z : List ℕ). Row-columns (plan-in bs) (λ j. j < count (plan-in bs)) z) (sym rows-lie) (rows-in-front (plan-in bs) t)
 
-  -- ---- the counts, and the operations among the numbers
+  -- ---- the counts
   pub queues-are : c .queues ≡ queues (plan-in bs)
   unfolding queues
   queues-are = sizes .queues ∙ rw (zero-not-given (scanned bs .fault) read)
@@ -90,45 +88,27 @@ module _ {bs : List ℕ} {c : Counted} {t x l y : List ℕ} (sizes : Sizes-told 
   pub operations-are : count (plan-in bs) ≡ c .operations
   operations-are = sym (sizes .operations ∙ rw (zero-not-given (scanned bs .fault) read))
 
-  semaphores-are : c .semaphores ≡ length (plan-in bs .owners)
-  semaphores-are = sizes .semaphores ∙ rw (zero-not-given (scanned bs .fault) read)
+  pub few-queues : c .queues ≤ 16
+  few-queues = omega (arith, queues-are, sound .few-queues)
 
-  module _ {nums : List ℕ} (holds : Holds bs nums) where
-    header-is : with-counts (c .queues) (c .semaphores) (c .buffers) (c .operations) ≡ header-of nums
-    unfolding queues
-    header-is =
-        let q = queues-are in
-        let s = semaphores-are in
-        let b = buffers-are in
-        let n = operations-are in
-        let same : with-counts (c .queues) (c .semaphores) (c .buffers) (c .operations) ≡
-        with-counts (length (plan-in bs .axes)) (length (plan-in bs .owners)) (length (plan-in bs .sizes)) (count (plan-in bs)) = cc in
-        same ∙ sym (lengths-are holds)
+  pub few-operations : c .operations ≤ 1024
+  few-operations = omega (arith, operations-are, sound .few-operations)
 
-    pub few : Few c
-    few =
-        let s = subst Sized (sym header-is) (sized holds) in
-        record { queues = s .few-queues; semaphores = s .few-semaphores; buffers = s .few-buffers; operations = s .few-operations }
+  -- ---- the columns that the check lends
+  module _ {marks : ℕ} {head queue mark mop : List ℕ} (known : Known-columns bs marks head queue mark mop) where
+    pub axes-shown : Axis-column (plan-in bs) head
+    axes-shown = known .axes-shown read
 
-  pub opened : Opened (plan-in bs) c bs x
-  opened = record {
-    queues-are = queues-are;
-    buffers-are = buffers-are;
-    stored = record { sound = sound; read = read; plan-is = refl; rows-shown = rows-shown };
-  }
-
--- ---- a stored plan, loaded into columns
-pub loaded-shown : {p : Plan} {bs x queue wsem wval ssem sval sop mark mop : List ℕ} {r : Loaded} → Stored p bs x →
-    Loads bs r queue wsem wval ssem sval sop mark mop → Shown p (r .operations) (r .marks) queue mark mop x
-loaded-shown {p} {bs} {x} {queue} {mark = mark} {mop} {r} s l =
-    let z : r .number ≡ 0 = l .number ∙ s .read in
-    let columns = l .columns z in
-    subst (λ (p : Plan). Shown p (r .operations) (r .marks) queue mark mop x) (s .plan-is)
-    (record {
-      sound = subst Sound (sym (s .plan-is)) (s .sound);
-      many = l .many z;
-      few-buffers = limits bs (s .read) .few-buffers;
-      queues-shown = columns .queues-shown;
-      marks-shown = columns .marks-shown;
-      rows-shown = subst (λ (p : Plan). Row-columns p (λ j. j < count p) x) (sym (s .plan-is)) (s .rows-shown);
-    })
+    pub opened : Opened (plan-in bs) c marks queue mark mop x
+    opened = record {
+      queues-are = queues-are;
+      buffers-are = buffers-are;
+      shown = record {
+        sound = sound;
+        many = operations-are;
+        few-buffers = limits bs read .few-buffers;
+        queues-shown = known .queues-shown read;
+        marks-shown = known .marks-shown read;
+        rows-shown = rows-shown;
+      };
+    }

@@ -115,7 +115,7 @@ module _ {bs : List ℕ} (q b : ℕ) {n i : ℕ} {t x l y : List ℕ} (checked :
       })
 
 -- ---- the question's own refusals, and its answer
-module _ {p : Plan} {c : Counted} {numbers rows : List ℕ} (opened : Opened p c numbers rows) (q b : ℕ) where
+module _ {p : Plan} {c : Counted} {marks : ℕ} {queue mark operation rows : List ℕ} (opened : Opened p c marks queue mark operation rows) (q b : ℕ) where
   pub no-queue : c .queues ≤ q → Tells (question-refusal p q b) (number-of (verdict p q b)) (record { number = 12; place = q; answer = 0 })
   unfolding question-refusal or-else refusal given
   no-queue h = rw (le-leb (queues p) q (omega (arith, opened .queues-are))) (record { number = refl; place = refl; answer-is = refl })

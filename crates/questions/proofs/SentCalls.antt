@@ -14,12 +14,13 @@ use Rattle.plan_format.specs.Meaning.{Refuses}
 use Rattle.plan_format.proofs.Judged.{zero-not-given, other-given}
 use Rattle.plan_order.specs.Promise.{Checked}
 use Rattle.checker.specs.declared.Counted.{Counted}
-use Rattle.checker.specs.Counting.{Sizes-told, Holds}
+use Rattle.checker.specs.Counting.{Sizes-told}
+use Rattle.checker.specs.Passing.{Known-columns}
 use Rattle.questions.specs.declared.sent.Sent.{Sent}
 use Rattle.questions.specs.Sent.{cut-to, sent-refusal, Frontier-says}
 use Rattle.questions.specs.SentMeaning.{Frontier-right}
 use Rattle.questions.specs.SentWalk.{row-in}
-use Rattle.questions.proofs.Passed.{read, operations-are, few}
+use Rattle.questions.proofs.Passed.{operations-are, few-queues}
 use Rattle.questions.proofs.SentOutcome.{no-operation, no-capacity, none-refused}
 use Rattle.questions.proofs.SentAnswers.{plan-said, asked-said, frontier-right}
 use Rattle.questions.proofs.SentWalk.{row-lent, sent-found}
@@ -34,10 +35,7 @@ module _ {bs t x l y : List ℕ} (k : Counted) (j c : ℕ) (checked : Checked bs
       frontier-right bs j c r t x l y (subst (λ (a : Sent). Frontier-says bs j c a t x l y) (sym e)
       (plan-said bs j c t x l y (k .number) (k .place) (checked .says) h))
 
-  module _ {nums : List ℕ} (sizes : Sizes-told bs k) (holds : scanned bs .fault .number ≡ 0 → Holds bs nums) (z : k .number ≡ 0) where
-    there : Holds bs nums
-    there = holds (read sizes checked z)
-
+  module _ {marks : ℕ} {head queue mark mop : List ℕ} (sizes : Sizes-told bs k) (known : Known-columns bs marks head queue mark mop) (z : k .number ≡ 0) where
     asked-refused : (r : Sent) (n i : ℕ) → (n ≡ 0 → ⊥) → Refuses (sent-refusal (plan-in bs) j c) n i → r ≡ refused-as n i →
         Frontier-right bs j c r t x l y
     asked-refused r n i h f e =
@@ -59,12 +57,12 @@ module _ {bs t x l y : List ℕ} (k : Counted) (j c : ℕ) (checked : Checked bs
       below = omega (arith, operations-are sizes checked z)
 
       pub row-there : (k .queues ≤ 16) × (16 * j + k .queues ≤ length x) × (1 ≤ c) × (c ≤ 16)
-      row-there = (few sizes checked z there .queues, row-lent sizes checked z there j below, low, high)
+      row-there = (few-queues sizes checked z, row-lent sizes checked z known j below, low, high)
 
-      pub frontier-sent : (f : Frontier) → f ≡ cut-to c (gathered (row-in nums x (16 * j) (k .queues) 0)) →
+      pub frontier-sent : (f : Frontier) → f ≡ cut-to c (gathered (row-in head x (16 * j) (k .queues) 0)) →
           Frontier-right bs j c (record { number = 0; place = 0; frontier = f }) t x l y
       frontier-sent f e =
           let r = none-refused (plan-in bs) j c below low high in
           let a : Sent = record { number = 0; place = 0; frontier = f } in
           frontier-right bs j c a t x l y (asked-said bs j c t x l y (k .number) (k .place) (checked .says) z a (sym (r .0)) (sym (r .1))
-          (rw (zero-not-given (sent-refusal (plan-in bs) j c) (r .0)) (e ∙ sent-found sizes checked z there j below c)))
+          (rw (zero-not-given (sent-refusal (plan-in bs) j c) (r .0)) (e ∙ sent-found sizes checked z known j below c)))

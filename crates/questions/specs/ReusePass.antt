@@ -8,32 +8,11 @@ use lib.ListN.{length, getD}
 use Rattle.basics.specs.Lists.{highest-below, place-or}
 use Rattle.plan_format.specs.Plan.{Plan, count, queues}
 use Rattle.plan_format.specs.Sound.{Sound}
-use Rattle.plan_format.specs.Stored.{scanned, plan-in}
 use Rattle.plan_order.specs.declared.Verdict.{Verdict}
 use Rattle.plan_order.specs.declared.Verdict.the-variants.{Reusable, Held, NotOrdered, StrayUse}
 use Rattle.plan_columns.specs.Columns.{Marked, Queue-column, Mark-columns, Row-columns}
 use Rattle.plan_marks.specs.Passes.{ordered}
 use Rattle.checker.specs.declared.Counted.{Counted}
-
--- the counts are within a plan's limits
-pub record Few (c : Counted) : Type 0 where
-  pub queues : c .queues ≤ 16
-  pub semaphores : c .semaphores ≤ 64
-  pub buffers : c .buffers ≤ 256
-  pub operations : c .operations ≤ 1024
-
--- a sound plan that bytes store, and its rows
-pub record Stored (p : Plan) (bytes rows : List ℕ) : Type 0 where
-  pub sound : Sound p
-  pub read : scanned bytes .fault .number ≡ 0
-  pub plan-is : plan-in bytes ≡ p
-  pub rows-shown : Row-columns p (λ j. j < count p) rows
-
--- the same with the plan's counts
-pub record Opened (p : Plan) (c : Counted) (bytes rows : List ℕ) : Type 0 where
-  pub queues-are : c .queues ≡ queues p
-  pub buffers-are : c .buffers ≡ length (p .sizes)
-  pub stored : Stored p bytes rows
 
 -- a sound plan shown by columns, and its rows
 pub record Shown (p : Plan) (n marks : ℕ) (queue mark operation rows : List ℕ) : Type 0 where
@@ -43,6 +22,12 @@ pub record Shown (p : Plan) (n marks : ℕ) (queue mark operation rows : List �
   pub queues-shown : Queue-column p queue
   pub marks-shown : Mark-columns p marks mark operation
   pub rows-shown : Row-columns p (λ j. j < count p) rows
+
+-- the same with the plan's counts
+pub record Opened (p : Plan) (c : Counted) (marks : ℕ) (queue mark operation rows : List ℕ) : Type 0 where
+  pub queues-are : c .queues ≡ queues p
+  pub buffers-are : c .buffers ≡ length (p .sizes)
+  pub shown : Shown p (c .operations) marks queue mark operation rows
 
 -- 01: "the queue's last operation", of n; 1,024 where there is none
 unfoldable pub last-shown : (queue : List ℕ) → (q n : ℕ) → ℕ

@@ -1,4 +1,4 @@
--- A row as it lies: the axes among the numbers of a plan, the epochs in the table. Assumes nothing: these are definitions.
+-- A row as it lies: the axes among the numbers of a head, the epochs in the table. Assumes nothing: these are definitions.
 use mathlib.Core.List.{List}
 use Prim.Native.Nat.{ℕ, _+_}
 use lib.ListN.{getD}
@@ -6,6 +6,6 @@ use Rattle.basics.specs.Lists.{tabulate-from}
 use Rattle.frontier.specs.declared.Entry.{Entry}
 
 -- the entries of so many queues from one on, of the row that begins at `first` in the table; the axes stand after their count
-unfoldable pub row-in : (numbers table : List ℕ) → (first many start : ℕ) → List Entry
-row-in numbers table first many start =
-    tabulate-from many start (λ q. record { axis = getD numbers (1 + q) 0; epoch = getD table (first + q) 0 })
+unfoldable pub row-in : (head table : List ℕ) → (first many start : ℕ) → List Entry
+row-in head table first many start =
+    tabulate-from many start (λ q. record { axis = getD head (1 + q) 0; epoch = getD table (first + q) 0 })

@@ -11,7 +11,7 @@ ghost use Rattle.plan_order.specs.Reuse.{verdict as verdict-of, number-of, ques
 ghost use Rattle.plan_order.specs.declared.Verdict.the-variants.{Fresh};
 ghost use Rattle.plan_marks.specs.Passes.{shown-from};
 ghost use Rattle.questions.specs.Reuse.{Asked};
-ghost use Rattle.questions.specs.ReusePass.{Opened, Stored, Shown, last-shown, seen as is-seen, verdict-after, verdict-from};
+ghost use Rattle.questions.specs.ReusePass.{Opened, Shown, last-shown, seen as is-seen, verdict-after, verdict-from};
 
 // The reuse question: a verdict as the answer; or the refusal of the plan, of the queue or of the buffer.
 pub fn reuse_question(
@@ -23,8 +23,20 @@ pub fn reuse_question(
 ) -> Told
     ensures { λ r. ⌜ Asked (now (plan .entry)) queue buffer r (now (table .entry)) (now (table .exit)) (now (list .entry)) (now (list .exit)) ⌝ }
 {
-    let mut numbers = [0u64; 22868];
-    let c = checker::check_read(plan, &mut numbers, table, list);
+    let mut head = [0u64; 340];
+    let mut queues = [0u16; 1024];
+    let mut mark = [0u16; 4096];
+    let mut mop = [0u16; 4096];
+    let k = checker::check_known(
+        plan,
+        &mut head,
+        &mut queues,
+        &mut mark,
+        &mut mop,
+        table,
+        list,
+    );
+    let c = k.counted;
     if c.number != 0 {
         return Told {
             number: c.number,
@@ -32,12 +44,30 @@ pub fn reuse_question(
             answer: 0,
         };
     }
-    answer(c, queue as usize, buffer as usize, plan, table)
+    answer(
+        c,
+        k.marks,
+        queue as usize,
+        buffer as usize,
+        &queues,
+        &mark,
+        &mop,
+        table,
+    )
 }
 
-// The question on a plan that passes, by its counts, its bytes and its rows in the table.
-fn answer(c: Counted, q: usize, b: usize, plan: &[u8], table: &[u32]) -> Told
-    ensures { λ r. ⌜ ((p : Plan) → Opened p c (now (plan .entry)) (now (table .entry)) → Tells (question-refusal p q b) (number-of (verdict-of p q b)) r) ⌝ }
+// The question on a plan that passes, by its counts, its columns and its rows in the table.
+fn answer(
+    c: Counted,
+    marks: usize,
+    q: usize,
+    b: usize,
+    queue: &[u16; 1024],
+    mark: &[u16; 4096],
+    mop: &[u16; 4096],
+    table: &[u32],
+) -> Told
+    ensures { λ r. ⌜ ((p : Plan) → Opened p c marks (now (queue .entry)) (now (mark .entry)) (now (mop .entry)) (now (table .entry)) → Tells (question-refusal p q b) (number-of (verdict-of p q b)) r) ⌝ }
 {
     if c.queues <= q {
         return plan_format::refused(12, q);
@@ -45,7 +75,7 @@ fn answer(c: Counted, q: usize, b: usize, plan: &[u8], table: &[u32]) -> Told
     if c.buffers <= b {
         return plan_format::refused(13, b);
     }
-    let v = verdict_of_plan(plan, q, b, table);
+    let v = verdict(q, b, c.operations, marks, queue, mark, mop, table);
     Told {
         number: 0,
         place: 0,
@@ -53,48 +83,11 @@ fn answer(c: Counted, q: usize, b: usize, plan: &[u8], table: &[u32]) -> Told
     }
 }
 
-// The verdict on a buffer for a queue, by the bytes of a plan and its rows in the table.
-fn verdict_of_plan(plan: &[u8], q: usize, b: usize, table: &[u32]) -> Verdict
-    ensures { λ r. ⌜ ((p : Plan) → Stored p (now (plan .entry)) (now (table .entry)) → r ≡ verdict-of p q b) ⌝ }
-{
-    let mut owner = [0u16; 64];
-    let mut queue = [0u16; 1024];
-    let mut wsem = [0u16; 3072];
-    let mut wval = [0u64; 3072];
-    let mut ssem = [0u16; 2048];
-    let mut sval = [0u64; 2048];
-    let mut sop = [0u16; 2048];
-    let mut mark = [0u16; 4096];
-    let mut mop = [0u16; 4096];
-    let l = plan_load::load(
-        plan,
-        &mut owner,
-        &mut queue,
-        &mut wsem,
-        &mut wval,
-        &mut ssem,
-        &mut sval,
-        &mut sop,
-        &mut mark,
-        &mut mop,
-    );
-    verdict(
-        q,
-        b,
-        l.operations,
-        l.marks as usize,
-        &queue,
-        &mark,
-        &mop,
-        table,
-    )
-}
-
-// The verdict on a buffer for a queue, by the columns of a plan of n operations.
+// The verdict on a buffer for a queue, by the columns of a plan of n operations and its rows in the table.
 fn verdict(
     q: usize,
     b: usize,
-    n: u16,
+    n: usize,
     marks: usize,
     queue: &[u16; 1024],
     mark: &[u16; 4096],
@@ -108,10 +101,10 @@ fn verdict(
 }
 
 // The queue's last operation; 1,024 where it has none.
-fn last_on(n: u16, queue: &[u16], q: usize) -> usize
+fn last_on(n: usize, queue: &[u16], q: usize) -> usize
     ensures { λ r. ⌜ r ≡ last-shown (now (queue .entry)) q n ⌝ }
 {
-    let mut i = n as usize;
+    let mut i = n;
     while 0 < i {
         i -= 1;
         if cells::get16(queue, i) == q {

@@ -27,8 +27,20 @@ pub fn frontier_of(
 ) -> Sent
     ensures { λ r. ⌜ Frontier-right (now (plan .entry)) operation capacity r (now (table .entry)) (now (table .exit)) (now (list .entry)) (now (list .exit)) ⌝ }
 {
-    let mut numbers = [0u64; 22868];
-    let checked = checker::check_read(plan, &mut numbers, table, list);
+    let mut head = [0u64; 340];
+    let mut queues = [0u16; 1024];
+    let mut mark = [0u16; 4096];
+    let mut mop = [0u16; 4096];
+    let k = checker::check_known(
+        plan,
+        &mut head,
+        &mut queues,
+        &mut mark,
+        &mut mop,
+        table,
+        list,
+    );
+    let checked = k.counted;
     if checked.number != 0 {
         return refused(checked.number, checked.place);
     }
@@ -42,7 +54,7 @@ pub fn frontier_of(
     if Frontier::MOST < capacity {
         return refused(15, 0);
     }
-    let frontier = send(&numbers, table, checked.queues, 16 * j, capacity);
+    let frontier = send(&head, table, checked.queues, 16 * j, capacity);
     Sent {
         number: 0,
         place: 0,
@@ -63,29 +75,29 @@ fn refused(number: u32, place: u64) -> Sent
 
 // The row that begins at `first` in the table, under the axes, cut to a capacity as a merge is.
 fn send(
-    numbers: &[u64; 22868],
+    head: &[u64; 340],
     table: &[u32],
     queues: usize,
     first: usize,
     capacity: u32,
 ) -> Frontier
     requires { ⌜ (queues ≤ 16) × (first + queues ≤ length (now table)) × (1 ≤ capacity) × (capacity ≤ 16) ⌝ }
-    ensures { λ r. ⌜ r ≡ cut-to capacity (gathered (row-in (now (numbers .entry)) (now (table .entry)) first queues 0)) ⌝ }
+    ensures { λ r. ⌜ r ≡ cut-to capacity (gathered (row-in (now (head .entry)) (now (table .entry)) first queues 0)) ⌝ }
 {
-    let whole = gather(numbers, table, queues, first);
+    let whole = gather(head, table, queues, first);
     let merged = whole.merge(Frontier::empty(), capacity);
     merged.frontier
 }
 
 // One axis raised after the other: no capacity cuts sixteen.
-fn gather(numbers: &[u64; 22868], table: &[u32], queues: usize, first: usize) -> Frontier
+fn gather(head: &[u64; 340], table: &[u32], queues: usize, first: usize) -> Frontier
     requires { ⌜ (queues ≤ 16) × (first + queues ≤ length (now table)) ⌝ }
-    ensures { λ r. ⌜ r ≡ pack (gathered (row-in (now (numbers .entry)) (now (table .entry)) first queues 0)) false ⌝ }
+    ensures { λ r. ⌜ r ≡ pack (gathered (row-in (now (head .entry)) (now (table .entry)) first queues 0)) false ⌝ }
 {
     let mut f = Frontier::empty();
     let mut q: usize = 0;
     while q < queues {
-        let raised = f.raise(numbers[1 + q], wide(table[first + q]), Frontier::MOST);
+        let raised = f.raise(head[1 + q], wide(table[first + q]), Frontier::MOST);
         f = raised.frontier;
         q += 1;
     }

@@ -18,8 +18,8 @@ refused-requires-2 c κs = search needs
 returns-2 : tie.Need-returns-2
 returns-2 c = λ p o. rw (c .refused2 .ensures) (no-buffer o _ _ (c .before .before .before .if1 .left) (c .before .if2 .taken))
 
-verdict-of-plan-requires : tie.Need-verdict-of-plan-requires
-verdict-of-plan-requires c κs = search needs
+verdict-requires : tie.Need-verdict-requires
+verdict-requires c κs = search needs
 
 number-of-requires : tie.Need-number-of-requires
 number-of-requires c κs = search needs
@@ -28,7 +28,7 @@ returns-3 : tie.Need-returns-3
 returns-3 c =
     λ p o.
     answered o _ _ (c .before .before .before .before .if1 .left) (c .before .before .if2 .left)
-    (c .number-of .ensures ∙ ap number-of (c .before .verdict-of-plan .ensures p (o .stored)))
+    (c .number-of .ensures ∙ ap number-of (c .before .verdict .ensures p (o .shown)))
 
 pub answer-spec : {M : Type 1} → statement M
 answer-spec =
@@ -38,6 +38,6 @@ answer-spec =
     returns
     refused-requires-2
     returns-2
-    verdict-of-plan-requires
+    verdict-requires
     number-of-requires
     returns-3)

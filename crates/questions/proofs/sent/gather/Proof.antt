@@ -13,11 +13,11 @@ use Rattle.questions.proofs.sent.gather.Statement.{statement}
 use Rattle.questions.proofs.sent.gather.Tie as tie
 
 abbrev Inv-loop : tie.InvT-loop
-Inv-loop numbers table queues first f₀ q₀ f q =
-    (q ≤ queues) × (raises (left-from numbers table first queues q) f ≡ raises (left-from numbers table first queues 0) (pack [] false))
+Inv-loop head table queues first f₀ q₀ f q =
+    (q ≤ queues) × (raises (left-from head table first queues q) f ≡ raises (left-from head table first queues 0) (pack [] false))
 
 abbrev μ-loop : tie.MeasureT-loop
-μ-loop numbers table queues first f₀ q₀ f q = queues - q
+μ-loop head table queues first f₀ q₀ f q = queues - q
 
 empty-requires : tie.Need-empty-requires Inv-loop μ-loop
 empty-requires c κs = search needs
