@@ -22,10 +22,9 @@ pub fn refused(out: &mut [u8], number: u32, place: u64) -> usize
 pub fn check(plan: &[u8], out: &mut [u8]) -> usize
     ensures { λ r. ⌜ Check-printed (now (plan .entry)) (now (out .entry)) (now (out .exit)) r ⌝ }
 {
-    let mut numbers = [0u64; 22868];
     let mut table = [0u32; 16384];
     let mut list = [0u32; 2048];
-    let counts = checker::check_read(plan, &mut numbers, &mut table, &mut list);
+    let counts = checker::check_counted(plan, &mut table, &mut list);
     if counts.number != 0 {
         return refused(out, counts.number, counts.place);
     }
