@@ -1,14 +1,13 @@
--- What is left of a walk over the columns: each turn of a loop takes one step of it. Assumes nothing.
+-- What is left of the walk over the signals: each turn of the loop takes one step of it. Assumes nothing.
 use mathlib.Core.Path.{_≡_, refl, sym, _∙_}
 use mathlib.Core.List.{List}
-use Prim.Native.Nat.{ℕ, suc, _+_, _-_, _/_, _≤_, _<_}
+use Prim.Native.Nat.{ℕ, suc, _+_, _-_, _≤_, _<_}
 use native.Mathlib.Omega.{arith}
 use lib.ListN.{getD, set}
-use borrow.Author.Tests.{lt-ltb, le-ltb, le-leb, lt-leb, eq-eqb, ne-eqb}
+use borrow.Author.Tests.{le-leb, lt-leb, eq-eqb, ne-eqb}
 use Rattle.plan_format.specs.Refusal.{refusal, none-given}
-use Rattle.plan_rules.specs.Walks.{signals-walk, lasts, waits-walk}
+use Rattle.plan_rules.specs.Walks.{signals-walk, lasts}
 
--- ---- signals
 -- from k on, with this table, the walk finds and leaves what the whole does
 pub record Signals-left (owner queue ssem sval sop : List ℕ) (m : ℕ) (first : List ℕ) (k : ℕ) (last : List ℕ) : Type 0 where
   pub found : signals-walk owner queue ssem sval sop (m - k) k last ≡ signals-walk owner queue ssem sval sop m 0 first
@@ -51,29 +50,3 @@ module _ {owner queue ssem sval sop : List ℕ} {m : ℕ} {first : List ℕ} whe
     pub table-end : last ≡ lasts ssem sval m 0 first
     unfolding lasts
     table-end = sym (rw past) ∙ left .table
-
--- ---- waits
-pub record Waits-left (wsem wval last : List ℕ) (m k : ℕ) : Type 0 where
-  pub found : waits-walk wsem wval last (m - k) k ≡ waits-walk wsem wval last m 0
-
-module _ {wsem wval last : List ℕ} {m : ℕ} where
-  pub waits-none : Waits-left wsem wval last m 0
-  waits-none = let e : m - 0 ≡ m = omega arith in record { found = rw e }
-
-  module _ {k x v l : ℕ} (left : Waits-left wsem wval last m k) (inside : k < m) (ex : x ≡ getD wsem k 0) (ev : v ≡ getD wval k 0) (el : l ≡ getD last x 0) where
-    one-wait : m - k ≡ suc (m - suc k)
-    one-wait = omega arith
-
-    pub waits-eight : l < v → refusal 8 (k / 3) ≡ waits-walk wsem wval last m 0
-    unfolding waits-walk
-    waits-eight h = sym (rw (one-wait, ← ex, ← ev, ← el, lt-ltb l v h)) ∙ left .found
-
-    pub waits-more : v ≤ l → Waits-left wsem wval last m (k + 1)
-    unfolding waits-walk
-    waits-more h =
-        let here : k + 1 ≡ suc k = omega arith in
-        record { found = rw here (sym (rw (one-wait, ← ex, ← ev, ← el, le-ltb l v h)) ∙ left .found) }
-
-  pub waits-end : {k : ℕ} → Waits-left wsem wval last m k → m ≤ k → none-given ≡ waits-walk wsem wval last m 0
-  unfolding waits-walk
-  waits-end {k} left out = sym (let e : m - k ≡ 0 = omega arith in rw e) ∙ left .found

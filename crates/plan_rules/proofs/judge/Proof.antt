@@ -1,29 +1,109 @@
--- `plan_rules::judge` gives what the laws of the walks say. Assumes nothing.
-use mathlib.Core.Path.{ap}
+-- `plan_rules::judge` walks the signals: the invariant is what is left of the walk. Assumes nothing.
+use mathlib.Core.Path.{_≡_, refl, ap, _∙_}
+use Prim.Native.Nat.{_-_}
+use native.Mathlib.Omega.{arith}
 use borrow.Author.Needs.{needs}
-use Rattle.plan_format.specs.Refusal.{Refusal}
-use Rattle.plan_rules.specs.Walks.{judged}
-use Rattle.plan_rules.proofs.Shows.{six-seven, eight}
+use lib.ListN.{length, length-set}
+use Rattle.plan_format.specs.Refusal.{refusal, none-given}
+use Rattle.plan_rules.proofs.Flat.{zeros}
+use Rattle.plan_rules.proofs.Shows.{judged}
+use Rattle.plan_rules.proofs.Loops.{Signals-left, signals-none, signals-six, signals-seven, signals-more, signals-end, table-end}
 use Rattle.plan_rules.proofs.judge.Statement.{statement}
 use Rattle.plan_rules.proofs.judge.Tie as tie
 
-rising-requires : tie.Need-rising-requires
-rising-requires c κs = search needs
+abbrev Inv-loop : tie.InvT-loop
+Inv-loop signals owner queue ssem sval sop last₀ k₀ last k = (length last ≡ 64) × Signals-left owner queue ssem sval sop signals zeros k last
 
-returns : tie.Need-returns
+abbrev μ-loop : tie.MeasureT-loop
+μ-loop signals owner queue ssem sval sop last₀ k₀ last k = signals - k
+
+loop-holds : tie.Need-loop-holds Inv-loop μ-loop
+loop-holds c = (refl, signals-none)
+
+get16-requires : tie.Need-get16-requires Inv-loop μ-loop
+get16-requires c κs = search needs
+
+get16-requires-2 : tie.Need-get16-requires-2 Inv-loop μ-loop
+get16-requires-2 c κs = search needs
+
+get64-requires : tie.Need-get64-requires Inv-loop μ-loop
+get64-requires c κs = search needs
+
+get16-requires-3 : tie.Need-get16-requires-3 Inv-loop μ-loop
+get16-requires-3 c κs = search needs
+
+get16-requires-4 : tie.Need-get16-requires-4 Inv-loop μ-loop
+get16-requires-4 c κs = search needs
+
+returns : tie.Need-returns Inv-loop μ-loop
 returns c p shown =
-    let e = six-seven shown (judged (c .before .before .rising .result)) (c .before .before .rising .ensures .0) (c .if1 .taken) in
-    (ap (λ (r : Refusal). r .number) e, ap (λ (r : Refusal). r .place) e)
+    let read = c .before in
+    let first = read .before .before .before .before .before .before .before .before in
+    judged shown _
+    (signals-six (first .before .before .before .loop .inv .1) (first .before .before .loop-test .taken) (first .get16 .ensures) (read .before .before .before .before .before .before .get162 .ensures) (read .before .before .before .before .get64 .ensures)
+    (read .before .before .get163 .ensures) (read .get164 .ensures) (c .if1 .taken))
+    (λ z. absurd (omega arith))
 
-reachable-requires : tie.Need-reachable-requires
-reachable-requires c κs = search needs
+slice-aggregate-get64 : tie.Need-slice-aggregate-get64 Inv-loop μ-loop
+slice-aggregate-get64 c = search needs
 
-returns-2 : tie.Need-returns-2
+get64-requires-2 : tie.Need-get64-requires-2 Inv-loop μ-loop
+get64-requires-2 c κs = search needs
+
+returns-2 : tie.Need-returns-2 Inv-loop μ-loop
 returns-2 c p shown =
-    let rose = c .before .before .before .before .rising in
-    let none = c .before .before .if1 .left in
-    let e = eight shown (judged (rose .result)) (judged (c .reachable .result)) _ (rose .ensures .0) none (rose .ensures .1 none) (c .reachable .ensures) in
-    (ap (λ (r : Refusal). r .number) e, ap (λ (r : Refusal). r .place) e)
+    let read = c .before .before .before .before in
+    let first = read .before .before .before .before .before .before .before .before in
+    judged shown _
+    (signals-seven (first .before .before .before .loop .inv .1) (first .before .before .loop-test .taken) (first .get16 .ensures) (read .before .before .before .before .before .before .get162 .ensures) (read .before .before .before .before .get64 .ensures)
+    (read .before .before .get163 .ensures) (read .get164 .ensures) (c .before .before .before .if1 .left) (c .before .get642 .ensures) (c .if2 .taken))
+    (λ z. absurd (omega arith))
+
+slice-aggregate-put64 : tie.Need-slice-aggregate-put64 Inv-loop μ-loop
+slice-aggregate-put64 c = search needs
+
+put64-requires : tie.Need-put64-requires Inv-loop μ-loop
+put64-requires c κs = search needs
+
+add-k : tie.Need-add-k Inv-loop μ-loop
+add-k c = search needs
+
+loop-less : tie.Need-loop-less Inv-loop μ-loop
+loop-less c = search needs
+
+loop-again : tie.Need-loop-again Inv-loop μ-loop
+loop-again c =
+    let read = c .before .before .before .before .before .before .before in
+    let first = read .before .before .before .before .before .before .before .before in (
+      ap length (c .before .put64 .ensures) ∙ simp length-set (first .before .before .before .loop .inv .0),
+      signals-more (first .before .before .before .loop .inv .1) (first .before .before .loop-test .taken) (first .get16 .ensures) (read .before .before .before .before .before .before .get162 .ensures) (read .before .before .before .before .get64 .ensures)
+          (read .before .before .get163 .ensures) (read .get164 .ensures) (c .before .before .before .before .before .before .if1 .left) (c .before .before .before .before .get642 .ensures) (c .before .before .before .if2 .left) (c .before .put64 .ensures),
+    )
+
+returns-3 : tie.Need-returns-3 Inv-loop μ-loop
+unfolding none-given refusal
+returns-3 c p shown =
+    judged shown _ (signals-end (c .before .loop .inv .1) (c .loop-test .left)) (λ z. table-end (c .before .loop .inv .1) (c .loop-test .left))
 
 pub judge-spec : {M : Type 1} → statement M
-judge-spec = tie.close (tie.spec rising-requires returns reachable-requires returns-2)
+judge-spec =
+    tie.close
+    (tie.spec
+    Inv-loop
+    μ-loop
+    loop-holds
+    get16-requires
+    get16-requires-2
+    get64-requires
+    get16-requires-3
+    get16-requires-4
+    returns
+    slice-aggregate-get64
+    get64-requires-2
+    returns-2
+    slice-aggregate-put64
+    put64-requires
+    add-k
+    loop-less
+    loop-again
+    returns-3)
