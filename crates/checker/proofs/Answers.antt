@@ -1,7 +1,7 @@
 -- Refusals 1 to 9 as answers of the check: table and list untouched. Assumes nothing.
-use mathlib.Core.Path.{_≡_, refl, sym, ap, _∙_, subst}
+use mathlib.Core.Path.{_≡_, refl, sym, ap, ap₂, _∙_, subst}
 use mathlib.Core.Bool.{Bool, true, false, cond}
-use mathlib.Core.List.{List}
+use mathlib.Core.List.{List, []}
 use Prim.Native.Nat.{ℕ, _*_, _≤_, _<_}
 use native.Mathlib.Omega.{arith}
 use lib.Dec.{ltb}
@@ -10,12 +10,17 @@ use borrow.Author.Tests.{lt-ltb, le-ltb, ltb-false}
 use Rattle.basics.proofs.Tests.{by-cases}
 use Rattle.plan_format.specs.Refusal.{Refusal, refusal, none-given, given, or-else}
 use Rattle.plan_format.specs.Plan.{count}
-use Rattle.plan_format.specs.Sound.{rules-refusal}
+use Rattle.plan_format.specs.Sound.{signals-refusal, waits-refusal, rules-refusal}
 use Rattle.plan_format.specs.Stored.{scanned, plan-in, plan-refusal, room-for, Tells}
 use Rattle.plan_format.specs.declared.Told.{Told}
 use Rattle.plan_format.proofs.Judged.{other-given, or-else-first, or-else-second, or-else-none}
 use Rattle.plan_order.specs.Check.{room-refusal, Outcome, untouched, outcome, check-outcome, table-left, list-left, left-in, Says, Check-says}
 use Rattle.plan_order.proofs.Outcomes.{plan-refused, room-refused}
+use Rattle.plan_rules.specs.declared.Signalled.{Signalled}
+use Rattle.plan_rules.specs.Walks.{Judged}
+use Rattle.plan_waits.specs.declared.Ruled.{Ruled as Waited}
+use Rattle.plan_waits.specs.Waits.{Resolved as Waits-resolved}
+use Rattle.plan_waits.proofs.Rules.{six-seven-first, then-eight}
 use Rattle.checker.specs.Leaving.{Room}
 
 abbrev pub told : (number place : ℕ) → Told
@@ -63,11 +68,21 @@ module _ (bs : List ℕ) (r : Told) (t l : List ℕ) where
       of-plan f (or-else-first f (rules-refusal (plan-in bs)) g) g e
 
   -- 6 to 8
-  pub not-ruled : scanned bs .fault .number ≡ 0 → (r .number ≡ 0 → ⊥) → r ≡ told (rules-refusal (plan-in bs) .number) (rules-refusal (plan-in bs) .place) → Check-says bs r t t l l
+  not-ruled : scanned bs .fault .number ≡ 0 → (f : Refusal) → rules-refusal (plan-in bs) ≡ f → (r .number ≡ 0 → ⊥) → r ≡ told (f .number) (f .place) → Check-says bs r t t l l
   unfolding plan-refusal
-  not-ruled clean z e =
-      let f = rules-refusal (plan-in bs) in
-      of-plan f (or-else-second (scanned bs .fault) f clean) (other-given f (λ x. z (ap (λ (y : Told). y .number) e ∙ x))) e
+  not-ruled clean f same z e =
+      of-plan f (or-else-second (scanned bs .fault) (rules-refusal (plan-in bs)) clean ∙ same) (other-given f (λ x. z (ap (λ (y : Told). y .number) e ∙ x))) e
+
+  pub not-signalled : scanned bs .fault .number ≡ 0 → {j : Signalled} → Judged (plan-in bs) j → (j .number ≡ 0 → ⊥) → r ≡ told (j .number) (j .place) → Check-says bs r t t l l
+  not-signalled clean {j} judged z e =
+      let f = signals-refusal 0 (plan-in bs) [] (plan-in bs .operations) in
+      not-ruled clean f (six-seven-first (plan-in bs) (λ x. z (judged .number ∙ x))) (λ x. z (sym (ap (λ (y : Told). y .number) e) ∙ x)) (e ∙ ap₂ told (judged .number) (judged .place))
+
+  pub not-reached : scanned bs .fault .number ≡ 0 → {j : Signalled} → Judged (plan-in bs) j → j .number ≡ 0 → {w : Waited} {source : List ℕ} → Waits-resolved (plan-in bs) w source →
+      (w .number ≡ 0 → ⊥) → r ≡ told (w .number) (w .place) → Check-says bs r t t l l
+  not-reached clean judged y {w} resolved z e =
+      let f = waits-refusal 0 (plan-in bs) (plan-in bs .operations) in
+      not-ruled clean f (then-eight (plan-in bs) (sym (judged .number) ∙ y)) (λ x. z (sym (ap (λ (y : Told). y .number) e) ∙ x)) (e ∙ ap₂ told (resolved .number) (resolved .place))
 
   -- 9
   pub no-room : (n : ℕ) → count (plan-in bs) ≡ n → plan-refusal bs .number ≡ 0 → Tells (room-refusal n (length t) (length l)) 0 r → (r .number ≡ 0 → ⊥) → Check-says bs r t t l l

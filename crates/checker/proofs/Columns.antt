@@ -9,15 +9,18 @@ use Rattle.plan_format.specs.Stored.{scanned, plan-in, plan-refusal}
 use Rattle.plan_format.proofs.Judged.{zero-not-given, or-else-second, or-else-none}
 use Rattle.plan_format.proofs.Plans.{sound-in}
 use Rattle.plan_order.specs.Runs.{standard}
-use Rattle.plan_columns.specs.Columns.{Owner-column, Source-column}
+use Rattle.plan_columns.specs.Columns.{Owner-column}
 use Rattle.plan_load.specs.Loading.{Loads}
 use Rattle.plan_load.specs.declared.Loaded.{Loaded}
 use Rattle.plan_load.proofs.Limits.{shape, few-semaphores}
-use Rattle.plan_rules.specs.Walks.{Shown as Rules-shown}
-use Rattle.plan_waits.specs.Groups.{Shown as Waits-shown}
+use Rattle.plan_rules.specs.declared.Signalled.{Signalled}
+use Rattle.plan_rules.specs.Walks.{Shown as Signals-shown, Judged}
+use Rattle.plan_waits.specs.declared.Ruled.{Ruled as Waited}
+use Rattle.plan_waits.specs.Waits.{Shown as Waits-shown, Resolved as Waits-resolved}
+use Rattle.plan_waits.proofs.Rules.{then-eight}
 use Rattle.plan_run.specs.Run.{Shown as Sources-shown, Rows-of}
 use Rattle.checker.specs.Counting.{Sizes-told, Counts-told, counts-of}
-use Rattle.checker.specs.Passing.{Known-columns, Read, Ruled, Resolved, Run-shown}
+use Rattle.checker.specs.Passing.{Known-columns, Read, Resolved, Run-shown}
 
 -- ---- its counts and columns, loaded from its bytes
 module _ {bs head queue wsem wval ssem sval sop mark mop : List ℕ} {r : Loaded} (l : Loads bs r head queue wsem wval ssem sval sop mark mop) where
@@ -52,50 +55,46 @@ module _ {bs head queue wsem wval ssem sval sop mark mop : List ℕ} {r : Loaded
 -- ---- what each pass is given
 module _ {bs : List ℕ} {n signals marks : ℕ} {owner queue wsem wval ssem sval sop mark mop : List ℕ}
     (r : Read bs n signals marks owner queue wsem wval ssem sval sop mark mop) where
-  pub rules-given : Rules-shown (plan-in bs) n signals owner queue ssem sval sop wsem wval
-  rules-given = record {
-    operations = r .many;
+  pub signals-given : Signals-shown (plan-in bs) signals owner queue ssem sval sop
+  signals-given = record {
     few-owners = few-semaphores bs (r .read);
     in-range = shape bs (r .read) .in-range;
     owners-shown = r .owners-shown;
     queues-shown = r .columns .queues-shown;
     signals-shown = r .columns .signals-shown;
-    waits-shown = r .columns .waits-shown;
   }
 
-  pub no-refusal : rules-refusal (plan-in bs) .number ≡ 0 → plan-refusal bs .number ≡ 0
-  unfolding plan-refusal
-  no-refusal z = rw (or-else-second (scanned bs .fault) (rules-refusal (plan-in bs)) (r .read)) z
+  pub waits-given : {j : Signalled} → Judged (plan-in bs) j → j .number ≡ 0 → Waits-shown (plan-in bs) n signals ssem sval sop wsem wval (j .last)
+  waits-given j z = record {
+    operations = r .many;
+    few = subst (λ (k : ℕ). k ≤ 1024) (r .many) (shape bs (r .read) .few-operations);
+    few-owners = few-semaphores bs (r .read);
+    in-range = shape bs (r .read) .in-range;
+    rules = sym (j .number) ∙ z;
+    signals-shown = r .columns .signals-shown;
+    waits-shown = r .columns .waits-shown;
+    highest-shown = j .highest-shown z;
+  }
 
-  pub ruled-given : rules-refusal (plan-in bs) .number ≡ 0 → Ruled bs n signals marks queue wsem wval ssem sval sop mark mop
-  ruled-given z = record { good = no-refusal z; many = r .many; columns = r .columns }
+  -- neither 6 nor 7, and no 8
+  module _ {j : Signalled} {w : Waited} {source : List ℕ} (judged : Judged (plan-in bs) j) (z : j .number ≡ 0) (resolved : Waits-resolved (plan-in bs) w source) (y : w .number ≡ 0) where
+    pub no-refusal : plan-refusal bs .number ≡ 0
+    unfolding plan-refusal
+    no-refusal =
+        rw (or-else-second (scanned bs .fault) (rules-refusal (plan-in bs)) (r .read), then-eight (plan-in bs) (sym (judged .number) ∙ z)) (sym (resolved .number) ∙ y)
+
+    pub resolved-given : Resolved bs n marks queue source mark mop
+    resolved-given = record {
+      good = no-refusal;
+      many = r .many;
+      queues-shown = r .columns .queues-shown;
+      sources-shown = resolved .sources-shown y;
+      marks-shown = r .columns .marks-shown;
+    }
 
 read-clean : (bs : List ℕ) → plan-refusal bs .number ≡ 0 → (scanned bs .fault .number ≡ 0) × (rules-refusal (plan-in bs) .number ≡ 0)
 unfolding plan-refusal
 read-clean bs good = or-else-none (scanned bs .fault) (rules-refusal (plan-in bs)) good
-
-module _ {bs : List ℕ} {n signals marks : ℕ} {queue wsem wval ssem sval sop mark mop : List ℕ} (r : Ruled bs n signals marks queue wsem wval ssem sval sop mark mop) where
-  pub waits-given : Waits-shown (plan-in bs) n signals ssem sval sop wsem wval
-  waits-given =
-      let (clean, rules) = read-clean bs (r .good) in
-      record {
-        operations = r .many;
-        few = subst (λ (k : ℕ). k ≤ 1024) (r .many) (shape bs clean .few-operations);
-        few-owners = few-semaphores bs clean;
-        in-range = shape bs clean .in-range;
-        rules = rules;
-        signals-shown = r .columns .signals-shown;
-        waits-shown = r .columns .waits-shown;
-      }
-
-  pub resolved-given : (source : List ℕ) → Source-column (plan-in bs) source → Resolved bs n marks queue source mark mop
-  resolved-given source s = record {
-    good = r .good;
-    many = r .many;
-    queues-shown = r .columns .queues-shown;
-    sources-shown = s;
-    marks-shown = r .columns .marks-shown;
-  }
 
 module _ {bs : List ℕ} {n marks : ℕ} {queue source mark mop : List ℕ} (r : Resolved bs n marks queue source mark mop) where
   pub sources-given : Sources-shown (plan-in bs) n queue source

@@ -24,13 +24,7 @@ pub record Read (bytes : List ℕ) (n signals marks : ℕ) (owner queue wsem wva
   pub owners-shown : Owner-column (plan-in bytes) owner
   pub columns : Shown (plan-in bytes) signals marks queue wsem wval ssem sval sop mark mop
 
--- columns of a plan with none of refusals 1 to 8
-pub record Ruled (bytes : List ℕ) (n signals marks : ℕ) (queue wsem wval ssem sval sop mark mop : List ℕ) : Type 0 where
-  pub good : plan-refusal bytes .number ≡ 0
-  pub many : count (plan-in bytes) ≡ n
-  pub columns : Shown (plan-in bytes) signals marks queue wsem wval ssem sval sop mark mop
-
--- the same with its waits resolved
+-- columns of a plan with none of refusals 1 to 8, its waits resolved
 pub record Resolved (bytes : List ℕ) (n marks : ℕ) (queue source mark mop : List ℕ) : Type 0 where
   pub good : plan-refusal bytes .number ≡ 0
   pub many : count (plan-in bytes) ≡ n

@@ -1,6 +1,6 @@
 // The check of a stored plan: shown as columns, judged by the rules and the room, run, and judged by its order.
-mod decide;
 mod leave;
+mod order;
 
 use plan_format::Told;
 use plan_load::Loaded;
@@ -81,7 +81,15 @@ pub fn check_counted(plan: &[u8], table: &mut [u32], list: &mut [u32]) -> Counte
     let mut queue = [0u16; 1024];
     let mut mark = [0u16; 4096];
     let mut mop = [0u16; 4096];
-    let k = check_known(plan, &mut head, &mut queue, &mut mark, &mut mop, table, list);
+    let k = check_known(
+        plan,
+        &mut head,
+        &mut queue,
+        &mut mark,
+        &mut mop,
+        table,
+        list,
+    );
     k.counted
 }
 
@@ -164,7 +172,7 @@ fn with_marks(l: Loaded, number: u32, place: u64) -> Known
     }
 }
 
-// The check of a plan that is shown by columns: refusals 6 to 8, then 9, then the order.
+// The check of a plan that is shown by columns: refusals 6 and 7, then 8, then 9, then the order.
 fn check_columns(
     n: u16,
     signals: usize,
@@ -185,11 +193,21 @@ fn check_columns(
     ensures { λ r. ⌜ ((bs : List ℕ) → Read bs n signals marks (now (owner .entry)) (now (queue .entry)) (now (wsem .entry)) (now (wval .entry)) (now (ssem .entry)) (now (sval .entry)) (now (sop .entry)) (now (mark .entry)) (now (mop .entry)) →
         Check-says bs r (now (table .entry)) (now (table .exit)) (now (list .entry)) (now (list .exit))) ⌝ }
 {
-    let ruled = plan_rules::judge(n, signals, owner, queue, ssem, sval, sop, wsem, wval);
-    if ruled.number != 0 {
+    let signalled = plan_rules::judge(signals, owner, queue, ssem, sval, sop);
+    if signalled.number != 0 {
         return Told {
-            number: ruled.number,
-            place: ruled.place,
+            number: signalled.number,
+            place: signalled.place,
+            answer: 0,
+        };
+    }
+    let last = signalled.last;
+    let mut source = [1024u16; 3072];
+    let waited = plan_waits::resolve(n, signals, ssem, sval, sop, wsem, wval, &last, &mut source);
+    if waited.number != 0 {
+        return Told {
+            number: waited.number,
+            place: waited.place,
             answer: 0,
         };
     }
@@ -197,21 +215,7 @@ fn check_columns(
     if lent.number != 0 {
         return lent;
     }
-    decide::check_order(
-        n,
-        signals,
-        marks,
-        queue,
-        wsem,
-        wval,
-        ssem,
-        sval,
-        sop,
-        mark,
-        mop,
-        table,
-        list,
-    )
+    order::check_order(n, marks, queue, &source, mark, mop, table, list)
 }
 
 // 9 with the length needed where the table, or else the list, is too short for n operations.

@@ -74,13 +74,7 @@ fn refused(number: u32, place: u64) -> Sent
 }
 
 // The row that begins at `first` in the table, under the axes, cut to a capacity as a merge is.
-fn send(
-    head: &[u64; 340],
-    table: &[u32],
-    queues: usize,
-    first: usize,
-    capacity: u32,
-) -> Frontier
+fn send(head: &[u64; 340], table: &[u32], queues: usize, first: usize, capacity: u32) -> Frontier
     requires { ⌜ (queues ≤ 16) × (first + queues ≤ length (now table)) × (1 ≤ capacity) × (capacity ≤ 16) ⌝ }
     ensures { λ r. ⌜ r ≡ cut-to capacity (gathered (row-in (now (head .entry)) (now (table .entry)) first queues 0)) ⌝ }
 {

@@ -1,4 +1,4 @@
-// The order of a plan with none of refusals 1 to 9: its waits resolved, its standard run with the rows, and refusals 10 and 11.
+// The order of a plan with none of refusals 1 to 9: its standard run with the rows, and refusals 10 and 11.
 use plan_format::Told;
 ghost use mathlib.Core.List.{List};
 ghost use Prim.Native.Nat.{ℕ};
@@ -6,35 +6,10 @@ ghost use Rattle.plan_format.specs.Plan.{Plan};
 ghost use Rattle.plan_format.specs.Stored.{Tells};
 ghost use Rattle.plan_order.specs.Check.{order-refusal, Check-says};
 ghost use Rattle.checker.specs.Leaving.{Room};
-ghost use Rattle.checker.specs.Passing.{Ruled, Resolved, Run-shown};
+ghost use Rattle.checker.specs.Passing.{Resolved, Run-shown};
 
-// The check of a plan that keeps the rules and has its room.
+// The check of a plan with none of refusals 1 to 9, whose waits are resolved.
 pub fn check_order(
-    n: u16,
-    signals: usize,
-    marks: usize,
-    queue: &[u16; 1024],
-    wsem: &[u16; 3072],
-    wval: &[u64; 3072],
-    ssem: &[u16; 2048],
-    sval: &[u64; 2048],
-    sop: &[u16; 2048],
-    mark: &[u16; 4096],
-    mop: &[u16; 4096],
-    table: &mut [u32],
-    list: &mut [u32],
-) -> Told
-    requires { ⌜ Room n (now table) (now list) ⌝ }
-    ensures { λ r. ⌜ ((bs : List ℕ) → Ruled bs n signals marks (now (queue .entry)) (now (wsem .entry)) (now (wval .entry)) (now (ssem .entry)) (now (sval .entry)) (now (sop .entry)) (now (mark .entry)) (now (mop .entry)) →
-        Check-says bs r (now (table .entry)) (now (table .exit)) (now (list .entry)) (now (list .exit))) ⌝ }
-{
-    let mut source = [1024u16; 3072];
-    plan_waits::resolve(n, signals, ssem, sval, sop, wsem, wval, &mut source);
-    check_run(n, marks, queue, &source, mark, mop, table, list)
-}
-
-// The check of a plan whose waits are resolved.
-fn check_run(
     n: u16,
     marks: usize,
     queue: &[u16; 1024],

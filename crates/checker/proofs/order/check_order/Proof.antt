@@ -1,11 +1,11 @@
--- `decide::check_run` meets its contract: the run, the judgement of it, and what is left. Assumes nothing.
+-- `order::check_order` meets its contract: the run, the judgement of it, and what is left. Assumes nothing.
 use Rattle.checker.proofs.Columns.{sources-given, run-given}
 use Rattle.checker.proofs.Orders.{order-says}
 use Rattle.plan_format.specs.Stored.{plan-in}
 use Rattle.plan_run.proofs.Ends.{cleared}
 use borrow.Author.Needs.{needs}
-use Rattle.checker.proofs.decide.check_run.Statement.{statement}
-use Rattle.checker.proofs.decide.check_run.Tie as tie
+use Rattle.checker.proofs.order.check_order.Statement.{statement}
+use Rattle.checker.proofs.order.check_order.Tie as tie
 
 run-requires : tie.Need-run-requires
 run-requires c κs = search needs
@@ -30,5 +30,5 @@ returns c =
     order-says bs (resolved .good) (resolved .many) room ran (c .before .before .before .before .before .before .before .before .judge .ensures (plan-in bs) (run-given resolved _ _ (ran .many) (ran .filled)))
     (c .before .before .before .before .results .ensures)
 
-pub check-run-spec : {M : Type 1} → statement M
-check-run-spec = tie.close (tie.spec run-requires judge-requires results-requires same-length same-length-2 returns)
+pub check-order-spec : {M : Type 1} → statement M
+check-order-spec = tie.close (tie.spec run-requires judge-requires results-requires same-length same-length-2 returns)
