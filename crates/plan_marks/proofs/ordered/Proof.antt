@@ -1,4 +1,5 @@
 -- `plan_marks::ordered` compares the two rows as the definition does. Assumes nothing.
+use native.Mathlib.Nat.{mod-eq-of-lt}
 use borrow.Author.Needs.{needs}
 use Rattle.plan_marks.proofs.Turns.{ordered-is}
 use Rattle.plan_marks.proofs.ordered.Statement.{statement}
@@ -44,7 +45,7 @@ wide-requires-3 : tie.Need-wide-requires-3
 wide-requires-3 c κs = search needs
 
 returns : tie.Need-returns
-returns c = ordered-is _ _ _ _ _ _ _ (c .before .before .before .before .wide .ensures) (c .before .before .wide2 .ensures) (c .wide3 .ensures)
+returns c = λ l. ordered-is _ _ _ _ _ _ _ (rw (mod-eq-of-lt l) at (c .before .before .before .before .wide .ensures)) (c .before .before .wide2 .ensures) (c .wide3 .ensures)
 
 pub ordered-spec : {M : Type 1} → statement M
 ordered-spec =
