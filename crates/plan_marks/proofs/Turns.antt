@@ -3,6 +3,7 @@ use mathlib.Core.Path.{_≡_, sym, ap, _∙_}
 use mathlib.Core.Bool.{Bool, true, false, _&&_, _||_, not, cond}
 use mathlib.Core.List.{List, [], _∷_}
 use Prim.Native.Nat.{ℕ, zero, suc, _+_, _-_, _*_, _/_, _%_, _≤_, _<_}
+use native.Mathlib.Nat.{mod-eq-of-lt}
 use native.Mathlib.Numerals.{add-one}
 use native.Mathlib.Omega.{arith}
 use lib.Dec.{ltb, leb, eqb}
@@ -38,6 +39,11 @@ module _ (queue rows : List ℕ) where
   pub ordered-is : (i j x a b : ℕ) → x ≡ getD queue i 0 → a ≡ getD rows (16 * i + x % 16) 0 → b ≡ getD rows (16 * j + x % 16) 0 → leb a b ≡ ordered queue rows i j
   unfolding ordered
   ordered-is i j x a b e f g = rw (f, g, e)
+
+  -- a number below 1,024 is its own remainder
+  pub ordered-cut : (i j x a b : ℕ) → i < 1024 → x ≡ getD queue (i % 1024) 0 → a ≡ getD rows (16 * i + x % 16) 0 → b ≡ getD rows (16 * j + x % 16) 0 →
+      leb a b ≡ ordered queue rows i j
+  ordered-cut i j x a b l e f g = ordered-is i j x a b (rw (mod-eq-of-lt l) at e) f g
 
   pub late-is : (i g : ℕ) (r : Bool) → r ≡ ordered queue rows i g → (ltb g 1024 && not r) ≡ late queue rows i g
   unfolding late
