@@ -7,7 +7,7 @@ use mathlib.Core.Option.{Option, none, some}
 use Prim.Native.Nat.{ℕ, _+_, _*_, _≤_, _<_, min}
 use native.Mathlib.Omega.{arith}
 use lib.Dec.{ltb, eqb}
-use lib.ListN.{length, set, length-set, length-replicate, getD-replicate}
+use lib.ListN.{length, length-set, length-replicate, getD-replicate}
 use lib.Seq.{getD-set-same, getD-set-other}
 use borrow.Author.Tests.{ltb-true, ltb-false, eqb-true, eqb-false, eq-eqb, ne-eqb}
 use Rattle.basics.specs.Lists.{place-or}
@@ -86,18 +86,20 @@ module _ (last : ℕ → Option ℕ) (m : Marked) where
   -- a free is noted as its buffer's free; nothing else changes a free
   shows-noted : (table : List ℕ) → m .buffer < 256 → m .kind < 2 → Shows table last → Shows (noted m table) (after last m)
   unfolding noted code
-  shows-noted table l u s = record {
-    size = length-set table (m .buffer * 2 + m .kind) (m .by) ∙ s .size;
-    frees = λ b k.
-        let other : (b * 2 + 1 ≡ m .buffer * 2 + m .kind → ⊥) → after last m b ≡ last b → free-in (set table (m .buffer * 2 + m .kind) (m .by)) b ≡ code (after last m b) =
-        λ n e. getD-set-other table (m .buffer * 2 + m .kind) (b * 2 + 1) (m .by) 0 n ∙ s .frees b k ∙ rw e in
-        by-cases (eqb (m .kind) 1)
-        (λ t. by-cases (eqb (m .buffer) b)
-        (λ q. let e : b * 2 + 1 ≡ m .buffer * 2 + m .kind = omega (arith, eqb-true (m .kind) 1 t, eqb-true (m .buffer) b q) in
-        rw (e, after-free b q t) (getD-set-same table (m .buffer * 2 + m .kind) (m .by) 0 (omega (arith, s .size))))
-        (λ q. other (omega (arith, eqb-true (m .kind) 1 t, eqb-false (m .buffer) b q)) (after-other b q)))
-        (λ f. other (omega (arith, eqb-false (m .kind) 1 f)) (after-use b f));
-  }
+  shows-noted table l u s =
+      let at = m .buffer * 2 + m .kind in
+      record {
+        size = length-set table at (m .by) ∙ s .size;
+        frees = λ b k.
+            let other : (b * 2 + 1 ≡ at → ⊥) → after last m b ≡ last b → free-in (noted m table) b ≡ code (after last m b) =
+            λ n e. getD-set-other table at (b * 2 + 1) (m .by) 0 n ∙ s .frees b k ∙ rw e in
+            by-cases (eqb (m .kind) 1)
+            (λ t. by-cases (eqb (m .buffer) b)
+            (λ q. let e : b * 2 + 1 ≡ at = omega (arith, eqb-true (m .kind) 1 t, eqb-true (m .buffer) b q) in
+            rw (e, after-free b q t) (getD-set-same table at (m .by) 0 (omega (arith, s .size))))
+            (λ q. other (omega (arith, eqb-true (m .kind) 1 t, eqb-false (m .buffer) b q)) (after-other b q)))
+            (λ f. other (omega (arith, eqb-false (m .kind) 1 f)) (after-use b f));
+      }
 
 -- the next free of each buffer is the free of the holding of its next mark
 freed-after : (m : Marked) (ms : List Marked) (b : ℕ) → freed-by (of-buffer b (m ∷ ms)) ≡ after (λ b. freed-by (of-buffer b ms)) m b

@@ -96,7 +96,8 @@ fn late(queue: &[u16; 1024], rows: &[u16; 16416], i: usize, free: usize) -> bool
     (free < 1024) & !ordered(queue, rows, i, free)
 }
 
-// Whether a mark by i isn't forced to come after a free.
+// Whether a mark by i isn't forced to come after a free. Neither side of the `|` is true of a mark that isn't broken, so that a jump on either
+// is easy to foretell.
 fn early(queue: &[u16; 1024], rows: &[u16; 16416], free: usize, i: usize) -> bool
     requires { ⌜ (free ≤ 1024) × (i < 1024) ⌝ }
     ensures { λ r. ⌜ r ≡ is-early (now (queue .entry)) (now (rows .entry)) free i ⌝ }
