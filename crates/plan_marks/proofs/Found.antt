@@ -4,12 +4,12 @@ use mathlib.Core.Bool.{Bool, true, false, not, cond}
 use mathlib.Core.Logic.{_⊎_, inl, inr}
 use mathlib.Core.List.{List, [], _∷_, _++_, List·Memᴰ, List·Memᴰ·head, List·Memᴰ·tail, List·Memᴰ·not-nil, List·Memᴰ·cases-cons}
 use mathlib.Core.Option.{Option, none, some}
-use Prim.Native.Nat.{ℕ, _≤_, _<_, min}
+use Prim.Native.Nat.{ℕ, _+_, _*_, _≤_, _<_, min}
 use native.Mathlib.Omega.{arith}
 use lib.Dec.{ltb, eqb}
-use lib.ListN.{length, getD, set, length-set, length-replicate, getD-replicate}
+use lib.ListN.{length, length-set, length-replicate, getD-replicate}
 use lib.Seq.{getD-set-same, getD-set-other}
-use borrow.Author.Tests.{ltb-true, ltb-false, eqb-true, eqb-false}
+use borrow.Author.Tests.{ltb-true, ltb-false, eqb-true, eqb-false, eq-eqb, ne-eqb}
 use Rattle.basics.specs.Lists.{place-or}
 use Rattle.basics.proofs.Tests.{by-cases, by-option, clash, either}
 use Rattle.plan_format.specs.Plan.{Plan, count}
@@ -20,7 +20,7 @@ use Rattle.plan_order.specs.Holdings.{is-free, freed-by, free-after, Ask, use-a
 use Rattle.plan_order.proofs.Keeping.{asked-marks, all-asks-has, broken-some, broken-none}
 use Rattle.plan_columns.specs.Columns.{Queue-column, Marked, plan-marks, Row-columns}
 use Rattle.plan_marks.specs.Shown.{Shown}
-use Rattle.plan_marks.specs.Passes.{shown-from, noted, no-frees, next-frees, late, early, first-late, first-early}
+use Rattle.plan_marks.specs.Passes.{shown-from, none-noted, noted, free-in, noted-back, late, early, first-late, first-early}
 use Rattle.plan_marks.proofs.Marks.{Each, Known, marks-known, Rising, marks-rising, marks-shown}
 use Rattle.plan_marks.proofs.Order.{late-right, late-nothing, early-nothing, early-right}
 use Rattle.plan_marks.proofs.Asks.{place, of-buffer, after, of-uses, of-reuses, none-yet, all-asks-split, uses-all, reuses-all, uses-rising, reuses-rising}
@@ -62,13 +62,13 @@ unfoldable code : Option ℕ → ℕ
 code none = 1024
 code (some g) = g
 
-record Shows (free : List ℕ) (last : ℕ → Option ℕ) : Type 0 where
-  size : length free ≡ 256
-  frees : (b : ℕ) → b < 256 → getD free b 0 ≡ code (last b)
+record Shows (table : List ℕ) (last : ℕ → Option ℕ) : Type 0 where
+  size : length table ≡ 512
+  frees : (b : ℕ) → b < 256 → free-in table b ≡ code (last b)
 
-shows-none : Shows no-frees (λ b. none)
+shows-none : Shows none-noted (λ b. none)
 unfolding code
-shows-none = record { size = length-replicate {A = ℕ} 256 1024; frees = λ b l. getD-replicate 256 b 1024 0 l }
+shows-none = record { size = length-replicate {A = ℕ} 512 1024; frees = λ b l. getD-replicate 512 (b * 2 + 1) 1024 0 (omega arith) }
 
 module _ (last : ℕ → Option ℕ) (m : Marked) where
   after-free : (b : ℕ) → eqb (m .buffer) b ≡ true → eqb (m .kind) 1 ≡ true → after last m b ≡ some (m .by)
@@ -83,17 +83,23 @@ module _ (last : ℕ → Option ℕ) (m : Marked) where
   unfolding after
   after-other b q = rw q
 
-  shows-noted : (free : List ℕ) → m .buffer < 256 → Shows free last → Shows (noted m free) (after last m)
+  -- a free is noted as its buffer's free; nothing else changes a free
+  shows-noted : (table : List ℕ) → m .buffer < 256 → m .kind < 2 → Shows table last → Shows (noted m table) (after last m)
   unfolding noted code
-  shows-noted free l s =
-      by-cases (eqb (m .kind) 1)
-      (λ t. rw t (record {
-        size = length-set free (m .buffer) (m .by) ∙ s .size;
-        frees = λ b k. by-cases (eqb (m .buffer) b)
-            (λ q. rw (after-free b q t) (subst (λ (z : ℕ). getD (set free (m .buffer) (m .by)) z 0 ≡ m .by) (eqb-true (m .buffer) b q) (getD-set-same free (m .buffer) (m .by) 0 (omega (arith, s .size)))))
-            (λ q. rw (after-other b q) (getD-set-other free (m .buffer) b (m .by) 0 (λ e. eqb-false (m .buffer) b q (sym e)) ∙ s .frees b k));
-      }))
-      (λ f. rw f (record { size = s .size; frees = λ b k. rw (after-use b f) (s .frees b k) }))
+  shows-noted table l u s =
+      let at = m .buffer * 2 + m .kind in
+      record {
+        size = length-set table at (m .by) ∙ s .size;
+        frees = λ b k.
+            let other : (b * 2 + 1 ≡ at → ⊥) → after last m b ≡ last b → free-in (noted m table) b ≡ code (after last m b) =
+            λ n e. getD-set-other table at (b * 2 + 1) (m .by) 0 n ∙ s .frees b k ∙ rw e in
+            by-cases (eqb (m .kind) 1)
+            (λ t. by-cases (eqb (m .buffer) b)
+            (λ q. let e : b * 2 + 1 ≡ at = omega (arith, eqb-true (m .kind) 1 t, eqb-true (m .buffer) b q) in
+            rw (e, after-free b q t) (getD-set-same table at (m .by) 0 (omega (arith, s .size))))
+            (λ q. other (omega (arith, eqb-true (m .kind) 1 t, eqb-false (m .buffer) b q)) (after-other b q)))
+            (λ f. other (omega (arith, eqb-false (m .kind) 1 f)) (after-use b f));
+      }
 
 -- the next free of each buffer is the free of the holding of its next mark
 freed-after : (m : Marked) (ms : List Marked) (b : ℕ) → freed-by (of-buffer b (m ∷ ms)) ≡ after (λ b. freed-by (of-buffer b ms)) m b
@@ -137,11 +143,11 @@ module _ (p : Plan) (sound : Sound p) (few : length (p .sizes) ≤ 256) (f : Lis
       one true e = unfold met asked-of at-or-before in (rw e)
       one false e = unfold met asked-of at-or-before in (rw e)
 
-  frees-shown : (ms : List Marked) → Each (Known p) ms → Shows (next-frees ms) (λ b. freed-by (of-buffer b ms))
-  unfolding next-frees of-buffer freed-by
+  frees-shown : (ms : List Marked) → Each (Known p) ms → Shows (noted-back ms) (λ b. freed-by (of-buffer b ms))
+  unfolding noted-back of-buffer freed-by
   frees-shown [] k = shows-none
   frees-shown (m ∷ ms) k =
-      let s = shows-noted (λ b. freed-by (of-buffer b ms)) m (next-frees ms) (omega (arith, k .0 .buffer)) (frees-shown ms (k .1)) in
+      let s = shows-noted (λ b. freed-by (of-buffer b ms)) m (noted-back ms) (omega (arith, k .0 .buffer)) (k .0 .kind) (frees-shown ms (k .1)) in
       record { size = s .size; frees = λ b l. s .frees b l ∙ ap (λ (o : Option ℕ). code o) (sym (freed-after m ms b)) }
 
   uses-found : (n : ℕ) (ms : List Marked) → Each (Known p) ms → first-late queue rows n ms ≡ first-unmet forced n (of-uses ms)
@@ -152,8 +158,10 @@ module _ (p : Plan) (sound : Sound p) (few : length (p .sizes) ≤ 256) (f : Lis
       let rest = first-unmet forced n (of-uses ms) in
       let split = unmet-append forced n (use-asks (place m) o) (of-uses ms) in
       by-cases (eqb (m .kind) 1)
-      (λ t. rw (t, uses-found n ms (k .1)) (sym (split ∙ free-first m o rest t)))
-      (λ t. rw (t, frees-shown (m ∷ ms) k .frees (m .buffer) (omega (arith, k .0 .buffer)), uses-found n ms (k .1))
+      (λ t. rw (ne-eqb (m .kind) 0 (omega (arith, eqb-true (m .kind) 1 t)), uses-found n ms (k .1)) (sym (split ∙ free-first m o rest t)))
+      (λ t. let own = frees-shown ms (k .1) .frees (m .buffer) (omega (arith, k .0 .buffer))
+      ∙ ap (λ (o : Option ℕ). code o) (sym (freed-after m ms (m .buffer) ∙ after-use (λ b. freed-by (of-buffer b ms)) m (m .buffer) t)) in
+      rw (eq-eqb (m .kind) 0 (omega (arith, eqb-false (m .kind) 1 t, k .0 .kind)), own, uses-found n ms (k .1))
       (sym (split ∙ use-first m o rest (k .0 .by) (inside-freed (m ∷ ms) k (m .buffer)) t)))
 
   -- ---- marks of later holdings
@@ -164,13 +172,13 @@ module _ (p : Plan) (sound : Sound p) (few : length (p .sizes) ≤ 256) (f : Lis
   reuse-first m (some g) n a b =
       rw (early-right p sound queue rows queues-shown rows-shown f full g (m .by) b a) (by-cases (before p g (m .by)) (λ t. rw t) (λ t. rw t))
 
-  reuses-found : (n : ℕ) (ms : List Marked) (free : List ℕ) (last : ℕ → Option ℕ) → Shows free last → ((b : ℕ) → Inside (last b)) → Each (Known p) ms →
-      first-early queue rows n free ms ≡ first-unmet forced n (of-reuses last ms)
+  reuses-found : (n : ℕ) (ms : List Marked) (table : List ℕ) (last : ℕ → Option ℕ) → Shows table last → ((b : ℕ) → Inside (last b)) → Each (Known p) ms →
+      first-early queue rows n table ms ≡ first-unmet forced n (of-reuses last ms)
   unfolding first-early of-reuses first-unmet
-  reuses-found n [] free last s h k = refl
-  reuses-found n (m ∷ ms) free last s h k =
+  reuses-found n [] table last s h k = refl
+  reuses-found n (m ∷ ms) table last s h k =
       let low : m .buffer < 256 = omega (arith, k .0 .buffer) in
-      rw (s .frees (m .buffer) low, reuses-found n ms (noted m free) (after last m) (shows-noted last m free low s) (inside-after last m (k .0 .by) h) (k .1))
+      rw (s .frees (m .buffer) low, reuses-found n ms (noted m table) (after last m) (shows-noted last m table low (k .0 .kind) s) (inside-after last m (k .0 .by) h) (k .1))
       (sym (unmet-append forced n (later-asks (place m) (last (m .buffer))) (of-reuses (after last m) ms)
       ∙ reuse-first m (last (m .buffer)) (first-unmet forced n (of-reuses (after last m) ms)) (k .0 .by) (h (m .buffer))))
 
@@ -208,7 +216,7 @@ module _ (p : Plan) (sound : Sound p) (few : length (p .sizes) ≤ 256) (f : Lis
       (λ m. omega (arith, b .asked, unmet-least forced 0 (count p) rs a (reuses-rising (plan-marks p) none-yet 0 (marks-rising p)) m (b .unforced)))))
 
 pub broken-found : (p : Plan) (n many cut : ℕ) (queue mark operation rows : List ℕ) → cut ≡ min many 4096 → Shown p n many queue mark operation rows →
-    min (first-late queue rows n (shown-from mark operation cut 0)) (first-early queue rows n no-frees (shown-from mark operation cut 0)) ≡ place-or n (broken p)
+    min (first-late queue rows n (shown-from mark operation cut 0)) (first-early queue rows n none-noted (shown-from mark operation cut 0)) ≡ place-or n (broken p)
 broken-found p n many cut queue mark operation rows least c =
     let known = marks-known p (c .sound) in
     let all : cut ≡ many = omega (arith, c .marks-shown .few) in
@@ -217,6 +225,6 @@ broken-found p n many cut queue mark operation rows least c =
       ← c .many,
       marks-shown p many mark operation (c .sound) (c .few-buffers) (c .marks-shown),
       uses-found p (c .sound) (c .few-buffers) (c .run) (c .full) queue rows (c .queues-shown) (c .rows-shown) (count p) (plan-marks p) known,
-      reuses-found p (c .sound) (c .few-buffers) (c .run) (c .full) queue rows (c .queues-shown) (c .rows-shown) (count p) (plan-marks p) no-frees none-yet shows-none (λ b. tt) known,
+      reuses-found p (c .sound) (c .few-buffers) (c .run) (c .full) queue rows (c .queues-shown) (c .rows-shown) (count p) (plan-marks p) none-noted none-yet shows-none (λ b. tt) known,
     )
     (lowest-found p (c .sound) (c .few-buffers) (c .run) (c .full) queue rows (c .queues-shown) (c .rows-shown))

@@ -1,5 +1,5 @@
--- Two passes over the marks of a plan, with a table of frees by buffer: uses against the free of their own holding, from the last mark to
--- the first, and marks against the free before their holding. Assumes nothing: these are definitions.
+-- Two passes over the marks of a plan, with a table by mark: uses against the free of their own holding, from the last mark to the first, and
+-- marks against the free before their holding. Assumes nothing: these are definitions.
 use mathlib.Core.Bool.{Bool, _&&_, _||_, not, cond}
 use mathlib.Core.List.{List, [], _∷_}
 use Prim.Native.Nat.{ℕ, _+_, _*_, _/_, _%_}
@@ -15,17 +15,21 @@ mark-of m i = record { by = i; buffer = m / 2; kind = m % 2 }
 abbrev pub shown-from : (mark operation : List ℕ) → (many k : ℕ) → List Marked
 shown-from ms is many k = tabulate-from many k (λ k. mark-of (getD ms k 0 % 512) (getD is k 0 % 1024))
 
--- the table with a mark's operation at its buffer where it is a free; 1,024 stands for no free
-unfoldable pub noted : Marked → (free : List ℕ) → List ℕ
-noted m free = cond (eqb (m .kind) 1) (set free (m .buffer) (m .by)) free
+-- a table by mark, twice its buffer and one more for a free: the operation that had the mark last; 1,024 stands for none
+abbrev pub none-noted : List ℕ
+none-noted = replicate 512 1024
 
-abbrev pub no-frees : List ℕ
-no-frees = replicate 256 1024
+unfoldable pub noted : Marked → (last : List ℕ) → List ℕ
+noted m last = set last (m .buffer * 2 + m .kind) (m .by)
 
--- the next free of each buffer
-unfoldable pub next-frees : List Marked → List ℕ
-next-frees [] = no-frees
-next-frees (m ∷ ms) = noted m (next-frees ms)
+-- a buffer's free
+abbrev pub free-in : (last : List ℕ) → (b : ℕ) → ℕ
+free-in last b = getD last (b * 2 + 1) 0
+
+-- the table after marks passed from the last to the first
+unfoldable pub noted-back : List Marked → List ℕ
+noted-back [] = none-noted
+noted-back (m ∷ ms) = noted m (noted-back ms)
 
 module _ (queue rows : List ℕ) where
   -- i is j or before j, by their rows
@@ -44,9 +48,8 @@ module _ (queue rows : List ℕ) where
   unfoldable pub first-late : (n : ℕ) → List Marked → ℕ
   first-late n [] = n
   first-late n (m ∷ ms) =
-      cond (eqb (m .kind) 1) (first-late n ms)
-      (cond (late (m .by) (getD (next-frees (m ∷ ms)) (m .buffer) 0)) (m .by) (first-late n ms))
+      cond (eqb (m .kind) 0 && late (m .by) (free-in (noted-back ms) (m .buffer))) (m .by) (first-late n ms)
 
-  unfoldable pub first-early : (n : ℕ) → (free : List ℕ) → List Marked → ℕ
-  first-early n free [] = n
-  first-early n free (m ∷ ms) = cond (early (getD free (m .buffer) 0) (m .by)) (m .by) (first-early n (noted m free) ms)
+  unfoldable pub first-early : (n : ℕ) → (last : List ℕ) → List Marked → ℕ
+  first-early n last [] = n
+  first-early n last (m ∷ ms) = cond (early (free-in last (m .buffer)) (m .by)) (m .by) (first-early n (noted m last) ms)

@@ -1,12 +1,14 @@
-// Broken marks, refusal 11: marks of which keeping asks what "before" does not force. Two passes over the marks, each with a table of
-// frees: a use against the next free of its buffer, a mark against the last free before it. In a table 1,024 stands for no free.
+// Broken marks, refusal 11: marks of which keeping asks what "before" does not force. Two passes over the marks: a use against the next free
+// of its buffer, a mark against the last free before it. Each has a table by mark, 2 * buffer for a use and one more for a free: the operation
+// that had the mark last, and 1,024 for none. What is done for a mark does not branch on it.
 ghost use mathlib.Core.Path.{_≡_};
-ghost use Prim.Native.Nat.{_<_, _≤_, min};
+ghost use mathlib.Core.Bool.{cond};
+ghost use Prim.Native.Nat.{_/_, _<_, _≤_, min};
 ghost use Rattle.plan_format.specs.Plan.{Plan};
 ghost use Rattle.plan_order.specs.Holdings.{broken as broken-mark};
 ghost use Rattle.basics.specs.Lists.{place-or};
 ghost use Rattle.plan_marks.specs.Shown.{Shown};
-ghost use Rattle.plan_marks.specs.Passes.{mark-of, shown-from, noted, no-frees, ordered as is-ordered, late as is-late, early as is-early, first-late, first-early};
+ghost use Rattle.plan_marks.specs.Passes.{mark-of, shown-from, none-noted, noted, free-in, ordered as is-ordered, late as is-late, early as is-early, first-late, first-early};
 
 // The lowest operation with a broken mark; n where there is none. Where the columns show no plan the answer is free.
 pub fn broken(
@@ -45,18 +47,16 @@ fn uses(
     requires { ⌜ marks ≤ 4096 ⌝ }
     ensures { λ r. ⌜ r ≡ first-late (now (queue .entry)) (now (rows .entry)) n (shown-from (now (mark .entry)) (now (mop .entry)) marks 0) ⌝ }
 {
-    let mut free = [1024u16; 256];
+    let mut last = [1024u16; 512];
     let mut lowest = n;
     let mut k = marks;
     while 0 < k {
         k -= 1;
         let m = wide(mark[k]) % 512;
         let i = wide(mop[k]) % 1024;
-        if m % 2 == 1 {
-            note(&mut free, m, i);
-        } else if late(queue, rows, i, wide(free[m / 2])) {
-            lowest = i;
-        }
+        let free = freed(&last, m);
+        lowest = pick((m % 2 == 0) & late(queue, rows, i, free), i, lowest);
+        note(&mut last, m, i);
     }
     lowest
 }
@@ -71,17 +71,18 @@ fn reuses(
     rows: &[u16; 16416],
 ) -> usize
     requires { ⌜ marks ≤ 4096 ⌝ }
-    ensures { λ r. ⌜ r ≡ first-early (now (queue .entry)) (now (rows .entry)) n no-frees (shown-from (now (mark .entry)) (now (mop .entry)) marks 0) ⌝ }
+    ensures { λ r. ⌜ r ≡ first-early (now (queue .entry)) (now (rows .entry)) n none-noted (shown-from (now (mark .entry)) (now (mop .entry)) marks 0) ⌝ }
 {
-    let mut free = [1024u16; 256];
+    let mut last = [1024u16; 512];
     let mut k = 0;
     while k < marks {
         let m = wide(mark[k]) % 512;
         let i = wide(mop[k]) % 1024;
-        if early(queue, rows, wide(free[m / 2]), i) {
+        let free = freed(&last, m);
+        if early(queue, rows, free, i) {
             return i;
         }
-        note(&mut free, m, i);
+        note(&mut last, m, i);
         k += 1;
     }
     n
@@ -89,51 +90,53 @@ fn reuses(
 
 // Whether a use by i isn't forced to come no later than a free.
 fn late(queue: &[u16; 1024], rows: &[u16; 16416], i: usize, free: usize) -> bool
-    requires { ⌜ i < 1024 ⌝ }
+    requires { ⌜ (i < 1024) × (free ≤ 1024) ⌝ }
     ensures { λ r. ⌜ r ≡ is-late (now (queue .entry)) (now (rows .entry)) i free ⌝ }
 {
-    if free < 1024 {
-        !ordered(queue, rows, i, free)
-    } else {
-        false
-    }
+    (free < 1024) & !ordered(queue, rows, i, free)
 }
 
-// Whether a mark by i isn't forced to come after a free.
+// Whether a mark by i isn't forced to come after a free. Neither side of the `|` is true of a mark that isn't broken, so that a jump on either
+// is easy to foretell.
 fn early(queue: &[u16; 1024], rows: &[u16; 16416], free: usize, i: usize) -> bool
-    requires { ⌜ i < 1024 ⌝ }
+    requires { ⌜ (free ≤ 1024) × (i < 1024) ⌝ }
     ensures { λ r. ⌜ r ≡ is-early (now (queue .entry)) (now (rows .entry)) free i ⌝ }
 {
-    if free < 1024 {
-        if free == i {
-            return true;
-        }
-        !ordered(queue, rows, free, i)
-    } else {
-        false
-    }
+    (free == i) | ((free < 1024) & !ordered(queue, rows, free, i))
 }
 
-// Whether i is j or before j, by the column of i's queue in their rows.
+// Whether i is j or before j, by the column of i's queue in their rows. Where i is 1,024 the answer is free.
 fn ordered(queue: &[u16; 1024], rows: &[u16; 16416], i: usize, j: usize) -> bool
-    requires { ⌜ (i < 1024) × (j < 1024) ⌝ }
-    ensures { λ r. ⌜ r ≡ is-ordered (now (queue .entry)) (now (rows .entry)) i j ⌝ }
+    requires { ⌜ (i ≤ 1024) × (j ≤ 1024) ⌝ }
+    ensures { λ r. ⌜ (i < 1024 → r ≡ is-ordered (now (queue .entry)) (now (rows .entry)) i j) ⌝ }
 {
-    let q = wide(queue[i]) % 16;
+    let q = wide(queue[i % 1024]) % 16;
     let own = wide(rows[16 * i + q]);
     let other = wide(rows[16 * j + q]);
     own <= other
 }
 
-// Notes a free, an odd mark, at its buffer.
-fn note(free: &mut [u16; 256], m: usize, i: usize)
-    requires { ⌜ (m < 512) × (i < 1024) ⌝ }
-    ensures { λ _. ⌜ now (free .exit) ≡ noted (mark-of m i) (now (free .entry)) ⌝ }
+// The free of a mark's buffer.
+fn freed(last: &[u16; 512], m: usize) -> usize
+    requires { ⌜ m < 512 ⌝ }
+    ensures { λ r. ⌜ r ≡ free-in (now (last .entry)) (m / 2) ⌝ }
 {
-    if m % 2 == 0 {
-        return;
-    }
-    free[m / 2] = i as u16;
+    wide(last[m / 2 * 2 + 1])
+}
+
+// Notes that i has a mark.
+fn note(last: &mut [u16; 512], m: usize, i: usize)
+    requires { ⌜ (m < 512) × (i < 1024) ⌝ }
+    ensures { λ _. ⌜ now (last .exit) ≡ noted (mark-of m i) (now (last .entry)) ⌝ }
+{
+    last[m] = i as u16;
+}
+
+// One of two.
+fn pick(first: bool, a: usize, b: usize) -> usize
+    ensures { λ r. ⌜ r ≡ cond first a b ⌝ }
+{
+    if first { a } else { b }
 }
 
 // A number of sixteen bits, to compute with.

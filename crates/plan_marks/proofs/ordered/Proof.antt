@@ -1,6 +1,6 @@
 -- `plan_marks::ordered` compares the two rows as the definition does. Assumes nothing.
 use borrow.Author.Needs.{needs}
-use Rattle.plan_marks.proofs.Turns.{ordered-is}
+use Rattle.plan_marks.proofs.Turns.{ordered-cut}
 use Rattle.plan_marks.proofs.ordered.Statement.{statement}
 use Rattle.plan_marks.proofs.ordered.Tie as tie
 
@@ -44,7 +44,7 @@ wide-requires-3 : tie.Need-wide-requires-3
 wide-requires-3 c κs = search needs
 
 returns : tie.Need-returns
-returns c = ordered-is _ _ _ _ _ _ _ (c .before .before .before .before .wide .ensures) (c .before .before .wide2 .ensures) (c .wide3 .ensures)
+returns c = λ l. ordered-cut _ _ _ _ _ _ _ l (c .before .before .before .before .wide .ensures) (c .before .before .wide2 .ensures) (c .wide3 .ensures)
 
 pub ordered-spec : {M : Type 1} → statement M
 ordered-spec =

@@ -7,10 +7,10 @@ use Rattle.plan_marks.proofs.reuses.Statement.{statement}
 use Rattle.plan_marks.proofs.reuses.Tie as tie
 
 abbrev Inv-loop : tie.InvT-loop
-Inv-loop n marks queue mark mop rows free₀ k₀ free k = Forward queue rows mark mop n marks free k
+Inv-loop n marks queue mark mop rows last₀ k₀ last k = Forward queue rows mark mop n marks last k
 
 abbrev μ-loop : tie.MeasureT-loop
-μ-loop n marks queue mark mop rows free₀ k₀ free k = marks - k
+μ-loop n marks queue mark mop rows last₀ k₀ last k = marks - k
 
 loop-holds : tie.Need-loop-holds Inv-loop μ-loop
 loop-holds c = forward-none
@@ -33,20 +33,14 @@ element-copy-out-wide-2 c = search needs
 wide-requires-2 : tie.Need-wide-requires-2 Inv-loop μ-loop
 wide-requires-2 c κs = search needs
 
-mul-wide-3 : tie.Need-mul-wide-3 Inv-loop μ-loop
-mul-wide-3 c = search needs
-
-array-read-wide : tie.Need-array-read-wide Inv-loop μ-loop
-array-read-wide c = search needs
-
-wide-requires-3 : tie.Need-wide-requires-3 Inv-loop μ-loop
-wide-requires-3 c κs = search needs
+freed-requires : tie.Need-freed-requires Inv-loop μ-loop
+freed-requires c κs = search needs
 
 early-requires : tie.Need-early-requires Inv-loop μ-loop
-early-requires c κs = search needs
+early-requires c κs = (rw (c .freed .ensures) (c .before .before .before .before .before .before .before .loop .inv .low _), search needs)
 
 returns : tie.Need-returns Inv-loop μ-loop
-returns c = forward-early (c .before .before .before .before .before .before .before .before .loop .inv) (c .before .before .before .before .before .before .before .loop-test .taken) (ap (λ (z : ℕ). z % 512) (c .before .before .before .before .before .wide .ensures)) (ap (λ (z : ℕ). z % 1024) (c .before .before .before .wide2 .ensures)) (c .before .before .wide3 .ensures) (c .before .early .ensures) (c .if1 .taken)
+returns c = forward-early (c .before .before .before .before .before .before .before .before .before .loop .inv) (c .before .before .before .before .before .before .before .before .loop-test .taken) (ap (λ (z : ℕ). z % 512) (c .before .before .before .before .before .before .wide .ensures)) (ap (λ (z : ℕ). z % 1024) (c .before .before .before .before .wide2 .ensures)) (c .before .before .freed .ensures) (c .before .early .ensures) (c .if1 .taken)
 
 note-requires : tie.Need-note-requires Inv-loop μ-loop
 note-requires c κs = search needs
@@ -58,7 +52,7 @@ loop-less : tie.Need-loop-less Inv-loop μ-loop
 loop-less c = search needs
 
 loop-again : tie.Need-loop-again Inv-loop μ-loop
-loop-again c = forward-fine (c .before .before .before .before .before .before .before .before .before .before .loop .inv) (c .before .before .before .before .before .before .before .before .before .loop-test .taken) (ap (λ (z : ℕ). z % 512) (c .before .before .before .before .before .before .before .wide .ensures)) (ap (λ (z : ℕ). z % 1024) (c .before .before .before .before .before .wide2 .ensures)) (c .before .before .before .before .wide3 .ensures) (c .before .before .before .early .ensures) (c .before .before .if1 .left) (c .note .ensures)
+loop-again c = forward-fine (c .before .before .before .before .before .before .before .before .before .before .before .loop .inv) (c .before .before .before .before .before .before .before .before .before .before .loop-test .taken) (ap (λ (z : ℕ). z % 512) (c .before .before .before .before .before .before .before .before .wide .ensures)) (ap (λ (z : ℕ). z % 1024) (c .before .before .before .before .before .before .wide2 .ensures)) (c .before .before .before .before .freed .ensures) (c .before .before .before .early .ensures) (c .before .before .if1 .left) (c .note .ensures)
 
 returns-2 : tie.Need-returns-2 Inv-loop μ-loop
 returns-2 c = forward-end (c .loop-test .left) (c .before .loop .inv)
@@ -76,9 +70,7 @@ reuses-spec =
     mul-wide-2
     element-copy-out-wide-2
     wide-requires-2
-    mul-wide-3
-    array-read-wide
-    wide-requires-3
+    freed-requires
     early-requires
     returns
     note-requires

@@ -2,15 +2,15 @@
 use mathlib.Core.Path.{ap}
 use Prim.Native.Nat.{ℕ, _%_}
 use borrow.Author.Needs.{needs}
-use Rattle.plan_marks.proofs.Turns.{Backward, backward-none, backward-end, backward-free, backward-late, backward-fine}
+use Rattle.plan_marks.proofs.Turns.{Backward, backward-none, backward-end, backward-more}
 use Rattle.plan_marks.proofs.uses.Statement.{statement}
 use Rattle.plan_marks.proofs.uses.Tie as tie
 
 abbrev Inv-loop : tie.InvT-loop
-Inv-loop n marks queue mark mop rows free₀ lowest₀ k₀ free lowest k = Backward queue rows mark mop n marks free lowest k
+Inv-loop n marks queue mark mop rows last₀ lowest₀ k₀ last lowest k = Backward queue rows mark mop n marks last lowest k
 
 abbrev μ-loop : tie.MeasureT-loop
-μ-loop n marks queue mark mop rows free₀ lowest₀ k₀ free lowest k = k
+μ-loop n marks queue mark mop rows last₀ lowest₀ k₀ last lowest k = k
 
 loop-holds : tie.Need-loop-holds Inv-loop μ-loop
 loop-holds c = backward-none
@@ -36,6 +36,15 @@ element-copy-out-wide-2 c = search needs
 wide-requires-2 : tie.Need-wide-requires-2 Inv-loop μ-loop
 wide-requires-2 c κs = search needs
 
+freed-requires : tie.Need-freed-requires Inv-loop μ-loop
+freed-requires c κs = search needs
+
+late-requires : tie.Need-late-requires Inv-loop μ-loop
+late-requires c κs = (search needs, rw (c .freed .ensures) (c .before .before .before .before .before .before .before .loop .inv .low _))
+
+pick-requires : tie.Need-pick-requires Inv-loop μ-loop
+pick-requires c κs = search needs
+
 note-requires : tie.Need-note-requires Inv-loop μ-loop
 note-requires c κs = search needs
 
@@ -43,31 +52,7 @@ loop-less : tie.Need-loop-less Inv-loop μ-loop
 loop-less c = search needs
 
 loop-again : tie.Need-loop-again Inv-loop μ-loop
-loop-again c = backward-free (c .before .before .before .before .before .before .before .before .loop .inv) (c .before .before .before .before .before .before .before .loop-test .taken) (ap (λ (z : ℕ). z % 512) (c .before .before .before .before .before .wide .ensures)) (ap (λ (z : ℕ). z % 1024) (c .before .before .before .wide2 .ensures)) (c .before .before .if1 .taken) (c .note .ensures)
-
-mul-wide-3 : tie.Need-mul-wide-3 Inv-loop μ-loop
-mul-wide-3 c = search needs
-
-array-read-wide : tie.Need-array-read-wide Inv-loop μ-loop
-array-read-wide c = search needs
-
-wide-requires-3 : tie.Need-wide-requires-3 Inv-loop μ-loop
-wide-requires-3 c κs = search needs
-
-late-requires : tie.Need-late-requires Inv-loop μ-loop
-late-requires c κs = search needs
-
-loop-less-2 : tie.Need-loop-less-2 Inv-loop μ-loop
-loop-less-2 c = search needs
-
-loop-again-2 : tie.Need-loop-again-2 Inv-loop μ-loop
-loop-again-2 c = backward-late (c .before .before .before .before .before .before .before .before .before .loop .inv) (c .before .before .before .before .before .before .before .before .loop-test .taken) (ap (λ (z : ℕ). z % 512) (c .before .before .before .before .before .before .wide .ensures)) (ap (λ (z : ℕ). z % 1024) (c .before .before .before .before .wide2 .ensures)) (c .before .before .before .if1 .left) (c .before .before .wide3 .ensures) (c .before .late .ensures) (c .if2 .taken)
-
-loop-less-3 : tie.Need-loop-less-3 Inv-loop μ-loop
-loop-less-3 c = search needs
-
-loop-again-3 : tie.Need-loop-again-3 Inv-loop μ-loop
-loop-again-3 c = backward-fine (c .before .before .before .before .before .before .before .before .before .loop .inv) (c .before .before .before .before .before .before .before .before .loop-test .taken) (ap (λ (z : ℕ). z % 512) (c .before .before .before .before .before .before .wide .ensures)) (ap (λ (z : ℕ). z % 1024) (c .before .before .before .before .wide2 .ensures)) (c .before .before .before .if1 .left) (c .before .before .wide3 .ensures) (c .before .late .ensures) (c .if2 .left)
+loop-again c = backward-more (c .before .before .before .before .before .before .before .before .before .before .before .loop .inv) (c .before .before .before .before .before .before .before .before .before .before .loop-test .taken) (ap (λ (z : ℕ). z % 512) (c .before .before .before .before .before .before .before .before .wide .ensures)) (ap (λ (z : ℕ). z % 1024) (c .before .before .before .before .before .before .wide2 .ensures)) (c .before .before .before .before .freed .ensures) (c .before .before .before .late .ensures) (c .before .before .pick .ensures) (c .note .ensures)
 
 returns : tie.Need-returns Inv-loop μ-loop
 returns c = backward-end (c .loop-test .left) (c .before .loop .inv)
@@ -86,15 +71,10 @@ uses-spec =
     mul-wide-2
     element-copy-out-wide-2
     wide-requires-2
+    freed-requires
+    late-requires
+    pick-requires
     note-requires
     loop-less
     loop-again
-    mul-wide-3
-    array-read-wide
-    wide-requires-3
-    late-requires
-    loop-less-2
-    loop-again-2
-    loop-less-3
-    loop-again-3
     returns)
