@@ -34,10 +34,6 @@ module _ (X : List ℕ) (at : ℕ) {w s m : ℕ} (w-is : w ≡ getD X (at + 1) 0
   unfolding mark-count
   m-right = m-is ∙ rw marks-right
 
-  pub next-right : at + 2 + 2 * w + 1 + 2 * s + 1 + 2 * m ≡ next-at X at
-  unfolding next-at
-  next-right = rw (marks-right, m-right)
-
   pub signals-more : (had : ℕ) → had + s ≡ had + signal-count X at
   signals-more had = rw s-right
 

@@ -131,7 +131,7 @@ fn operations(
         Loads (now (plan .entry)) r nums (now (queue .exit)) (now (wsem .exit)) (now (wval .exit)) (now (ssem .exit)) (now (sval .exit)) (now (sop .exit)) (now (mark .exit)) (now (mop .exit)) × (r .number ≡ 0 → plan-in (now (plan .entry)) .owners ≡ take (h .semaphores) (drop (2 + h .queues) nums))) ⌝ }
 {
     let many = h.operations as u16;
-    let mut window = [0u64; 22];
+    let mut window = [0u64; 32];
     let mut at = h.at;
     let mut signals: u16 = 0;
     let mut marks: u16 = 0;

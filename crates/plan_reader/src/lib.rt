@@ -52,7 +52,7 @@ pub fn read_operation(
     queues: u64,
     semaphores: u64,
     buffers: u64,
-    window: &mut [u64; 22],
+    window: &mut [u64; 32],
 ) -> Cursor
     ensures { λ r. ⌜ Operation-read queues semaphores buffers (now (plan .entry)) at (now (window .entry)) r (now (window .exit)) ⌝ }
 {

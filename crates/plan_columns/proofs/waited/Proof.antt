@@ -4,14 +4,11 @@ use borrow.Author.Needs.{needs}
 use Rattle.plan_columns.proofs.waited.Statement.{statement}
 use Rattle.plan_columns.proofs.waited.Tie as tie
 
-get64-requires : tie.Need-get64-requires
-get64-requires c κs = search needs
-
 returns : tie.Need-returns
-returns c = rw (lt-ltb _ _ (c .if1 .taken)) (c .before .get64 .ensures)
+returns c = rw (lt-ltb _ _ (c .if1 .taken))
 
 returns-2 : tie.Need-returns-2
 returns-2 c = rw (le-ltb _ _ (c .if1 .left))
 
 pub waited-spec : {M : Type 1} → statement M
-waited-spec = tie.close (tie.spec get64-requires returns returns-2)
+waited-spec = tie.close (tie.spec returns returns-2)

@@ -47,12 +47,12 @@ add-requires c κs = search needs
 cast-signals : tie.Need-cast-signals Inv-loop μ-loop
 cast-signals c =
     let l = c .before .before .before .before .before .before .before .before .before .before .before .before .before .before .before .before .loop .inv in
-    omega (arith, few-more (c .before .add .ensures) .0, l .1, l .2, l .3)
+    omega (arith, few-more (c .before .add .ensures .0 (omega (arith, l .1))) .0, l .1, l .2, l .3)
 
 cast-marks : tie.Need-cast-marks Inv-loop μ-loop
 cast-marks c =
     let l = c .before .before .before .before .before .before .before .before .before .before .before .before .before .before .before .before .before .loop .inv in
-    omega (arith, few-more (c .before .before .add .ensures) .1, l .1, l .2, l .4)
+    omega (arith, few-more (c .before .before .add .ensures .0 (omega (arith, l .1))) .1, l .1, l .2, l .4)
 
 add-i : tie.Need-add-i Inv-loop μ-loop
 add-i c = search needs
@@ -62,8 +62,8 @@ loop-less c = search needs
 
 loop-again : tie.Need-loop-again Inv-loop μ-loop
 loop-again c =
-    let a = c .before .before .add .ensures in
     let l = c .before .before .before .before .before .before .before .before .before .before .before .before .before .before .before .before .before .loop .inv in
+    let a = c .before .before .add .ensures .0 (omega (arith, l .1)) in
     let on = c .before .before .before .before .before .before .before .before .before .before .before .before .before .before .before .before .loop-test .taken in (
       refl,
       l .1,
