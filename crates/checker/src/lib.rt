@@ -1,6 +1,6 @@
 // The check of a stored plan: shown as columns, judged by the rules and the room, run, and judged by its order.
+mod decide;
 mod leave;
-mod order;
 
 use plan_format::Told;
 use plan_load::Loaded;
@@ -215,7 +215,7 @@ fn check_columns(
     if lent.number != 0 {
         return lent;
     }
-    order::check_order(n, marks, queue, &source, mark, mop, table, list)
+    decide::check_order(n, marks, queue, &source, mark, mop, table, list)
 }
 
 // 9 with the length needed where the table, or else the list, is too short for n operations.

@@ -1,11 +1,11 @@
--- `order::check_order` meets its contract: the run, the judgement of it, and what is left. Assumes nothing.
+-- `decide::check_order` meets its contract: the run, the judgement of it, and what is left. Assumes nothing.
 use Rattle.checker.proofs.Columns.{sources-given, run-given}
 use Rattle.checker.proofs.Orders.{order-says}
 use Rattle.plan_format.specs.Stored.{plan-in}
 use Rattle.plan_run.proofs.Ends.{cleared}
 use borrow.Author.Needs.{needs}
-use Rattle.checker.proofs.order.check_order.Statement.{statement}
-use Rattle.checker.proofs.order.check_order.Tie as tie
+use Rattle.checker.proofs.decide.check_order.Statement.{statement}
+use Rattle.checker.proofs.decide.check_order.Tie as tie
 
 run-requires : tie.Need-run-requires
 run-requires c κs = search needs
