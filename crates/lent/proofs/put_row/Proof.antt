@@ -6,9 +6,9 @@ use native.Mathlib.Omega.{arith}
 use lib.ListN.{length, getD, take, length-set}
 use lib.Seq.{sets, take-all}
 use borrow.Author.Needs.{needs}
-use Rattle.cundvrest_c.proofs.Rows.{store-none, store-more}
-use Rattle.cundvrest_c.proofs.lent.put_row.Statement.{statement}
-use Rattle.cundvrest_c.proofs.lent.put_row.Tie as tie
+use Rattle.lent.proofs.Rows.{store-none, store-more}
+use Rattle.lent.proofs.put_row.Statement.{statement}
+use Rattle.lent.proofs.put_row.Tie as tie
 
 abbrev Inv-loop : tie.InvT-loop
 Inv-loop row at numbers₀ i₀ numbers i = (i ≤ 16) × (numbers ≡ sets numbers₀ at (take i row)) × (length numbers ≡ length numbers₀)

@@ -9,7 +9,6 @@ use lib.ListN.{getD, take, drop}
 use Rattle.plan_format.specs.declared.Told.{Told}
 use Rattle.frontier.specs.declared.Frontier.{Frontier}
 use Rattle.frontier.specs.declared.Merged.{Merged}
-use Rattle.questions.specs.declared.sent.Sent.{Sent}
 use Rattle.frontier.specs.declared.Dominance.{Dominance}
 use Rattle.frontier.specs.declared.Dominance.the-variants.{Yes, No, Unknown, Refused}
 
@@ -53,14 +52,6 @@ merged-of told frontier = record { number = told-of told .number; frontier = fro
 -- "is badly formed (14)", behind 15
 abbrev pub Oversized-refused : (oversized capable : Bool) → (told : List ℕ) → Type 0
 Oversized-refused over capable told = over ≡ true → told-of told .number ≡ cond capable 14 15
-
--- ---- THE FRONTIER SENT OUT
-abbrev pub Sent-says : Sent → (told frontier : List ℕ) → Type 0
-Sent-says r told frontier = Handed (r .number) (r .place) (r .frontier) told frontier
-
--- what a caller reads there
-unfoldable pub sent-of : (told frontier : List ℕ) → Sent
-sent-of told frontier = record { number = told-of told .number; place = told-of told .place; frontier = frontier-of frontier }
 
 -- ---- DOMINANCE
 -- "answer: 0 no, 1 yes, 2 unknown"; 01: "for dominance the number stands instead of the three answers"

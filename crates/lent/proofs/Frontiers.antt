@@ -11,7 +11,7 @@ use Rattle.frontier.specs.declared.Frontier.{Frontier}
 use Rattle.frontier.specs.declared.Merged.{Merged}
 use Rattle.frontier.specs.Frontiers.{well-formed}
 use Rattle.frontier.proofs.Pack.{formed}
-use Rattle.cundvrest_c.specs.Lent.{told-of, frontier-of, list-of, merged-of}
+use Rattle.lent.specs.Lent.{told-of, frontier-of, list-of, merged-of}
 
 -- the numbers behind the two rows
 module _ (axes epochs : List ℕ) (la : length axes ≡ 16) (le : length epochs ≡ 16) (len : ℕ) (t : Bool) where

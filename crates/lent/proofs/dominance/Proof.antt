@@ -1,8 +1,8 @@
 -- `dominance` meets its contract: arm by arm. Assumes nothing.
 use borrow.Author.Needs.{needs}
-use Rattle.cundvrest_c.specs.Lent.{dominance-told}
-use Rattle.cundvrest_c.proofs.lent.dominance.Statement.{statement}
-use Rattle.cundvrest_c.proofs.lent.dominance.Tie as tie
+use Rattle.lent.specs.Lent.{dominance-told}
+use Rattle.lent.proofs.dominance.Statement.{statement}
+use Rattle.lent.proofs.dominance.Tie as tie
 
 enum-told : tie.Need-enum-told
 enum-told c = search needs

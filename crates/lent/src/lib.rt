@@ -1,4 +1,4 @@
-// The numbers that a C caller lends: the three of `told`, and the 34 of a frontier.
+// The numbers that a C caller lends, read and stored: the three of `told`, and the 34 of a frontier.
 use frontier::Dominance;
 use frontier::Frontier;
 use plan_format::Told;
@@ -8,16 +8,13 @@ ghost use Prim.Native.Nat.{_+_, _≤_};
 ghost use lib.Dec.{ltb};
 ghost use lib.ListN.{length, getD, take, drop};
 ghost use lib.Seq.{sets};
-ghost use Rattle.cundvrest_c.specs.Lent.{told-of, frontier-of, list-of, Handed, dominance-told};
+ghost use Rattle.lent.specs.Lent.{told-of, frontier-of, list-of, Handed, dominance-told};
 
 // Number, place and answer.
-pub fn tell(r: Told, told: &mut [u64])
-    requires { ⌜ length (now told) ≡ 3 ⌝ }
+pub fn tell(r: Told, told: &mut [u64; 3])
     ensures { λ _. ⌜ told-of (now (told .exit)) ≡ r ⌝ }
 {
-    told[0] = r.number as u64;
-    told[1] = r.place;
-    told[2] = r.answer;
+    *told = [r.number as u64, r.place, r.answer];
 }
 
 // The answer of dominance: 0 no, 1 yes, 2 unknown; or the refusal's number.
@@ -74,8 +71,7 @@ fn length_of(numbers: &[u64]) -> usize
 }
 
 // The frontier that 34 numbers stand for.
-pub fn frontier(numbers: &[u64]) -> Frontier
-    requires { ⌜ length (now numbers) ≡ 34 ⌝ }
+pub fn frontier(numbers: &[u64; 34]) -> Frontier
     ensures { λ r. ⌜ r ≡ frontier-of (now (numbers .entry)) ⌝ }
 {
     let axes = row(numbers, 0);
@@ -113,8 +109,7 @@ fn put(f: Frontier, numbers: &mut [u64])
 }
 
 // A frontier beside its number and place, with nothing to answer.
-pub fn hand(number: u32, place: u64, f: Frontier, numbers: &mut [u64], told: &mut [u64])
-    requires { ⌜ (length (now numbers) ≡ 34) × (length (now told) ≡ 3) ⌝ }
+pub fn hand(number: u32, place: u64, f: Frontier, numbers: &mut [u64; 34], told: &mut [u64; 3])
     ensures { λ _. ⌜ Handed number place f (now (told .exit)) (now (numbers .exit)) ⌝ }
 {
     put(f, numbers);

@@ -11,7 +11,7 @@ use Rattle.basics.proofs.Tests.{by-cases, clash, either, or-cases}
 use Rattle.frontier.specs.declared.Frontier.{Frontier}
 use Rattle.frontier.specs.declared.Merged.{Merged}
 use Rattle.frontier.specs.Frontiers.{well-formed, merge-number, merge, refusal, dominance-number}
-use Rattle.cundvrest_c.specs.Lent.{frontier-of, oversized}
+use Rattle.lent.specs.Lent.{frontier-of, oversized}
 
 -- a first test that fails
 pub first-fails : (a b : Bool) → a ≡ false → (a && b) ≡ false

@@ -3,9 +3,9 @@ use mathlib.Core.Path.{_≡_}
 use Prim.Native.Nat.{_-_, _≤_}
 use native.Mathlib.Omega.{arith}
 use borrow.Author.Needs.{needs}
-use Rattle.cundvrest_c.proofs.Rows.{copied, copy-none, copy-more, copy-all}
-use Rattle.cundvrest_c.proofs.lent.row.Statement.{statement}
-use Rattle.cundvrest_c.proofs.lent.row.Tie as tie
+use Rattle.lent.proofs.Rows.{copied, copy-none, copy-more, copy-all}
+use Rattle.lent.proofs.row.Statement.{statement}
+use Rattle.lent.proofs.row.Tie as tie
 
 abbrev Inv-loop : tie.InvT-loop
 Inv-loop numbers at r₀ i₀ r i = (i ≤ 16) × (r ≡ copied numbers at 16 i)

@@ -8,10 +8,10 @@ use mir.Val.{boolByte}
 use lib.ListN.{length, set, length-set}
 use lib.Seq.{sets, length-sets}
 use borrow.Author.Needs.{needs}
-use Rattle.cundvrest_c.specs.Lent.{list-of}
-use Rattle.cundvrest_c.proofs.Rows.{stored-whole}
-use Rattle.cundvrest_c.proofs.lent.put.Statement.{statement}
-use Rattle.cundvrest_c.proofs.lent.put.Tie as tie
+use Rattle.lent.specs.Lent.{list-of}
+use Rattle.lent.proofs.Rows.{stored-whole}
+use Rattle.lent.proofs.put.Statement.{statement}
+use Rattle.lent.proofs.put.Tie as tie
 
 byte-of : (t : Bool) → boolByte t ≡ cond t 1 0
 byte-of true = refl

@@ -1,8 +1,8 @@
 -- `length_of` meets its contract: by the test of the taint. Assumes nothing.
 use borrow.Author.Needs.{needs}
 use borrow.Author.Tests.{lt-ltb, le-ltb}
-use Rattle.cundvrest_c.proofs.lent.length_of.Statement.{statement}
-use Rattle.cundvrest_c.proofs.lent.length_of.Tie as tie
+use Rattle.lent.proofs.length_of.Statement.{statement}
+use Rattle.lent.proofs.length_of.Tie as tie
 
 shared-slice-read-if1 : tie.Need-shared-slice-read-if1
 shared-slice-read-if1 c = search needs
