@@ -11,7 +11,7 @@ use lib.Seq.{drop-cons}
 use denote.Ref.{RefT}
 use borrow.Author.Tests.{le-leb, lt-leb}
 use Rattle.basics.proofs.Tests.{by-cases, clash}
-use Rattle.frontier.specs.Rows.{row-reaches, reaching-row, As-it-lies}
+use Rattle.lent_rows.specs.Rows.{row-reaches, reaching-row, As-it-lies}
 
 pub lengths-differ : (xs ys : List ℕ) → (length xs ≡ length ys → ⊥) → false ≡ row-reaches xs ys
 unfolding row-reaches

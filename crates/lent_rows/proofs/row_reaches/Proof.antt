@@ -3,10 +3,10 @@ use Prim.Native.Nat.{_-_}
 use mathlib.Core.Path.{_≡_, refl, sym, _∙_}
 use lib.ListN.{length, drop}
 use borrow.Author.Needs.{needs}
-use Rattle.frontier.specs.Rows.{row-reaches}
-use Rattle.frontier.proofs.RowSteps.{lengths-differ, row-more, row-stop, row-end}
-use Rattle.frontier.proofs.row_reaches.Statement.{statement}
-use Rattle.frontier.proofs.row_reaches.Tie as tie
+use Rattle.lent_rows.specs.Rows.{row-reaches}
+use Rattle.lent_rows.proofs.RowSteps.{lengths-differ, row-more, row-stop, row-end}
+use Rattle.lent_rows.proofs.row_reaches.Statement.{statement}
+use Rattle.lent_rows.proofs.row_reaches.Tie as tie
 
 abbrev Inv-loop : tie.InvT-loop
 Inv-loop first second i₀ i = row-reaches (drop i first) (drop i second) ≡ row-reaches first second

@@ -1,9 +1,9 @@
 -- `reaching` meets its contract: by the two tests. Assumes nothing.
 use mathlib.Core.Path.{refl, sym, _∙_}
 use borrow.Author.Needs.{needs}
-use Rattle.frontier.proofs.RowSteps.{first-reaches, second-reaches, none-reaches}
-use Rattle.frontier.proofs.reaching.Statement.{statement}
-use Rattle.frontier.proofs.reaching.Tie as tie
+use Rattle.lent_rows.proofs.RowSteps.{first-reaches, second-reaches, none-reaches}
+use Rattle.lent_rows.proofs.reaching.Statement.{statement}
+use Rattle.lent_rows.proofs.reaching.Tie as tie
 
 row-reaches-requires : tie.Need-row-reaches-requires
 row-reaches-requires c κs = search needs
