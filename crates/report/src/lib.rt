@@ -8,7 +8,7 @@ ghost use Rattle.text.specs.Text.{Puts, decimal};
 ghost use Rattle.report.specs.Answers.{refused-text, sizes-text, runs-text, row-text, passed-text, verdict-name, whole-words, entry-text, Check-printed, read-text, write-text, Reuse-printed, Frontier-printed};
 
 // One line, `refused N P`.
-pub fn refused(out: &mut [u8], number: u32, place: u64) -> usize
+fn refused(out: &mut [u8], number: u32, place: u64) -> usize
     ensures { λ r. ⌜ Puts (refused-text number place) (now (out .entry)) 0 (now (out .exit)) r ⌝ }
 {
     let word = text::words(out, 0, b"refused");
