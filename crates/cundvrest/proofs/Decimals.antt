@@ -1,64 +1,19 @@
--- Numbers in decimal: the digits that the kit spells are the fewest that hold the number; the number that digits give. Assumes nothing.
+-- Numbers in decimal: the number that digits give. Assumes nothing.
 use mathlib.Core.Path.{_≡_, refl, ap, sym, _∙_}
 use mathlib.Core.Bool.{Bool, true, false, _&&_}
 use mathlib.Core.List.{List, [], _∷_, _++_}
-use Prim.Native.Nat.{ℕ, zero, suc, _+_, _-_, _*_, _^_, _/_, _%_, _<_, _≤_}
+use Prim.Native.Nat.{ℕ, zero, suc, _+_, _-_, _*_, _/_, _<_, _≤_}
 use native.Mathlib.Omega.{arith}
-use native.Mathlib.Nat.{pow-suc}
 use native.Mathlib.Numerals.{add-one}
 use lib.Dec.{ltb}
-use lib.ListN.{length, take, drop, getD}
+use lib.ListN.{length, take, getD}
 use lib.Seq.{take-suc, take-all}
 use borrow.Author.Tests.{lt-ltb, le-ltb, ltb-true, ltb-false, leb-true}
 use Rattle.basics.specs.Lists.{all}
 use Rattle.basics.proofs.Tests.{by-cases, clash, and-both, and-left, and-right}
-use Rattle.io.specs.Digits.{glyph, digits, Fewest}
-use Rattle.cundvrest.specs.Text.{decimal, decimal-by, blanked, spaced}
 use Rattle.cundvrest.specs.Decimal.{digit-test, value-behind, limited, word-of, digits-of}
 use Rattle.cundvrest.specs.declared.decimal.Digits.{Digits}
 use Rattle.cundvrest.specs.declared.decimal.Word.the-variants.{Number, Large, Other}
-
-spelled-by : (k f n : ℕ) → k < f → n < 10 ^ suc k → (0 < k → 10 ^ k ≤ n) → digits 10 (suc k) n ≡ decimal-by f n
-unfolding decimal-by
-spelled-by k zero n h l m = absurd (omega arith)
-spelled-by zero (suc f) n h l m = let e : n % 10 ≡ n = omega arith in rw (e, lt-ltb n 10 (omega arith))
-spelled-by (suc k) (suc f) n h l m =
-    let low : 10 ^ suc k ≤ n = m (omega arith) in
-    let p : 10 ^ suc k ≡ 10 ^ k * 10 = pow-suc 10 k in
-    let q : 10 ^ suc (suc k) ≡ 10 ^ suc k * 10 = pow-suc 10 (suc k) in
-    rw (le-ltb n 10 (omega arith))
-    (ap (λ (d : List ℕ). d ++ (glyph (n % 10) ∷ [])) (spelled-by k f (n / 10) (omega arith) (omega arith) (λ _. omega arith)))
-
-below-power : (k : ℕ) → k < 10 ^ k
-below-power zero = omega arith
-below-power (suc k) = omega (arith, below-power k, pow-suc 10 k)
-
-pub spelled : (r n : ℕ) → Fewest 10 1 n r → digits 10 r n ≡ decimal n
-unfolding decimal
-spelled zero n w = absurd (omega (arith, w .0))
-spelled (suc k) n w = spelled-by k (suc n) n (few k lower) (w .1) lower
-  where
-    at-least : {j : ℕ} → j ≡ k → 10 ^ j ≤ n → 10 ^ k ≤ n
-    at-least e l = rw e at l
-
-    lower : 0 < k → 10 ^ k ≤ n
-    lower p = at-least (omega arith) (w .2 (omega arith))
-
-    few : (j : ℕ) → (0 < j → 10 ^ j ≤ n) → j < suc n
-    few zero l = omega arith
-    few (suc j) l = omega (arith, below-power (suc j), l (omega arith))
-
--- ---- lists with blanks between
-
-pub spaced-none : (ns : List ℕ) → length ns ≡ 0 → spaced ns ≡ []
-unfolding spaced
-spaced-none [] h = refl
-spaced-none (n ∷ ns) h = absurd (omega arith)
-
-pub spaced-some : (ns : List ℕ) → 0 < length ns → spaced ns ≡ decimal (getD ns 0 0) ++ blanked (drop 1 ns)
-unfolding spaced
-spaced-some [] h = absurd (omega arith)
-spaced-some (n ∷ ns) h = refl
 
 -- ---- digits
 

@@ -1,3 +1,1 @@
-pub mod Putting
 pub mod Decimals
-pub mod Answering

@@ -1,10 +1,9 @@
 // The program: arguments and standard input in, the answer's text out. All that is judged is judged by the libraries.
-mod answers;
 mod arguments;
 mod decimal;
 mod input;
 mod numbers;
-mod text;
+mod output;
 mod usage;
 
 use arguments::Asked;
@@ -32,15 +31,10 @@ fn on_first(question: Question, bytes: &[u8], n: usize, out: &mut [u8]) -> usize
 
 fn answered(question: Question, plan: &[u8], out: &mut [u8]) -> usize {
     match question {
-        Question::Check => answers::check(plan, out),
-        Question::Reuse(queue, buffer) => answers::reuse(plan, queue, buffer, out),
-        Question::Frontier(operation, capacity) => answers::frontier(
-            plan,
-            operation,
-            capacity,
-            out,
-        ),
-        Question::Read => answers::read(plan, out),
+        Question::Check => report::check(plan, out),
+        Question::Reuse(queue, buffer) => report::reuse(plan, queue, buffer, out),
+        Question::Frontier(operation, capacity) => report::frontier(plan, operation, capacity, out),
+        Question::Read => report::read(plan, out),
     }
 }
 
@@ -57,7 +51,7 @@ fn write(out: &mut [u8]) -> usize {
         usage::bad_number(s.before, s.fault);
         return 0;
     }
-    answers::write(&list, s.kept, out)
+    report::write(&list, s.kept, out)
 }
 
 // The text of what is asked; of length 0 where a line on standard error says why there is none.
@@ -73,7 +67,7 @@ fn answer(out: &mut [u8]) -> usize {
 fn main() {
     let mut out = [0u8; 262144];
     let n = answer(&mut out);
-    if !text::write(STDOUT_FILENO, &out, n) {
+    if !output::write(STDOUT_FILENO, &out, n) {
         os::fail(b"cundvrest: standard output cannot be written");
     }
 }

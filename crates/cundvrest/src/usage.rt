@@ -1,5 +1,5 @@
 // What there is to ask, and what is said of a question that is none: one line on standard error.
-use crate::text;
+use crate::output;
 use libc::STDERR_FILENO;
 ghost use mathlib.Core.Path.{_≡_};
 ghost use lib.ListN.{length};
@@ -76,7 +76,7 @@ pub fn complain(before: &[u8], word: &[u8], after: &[u8]) {
     let second = quoted(&mut out, first, word);
     let third = text::words(&mut out, second, after);
     let end = text::byte(&mut out, third, b'\n');
-    text::write(STDERR_FILENO, &out, end);
+    output::write(STDERR_FILENO, &out, end);
 }
 
 // A line on a number of standard input that is none, or is too large.
@@ -91,7 +91,7 @@ pub fn bad_number(before: u64, fault: u8) {
         third,
         b"; right: decimal digits, at most 18446744073709551615, white space between\n",
     );
-    text::write(STDERR_FILENO, &out, end);
+    output::write(STDERR_FILENO, &out, end);
 }
 
 fn fault_words(out: &mut [u8], at: usize, fault: u8) -> usize {

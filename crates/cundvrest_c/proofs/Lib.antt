@@ -1,5 +1,1 @@
-pub mod Tells
-pub mod Rows
-pub mod Frontiers
-pub mod Refusals
 pub mod Answers

@@ -1,6 +1,4 @@
 // The C interface, declared in include/cundvrest.h: each function lends what it is lent to a proved function and stores what comes back.
-mod lent; // what the lent numbers stand for
-
 ghost use mathlib.Core.Path.{_≡_};
 ghost use mathlib.Core.Bool.{true, _&&_, _||_};
 ghost use lib.Dec.{leb};
@@ -10,7 +8,8 @@ ghost use Rattle.questions.specs.Reuse.{Asked};
 ghost use Rattle.questions.specs.SentMeaning.{Frontier-right};
 ghost use Rattle.frontier.specs.Frontiers.{merge, raise, dominance};
 ghost use Rattle.frontier.specs.Meaning.{Merge-right, Raise-right, Dominance-means};
-ghost use Rattle.cundvrest_c.specs.Lent.{told-of, frontier-of, oversized, Merge-says, merged-of, Oversized-refused, Sent-says, sent-of, dominance-told, dominance-of};
+ghost use Rattle.lent.specs.Lent.{told-of, frontier-of, oversized, Merge-says, merged-of, Oversized-refused, dominance-told, dominance-of};
+ghost use Rattle.cundvrest_c.specs.Sent.{Sent-says, sent-of};
 
 // The numbers of a stored plan in front of the room; the answer is how many there are.
 #[no_mangle]

@@ -8,7 +8,6 @@ pub mod Join
 pub mod Evict
 pub mod Pack
 pub mod Trim
-pub mod RowSteps
 pub mod Merge
 pub mod Meaning
 pub mod Associate

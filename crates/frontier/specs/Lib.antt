@@ -1,5 +1,4 @@
 pub mod Entries
 pub mod Frontiers
 pub mod Meaning
-pub mod Rows
 pub mod Walks

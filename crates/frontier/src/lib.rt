@@ -1,4 +1,4 @@
-// Sparse frontiers: vector clocks of at most sixteen entries (axis, epoch), with lookup, merge, raise and dominance; and the two lent rows.
+// Sparse frontiers: vector clocks of at most sixteen entries (axis, epoch), with lookup, merge, raise and dominance.
 mod walks; // walks over the lent slots of one or two frontiers
 
 use walks::formed;
@@ -12,7 +12,6 @@ ghost use mathlib.Core.Bool.{false};
 ghost use mathlib.Core.List.{[]};
 ghost use Rattle.frontier.specs.Frontiers.{well-formed, pack, refusal, one-entry, merge, raise, answer, dominance};
 ghost use Rattle.frontier.specs.Meaning.{Looked, Merge-right, Raise-right, Dominance-means};
-ghost use Rattle.frontier.specs.Rows.{row-reaches, reaching-row, As-it-lies};
 
 // Slot i holds the entry (axes[i], epochs[i]) for i below len; the slots past len are zero. A tainted frontier may have lost entries.
 pub struct Frontier {
@@ -206,36 +205,4 @@ fn answer_of(reached: bool, tainted: bool, other: bool) -> Dominance
         return Dominance::Unknown;
     }
     Dominance::No
-}
-
-// Of two lent rows of epochs, the one that reaches the other in every place, as it lies: the first where they are equal. If neither does, or
-// the lengths differ, an empty part of the first.
-pub fn reaching<'a>(first: &'a [u64], second: &'a [u64]) -> &'a [u64]
-    ensures { λ r. ⌜ As-it-lies (first .entry) (second .entry) r ⌝ }
-    ensures { λ r. ⌜ now r ≡ reaching-row (now (first .entry)) (now (second .entry)) ⌝ }
-{
-    if row_reaches(first, second) {
-        return first;
-    }
-    if row_reaches(second, first) {
-        return second;
-    }
-    &first[..0]
-}
-
-// The rows are equally long, and the first is at least the second in every place.
-fn row_reaches(first: &[u64], second: &[u64]) -> bool
-    ensures { λ r. ⌜ r ≡ row-reaches (now (first .entry)) (now (second .entry)) ⌝ }
-{
-    if first.len() != second.len() {
-        return false;
-    }
-    let mut i: usize = 0;
-    while i < first.len() {
-        if first[i] < second[i] {
-            return false;
-        }
-        i += 1;
-    }
-    true
 }

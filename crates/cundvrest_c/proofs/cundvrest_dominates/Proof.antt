@@ -1,7 +1,7 @@
 -- `cundvrest_dominates` meets its contract: what the dominance of the two frontiers answers is told. Assumes nothing.
 use mathlib.Core.Path.{_∙_}
 use borrow.Author.Needs.{needs}
-use Rattle.cundvrest_c.proofs.Answers.{dominance-answered}
+use Rattle.lent.proofs.Answers.{dominance-answered}
 use Rattle.cundvrest_c.proofs.cundvrest_dominates.Statement.{statement}
 use Rattle.cundvrest_c.proofs.cundvrest_dominates.Tie as tie
 
@@ -22,9 +22,9 @@ tell-requires c κs = search needs
 
 returns : tie.Need-returns
 returns c =
-    let a = c .before .before .before .before .before .before .before .before .args in
+    let a = c .before .before .before .before .before .before .args in
     let judged = c .before .before .before .dominates in
-    let left = c .before .before .before .before .before .before .frontier in
+    let left = c .before .before .before .before .before .frontier in
     let right = c .before .before .before .before .frontier2 in
     dominance-answered (a .left .now) (a .right .now) (judged .result) (c .tell .last .1 .0) (c .tell .ensures ∙ c .before .before .dominance .ensures)
     (left .result) (right .result) (left .ensures) (right .ensures) (judged .ensures .0) (judged .ensures .1)

@@ -1,6 +1,6 @@
 -- `cundvrest_merge` meets its contract: what the merge of the two frontiers answers is told and stored. Assumes nothing.
 use borrow.Author.Needs.{needs}
-use Rattle.cundvrest_c.proofs.Answers.{merge-answered}
+use Rattle.lent.proofs.Answers.{merge-answered}
 use Rattle.cundvrest_c.proofs.cundvrest_merge.Statement.{statement}
 use Rattle.cundvrest_c.proofs.cundvrest_merge.Tie as tie
 
@@ -18,9 +18,9 @@ hand-requires c κs = search needs
 
 returns : tie.Need-returns
 returns c =
-    let a = c .before .before .before .before .before .before .before .before .args in
+    let a = c .before .before .before .before .before .before .args in
     let merged = c .before .before .before .merge in
-    let left = c .before .before .before .before .before .before .frontier in
+    let left = c .before .before .before .before .before .frontier in
     let right = c .before .before .before .before .frontier2 in
     merge-answered (a .left .now) (a .right .now) (a .capacity) (merged .result) (c .hand .last .1 .1 .1 .1 .0) (c .hand .last .1 .1 .1 .0) (c .hand .ensures)
     (left .result) (right .result) (left .ensures) (right .ensures) (merged .ensures .0) (merged .ensures .1)

@@ -1,6 +1,6 @@
 -- `cundvrest_raise` meets its contract: what the raise of the frontier answers is told and stored. Assumes nothing.
 use borrow.Author.Needs.{needs}
-use Rattle.cundvrest_c.proofs.Answers.{raise-answered}
+use Rattle.lent.proofs.Answers.{raise-answered}
 use Rattle.cundvrest_c.proofs.cundvrest_raise.Statement.{statement}
 use Rattle.cundvrest_c.proofs.cundvrest_raise.Tie as tie
 
@@ -15,7 +15,7 @@ hand-requires c κs = search needs
 
 returns : tie.Need-returns
 returns c =
-    let a = c .before .before .before .before .before .before .args in
+    let a = c .before .before .before .before .before .args in
     let raised = c .before .before .before .raise in
     let old = c .before .before .before .before .frontier in
     raise-answered (a .old .now) (a .axis) (a .epoch) (a .capacity) (raised .result) (c .hand .last .1 .1 .1 .1 .0) (c .hand .last .1 .1 .1 .0) (c .hand .ensures)

@@ -1,0 +1,12 @@
+-- What is told and stored of the frontier sent out for an operation. Assumes nothing: these are definitions.
+use mathlib.Core.List.{List}
+use Prim.Native.Nat.{ℕ}
+use Rattle.questions.specs.declared.sent.Sent.{Sent}
+use Rattle.lent.specs.Lent.{told-of, frontier-of, Handed}
+
+abbrev pub Sent-says : Sent → (told frontier : List ℕ) → Type 0
+Sent-says r told frontier = Handed (r .number) (r .place) (r .frontier) told frontier
+
+-- what a caller reads there
+unfoldable pub sent-of : (told frontier : List ℕ) → Sent
+sent-of told frontier = record { number = told-of told .number; place = told-of told .place; frontier = frontier-of frontier }

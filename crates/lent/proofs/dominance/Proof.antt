@@ -1,0 +1,38 @@
+-- `dominance` meets its contract: arm by arm. Assumes nothing.
+use borrow.Author.Needs.{needs}
+use Rattle.lent.specs.Lent.{dominance-told}
+use Rattle.lent.proofs.dominance.Statement.{statement}
+use Rattle.lent.proofs.dominance.Tie as tie
+
+enum-told : tie.Need-enum-told
+enum-told c = search needs
+
+enum-told-2 : tie.Need-enum-told-2
+enum-told-2 c = search needs
+
+enum-told-3 : tie.Need-enum-told-3
+enum-told-3 c = search needs
+
+enum-known-r : tie.Need-enum-known-r
+enum-known-r c = search needs
+
+returns : tie.Need-returns
+unfolding dominance-told
+returns c = rw (c .enum-told .given .1)
+
+returns-2 : tie.Need-returns-2
+unfolding dominance-told
+returns-2 c = rw (c .enum-told2 .given .1)
+
+returns-3 : tie.Need-returns-3
+unfolding dominance-told
+returns-3 c = rw (c .enum-told3 .given .1)
+
+returns-4 : tie.Need-returns-4
+unfolding dominance-told
+returns-4 c = rw (c .before .r .given .1)
+
+pub dominance-spec : {M : Type 1} → statement M
+dominance-spec =
+    tie.close
+    (tie.spec enum-told enum-told-2 enum-told-3 enum-known-r returns returns-2 returns-3 returns-4)

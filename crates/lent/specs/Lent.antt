@@ -1,0 +1,71 @@
+-- What the numbers that a C caller lends stand for: the three of `told`, and the 34 of a frontier. Assumes nothing: these are definitions.
+-- The quoted sentences are those of the interface's request.
+use mathlib.Core.Path.{_≡_}
+use mathlib.Core.Bool.{Bool, true, not, cond, _||_}
+use mathlib.Core.List.{List, [], _∷_, _++_}
+use Prim.Native.Nat.{ℕ, zero, suc}
+use lib.Dec.{ltb, leb, eqb}
+use lib.ListN.{getD, take, drop}
+use Rattle.plan_format.specs.declared.Told.{Told}
+use Rattle.frontier.specs.declared.Frontier.{Frontier}
+use Rattle.frontier.specs.declared.Merged.{Merged}
+use Rattle.frontier.specs.declared.Dominance.{Dominance}
+use Rattle.frontier.specs.declared.Dominance.the-variants.{Yes, No, Unknown, Refused}
+
+-- ---- TOLD
+-- "`told` is number, place, answer"
+unfoldable pub told-of : List ℕ → Told
+told-of ns = record { number = getD ns 0 0; place = getD ns 1 0; answer = getD ns 2 0 }
+
+-- ---- FRONTIERS
+-- "a frontier: 16 axes, 16 epochs, length, taint (0 or 1)"; "A frontier whose length is over 16 or whose taint is above 1 is badly formed (14)":
+-- the struct has no taint above 1, so that a length over 16 stands for it
+unfoldable pub frontier-of : List ℕ → Frontier
+frontier-of ns = record {
+  axes = take 16 ns;
+  epochs = take 16 (drop 16 ns);
+  len = cond (ltb 1 (getD ns 33 0)) 17 (getD ns 32 0);
+  tainted = not (eqb (getD ns 33 0) 0);
+}
+
+-- the 34 numbers of a frontier
+unfoldable pub list-of : Frontier → List ℕ
+list-of f = f .axes ++ f .epochs ++ (f .len ∷ cond (f .tainted) 1 0 ∷ [])
+
+-- "length is over 16 or whose taint is above 1"
+unfoldable pub oversized : List ℕ → Bool
+oversized ns = ltb 16 (getD ns 32 0) || ltb 1 (getD ns 33 0)
+
+-- a frontier beside its number and place, with nothing to answer
+abbrev pub Handed : (number place : ℕ) → Frontier → (told frontier : List ℕ) → Type 0
+Handed number place f told frontier = (told-of told ≡ record { number = number; place = place; answer = 0 }) × (frontier ≡ list-of f)
+
+-- ---- MERGE AND RAISE
+-- 01: "14: frontier badly formed, 0. 15: frontier capacity not 1..16, 0"
+abbrev pub Merge-says : Merged → (told frontier : List ℕ) → Type 0
+Merge-says m told frontier = Handed (m .number) 0 (m .frontier) told frontier
+
+-- what a caller reads there
+unfoldable pub merged-of : (told frontier : List ℕ) → Merged
+merged-of told frontier = record { number = told-of told .number; frontier = frontier-of frontier }
+
+-- "is badly formed (14)", behind 15
+abbrev pub Oversized-refused : (oversized capable : Bool) → (told : List ℕ) → Type 0
+Oversized-refused over capable told = over ≡ true → told-of told .number ≡ cond capable 14 15
+
+-- ---- DOMINANCE
+-- "answer: 0 no, 1 yes, 2 unknown"; 01: "for dominance the number stands instead of the three answers"
+unfoldable pub dominance-told : Dominance → Told
+dominance-told No = record { number = 0; place = 0; answer = 0 }
+dominance-told Yes = record { number = 0; place = 0; answer = 1 }
+dominance-told Unknown = record { number = 0; place = 0; answer = 2 }
+dominance-told (Refused n) = record { number = n; place = 0; answer = 0 }
+
+-- what a caller reads there
+unfoldable pub answer-read : ℕ → Dominance
+answer-read zero = No
+answer-read (suc zero) = Yes
+answer-read (suc (suc _)) = Unknown
+
+unfoldable pub dominance-of : Told → Dominance
+dominance-of r = cond (eqb (r .number) 0) (answer-read (r .answer)) (Refused (r .number))

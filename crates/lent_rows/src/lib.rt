@@ -1,0 +1,35 @@
+// Two lent rows of epochs: the one that reaches the other.
+ghost use mathlib.Core.Path.{_≡_};
+ghost use Rattle.lent_rows.specs.Rows.{row-reaches, reaching-row, As-it-lies};
+
+// Of the two rows the one that reaches the other in every place, as it lies: the first where they are equal. If neither does, or
+// the lengths differ, an empty part of the first.
+pub fn reaching<'a>(first: &'a [u64], second: &'a [u64]) -> &'a [u64]
+    ensures { λ r. ⌜ As-it-lies (first .entry) (second .entry) r ⌝ }
+    ensures { λ r. ⌜ now r ≡ reaching-row (now (first .entry)) (now (second .entry)) ⌝ }
+{
+    if row_reaches(first, second) {
+        return first;
+    }
+    if row_reaches(second, first) {
+        return second;
+    }
+    &first[..0]
+}
+
+// The rows are equally long, and the first is at least the second in every place.
+fn row_reaches(first: &[u64], second: &[u64]) -> bool
+    ensures { λ r. ⌜ r ≡ row-reaches (now (first .entry)) (now (second .entry)) ⌝ }
+{
+    if first.len() != second.len() {
+        return false;
+    }
+    let mut i: usize = 0;
+    while i < first.len() {
+        if first[i] < second[i] {
+            return false;
+        }
+        i += 1;
+    }
+    true
+}
