@@ -11,6 +11,9 @@ use std::process::ExitCode;
 use std::time::{Duration, Instant};
 
 const SIZES: [usize; 5] = [64, 128, 256, 512, 1024];
+/// Plans of a family and size that a call takes in turn: one plan checked over
+/// and over would be learnt by heart by the processor's branch predictor.
+const PLANS: u64 = 32;
 /// Pairs of measurements of which the median is taken.
 const PAIRS: usize = 101;
 /// One measurement repeats a call until it takes about this long.
@@ -26,6 +29,17 @@ struct Measured {
     library: Option<f64>,
     reference: f64,
     ratio: Option<f64>,
+}
+
+impl Measured {
+    /// The times of one of so many calls that were measured together.
+    fn of_one(self, calls: u64) -> Measured {
+        Measured {
+            library: self.library.map(|time| time / calls as f64),
+            reference: self.reference / calls as f64,
+            ratio: self.ratio,
+        }
+    }
 }
 
 impl Sides {
@@ -105,16 +119,20 @@ fn measure_families(sides: &Sides) -> Vec<Series> {
 }
 
 fn measure_check(sides: &Sides, family: Family, size: usize) -> Measured {
-    let bytes = family.plan(&mut Rng::new(size as u64), size).bytes();
+    let plans = (0..PLANS).map(|seed| family.plan(&mut Rng::new(seed), size).bytes());
+    let plans: Vec<_> = plans.collect();
+    let bytes = plans.iter().map(Vec::len).sum::<usize>() / plans.len();
     let (mut table, mut list) = (vec![0; 16 * size], vec![0; 2 * size]);
     let measured = sides.measure(|side| {
-        let told = side.check(black_box(&bytes), &mut table, &mut list);
-        assert_eq!(told.number, 0, "a family's plans pass");
+        for plan in &plans {
+            let told = side.check(black_box(plan), &mut table, &mut list);
+            assert_eq!(told.number, 0, "a family's plans pass");
+        }
     });
+    let measured = measured.of_one(PLANS);
     println!(
-        "{:<30}{size:>6}{:>8}{:>12}{:>12.2}{:>8}",
+        "{:<30}{size:>6}{bytes:>8}{:>12}{:>12.2}{:>8}",
         family.name(),
-        bytes.len(),
         optional(measured.library.map(|time| time / 1e3)),
         measured.reference / 1e3,
         optional(measured.ratio),
@@ -153,11 +171,12 @@ fn measure_others(sides: &Sides) {
         "{:<44}{:>12}{:>12}{:>8}",
         "call", "C library", "reference", "ratio"
     );
-    let plan = generate::greatest(&mut Rng::new(1), 1024);
-    let (bytes, numbers) = (plan.bytes(), plan.numbers());
-    let mut read_room = vec![0; numbers.len()];
-    let mut write_room = vec![0; bytes.len()];
+    let plans = (0..PLANS).map(|seed| generate::greatest(&mut Rng::new(seed), 1024));
+    let plans: Vec<_> = plans.map(|plan| (plan.bytes(), plan.numbers())).collect();
+    let mut read_room = vec![0; plans[0].1.len()];
+    let mut write_room = vec![0; plans[0].0.len()];
     let (mut table, mut list) = (vec![0; 16 * 1024], vec![0; 2 * 1024]);
+    let mut out = EMPTY;
     let print = |name: &str, measured: Measured| {
         println!(
             "{name:<44}{:>12}{:>12.0}{:>8}",
@@ -169,22 +188,29 @@ fn measure_others(sides: &Sides) {
         );
     };
     let measured = sides.measure(|side| {
-        side.read(black_box(&bytes), &mut read_room);
+        for (bytes, _) in &plans {
+            side.read(black_box(bytes), &mut read_room);
+        }
     });
-    print("read, greatest plan", measured);
+    print("read, greatest plan", measured.of_one(PLANS));
     let measured = sides.measure(|side| {
-        side.write(black_box(&numbers), &mut write_room);
+        for (_, numbers) in &plans {
+            side.write(black_box(numbers), &mut write_room);
+        }
     });
-    print("write, greatest plan", measured);
+    print("write, greatest plan", measured.of_one(PLANS));
     let measured = sides.measure(|side| {
-        side.reuse(black_box(&bytes), 3, 200, &mut table, &mut list);
+        for (bytes, _) in &plans {
+            side.reuse(black_box(bytes), 3, 200, &mut table, &mut list);
+        }
     });
-    print("reuse, greatest plan", measured);
-    let mut out = EMPTY;
+    print("reuse, greatest plan", measured.of_one(PLANS));
     let measured = sides.measure(|side| {
-        side.frontier(black_box(&bytes), 1023, 8, &mut table, &mut list, &mut out);
+        for (bytes, _) in &plans {
+            side.frontier(black_box(bytes), 1023, 8, &mut table, &mut list, &mut out);
+        }
     });
-    print("frontier sent out, greatest plan", measured);
+    print("frontier sent out, greatest plan", measured.of_one(PLANS));
     for (name, [left, right]) in frontier_pairs() {
         let measured = sides.measure(|side| {
             side.merge(black_box(&left), black_box(&right), 16, &mut out);
