@@ -3,7 +3,7 @@
 use mathlib.Core.Path.{_≡_}
 use mathlib.Core.Bool.{cond}
 use mathlib.Core.List.{List, []}
-use Prim.Native.Nat.{ℕ, zero, suc, _/_, _≤_, _<_}
+use Prim.Native.Nat.{ℕ, zero, suc, _/_, _%_, _≤_, _<_}
 use lib.Dec.{ltb}
 use lib.ListN.{length, getD}
 use Rattle.plan_format.specs.Refusal.{Refusal, refusal, none-given}
@@ -30,8 +30,8 @@ pub record Resolved (p : Plan) (r : Ruled) (source : List ℕ) : Type 0 where
   pub place : r .place ≡ waits-refusal 0 p (p .operations) .place
   pub sources-shown : r .number ≡ 0 → Source-column p source
 
--- 8 at the first of the wait places from k on, three to an operation, that is above the last of its semaphore
+-- 8 at the first of the wait places from k on, three to an operation, that is above the last of its semaphore, one of 64
 unfoldable pub waits-walk : (wsem wval last : List ℕ) → (left k : ℕ) → Refusal
 waits-walk wsem wval last zero k = none-given
 waits-walk wsem wval last (suc left) k =
-    cond (ltb (getD last (getD wsem k 0) 0) (getD wval k 0)) (refusal 8 (k / 3)) (waits-walk wsem wval last left (suc k))
+    cond (ltb (getD last (getD wsem k 0 % 64) 0) (getD wval k 0)) (refusal 8 (k / 3)) (waits-walk wsem wval last left (suc k))
