@@ -25,9 +25,7 @@ use Rattle.checker.specs.Passing.{Known-columns, Read, Resolved, Run-sho
 -- ---- its counts and columns, loaded from its bytes
 module _ {bs head queue wsem wval ssem sval sop mark mop : List ℕ} {r : Loaded} (l : Loads bs r head queue wsem wval ssem sval sop mark mop) where
   pub loaded-sizes : (n i : ℕ) → Sizes-told bs (counts-of r n i)
-  loaded-sizes n i =
-      let s = l .sizes in
-      record { queues = s .queues-are; semaphores = s .semaphores-are; buffers = s .buffers-are; operations = s .operations-are }
+  loaded-sizes n i = l .sizes
 
   pub loaded-counts : Counts-told bs (counts-of r (r .number) (r .place))
   loaded-counts = record { number = l .number; place = l .place; sizes = loaded-sizes (r .number) (r .place) }
@@ -44,7 +42,7 @@ module _ {bs head queue wsem wval ssem sval sop mark mop : List ℕ} {r : Loaded
     loaded-clean = sym (l .number) ∙ z
 
     loaded-many : count (plan-in bs) ≡ r .operations
-    loaded-many = sym (l .sizes .operations-are ∙ rw (zero-not-given (scanned bs .fault) loaded-clean))
+    loaded-many = sym (l .sizes .operations ∙ rw (zero-not-given (scanned bs .fault) loaded-clean))
 
     pub loaded-few : r .operations ≤ 1024
     loaded-few = subst (λ (k : ℕ). k ≤ 1024) loaded-many (shape bs loaded-clean .few-operations)

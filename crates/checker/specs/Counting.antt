@@ -1,22 +1,16 @@
 -- The four counts of a stored plan as they are handed back. Assumes nothing: these are definitions.
 use mathlib.Core.Path.{_≡_}
-use mathlib.Core.Bool.{cond}
 use mathlib.Core.List.{List}
 use Prim.Native.Nat.{ℕ}
-use lib.ListN.{length}
-use Rattle.plan_format.specs.Refusal.{given}
-use Rattle.plan_format.specs.Plan.{count}
-use Rattle.plan_format.specs.Stored.{scanned, plan-in}
+use Rattle.plan_format.specs.Stored.{scanned}
 use Rattle.plan_load.specs.declared.Loaded.{Loaded}
+use Rattle.plan_load.specs.Loading.{Sizes}
 use Rattle.checker.specs.declared.Counted.{Counted}
 use Rattle.checker.specs.declared.Known.{Known}
 
 -- the counts of queues, semaphores, buffers and operations, each 0 where the reader refuses the plan
-pub record Sizes-told (bytes : List ℕ) (r : Counted) : Type 0 where
-  pub queues : r .queues ≡ cond (given (scanned bytes .fault)) 0 (length (plan-in bytes .axes))
-  pub semaphores : r .semaphores ≡ cond (given (scanned bytes .fault)) 0 (length (plan-in bytes .owners))
-  pub buffers : r .buffers ≡ cond (given (scanned bytes .fault)) 0 (length (plan-in bytes .sizes))
-  pub operations : r .operations ≡ cond (given (scanned bytes .fault)) 0 (count (plan-in bytes))
+abbrev pub Sizes-told : (bytes : List ℕ) → Counted → Type 0
+Sizes-told bytes r = Sizes bytes (r .queues) (r .semaphores) (r .buffers) (r .operations)
 
 -- the counts, with number and place as the reader has them
 pub record Counts-told (bytes : List ℕ) (r : Counted) : Type 0 where

@@ -93,8 +93,8 @@ pub fn check_counted(plan: &[u8], table: &mut [u32], list: &mut [u32]) -> Counte
     k.counted
 }
 
-// The check for those who ask on: with the plan's axes behind their count, its queues and its marks in lent columns, which are free where the
-// reader refuses the plan.
+// The check for those who ask on: with the plan's axes from the second place of the head on, its queues and its marks in lent columns. Past
+// these, and where the reader refuses the plan, what is lent is free, as is the number of marks there.
 pub fn check_known(
     plan: &[u8],
     head: &mut [u64; 340],

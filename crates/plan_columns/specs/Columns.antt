@@ -14,7 +14,7 @@ no-point = record { semaphore = 0; value = 0 }
 abbrev pub no-signal : Signal
 no-signal = record { operation = 0; position = 0; semaphore = 0; value = 0 }
 
--- the axis of each queue, behind how many there are
+-- the axis of each queue, from the second place on
 unfoldable pub Axis-column : Plan → (head : List ℕ) → Type 0
 Axis-column p head = (q : ℕ) → q < queues p → getD head (1 + q) 0 ≡ getD (p .axes) q 0
 

@@ -174,10 +174,10 @@ module _ (bs : List ℕ) (h : Head) (nums queue₀ wsem₀ wval₀ ssem₀ sval�
           number = numbers .told .number;
           place = numbers .told .place;
           sizes = record {
-            queues-are = not-refused (sym (ap (λ (p : Plan). length (p .axes)) plan-is ∙ front .axes-long));
-            semaphores-are = not-refused (sym (ap (λ (p : Plan). length (p .owners)) plan-is ∙ front .owners-long));
-            buffers-are = not-refused (sym (ap (λ (p : Plan). length (p .sizes)) plan-is ∙ front .sizes-long));
-            operations-are = not-refused (sym (ap (λ (p : Plan). length (p .operations)) plan-is ∙ operations-long first-form (h .operations) (l .blocks)));
+            queues = not-refused (sym (ap (λ (p : Plan). length (p .axes)) plan-is ∙ front .axes-long));
+            semaphores = not-refused (sym (ap (λ (p : Plan). length (p .owners)) plan-is ∙ front .owners-long));
+            buffers = not-refused (sym (ap (λ (p : Plan). length (p .sizes)) plan-is ∙ front .sizes-long));
+            operations = not-refused (sym (ap (λ (p : Plan). length (p .operations)) plan-is ∙ operations-long first-form (h .operations) (l .blocks)));
           };
           none = λ z. absurd (z refl);
           axes = λ _. load-axes;
@@ -198,7 +198,7 @@ refused-loads {bs} (n, p) z =
     record {
       number = n;
       place = p;
-      sizes = record { queues-are = nothing _; semaphores-are = nothing _; buffers-are = nothing _; operations-are = nothing _ };
+      sizes = record { queues = nothing _; semaphores = nothing _; buffers = nothing _; operations = nothing _ };
       none = λ _. (refl, refl);
       axes = λ e. absurd (z e);
       columns = λ e. absurd (z e);

@@ -12,11 +12,11 @@ use Rattle.plan_columns.specs.Shown.{Shown}
 use Rattle.plan_load.specs.declared.Loaded.{Loaded}
 
 -- the counts of queues, semaphores, buffers and operations, each 0 where the reader refuses the plan
-pub record Sizes (bytes : List ℕ) (queues semaphores buffers operations : ℕ) : Type 0 where
-  pub queues-are : queues ≡ cond (given (scanned bytes .fault)) 0 (length (plan-in bytes .axes))
-  pub semaphores-are : semaphores ≡ cond (given (scanned bytes .fault)) 0 (length (plan-in bytes .owners))
-  pub buffers-are : buffers ≡ cond (given (scanned bytes .fault)) 0 (length (plan-in bytes .sizes))
-  pub operations-are : operations ≡ cond (given (scanned bytes .fault)) 0 (count (plan-in bytes))
+pub record Sizes (bytes : List ℕ) (q s b n : ℕ) : Type 0 where
+  pub queues : q ≡ cond (given (scanned bytes .fault)) 0 (length (plan-in bytes .axes))
+  pub semaphores : s ≡ cond (given (scanned bytes .fault)) 0 (length (plan-in bytes .owners))
+  pub buffers : b ≡ cond (given (scanned bytes .fault)) 0 (length (plan-in bytes .sizes))
+  pub operations : n ≡ cond (given (scanned bytes .fault)) 0 (count (plan-in bytes))
 
 -- 01: "Numbers 1 to 5 come from the first fault met in that reading order"; where there is none, the columns show the plan. On a refusal
 -- the counts are 0, and the columns are free

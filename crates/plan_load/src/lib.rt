@@ -21,7 +21,8 @@ pub struct Loaded {
     pub marks: u16,
 }
 
-// Fills the columns of a stored plan, and takes the numbers in front of its operations.
+// Fills the columns of a stored plan, and its head, in which the axes stand from the second place on. Past them, past the plan's own places in
+// each column, and on a refusal, what is lent is free.
 pub fn load(
     plan: &[u8],
     head: &mut [u64; 340],

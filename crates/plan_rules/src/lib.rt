@@ -9,7 +9,8 @@ pub struct Signalled {
     pub last: [u64; 64],
 }
 
-// 6 or 7 at the first signal that breaks a rule, or none and the last values. Where the columns show no plan the answer is free.
+// 6 or 7 at the first signal that breaks a rule, or none and the last values. Beside a refusal and past the plan's semaphores the last values
+// are free. Where the columns show no plan the answer is free.
 pub fn judge(
     signals: usize,
     owner: &[u16; 64],

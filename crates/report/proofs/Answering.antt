@@ -5,18 +5,19 @@ use mathlib.Core.List.{List, [], _∷_, _++_, append-assoc}
 use Prim.Native.Nat.{ℕ, suc, _+_, _≤_}
 use native.Mathlib.Omega.{arith}
 use native.Mathlib.Nat.{add-zero, zero-add}
+use lib.Dec.{ltb}
 use lib.ListN.{length, set, take, drop, length-set, take-append-drop}
 use lib.Seq.{take-suc-set, drop-set-lt, take-append-seam}
-use borrow.Author.Tests.{eq-eqb, ne-eqb, le-ltb}
+use borrow.Author.Tests.{eq-eqb, ne-eqb, le-ltb, ltb-false}
 use Rattle.basics.specs.Lists.{in-front}
 use Rattle.basics.proofs.Tests.{by-cases, clash}
-use Rattle.plan_format.specs.Refusal.{Refusal, given, none-given, or-else}
+use Rattle.plan_format.specs.Refusal.{Refusal, refusal, given, none-given, or-else}
 use Rattle.plan_format.specs.Stored.{scanned, listed, spelled, room-for, read-refusal, write-refusal, Fills, Read-says, Write-says}
 use Rattle.plan_format.specs.Plan.{queues}
 use Rattle.plan_format.specs.declared.Told.{Told}
-use Rattle.plan_format.proofs.Judged.{zero-not-given, not-given-zero}
+use Rattle.plan_format.proofs.Judged.{zero-not-given, other-given, not-given-zero, or-else-none}
 use Rattle.plan_format.proofs.Plans.{scanned-shape}
-use Rattle.plan_format.proofs.Sizes.{scanned-sizes, listed-sizes}
+use Rattle.plan_format.proofs.Sizes.{scanned-sizes}
 use Rattle.checker.specs.Counting.{Sizes-told}
 use Rattle.checker.specs.declared.Counted.{Counted}
 use Rattle.text.specs.Text.{put, Puts, spaced}
@@ -43,7 +44,7 @@ few-counts bs c s =
     let shape = scanned-shape bs (not-given-zero (scanned bs .fault) n) in
     (omega (arith, rw n at (s .operations), shape .few-operations), omega (arith, rw n at (s .queues), shape .few-queues)))
 
--- ---- reader and writer: a room that is long enough is never refused
+-- ---- the reader: a room that is long enough is never refused
 
 module _
     (f : Refusal) (new o x : List ℕ) (r : Told) (fits : given f ≡ false → length new ≤ length o)
@@ -86,6 +87,7 @@ module _ (bs o x : List ℕ) (r : Told) (h : Read-says bs r o x) (room : length 
       let k = whole-told (scanned bs .fault) (scanned bs .got) o x r in-room h z in
       rw (k .0, k .1, k .2, take-append-seam (scanned bs .got) (drop (length (scanned bs .got)) o))
 
+-- ---- the writer: the bytes, or its refusal
 -- a text that fits, from a place on
 put-inside : (t o : List ℕ) (a : ℕ) → a + length t ≤ length o → put t a o ≡ take a o ++ (t ++ drop (a + length t) o)
 unfolding put
@@ -102,19 +104,22 @@ put-front : (t o : List ℕ) → length t ≤ length o → put t 0 o ≡ in-fron
 unfolding in-front
 put-front t o h = rw (zero-add (length t)) at (put-inside t o 0 (omega arith))
 
-module _ (xs o x : List ℕ) (r : Told) (h : Write-says xs r o x) (room : 63686 ≤ length o) where
-  in-space : given (listed xs .fault) ≡ false → length (spelled xs) ≤ length o
-  in-space n = omega (arith, listed-sizes xs (not-given-zero (listed xs .fault) n) .1)
+room-enough : (n k : ℕ) → room-for n k .number ≡ 0 → n ≤ k
+unfolding room-for refusal
+room-enough n k e = by-cases (ltb k n) (λ t. absurd (let z : 9 ≡ 0 = rw t at e in omega arith)) (λ f. ltb-false k n f)
 
-  pub write-refused : (r .number ≡ 0 → ⊥) → (x ≡ o) × (refused-text (r .number) (r .place) ≡ write-text xs)
-  unfolding Write-says write-refusal write-text
+module _ (xs o x : List ℕ) (r : Told) (h : Write-says xs r o x) where
+  pub write-refused : (r .number ≡ 0 → ⊥) → (x ≡ o) × (refused-text (r .number) (r .place) ≡ write-text xs (length o))
+  unfolding Write-says Fills write-text
   write-refused z =
-      let k = given-told (listed xs .fault) (spelled xs) o x r in-space h z in
-      (k .3, rw (k .0, k .1, k .2))
+      let g = other-given (write-refusal xs (length o)) (λ e. z (h .0 .number ∙ e)) in
+      (h .1 ∙ rw g, rw (g, h .0 .number, h .0 .place))
 
-  pub write-stored : r .number ≡ 0 → Puts (write-text xs) o 0 x (r .answer)
-  unfolding Write-says write-refusal write-text
+  pub write-stored : r .number ≡ 0 → Puts (write-text xs (length o)) o 0 x (r .answer)
+  unfolding Write-says Fills write-text write-refusal
   write-stored z =
-      let k = whole-told (listed xs .fault) (spelled xs) o x r in-space h z in
-      rw (k .0)
-      (record { room-is = k .2 ∙ sym (put-front (spelled xs) o (in-space (k .0))); end-is = omega (arith, k .1, in-space (k .0)) })
+      let none = sym (h .0 .number) ∙ z in
+      let n = zero-not-given (write-refusal xs (length o)) none in
+      let fits = room-enough (length (spelled xs)) (length o) (or-else-none (listed xs .fault) (room-for (length (spelled xs)) (length o)) none .1) in
+      let long : r .answer ≡ length (spelled xs) = h .0 .answer-is ∙ rw n in
+      rw n (record { room-is = (h .1 ∙ rw n) ∙ sym (put-front (spelled xs) o fits); end-is = omega (arith, long, fits) })

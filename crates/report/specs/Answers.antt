@@ -6,7 +6,7 @@ use lib.Dec.{eqb}
 use lib.ListN.{take, drop, getD, replicate}
 use Rattle.basics.specs.Lists.{join-from}
 use Rattle.plan_format.specs.Refusal.{given}
-use Rattle.plan_format.specs.Stored.{scanned, listed, spelled}
+use Rattle.plan_format.specs.Stored.{scanned, spelled, write-refusal}
 use Rattle.plan_format.specs.declared.Told.{Told}
 use Rattle.plan_order.specs.Promise.{Checked}
 use Rattle.checker.specs.Counting.{Sizes-told}
@@ -67,9 +67,9 @@ unfoldable pub read-text : (bytes : List ℕ) → List ℕ
 read-text bs =
     cond (given (scanned bs .fault)) (refused-text (scanned bs .fault .number) (scanned bs .fault .place)) (spaced (scanned bs .got) ++ (10 ∷ []))
 
--- the stored plan of a list of numbers, or the writer's refusal
-unfoldable pub write-text : (numbers : List ℕ) → List ℕ
-write-text xs = cond (given (listed xs .fault)) (refused-text (listed xs .fault .number) (listed xs .fault .place)) (spelled xs)
+-- the stored plan of a list of numbers, or the writer's refusal, in a room of so many bytes
+unfoldable pub write-text : (numbers : List ℕ) → (room : ℕ) → List ℕ
+write-text xs k = let f = write-refusal xs k in cond (given f) (refused-text (f .number) (f .place)) (spelled xs)
 
 -- ---- the questions
 

@@ -22,13 +22,14 @@ same-length c = search needs
 
 returns : tie.Need-returns
 returns c =
+    let counted = c .before .before .before .before .before .before .before .before .check-counted in
     record {
-      counts = c .before .before .before .before .before .before .before .before .check-counted .result;
+      counts = counted .result;
       table = _;
       list = _;
-      checked = c .before .before .before .before .before .before .before .before .check-counted .ensures .0;
-      sizes = c .before .before .before .before .before .before .before .before .check-counted .ensures .1;
-      text = rw (line-refused (c .before .before .before .before .before .before .before .before .check-counted .result .number) (c .before .before .before .before .before .before .before .before .check-counted .result .place) _ (c .before .before .before .before .if1 .taken)) (c .before .before .refused .ensures);
+      checked = counted .ensures .0;
+      sizes = counted .ensures .1;
+      text = rw (line-refused (counted .result .number) (counted .result .place) _ (c .before .before .before .before .if1 .taken)) (c .before .before .refused .ensures);
     }
 
 slice-aggregate-passed : tie.Need-slice-aggregate-passed
@@ -39,7 +40,8 @@ slice-aggregate-passed-2 c = search needs
 
 passed-requires : tie.Need-passed-requires
 passed-requires c κs =
-    let few = few-counts _ (c .before .before .before .before .before .before .before .check-counted .result) (c .before .before .before .before .before .before .before .check-counted .ensures .1) in
+    let counted = c .before .before .before .before .before .before .before .check-counted in
+    let few = few-counts _ (counted .result) (counted .ensures .1) in
     (few .0, few .1, omega (arith, c .before .before .before .before .before .before .table2 .given), omega (arith, c .before .before .before .before .before .list2 .given))
 
 same-length-2 : tie.Need-same-length-2
@@ -47,13 +49,14 @@ same-length-2 c = search needs
 
 returns-2 : tie.Need-returns-2
 returns-2 c =
+    let counted = c .before .before .before .before .before .before .before .before .before .before .check-counted in
     record {
-      counts = c .before .before .before .before .before .before .before .before .before .before .check-counted .result;
+      counts = counted .result;
       table = _;
       list = _;
-      checked = c .before .before .before .before .before .before .before .before .before .before .check-counted .ensures .0;
-      sizes = c .before .before .before .before .before .before .before .before .before .before .check-counted .ensures .1;
-      text = rw (line-answered (c .before .before .before .before .before .before .before .before .before .before .check-counted .result .number) (c .before .before .before .before .before .before .before .before .before .before .check-counted .result .place) _ (c .before .before .before .before .before .before .if1 .left)) (c .before .before .passed .ensures);
+      checked = counted .ensures .0;
+      sizes = counted .ensures .1;
+      text = rw (line-answered (counted .result .number) (counted .result .place) _ (c .before .before .before .before .before .before .if1 .left)) (c .before .before .passed .ensures);
     }
 
 pub check-spec : {M : Type 1} → statement M
