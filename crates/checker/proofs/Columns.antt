@@ -19,16 +19,13 @@ use Rattle.plan_waits.specs.declared.Ruled.{Ruled as Waited}
 use Rattle.plan_waits.specs.Waits.{Shown as Waits-shown, Resolved as Waits-resolved}
 use Rattle.plan_waits.proofs.Rules.{then-eight}
 use Rattle.plan_run.specs.Run.{Shown as Sources-shown, Rows-of}
-use Rattle.checker.specs.Counting.{Sizes-told, Counts-told, counts-of}
+use Rattle.checker.specs.Counting.{Counts-told, counts-of}
 use Rattle.checker.specs.Passing.{Known-columns, Read, Resolved, Run-shown}
 
 -- ---- its counts and columns, loaded from its bytes
 module _ {bs head queue wsem wval ssem sval sop mark mop : List ℕ} {r : Loaded} (l : Loads bs r head queue wsem wval ssem sval sop mark mop) where
-  pub loaded-sizes : (n i : ℕ) → Sizes-told bs (counts-of r n i)
-  loaded-sizes n i = l .sizes
-
   pub loaded-counts : Counts-told bs (counts-of r (r .number) (r .place))
-  loaded-counts = record { number = l .number; place = l .place; sizes = loaded-sizes (r .number) (r .place) }
+  loaded-counts = record { number = l .number; place = l .place; sizes = l .sizes }
 
   pub loaded-known : Known-columns bs (r .marks) head queue mark mop
   loaded-known = record {

@@ -3,7 +3,7 @@ use mathlib.Core.Path.{ap₂}
 use borrow.Author.Needs.{needs}
 use Rattle.plan_order.proofs.Checks.{checked}
 use Rattle.checker.proofs.Answers.{told, not-read, answerless}
-use Rattle.checker.proofs.Columns.{loaded-sizes, loaded-known, loaded-few, loaded-read}
+use Rattle.checker.proofs.Columns.{loaded-known, loaded-few, loaded-read}
 use Rattle.checker.proofs.check_known.Statement.{statement}
 use Rattle.checker.proofs.check_known.Tie as tie
 
@@ -17,7 +17,7 @@ returns : tie.Need-returns
 returns c =
     let taken = c .before .if1 .taken in
     let l = c .before .before .before .load .ensures .0 in
-    rw (c .with-marks .ensures) (checked _ _ _ _ _ _ (not-read _ _ _ _ taken (ap₂ told (l .number) (l .place))), (loaded-sizes l _ _, loaded-known l))
+    rw (c .with-marks .ensures) (checked _ _ _ _ _ _ (not-read _ _ _ _ taken (ap₂ told (l .number) (l .place))), (l .sizes, loaded-known l))
 
 cast-check-columns : tie.Need-cast-check-columns
 cast-check-columns c = search needs
@@ -42,7 +42,7 @@ returns-2 c =
     let l = c .before .before .before .before .before .before .before .before .before .before .before .before .before .before .before .before .before .before .before .before .before .load .ensures in
     let left = c .before .before .before .before .before .before .before .before .before .before .before .before .before .before .before .before .before .before .before .if1 .left in
     rw (c .with-marks2 .ensures)
-    (checked _ _ _ _ _ _ (answerless _ _ _ _ _ _ (c .before .before .before .before .before .check-columns .ensures _ (loaded-read (l .0) left _ (l .1 left)))), (loaded-sizes (l .0) _ _, loaded-known (l .0)))
+    (checked _ _ _ _ _ _ (answerless _ _ _ _ _ _ (c .before .before .before .before .before .check-columns .ensures _ (loaded-read (l .0) left _ (l .1 left)))), (l .0 .sizes, loaded-known (l .0)))
 
 pub check-known-spec : {M : Type 1} → statement M
 check-known-spec =
