@@ -73,7 +73,7 @@ fn lower(a: usize, b: usize) -> usize
 }
 
 // The numbers of a stored plan, or the first of refusals 1 to 5; the answer is how many numbers there are.
-pub fn read_numbers(plan: &[u8], numbers: &mut [u64; 22868]) -> Told
+fn read_numbers(plan: &[u8], numbers: &mut [u64; 22868]) -> Told
     ensures { λ r. ⌜ Numbers-read (now (plan .entry)) r (now (numbers .exit)) ⌝ }
 {
     let c = section::sections(plan, numbers);
