@@ -4,16 +4,15 @@ use mathlib.Core.Bool.{Bool, true, false, cond}
 use mathlib.Core.List.{List, []}
 use Prim.Native.Nat.{ℕ, _*_, _≤_, _<_}
 use native.Mathlib.Omega.{arith}
-use lib.Dec.{ltb}
 use lib.ListN.{length}
-use borrow.Author.Tests.{lt-ltb, le-ltb, ltb-false}
-use Rattle.basics.proofs.Tests.{by-cases}
+use borrow.Author.Tests.{lt-ltb, le-ltb}
 use Rattle.plan_format.specs.Refusal.{Refusal, refusal, none-given, given, or-else}
 use Rattle.plan_format.specs.Plan.{count}
 use Rattle.plan_format.specs.Sound.{signals-refusal, waits-refusal, rules-refusal}
 use Rattle.plan_format.specs.Stored.{scanned, plan-in, plan-refusal, room-for, Tells}
 use Rattle.plan_format.specs.declared.Told.{Told}
 use Rattle.plan_format.proofs.Judged.{other-given, or-else-first, or-else-second, or-else-none}
+use Rattle.plan_format.proofs.RoomMeaning.{room-for-none}
 use Rattle.plan_order.specs.Check.{room-refusal, Outcome, untouched, outcome, check-outcome, table-left, list-left, left-in, Says, Check-says}
 use Rattle.plan_order.proofs.Outcomes.{plan-refused, room-refused}
 use Rattle.plan_rules.specs.declared.Signalled.{Signalled}
@@ -105,10 +104,6 @@ module _ (n t l : ℕ) where
   pub room-enough : 16 * n ≤ t → 2 * n ≤ l → room-refusal n t l ≡ refusal 0 0
   unfolding room-refusal room-for or-else given none-given refusal
   room-enough h k = rw (le-ltb t (16 * n) h, le-ltb l (2 * n) k)
-
-room-for-none : (n k : ℕ) → room-for n k .number ≡ 0 → n ≤ k
-unfolding room-for refusal
-room-for-none n k e = by-cases (ltb k n) (λ t. absurd (let z : 9 ≡ 0 = rw t at e in omega arith)) (λ f. ltb-false k n f)
 
 -- no refusal is enough room
 pub has-room : (n : ℕ) (t l : List ℕ) (r : Told) → n ≤ 1024 → Tells (room-refusal n (length t) (length l)) 0 r → r .number ≡ 0 → Room n t l

@@ -27,12 +27,10 @@ module _ {bs head queue wsem wval ssem sval sop mark mop : List ℕ} {r : Loaded
   pub loaded-counts : Counts-told bs (counts-of r (r .number) (r .place))
   loaded-counts = record { number = l .number; place = l .place; sizes = l .sizes }
 
-  pub loaded-known : Known-columns bs (r .marks) head queue mark mop
-  loaded-known = record {
-    axes-shown = λ z. l .axes (l .number ∙ z);
-    queues-shown = λ z. l .columns (l .number ∙ z) .queues-shown;
-    marks-shown = λ z. l .columns (l .number ∙ z) .marks-shown;
-  }
+  pub loaded-known : scanned bs .fault .number ≡ 0 → Known-columns (plan-in bs) (r .marks) head queue mark mop
+  loaded-known z =
+      let clean = l .number ∙ z in
+      record { axes-shown = l .axes clean; queues-shown = l .columns clean .queues-shown; marks-shown = l .columns clean .marks-shown }
 
   module _ (z : r .number ≡ 0) where
     loaded-clean : scanned bs .fault .number ≡ 0

@@ -11,11 +11,11 @@ use Rattle.plan_columns.specs.Columns.{Axis-column, Owner-column, Queue-column,
 use Rattle.plan_columns.specs.Shown.{Shown}
 use Rattle.plan_run.specs.Run.{Rows-of}
 
--- columns of a plan for those who ask on, where the reader does not refuse it
-pub record Known-columns (bytes : List ℕ) (marks : ℕ) (head queue mark mop : List ℕ) : Type 0 where
-  pub axes-shown : scanned bytes .fault .number ≡ 0 → Axis-column (plan-in bytes) head
-  pub queues-shown : scanned bytes .fault .number ≡ 0 → Queue-column (plan-in bytes) queue
-  pub marks-shown : scanned bytes .fault .number ≡ 0 → Mark-columns (plan-in bytes) marks mark mop
+-- columns of a plan for those who ask on
+pub record Known-columns (p : Plan) (marks : ℕ) (head queue mark mop : List ℕ) : Type 0 where
+  pub axes-shown : Axis-column p head
+  pub queues-shown : Queue-column p queue
+  pub marks-shown : Mark-columns p marks mark mop
 
 -- columns of a plan that the reader does not refuse
 pub record Read (bytes : List ℕ) (n signals marks : ℕ) (owner queue wsem wval ssem sval sop mark mop : List ℕ) : Type 0 where

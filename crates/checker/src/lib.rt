@@ -7,7 +7,7 @@ use plan_load::Loaded;
 ghost use mathlib.Core.Path.{_≡_};
 ghost use mathlib.Core.List.{List};
 ghost use Prim.Native.Nat.{ℕ, _≤_};
-ghost use Rattle.plan_format.specs.Stored.{Tells};
+ghost use Rattle.plan_format.specs.Stored.{scanned, plan-in, Tells};
 ghost use Rattle.plan_order.specs.Check.{room-refusal, Check-says};
 ghost use Rattle.plan_order.specs.Promise.{Checked};
 ghost use Rattle.checker.specs.Counting.{Sizes-told, Counts-told, known-of, counts-of};
@@ -106,7 +106,7 @@ pub fn check_known(
 ) -> Known
     ensures { λ r. ⌜ Checked (now (plan .entry)) (record { number = r .counted .number; place = r .counted .place; answer = 0 }) (now (table .entry)) (now (table .exit)) (now (list .entry)) (now (list .exit)) ⌝ }
     ensures { λ r. ⌜ Sizes-told (now (plan .entry)) (r .counted) ⌝ }
-    ensures { λ r. ⌜ Known-columns (now (plan .entry)) (r .marks) (now (head .exit)) (now (queue .exit)) (now (mark .exit)) (now (mop .exit)) ⌝ }
+    ensures { λ r. ⌜ (scanned (now (plan .entry)) .fault .number ≡ 0 → Known-columns (plan-in (now (plan .entry))) (r .marks) (now (head .exit)) (now (queue .exit)) (now (mark .exit)) (now (mop .exit))) ⌝ }
 {
     let mut owner = [0u16; 64];
     let mut wsem = [0u16; 3072];
@@ -201,9 +201,18 @@ fn check_columns(
             answer: 0,
         };
     }
-    let last = signalled.last;
     let mut source = [1024u16; 3072];
-    let waited = plan_waits::resolve(n, signals, ssem, sval, sop, wsem, wval, &last, &mut source);
+    let waited = plan_waits::resolve(
+        n,
+        signals,
+        ssem,
+        sval,
+        sop,
+        wsem,
+        wval,
+        &signalled.last,
+        &mut source,
+    );
     if waited.number != 0 {
         return Told {
             number: waited.number,

@@ -25,6 +25,10 @@ room-for-means n k = record {
   enough = λ h. rw (le-ltb k n h) (refl, refl);
 }
 
+pub room-for-none : (needed room : ℕ) → room-for needed room .number ≡ 0 → needed ≤ room
+room-for-none n k e =
+    by-cases (ltb k n) (λ u. absurd (omega (arith, room-for-means n k .short (ltb-true k n u) .0))) (λ u. ltb-false k n u)
+
 -- after a fault up to 5
 room-after : (a : Refusal) (needed room : ℕ) → a .number ≤ 5 → Room-after a needed room (or-else a (room-for needed room))
 room-after a n k five =
@@ -72,9 +76,7 @@ module _ (fault : Refusal) (new : List ℕ) (r : Told) (o x : List ℕ) where
       let none-of : r .number ≡ 0 → given f ≡ false = λ z. zero-not-given f (zero-of z) in
       let front : r .number ≡ 0 → x ≡ in-front new o = λ z. w .1 ∙ ap (λ (b : Bool). cond b o (in-front new o)) (none-of z) in
       let fault-none : r .number ≡ 0 → fault .number ≡ 0 = λ z. or-else-none fault (room-for (length new) (length o)) (zero-of z) .0 in
-      let fits : r .number ≡ 0 → length new ≤ length o = λ z. by-cases (ltb (length o) (length new))
-      (λ u. absurd (let n : f .number ≡ 9 = m .then-room (fault-none z) .short (ltb-true (length o) (length new) u) .0 in omega (arith, zero-of z)))
-      (λ u. ltb-false (length o) (length new) u) in
+      let fits : r .number ≡ 0 → length new ≤ length o = λ z. room-for-none (length new) (length o) (or-else-none fault (room-for (length new) (length o)) (zero-of z) .1) in
       record {
         refused = λ h. w .1 ∙ ap (λ (b : Bool). cond b o (in-front new o)) (other-given f (λ z. h (t .number ∙ z)));
         length-told = λ z. t .answer-is ∙ ap (λ (b : Bool). cond b 0 (length new)) (none-of z);

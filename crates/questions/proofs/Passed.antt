@@ -95,9 +95,9 @@ module _ {bs : List ℕ} {c : Counted} {t x l y : List ℕ} (sizes : Sizes-told 
   few-operations = omega (arith, operations-are, sound .few-operations)
 
   -- ---- the columns that the check lends
-  module _ {marks : ℕ} {head queue mark mop : List ℕ} (known : Known-columns bs marks head queue mark mop) where
+  module _ {marks : ℕ} {head queue mark mop : List ℕ} (known : scanned bs .fault .number ≡ 0 → Known-columns (plan-in bs) marks head queue mark mop) where
     pub axes-shown : Axis-column (plan-in bs) head
-    axes-shown = known .axes-shown read
+    axes-shown = known read .axes-shown
 
     pub opened : Opened (plan-in bs) c marks queue mark mop x
     opened = record {
@@ -107,8 +107,8 @@ module _ {bs : List ℕ} {c : Counted} {t x l y : List ℕ} (sizes : Sizes-told 
         sound = sound;
         many = operations-are;
         few-buffers = limits bs read .few-buffers;
-        queues-shown = known .queues-shown read;
-        marks-shown = known .marks-shown read;
+        queues-shown = known read .queues-shown;
+        marks-shown = known read .marks-shown;
         rows-shown = rows-shown;
       };
     }

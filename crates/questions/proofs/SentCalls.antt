@@ -35,7 +35,7 @@ module _ {bs t x l y : List ℕ} (k : Counted) (j c : ℕ) (checked : Checked bs
       frontier-right bs j c r t x l y (subst (λ (a : Sent). Frontier-says bs j c a t x l y) (sym e)
       (plan-said bs j c t x l y (k .number) (k .place) (checked .says) h))
 
-  module _ {marks : ℕ} {head queue mark mop : List ℕ} (sizes : Sizes-told bs k) (known : Known-columns bs marks head queue mark mop) (z : k .number ≡ 0) where
+  module _ {marks : ℕ} {head queue mark mop : List ℕ} (sizes : Sizes-told bs k) (known : scanned bs .fault .number ≡ 0 → Known-columns (plan-in bs) marks head queue mark mop) (z : k .number ≡ 0) where
     asked-refused : (r : Sent) (n i : ℕ) → (n ≡ 0 → ⊥) → Refuses (sent-refusal (plan-in bs) j c) n i → r ≡ refused-as n i →
         Frontier-right bs j c r t x l y
     asked-refused r n i h f e =

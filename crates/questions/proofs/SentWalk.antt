@@ -17,7 +17,7 @@ use Rattle.frontier.proofs.Slots.{tabulate-same}
 use Rattle.frontier.proofs.Sorted.{same-entry}
 use Rattle.frontier.proofs.Raising.{raises, raises-from-empty, sorted-gathered, gathered-length, merge-empty}
 use Rattle.plan_format.specs.Plan.{Plan, count, queues}
-use Rattle.plan_format.specs.Stored.{plan-in}
+use Rattle.plan_format.specs.Stored.{scanned, plan-in}
 use Rattle.plan_order.specs.Rows.{row, rows}
 use Rattle.plan_order.specs.Promise.{Checked}
 use Rattle.plan_order.proofs.Rows.{rows-length}
@@ -77,7 +77,7 @@ module _ (head table : List ℕ) (first : ℕ) where
 
 -- ---- where a passed check left them
 module _ {bs head queue mark mop t x l y : List ℕ} {marks : ℕ} {k : Counted} (sizes : Sizes-told bs k)
-    (checked : Checked bs (record { number = k .number; place = k .place; answer = 0 }) t x l y) (passed : k .number ≡ 0) (known : Known-columns bs marks head queue mark mop) where
+    (checked : Checked bs (record { number = k .number; place = k .place; answer = 0 }) t x l y) (passed : k .number ≡ 0) (known : scanned bs .fault .number ≡ 0 → Known-columns (plan-in bs) marks head queue mark mop) where
   abbrev plan : Plan
   plan = plan-in bs
 

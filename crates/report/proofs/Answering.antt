@@ -5,18 +5,18 @@ use mathlib.Core.List.{List, [], _∷_, _++_, append-assoc}
 use Prim.Native.Nat.{ℕ, suc, _+_, _≤_}
 use native.Mathlib.Omega.{arith}
 use native.Mathlib.Nat.{add-zero, zero-add}
-use lib.Dec.{ltb}
 use lib.ListN.{length, set, take, drop, length-set, take-append-drop}
 use lib.Seq.{take-suc-set, drop-set-lt, take-append-seam}
-use borrow.Author.Tests.{eq-eqb, ne-eqb, le-ltb, ltb-false}
+use borrow.Author.Tests.{eq-eqb, ne-eqb, le-ltb}
 use Rattle.basics.specs.Lists.{in-front}
 use Rattle.basics.proofs.Tests.{by-cases, clash}
-use Rattle.plan_format.specs.Refusal.{Refusal, refusal, given, none-given, or-else}
+use Rattle.plan_format.specs.Refusal.{Refusal, given, none-given, or-else}
 use Rattle.plan_format.specs.Stored.{scanned, listed, spelled, room-for, read-refusal, write-refusal, Fills, Read-says, Write-says}
 use Rattle.plan_format.specs.Plan.{queues}
 use Rattle.plan_format.specs.declared.Told.{Told}
 use Rattle.plan_format.proofs.Judged.{zero-not-given, other-given, not-given-zero, or-else-none}
 use Rattle.plan_format.proofs.Plans.{scanned-shape}
+use Rattle.plan_format.proofs.RoomMeaning.{room-for-none}
 use Rattle.plan_format.proofs.Sizes.{scanned-sizes}
 use Rattle.checker.specs.Counting.{Sizes-told}
 use Rattle.checker.specs.declared.Counted.{Counted}
@@ -104,10 +104,6 @@ put-front : (t o : List ℕ) → length t ≤ length o → put t 0 o ≡ in-fron
 unfolding in-front
 put-front t o h = rw (zero-add (length t)) at (put-inside t o 0 (omega arith))
 
-room-enough : (n k : ℕ) → room-for n k .number ≡ 0 → n ≤ k
-unfolding room-for refusal
-room-enough n k e = by-cases (ltb k n) (λ t. absurd (let z : 9 ≡ 0 = rw t at e in omega arith)) (λ f. ltb-false k n f)
-
 module _ (xs o x : List ℕ) (r : Told) (h : Write-says xs r o x) where
   pub write-refused : (r .number ≡ 0 → ⊥) → (x ≡ o) × (refused-text (r .number) (r .place) ≡ write-text xs (length o))
   unfolding Write-says Fills write-text
@@ -120,6 +116,6 @@ module _ (xs o x : List ℕ) (r : Told) (h : Write-says xs r o x) where
   write-stored z =
       let none = sym (h .0 .number) ∙ z in
       let n = zero-not-given (write-refusal xs (length o)) none in
-      let fits = room-enough (length (spelled xs)) (length o) (or-else-none (listed xs .fault) (room-for (length (spelled xs)) (length o)) none .1) in
+      let fits = room-for-none (length (spelled xs)) (length o) (or-else-none (listed xs .fault) (room-for (length (spelled xs)) (length o)) none .1) in
       let long : r .answer ≡ length (spelled xs) = h .0 .answer-is ∙ rw n in
       rw n (record { room-is = (h .1 ∙ rw n) ∙ sym (put-front (spelled xs) o fits); end-is = omega (arith, long, fits) })
