@@ -136,9 +136,9 @@ pub fn check_known(
         l.marks as usize,
         &owner,
         queue,
-        &wsem,
+        &mut wsem,
         &wval,
-        &ssem,
+        &mut ssem,
         &sval,
         &sop,
         mark,
@@ -179,9 +179,9 @@ fn check_columns(
     marks: usize,
     owner: &[u16; 64],
     queue: &[u16; 1024],
-    wsem: &[u16; 3072],
+    wsem: &mut [u16; 3072],
     wval: &[u64; 3072],
-    ssem: &[u16; 2048],
+    ssem: &mut [u16; 2048],
     sval: &[u64; 2048],
     sop: &[u16; 2048],
     mark: &[u16; 4096],
@@ -201,7 +201,6 @@ fn check_columns(
             answer: 0,
         };
     }
-    let mut source = [1024u16; 3072];
     let waited = plan_waits::resolve(
         n,
         signals,
@@ -211,7 +210,6 @@ fn check_columns(
         wsem,
         wval,
         &signalled.last,
-        &mut source,
     );
     if waited.number != 0 {
         return Told {
@@ -224,7 +222,7 @@ fn check_columns(
     if lent.number != 0 {
         return lent;
     }
-    decide::check_order(n, marks, queue, &source, mark, mop, table, list)
+    decide::check_order(n, marks, queue, wsem, mark, mop, table, list)
 }
 
 // 9 with the length needed where the table, or else the list, is too short for n operations.

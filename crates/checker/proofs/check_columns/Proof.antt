@@ -19,8 +19,8 @@ resolve-requires c κs = search needs
 returns-2 : tie.Need-returns-2
 returns-2 c =
     λ bs read.
-    let judged = c .before .before .before .before .before .before .before .judge .ensures (plan-in bs) (signals-given read) in
-    let none = c .before .before .before .before .before .before .if1 .left in
+    let judged = c .before .before .before .before .before .before .before .before .judge .ensures (plan-in bs) (signals-given read) in
+    let none = c .before .before .before .before .before .before .before .if1 .left in
     not-reached bs _ _ _ (read .read) judged none (c .before .before .resolve .ensures (plan-in bs) (waits-given read judged none)) (c .if2 .taken) refl
 
 room-requires : tie.Need-room-requires
@@ -29,13 +29,13 @@ room-requires c κs = search needs
 returns-3 : tie.Need-returns-3
 returns-3 c =
     λ bs read.
-    let judged = c .before .before .before .before .before .before .before .before .before .before .judge .ensures (plan-in bs) (signals-given read) in
-    let none = c .before .before .before .before .before .before .before .before .before .if1 .left in
+    let judged = c .before .before .before .before .before .before .before .before .before .before .before .judge .ensures (plan-in bs) (signals-given read) in
+    let none = c .before .before .before .before .before .before .before .before .before .before .if1 .left in
     let resolved = c .before .before .before .before .before .resolve .ensures (plan-in bs) (waits-given read judged none) in
     no-room bs _ _ _ _ (read .many) (no-refusal read judged none resolved (c .before .before .before .if2 .left)) (c .before .before .room .ensures) (c .if3 .taken)
 
 check-order-requires : tie.Need-check-order-requires
-check-order-requires c κs = has-room _ _ _ _ (c .before .before .before .before .before .before .before .before .before .before .before .before .before .before .before .before .pre) (c .before .before .before .before .before .room .ensures) (c .before .before .before .if3 .left)
+check-order-requires c κs = has-room _ _ _ _ (c .before .before .before .before .before .before .before .before .before .before .before .before .before .before .before .before .before .before .pre) (c .before .before .before .before .before .room .ensures) (c .before .before .before .if3 .left)
 
 same-length : tie.Need-same-length
 same-length c = search needs
@@ -46,8 +46,8 @@ same-length-2 c = search needs
 returns-4 : tie.Need-returns-4
 returns-4 c =
     λ bs read.
-    let judged = c .before .before .before .before .before .before .before .before .before .before .before .before .before .before .before .before .before .before .judge .ensures (plan-in bs) (signals-given read) in
-    let none = c .before .before .before .before .before .before .before .before .before .before .before .before .before .before .before .before .before .if1 .left in
+    let judged = c .before .before .before .before .before .before .before .before .before .before .before .before .before .before .before .before .before .before .before .judge .ensures (plan-in bs) (signals-given read) in
+    let none = c .before .before .before .before .before .before .before .before .before .before .before .before .before .before .before .before .before .before .if1 .left in
     let resolved = c .before .before .before .before .before .before .before .before .before .before .before .before .before .resolve .ensures (plan-in bs) (waits-given read judged none) in
     c .before .before .before .before .check-order .ensures bs (resolved-given read judged none resolved (c .before .before .before .before .before .before .before .before .before .before .before .if2 .left))
 
