@@ -1,6 +1,6 @@
 // Rows merged: the largest of four rows in each column, one more in the own column.
 ghost use mathlib.Core.Path.{_≡_};
-ghost use Prim.Native.Nat.{ℕ, _+_, _-_, _%_, _≤_, _<_, max};
+ghost use Prim.Native.Nat.{ℕ, _+_, _-_, _*_, _%_, _≤_, _<_, max};
 ghost use lib.ListN.{length, getD};
 ghost use Rattle.plan_run.specs.Merge.{largest, Laid};
 
@@ -23,6 +23,14 @@ fn sum(a: u16, b: u16) -> u16
     ((wide(a) + wide(b)) % 65536) as u16
 }
 
+// The larger of two rows in a column.
+fn higher(rows: &[u16; 16416], a: usize, b: usize, k: usize) -> u16
+    requires { ⌜ (a ≤ 1024) × (b ≤ 1024) × (k < 16) ⌝ }
+    ensures { λ r. ⌜ r ≡ max (getD (now (rows .entry)) (16 * a + k) 0) (getD (now (rows .entry)) (16 * b + k) 0) ⌝ }
+{
+    larger(rows[16 * a + k], rows[16 * b + k])
+}
+
 // The largest of four rows in each column, and what `unit` has for it, shifted to column q.
 pub fn merge(
     rows: &[u16; 16416],
@@ -39,8 +47,8 @@ pub fn merge(
     let mut row = [0u16; 16];
     let from = 16 - q;
     for k in 0..16 {
-        let ab = larger(rows[16 * a + k], rows[16 * b + k]);
-        let cd = larger(rows[16 * c + k], rows[16 * d + k]);
+        let ab = higher(rows, a, b, k);
+        let cd = higher(rows, c, d, k);
         row[k] = sum(larger(ab, cd), unit[from + k]);
     }
     row

@@ -23,62 +23,14 @@ sub-from c = search needs
 loop-holds : tie.Need-loop-holds Inv-loop μ-loop
 loop-holds c = (omega arith, refl, below-none _)
 
-mul-larger : tie.Need-mul-larger Inv-loop μ-loop
-mul-larger c = search needs
+higher-requires : tie.Need-higher-requires Inv-loop μ-loop
+higher-requires c κs = search needs
 
-add-larger : tie.Need-add-larger Inv-loop μ-loop
-add-larger c = search needs
-
-mul-larger-2 : tie.Need-mul-larger-2 Inv-loop μ-loop
-mul-larger-2 c = search needs
-
-element-copy-out-larger : tie.Need-element-copy-out-larger Inv-loop μ-loop
-element-copy-out-larger c = search needs
-
-mul-larger-3 : tie.Need-mul-larger-3 Inv-loop μ-loop
-mul-larger-3 c = search needs
-
-add-larger-2 : tie.Need-add-larger-2 Inv-loop μ-loop
-add-larger-2 c = search needs
-
-mul-larger-4 : tie.Need-mul-larger-4 Inv-loop μ-loop
-mul-larger-4 c = search needs
-
-element-copy-out-larger-2 : tie.Need-element-copy-out-larger-2 Inv-loop μ-loop
-element-copy-out-larger-2 c = search needs
+higher-requires-2 : tie.Need-higher-requires-2 Inv-loop μ-loop
+higher-requires-2 c κs = search needs
 
 larger-requires : tie.Need-larger-requires Inv-loop μ-loop
 larger-requires c κs = search needs
-
-mul-larger-5 : tie.Need-mul-larger-5 Inv-loop μ-loop
-mul-larger-5 c = search needs
-
-add-larger-3 : tie.Need-add-larger-3 Inv-loop μ-loop
-add-larger-3 c = search needs
-
-mul-larger-6 : tie.Need-mul-larger-6 Inv-loop μ-loop
-mul-larger-6 c = search needs
-
-element-copy-out-larger-3 : tie.Need-element-copy-out-larger-3 Inv-loop μ-loop
-element-copy-out-larger-3 c = search needs
-
-mul-larger-7 : tie.Need-mul-larger-7 Inv-loop μ-loop
-mul-larger-7 c = search needs
-
-add-larger-4 : tie.Need-add-larger-4 Inv-loop μ-loop
-add-larger-4 c = search needs
-
-mul-larger-8 : tie.Need-mul-larger-8 Inv-loop μ-loop
-mul-larger-8 c = search needs
-
-element-copy-out-larger-4 : tie.Need-element-copy-out-larger-4 Inv-loop μ-loop
-element-copy-out-larger-4 c = search needs
-
-larger-requires-2 : tie.Need-larger-requires-2 Inv-loop μ-loop
-larger-requires-2 c κs = search needs
-
-larger-requires-3 : tie.Need-larger-requires-3 Inv-loop μ-loop
-larger-requires-3 c κs = search needs
 
 add-sum : tie.Need-add-sum Inv-loop μ-loop
 add-sum c = search needs
@@ -108,15 +60,15 @@ loop-again : tie.Need-loop-again Inv-loop μ-loop
 loop-again c =
     let most = c .before .before in
     let cd = most .before in
-    let ab = cd .before .before .before in
-    let top = ab .before .before .before .before in
+    let ab = cd .before in
+    let top = ab .before .before in
     let here = top .before .args in
     let f : ℕ → ℕ =
     λ m. (largest (here .rows .now) (here .a) (here .b) (here .c) (here .d) m + getD (here .unit .now) (16 - here .q + m) 0) % 65536 in (
       omega arith,
       simp length-set (top .loop .inv .1),
       merged-more f (top .loop .row) (top .loop .k) (c .sum .result) _ (top .loop .inv .1) (omega arith) (top .loop .inv .2)
-          (merged-is _ _ _ _ _ _ _ _ _ _ _ (ab .larger .ensures) (cd .larger2 .ensures) (most .larger3 .ensures) (c .sum .ensures)) refl,
+          (merged-is _ _ _ _ _ _ _ _ _ _ _ (ab .higher .ensures) (cd .higher2 .ensures) (most .larger .ensures) (c .sum .ensures)) refl,
     )
 
 returns : tie.Need-returns Inv-loop μ-loop
@@ -130,25 +82,9 @@ merge-spec =
     μ-loop
     sub-from
     loop-holds
-    mul-larger
-    add-larger
-    mul-larger-2
-    element-copy-out-larger
-    mul-larger-3
-    add-larger-2
-    mul-larger-4
-    element-copy-out-larger-2
+    higher-requires
+    higher-requires-2
     larger-requires
-    mul-larger-5
-    add-larger-3
-    mul-larger-6
-    element-copy-out-larger-3
-    mul-larger-7
-    add-larger-4
-    mul-larger-8
-    element-copy-out-larger-4
-    larger-requires-2
-    larger-requires-3
     add-sum
     mul-sum
     element-copy-out-sum
