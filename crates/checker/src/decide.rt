@@ -44,7 +44,7 @@ fn judge(
 {
     let many = n as usize;
     if ran < many {
-        let i = plan_run::stuck(n, queue, rows);
+        let i = plan_stuck::stuck(n, queue, rows);
         return plan_format::refused(10, i);
     }
     let i = plan_marks::broken(n, marks, queue, mark, mop, rows);

@@ -10,4 +10,3 @@ pub mod Fills
 pub mod Listings
 pub mod Turns
 pub mod Ends
-pub mod Missing

@@ -3,15 +3,10 @@ mod merge;
 mod queues;
 mod steps;
 
-ghost use mathlib.Core.Path.{_≡_};
 ghost use Prim.Native.Nat.{_*_, _≤_};
 ghost use lib.ListN.{length};
-ghost use Rattle.basics.specs.Lists.{place-or};
-ghost use Rattle.plan_format.specs.Plan.{Plan, count};
-ghost use Rattle.plan_format.specs.Sound.{Sound};
-ghost use Rattle.plan_order.specs.Runs.{standard, missing};
-ghost use Rattle.plan_columns.specs.Columns.{Queue-column};
-ghost use Rattle.plan_run.specs.Run.{Shown, Cleared, Rows-of, Ran};
+ghost use Rattle.plan_format.specs.Plan.{Plan};
+ghost use Rattle.plan_run.specs.Run.{Shown, Cleared, Ran};
 
 // The standard run into `list`, with the number ready before each step from place n on, and the row of each operation that ran into `rows`,
 // which are all zero before; how many operations ran. Where the columns show no plan, the answer, the list and the rows are free.
@@ -47,21 +42,4 @@ pub fn run(
         rows,
         list,
     )
-}
-
-// The lowest operation that did not run: its row is zero at its own queue. n if each ran. Where no plan is shown the answer is free.
-pub fn stuck(n: u16, queue: &[u16; 1024], rows: &[u16; 16416]) -> usize
-    ensures { λ r. ⌜ ((p : Plan) → Sound p → count p ≡ n → Queue-column p (now (queue .entry)) → Rows-of p (standard p) (now (rows .entry)) →
-        r ≡ place-or n (missing p)) ⌝ }
-{
-    let many = n as usize;
-    let mut i: usize = 0;
-    while i < many {
-        let q = cells::get16(queue, i) % 16;
-        if cells::get16(rows, 16 * i + q) == 0 {
-            return i;
-        }
-        i += 1;
-    }
-    i
 }

@@ -1,13 +1,13 @@
--- `plan_run::stuck` gives the first operation whose own cell is zero: no operation passed has one. Assumes nothing.
+-- `plan_stuck::stuck` gives the first operation whose own cell is zero: no operation passed has one. Assumes nothing.
 use borrow.Author.Needs.{needs}
-use Rattle.plan_run.proofs.stuck.Statement.{statement}
-use Rattle.plan_run.proofs.stuck.Tie as tie
+use Rattle.plan_stuck.proofs.stuck.Statement.{statement}
+use Rattle.plan_stuck.proofs.stuck.Tie as tie
 use mathlib.Core.Path.{_≡_, sym, _∙_}
 use Prim.Native.Nat.{ℕ, _+_, _-_, _*_, _%_, _≤_, _<_}
 use native.Mathlib.Omega.{arith}
 use lib.ListN.{getD}
 use borrow.Author.Count.{below-none, below-more}
-use Rattle.plan_run.proofs.Missing.{own-cell, stuck-at, stuck-nowhere}
+use Rattle.plan_stuck.proofs.Missing.{own-cell, stuck-at, stuck-nowhere}
 
 abbrev Inv-loop : tie.InvT-loop
 Inv-loop n queue rows many i₀ i = (i ≤ n) × ((k : ℕ) → k < i → getD rows (16 * k + getD queue k 0 % 16) 0 ≡ 0 → ⊥)
