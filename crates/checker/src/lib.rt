@@ -1,17 +1,11 @@
-// The check of a stored plan: shown as columns, judged by the rules and the room, run, and judged by its order.
-mod decide;
-mod leave;
-
+// The check of a stored plan: shown as columns, and judged by them; its counts, and its columns for those who ask on.
 use plan_format::Told;
 use plan_load::Loaded;
 ghost use mathlib.Core.Path.{_≡_};
-ghost use mathlib.Core.List.{List};
-ghost use Prim.Native.Nat.{ℕ, _≤_};
-ghost use Rattle.plan_format.specs.Stored.{scanned, plan-in, Tells};
-ghost use Rattle.plan_order.specs.Check.{room-refusal, Check-says};
+ghost use Rattle.plan_format.specs.Stored.{scanned, plan-in};
 ghost use Rattle.plan_order.specs.Promise.{Checked};
 ghost use Rattle.checker.specs.Counting.{Sizes-told, Counts-told, known-of, counts-of};
-ghost use Rattle.checker.specs.Passing.{Read, Known-columns};
+ghost use Rattle.checker.specs.Passing.{Known-columns};
 
 // How many queues, semaphores, buffers and operations a plan has; or a refusal and its place beside them. Each is 0 where the reader refuses
 // the plan.
@@ -130,7 +124,7 @@ pub fn check_known(
     if l.number != 0 {
         return with_marks(l, l.number, l.place as u64);
     }
-    let told = check_columns(
+    let told = plan_judge::check_columns(
         l.operations,
         l.signals as usize,
         l.marks as usize,
@@ -169,76 +163,5 @@ fn with_marks(l: Loaded, number: u32, place: u64) -> Known
     Known {
         counted: with_counts(l, number, place),
         marks: l.marks as usize,
-    }
-}
-
-// The check of a plan that is shown by columns: refusals 6 and 7, then 8, then 9, then the order.
-fn check_columns(
-    n: u16,
-    signals: usize,
-    marks: usize,
-    owner: &[u16; 64],
-    queue: &[u16; 1024],
-    wsem: &mut [u16; 3072],
-    wval: &[u64; 3072],
-    ssem: &mut [u16; 2048],
-    sval: &[u64; 2048],
-    sop: &[u16; 2048],
-    mark: &[u16; 4096],
-    mop: &[u16; 4096],
-    table: &mut [u32],
-    list: &mut [u32],
-) -> Told
-    requires { ⌜ n ≤ 1024 ⌝ }
-    ensures { λ r. ⌜ ((bs : List ℕ) → Read bs n signals marks (now (owner .entry)) (now (queue .entry)) (now (wsem .entry)) (now (wval .entry)) (now (ssem .entry)) (now (sval .entry)) (now (sop .entry)) (now (mark .entry)) (now (mop .entry)) →
-        Check-says bs r (now (table .entry)) (now (table .exit)) (now (list .entry)) (now (list .exit))) ⌝ }
-{
-    let signalled = plan_rules::judge(signals, owner, queue, ssem, sval, sop);
-    if signalled.number != 0 {
-        return Told {
-            number: signalled.number,
-            place: signalled.place,
-            answer: 0,
-        };
-    }
-    let waited = plan_waits::resolve(
-        n,
-        signals,
-        ssem,
-        sval,
-        sop,
-        wsem,
-        wval,
-        &signalled.last,
-    );
-    if waited.number != 0 {
-        return Told {
-            number: waited.number,
-            place: waited.place,
-            answer: 0,
-        };
-    }
-    let lent = room(n, table.len(), list.len());
-    if lent.number != 0 {
-        return lent;
-    }
-    decide::check_order(n, marks, queue, wsem, mark, mop, table, list)
-}
-
-// 9 with the length needed where the table, or else the list, is too short for n operations.
-fn room(n: u16, table: usize, list: usize) -> Told
-    ensures { λ r. ⌜ Tells (room-refusal n table list) 0 r ⌝ }
-{
-    let many = n as usize;
-    if table < 16 * many {
-        return plan_format::refused(9, 16 * many);
-    }
-    if list < 2 * many {
-        return plan_format::refused(9, 2 * many);
-    }
-    Told {
-        number: 0,
-        place: 0,
-        answer: 0,
     }
 }

@@ -5,3 +5,4 @@ pub mod Ownership
 pub mod Lists
 pub mod Plans
 pub mod Padded
+pub mod Limits

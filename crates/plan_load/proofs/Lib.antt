@@ -1,4 +1,3 @@
-pub mod Limits
 pub mod Blind
 pub mod Blocks
 pub mod Windows

@@ -20,6 +20,7 @@ use Rattle.plan_format.proofs.Repeats.{repeat, read-repeat, repeat-stops}
 use Rattle.plan_format.proofs.Seams.{after-seam}
 use Rattle.plan_format.proofs.Sections.{plan-whole}
 use Rattle.plan_columns.specs.Columns.{Axis-column}
+use Rattle.plan_columns.proofs.Limits.{shape, few-semaphores, limits}
 use Rattle.plan_columns.proofs.Plans.{filling-end}
 use Rattle.plan_reader.specs.declared.Head.{Head}
 use Rattle.plan_reader.specs.declared.cursor.Cursor.{Cursor}
@@ -29,7 +30,6 @@ use Rattle.plan_reader.proofs.Fields.{here-given}
 use Rattle.plan_load.specs.declared.Loaded.{Loaded}
 use Rattle.plan_load.specs.Loading.{Loads}
 use Rattle.plan_load.proofs.Blocks.{Small}
-use Rattle.plan_load.proofs.Limits.{shape, few-semaphores, limits}
 use Rattle.plan_load.proofs.Loading.{step, Load, read-next, goes-on, few-numbers}
 
 -- a cursor behind all numbers, which stand in front of the most that a plan has

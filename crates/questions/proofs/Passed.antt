@@ -24,10 +24,10 @@ use Rattle.plan_order.proofs.CheckMeaning.{answer-unrefused}
 use Rattle.plan_order.proofs.OutcomeMeaning.{Left-case, left-untouched, left-zeros, left-rows, check-left-case}
 use Rattle.plan_order.proofs.Rows.{row-at, rows-at, rows-length}
 use Rattle.plan_columns.specs.Columns.{Axis-column, Row-columns}
+use Rattle.plan_columns.proofs.Limits.{limits}
 use Rattle.checker.specs.Counting.{Sizes-told}
 use Rattle.checker.specs.Passing.{Known-columns}
 use Rattle.checker.specs.declared.Counted.{Counted}
-use Rattle.plan_load.proofs.Limits.{limits}
 use Rattle.questions.specs.ReusePass.{Opened}
 
 -- ---- the outcome of a passed check leaves the rows and the run

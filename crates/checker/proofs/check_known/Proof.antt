@@ -1,9 +1,9 @@
--- `check_known` meets its contract: the reader's refusal, or what `check_columns` says of the columns that are loaded. Assumes nothing.
-use mathlib.Core.Path.{ap₂}
+-- `check_known` meets its contract: the reader's refusal, or what `plan_judge` says of the columns that are loaded. Assumes nothing.
 use borrow.Author.Needs.{needs}
 use Rattle.plan_order.proofs.Checks.{checked}
-use Rattle.checker.proofs.Answers.{told, not-read, answerless}
-use Rattle.checker.proofs.Columns.{loaded-known, loaded-few, loaded-read}
+use Rattle.plan_judge.proofs.Answers.{tells-as}
+use Rattle.checker.proofs.Answers.{not-read, answerless}
+use Rattle.checker.proofs.Columns.{loaded-known, loaded-read}
 use Rattle.checker.proofs.check_known.Statement.{statement}
 use Rattle.checker.proofs.check_known.Tie as tie
 
@@ -17,7 +17,7 @@ returns : tie.Need-returns
 returns c =
     let taken = c .before .if1 .taken in
     let l = c .before .before .before .load .ensures .0 in
-    rw (c .with-marks .ensures) (checked _ _ _ _ _ _ (not-read _ _ _ _ taken (ap₂ told (l .number) (l .place))), (l .sizes, loaded-known l))
+    rw (c .with-marks .ensures) (checked _ _ _ _ _ _ (not-read _ _ _ _ (tells-as (l .number) (l .place)) taken), (l .sizes, loaded-known l))
 
 cast-check-columns : tie.Need-cast-check-columns
 cast-check-columns c = search needs
@@ -26,16 +26,16 @@ cast-check-columns-2 : tie.Need-cast-check-columns-2
 cast-check-columns-2 c = search needs
 
 check-columns-requires : tie.Need-check-columns-requires
-check-columns-requires c κs = loaded-few (c .before .before .before .before .before .before .before .before .before .before .before .before .before .before .before .load .ensures .0) (c .before .before .before .before .before .before .before .before .before .before .before .before .before .if1 .left)
+check-columns-requires c κs = search needs
 
 with-marks-requires-2 : tie.Need-with-marks-requires-2
 with-marks-requires-2 c κs = search needs
 
 same-length : tie.Need-same-length
-same-length c = search needs
+same-length c = c .before .before .before .before .table .given
 
 same-length-2 : tie.Need-same-length-2
-same-length-2 c = search needs
+same-length-2 c = c .before .before .list .given
 
 returns-2 : tie.Need-returns-2
 returns-2 c =

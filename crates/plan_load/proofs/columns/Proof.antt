@@ -2,7 +2,7 @@
 use mathlib.Core.Path.{sym, _∙_}
 use native.Mathlib.Omega.{arith}
 use borrow.Author.Needs.{needs}
-use Rattle.plan_load.proofs.Limits.{shape, few-semaphores}
+use Rattle.plan_columns.proofs.Limits.{shape, few-semaphores}
 use Rattle.plan_load.proofs.Outcomes.{head-few, head-semaphores}
 use Rattle.plan_load.proofs.columns.Statement.{statement}
 use Rattle.plan_load.proofs.columns.Tie as tie

@@ -7,8 +7,8 @@ use lib.ListN.{length, take, set, replicate, length-set, length-replicate, getD-
 use borrow.Author.Needs.{needs}
 use Rattle.basics.specs.Lists.{in-front}
 use Rattle.basics.proofs.Fronts.{front-none, front-more, front-all}
-use Rattle.checker.proofs.leave.zeros.Statement.{statement}
-use Rattle.checker.proofs.leave.zeros.Tie as tie
+use Rattle.plan_judge.proofs.leave.zeros.Statement.{statement}
+use Rattle.plan_judge.proofs.leave.zeros.Tie as tie
 
 abbrev Inv-loop : tie.InvT-loop
 Inv-loop a₀ n i₀ a i = (i ≤ n) × (a ≡ in-front (take i (replicate {A = ℕ} n 0)) a₀) × (length a ≡ length a₀)

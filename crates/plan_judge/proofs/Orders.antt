@@ -27,9 +27,9 @@ use Rattle.plan_order.proofs.Standard.{standard-full, missing-some, missing-non
 use Rattle.plan_columns.specs.Columns.{Row-columns}
 use Rattle.plan_run.specs.Run.{Rows-of, Ran}
 use Rattle.plan_marks.specs.Shown.{Shown}
-use Rattle.checker.specs.Leaving.{Room, Left}
-use Rattle.checker.specs.Passing.{Run-shown}
-use Rattle.checker.proofs.Answers.{told, tells, room-enough}
+use Rattle.plan_judge.specs.Leaving.{Room, Left}
+use Rattle.plan_judge.specs.Passing.{Run-shown}
+use Rattle.plan_judge.proofs.Answers.{told, tells, room-enough}
 
 -- ---- the standard run of a sound plan is full, or an operation is missing
 module _ (p : Plan) (sound : Sound p) where

@@ -7,8 +7,8 @@ use lib.ListN.{length, take, set, getD, length-set}
 use borrow.Author.Needs.{needs}
 use Rattle.basics.specs.Lists.{in-front}
 use Rattle.basics.proofs.Fronts.{front-none, front-more}
-use Rattle.checker.proofs.leave.rows.Statement.{statement}
-use Rattle.checker.proofs.leave.rows.Tie as tie
+use Rattle.plan_judge.proofs.leave.rows.Statement.{statement}
+use Rattle.plan_judge.proofs.leave.rows.Tie as tie
 
 abbrev Inv-loop : tie.InvT-loop
 Inv-loop from table₀ n i₀ table i = (i ≤ n) × (table ≡ in-front (take i from) table₀) × (length table ≡ length table₀)

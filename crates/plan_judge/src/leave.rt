@@ -3,7 +3,7 @@ ghost use mathlib.Core.Path.{_≡_};
 ghost use Prim.Native.Nat.{_≤_};
 ghost use lib.ListN.{length, take, replicate};
 ghost use Rattle.basics.specs.Lists.{in-front};
-ghost use Rattle.checker.specs.Leaving.{Room, Left};
+ghost use Rattle.plan_judge.specs.Leaving.{Room, Left};
 
 // Zeros over both on a refusal; else the rows in the table, the run being in the list already.
 pub fn results(number: u32, n: u16, from: &[u16; 16416], table: &mut [u32], list: &mut [u32])

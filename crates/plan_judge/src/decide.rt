@@ -1,14 +1,13 @@
-// The order of a plan with none of refusals 1 to 9: its standard run with the rows, and refusals 10 and 11.
+// A plan with none of refusals 1 to 8: the room, its standard run with the rows, and refusals 9 to 11.
 use plan_format::Told;
 ghost use mathlib.Core.List.{List};
 ghost use Prim.Native.Nat.{ℕ};
 ghost use Rattle.plan_format.specs.Plan.{Plan};
 ghost use Rattle.plan_format.specs.Stored.{Tells};
-ghost use Rattle.plan_order.specs.Check.{order-refusal, Check-says};
-ghost use Rattle.checker.specs.Leaving.{Room};
-ghost use Rattle.checker.specs.Passing.{Resolved, Run-shown};
+ghost use Rattle.plan_order.specs.Check.{room-refusal, order-refusal, Check-says};
+ghost use Rattle.plan_judge.specs.Passing.{Resolved, Run-shown};
 
-// The check of a plan with none of refusals 1 to 9, whose waits are resolved.
+// The check of a plan with none of refusals 1 to 8, whose waits are resolved: 9, else the run and what it shows.
 pub fn check_order(
     n: u16,
     marks: usize,
@@ -19,15 +18,40 @@ pub fn check_order(
     table: &mut [u32],
     list: &mut [u32],
 ) -> Told
-    requires { ⌜ Room n (now table) (now list) ⌝ }
     ensures { λ r. ⌜ ((bs : List ℕ) → Resolved bs n marks (now (queue .entry)) (now (source .entry)) (now (mark .entry)) (now (mop .entry)) →
         Check-says bs r (now (table .entry)) (now (table .exit)) (now (list .entry)) (now (list .exit))) ⌝ }
 {
+    let lent = room(n, table.len(), list.len());
+    // no plan has more than 1,024 operations
+    if 1024 < n {
+        return lent;
+    }
+    if lent.number != 0 {
+        return lent;
+    }
     let mut rows = [0u16; 16416];
     let ran = plan_run::run(n, queue, source, &mut rows, list);
     let told = judge(n, ran, marks, queue, mark, mop, &rows);
     crate::leave::results(told.number, n, &rows, table, list);
     told
+}
+
+// 9 with the length needed where the table, or else the list, is too short for n operations.
+fn room(n: u16, table: usize, list: usize) -> Told
+    ensures { λ r. ⌜ Tells (room-refusal n table list) 0 r ⌝ }
+{
+    let many = n as usize;
+    if table < 16 * many {
+        return plan_format::refused(9, 16 * many);
+    }
+    if list < 2 * many {
+        return plan_format::refused(9, 2 * many);
+    }
+    Told {
+        number: 0,
+        place: 0,
+        answer: 0,
+    }
 }
 
 // 10 at the lowest operation that is in no run, 11 at the lowest with a broken mark, or none.

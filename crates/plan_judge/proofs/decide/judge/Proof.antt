@@ -1,8 +1,8 @@
 -- `decide::judge` meets its contract: an operation that did not run, a broken mark, or neither. Assumes nothing.
-use Rattle.checker.proofs.Orders.{stuck-told, marks-given, broken-told, passed-told}
+use Rattle.plan_judge.proofs.Orders.{stuck-told, marks-given, broken-told, passed-told}
 use borrow.Author.Needs.{needs}
-use Rattle.checker.proofs.decide.judge.Statement.{statement}
-use Rattle.checker.proofs.decide.judge.Tie as tie
+use Rattle.plan_judge.proofs.decide.judge.Statement.{statement}
+use Rattle.plan_judge.proofs.decide.judge.Tie as tie
 
 stuck-requires : tie.Need-stuck-requires
 stuck-requires c κs = search needs

@@ -2,8 +2,8 @@
 use borrow.Author.Needs.{needs}
 use mathlib.Core.Path.{refl}
 use native.Mathlib.Omega.{arith}
-use Rattle.checker.proofs.leave.results.Statement.{statement}
-use Rattle.checker.proofs.leave.results.Tie as tie
+use Rattle.plan_judge.proofs.leave.results.Statement.{statement}
+use Rattle.plan_judge.proofs.leave.results.Tie as tie
 
 mul-rows : tie.Need-mul-rows
 mul-rows c = search needs

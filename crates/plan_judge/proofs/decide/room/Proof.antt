@@ -1,8 +1,8 @@
--- `room` meets its contract: a short table, a short list, or enough of both. Assumes nothing.
-use Rattle.checker.proofs.Answers.{tells, short-table, short-list, room-enough}
+-- `decide::room` meets its contract: a short table, a short list, or enough of both. Assumes nothing.
+use Rattle.plan_judge.proofs.Answers.{tells, short-table, short-list, room-enough}
 use borrow.Author.Needs.{needs}
-use Rattle.checker.proofs.room.Statement.{statement}
-use Rattle.checker.proofs.room.Tie as tie
+use Rattle.plan_judge.proofs.decide.room.Statement.{statement}
+use Rattle.plan_judge.proofs.decide.room.Tie as tie
 
 mul-if1 : tie.Need-mul-if1
 mul-if1 c = search needs

@@ -1,0 +1,87 @@
+// The check of a plan that is shown by columns: judged by the rules and the room, run, and judged by its order.
+mod decide;
+mod leave;
+
+use plan_format::Told;
+ghost use mathlib.Core.List.{List};
+ghost use Prim.Native.Nat.{ℕ};
+ghost use Rattle.plan_format.specs.Plan.{Plan};
+ghost use Rattle.plan_order.specs.Check.{Check-says};
+ghost use Rattle.plan_judge.specs.Passing.{Read, Rules-shown, Ruled};
+
+// Refusals 6 and 7, then 8, then 9, then the order: the answer, and what is left in table and list. Where the columns show no plan that the
+// reader takes, all three are free; the columns of semaphores are free afterwards.
+pub fn check_columns(
+    n: u16,
+    signals: usize,
+    marks: usize,
+    owner: &[u16; 64],
+    queue: &[u16; 1024],
+    wsem: &mut [u16; 3072],
+    wval: &[u64; 3072],
+    ssem: &mut [u16; 2048],
+    sval: &[u64; 2048],
+    sop: &[u16; 2048],
+    mark: &[u16; 4096],
+    mop: &[u16; 4096],
+    table: &mut [u32],
+    list: &mut [u32],
+) -> Told
+    ensures { λ r. ⌜ ((bs : List ℕ) → Read bs n signals marks (now (owner .entry)) (now (queue .entry)) (now (wsem .entry)) (now (wval .entry)) (now (ssem .entry)) (now (sval .entry)) (now (sop .entry)) (now (mark .entry)) (now (mop .entry)) →
+        Check-says bs r (now (table .entry)) (now (table .exit)) (now (list .entry)) (now (list .exit))) ⌝ }
+{
+    let ruled = rules(
+        n,
+        signals,
+        owner,
+        queue,
+        wsem,
+        wval,
+        ssem,
+        sval,
+        sop,
+    );
+    if ruled.number != 0 {
+        return ruled;
+    }
+    decide::check_order(n, marks, queue, wsem, mark, mop, table, list)
+}
+
+// 6 or 7, else 8, else none and, in place of the semaphore of each wait, the operation that it rests on.
+fn rules(
+    n: u16,
+    signals: usize,
+    owner: &[u16; 64],
+    queue: &[u16; 1024],
+    wsem: &mut [u16; 3072],
+    wval: &[u64; 3072],
+    ssem: &mut [u16; 2048],
+    sval: &[u64; 2048],
+    sop: &[u16; 2048],
+) -> Told
+    ensures { λ r. ⌜ ((p : Plan) → Rules-shown p n signals (now (owner .entry)) (now (queue .entry)) (now (wsem .entry)) (now (wval .entry)) (now (ssem .entry)) (now (sval .entry)) (now (sop .entry)) → Ruled p r (now (wsem .exit))) ⌝ }
+{
+    let signalled = plan_rules::judge(signals, owner, queue, ssem, sval, sop);
+    if signalled.number != 0 {
+        return Told {
+            number: signalled.number,
+            place: signalled.place,
+            answer: 0,
+        };
+    }
+    let waited = plan_waits::resolve(
+        n,
+        signals,
+        ssem,
+        sval,
+        sop,
+        wsem,
+        wval,
+        &signalled.last,
+    );
+    Told {
+        number: waited.number,
+        place: waited.place,
+        answer: 0,
+    }
+}
