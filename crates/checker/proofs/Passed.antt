@@ -1,5 +1,5 @@
--- What is known once the check has passed a plan: it is sound, its counts and columns are those lent, and its rows stand in front of the
--- table. Assumes nothing.
+-- What is known once the check has passed a plan: it is sound, its counts are those handed back, and its rows stand in front of the table.
+-- Assumes nothing.
 use mathlib.Core.Path.{_≡_, sym, ap, _∙_, subst}
 use mathlib.Core.Bool.{not}
 use mathlib.Core.Logic.{inl}
@@ -23,9 +23,8 @@ use Rattle.plan_order.specs.Promise.{unrefused, Checked}
 use Rattle.plan_order.proofs.CheckMeaning.{answer-unrefused}
 use Rattle.plan_order.proofs.OutcomeMeaning.{Left-case, left-untouched, left-zeros, left-rows, check-left-case}
 use Rattle.plan_order.proofs.Rows.{row-at, rows-at, rows-length}
-use Rattle.plan_columns.specs.Columns.{Axis-column, Row-columns}
+use Rattle.plan_columns.specs.Columns.{Row-columns}
 use Rattle.checker.specs.Counting.{Sizes-told}
-use Rattle.checker.specs.Passing.{Known-columns}
 use Rattle.checker.specs.declared.Counted.{Counted}
 
 -- ---- the outcome of a passed check leaves the rows and the run
@@ -53,7 +52,7 @@ rows-in-front p t j q l b =
 
 module _ {bs : List ℕ} {c : Counted} {t x l y : List ℕ} (sizes : Sizes-told bs c)
     (checked : Checked bs (record { number = c .number; place = c .place; answer = 0 }) t x l y) (passed : c .number ≡ 0) where
-  pub none-refused : check-outcome bs (length t) (length l) .refusal .number ≡ 0
+  none-refused : check-outcome bs (length t) (length l) .refusal .number ≡ 0
   unfolding Check-says
   none-refused = sym (checked .says .tells .number) ∙ passed
 
@@ -88,11 +87,3 @@ module _ {bs : List ℕ} {c : Counted} {t x l y : List ℕ} (sizes : Sizes-told 
 
   pub few-queues : c .queues ≤ 16
   few-queues = omega (arith, queues-are, sound .few-queues)
-
-  pub few-operations : c .operations ≤ 1024
-  few-operations = omega (arith, operations-are, sound .few-operations)
-
-  -- ---- the columns that the check lends
-  module _ {marks : ℕ} {head queue mark mop : List ℕ} (known : scanned bs .fault .number ≡ 0 → Known-columns (plan-in bs) marks head queue mark mop) where
-    pub axes-shown : Axis-column (plan-in bs) head
-    axes-shown = known read .axes-shown

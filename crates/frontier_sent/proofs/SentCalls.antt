@@ -20,7 +20,7 @@ use Rattle.plan_order.proofs.Rows.{rows-length}
 use Rattle.checker.specs.declared.Counted.{Counted}
 use Rattle.checker.specs.Counting.{Sizes-told}
 use Rattle.checker.specs.Passing.{Known-columns}
-use Rattle.checker.proofs.Passed.{sound, rows-lie, rows-shown, queues-are, operations-are, few-queues, axes-shown}
+use Rattle.checker.proofs.Passed.{sound, read, rows-lie, rows-shown, queues-are, operations-are, few-queues}
 use Rattle.frontier_sent.specs.declared.Sent.{Sent}
 use Rattle.frontier_sent.specs.Sent.{cut-to, sent-refusal, Frontier-says}
 use Rattle.frontier_sent.specs.SentMeaning.{Frontier-right}
@@ -59,7 +59,7 @@ module _ {bs t x l y : List ℕ} {k : Counted} (sizes : Sizes-told bs k)
     sound = sound sizes checked z;
     queues-are = queues-are sizes checked z;
     operations-are = operations-are sizes checked z;
-    axes-shown = axes-shown sizes checked z known;
+    axes-shown = known (read sizes checked z) .axes-shown;
     rows-shown = rows-shown sizes checked z;
   }
 

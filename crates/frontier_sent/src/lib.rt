@@ -42,11 +42,10 @@ pub fn frontier_of(
         table,
         list,
     );
-    let c = k.counted;
-    if c.number != 0 {
-        return refused(c.number, c.place);
+    if k.counted.number != 0 {
+        return refused(k.counted.number, k.counted.place);
     }
-    answer(c, &head, table, operation, capacity)
+    answer(k.counted, &head, table, operation, capacity)
 }
 
 // The question on a plan that passes, by its counts, its axes and its rows in the table.

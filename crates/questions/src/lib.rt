@@ -36,16 +36,15 @@ pub fn reuse_question(
         table,
         list,
     );
-    let c = k.counted;
-    if c.number != 0 {
+    if k.counted.number != 0 {
         return Told {
-            number: c.number,
-            place: c.place,
+            number: k.counted.number,
+            place: k.counted.place,
             answer: 0,
         };
     }
     answer(
-        c,
+        k.counted,
         k.marks,
         queue as usize,
         buffer as usize,

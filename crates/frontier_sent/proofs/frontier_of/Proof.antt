@@ -18,12 +18,12 @@ same-length-2 c = search needs
 
 returns : tie.Need-returns
 returns c =
-    let check = c .before .before .before .before .before .before .before .before .check-known in
+    let check = c .before .before .before .before .before .before .before .check-known in
     plan-refused (check .result .counted) _ _ (check .ensures .0) _ (c .before .if1 .taken) (c .refused .ensures)
 
 answer-requires : tie.Need-answer-requires
 answer-requires c κs =
-    let check = c .before .before .before .before .before .before .before .before .before .check-known .ensures in
+    let check = c .before .before .before .before .before .before .before .before .check-known .ensures in
     room-lent (check .1 .0) (check .0) (c .before .before .if1 .left)
 
 same-length-3 : tie.Need-same-length-3
@@ -34,7 +34,7 @@ same-length-4 c = search needs
 
 returns-2 : tie.Need-returns-2
 returns-2 c =
-    let check = c .before .before .before .before .before .before .before .before .before .before .check-known in
+    let check = c .before .before .before .before .before .before .before .before .before .check-known in
     let passed = c .before .before .before .if1 .left in
     then-answered (check .result .counted) _ _ (check .ensures .0) _ passed
     (c .answer .ensures _ (opened (check .ensures .1 .0) (check .ensures .0) passed (check .ensures .1 .1)))

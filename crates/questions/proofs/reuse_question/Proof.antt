@@ -14,7 +14,7 @@ same-length-2 : tie.Need-same-length-2
 same-length-2 c = search needs
 
 returns : tie.Need-returns
-returns c = asked _ _ _ _ _ _ _ _ (plan-refused _ _ (c .before .before .before .before .before .before .before .check-known .ensures .0) (c .if1 .taken))
+returns c = asked _ _ _ _ _ _ _ _ (plan-refused _ _ (c .before .before .before .before .before .before .check-known .ensures .0) (c .if1 .taken))
 
 answer-requires : tie.Need-answer-requires
 answer-requires c κs = search needs
@@ -27,7 +27,7 @@ same-length-4 c = search needs
 
 returns-2 : tie.Need-returns-2
 returns-2 c =
-    let check = c .before .before .before .before .before .before .before .before .before .before .before .before .check-known .ensures in
+    let check = c .before .before .before .before .before .before .before .before .before .before .before .check-known .ensures in
     let passed = c .before .before .before .before .before .if1 .left in
     asked _ _ _ _ _ _ _ _ (then-asked _ _ (check .0) passed
     (c .answer .ensures _ (opened (check .1 .0) (check .0) passed (check .1 .1))))
