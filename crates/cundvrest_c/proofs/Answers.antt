@@ -10,8 +10,8 @@ use Rattle.basics.proofs.Tests.{by-cases}
 use Rattle.plan_format.specs.declared.Told.{Told}
 use Rattle.frontier.specs.Frontiers.{well-formed}
 use Rattle.frontier.proofs.Pack.{well-formed-pack}
-use Rattle.questions.specs.declared.sent.Sent.{Sent}
-use Rattle.questions.specs.SentMeaning.{Frontier-right}
+use Rattle.frontier_sent.specs.declared.Sent.{Sent}
+use Rattle.frontier_sent.specs.SentMeaning.{Frontier-right}
 use Rattle.lent.specs.Lent.{frontier-of}
 use Rattle.lent.proofs.Frontiers.{frontier-back}
 use Rattle.cundvrest_c.specs.Sent.{Sent-says, sent-of}

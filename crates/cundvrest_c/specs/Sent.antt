@@ -1,7 +1,7 @@
 -- What is told and stored of the frontier sent out for an operation. Assumes nothing: these are definitions.
 use mathlib.Core.List.{List}
 use Prim.Native.Nat.{ℕ}
-use Rattle.questions.specs.declared.sent.Sent.{Sent}
+use Rattle.frontier_sent.specs.declared.Sent.{Sent}
 use Rattle.lent.specs.Lent.{told-of, frontier-of, Handed}
 
 abbrev pub Sent-says : Sent → (told frontier : List ℕ) → Type 0

@@ -5,7 +5,7 @@ ghost use lib.Dec.{leb};
 ghost use Rattle.plan_format.specs.Stored.{Read-says, Write-says};
 ghost use Rattle.plan_order.specs.Promise.{Checked};
 ghost use Rattle.questions.specs.Reuse.{Asked};
-ghost use Rattle.questions.specs.SentMeaning.{Frontier-right};
+ghost use Rattle.frontier_sent.specs.SentMeaning.{Frontier-right};
 ghost use Rattle.frontier.specs.Frontiers.{merge, raise, dominance};
 ghost use Rattle.frontier.specs.Meaning.{Merge-right, Raise-right, Dominance-means};
 ghost use Rattle.lent.specs.Lent.{told-of, frontier-of, oversized, Merge-says, merged-of, Oversized-refused, dominance-told, dominance-of};
@@ -72,7 +72,7 @@ pub extern "C" fn cundvrest_frontier(
     ensures { λ _. ⌜ Frontier-right (now (plan .entry)) operation capacity (sent-of (now (told .exit)) (now (frontier .exit))) (now (table .entry)) (now (table .exit)) (now (list .entry)) (now (list .exit)) ⌝ }
     ensures { λ _. ⌜ Sent-says (sent-of (now (told .exit)) (now (frontier .exit))) (now (told .exit)) (now (frontier .exit)) ⌝ }
 {
-    let r = questions::frontier_of(plan, operation, capacity, table, list);
+    let r = frontier_sent::frontier_of(plan, operation, capacity, table, list);
     lent::hand(r.number, r.place, r.frontier, frontier, told);
 }
 

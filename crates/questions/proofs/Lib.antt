@@ -1,11 +1,4 @@
-pub mod Passed
 pub mod ReuseStray
 pub mod ReuseAsked
 pub mod ReuseVerdict
 pub mod ReuseTurns
-pub mod SentRows
-pub mod SentMeaning
-pub mod SentOutcome
-pub mod SentAnswers
-pub mod SentWalk
-pub mod SentCalls

@@ -1,5 +1,2 @@
 pub mod Reuse
 pub mod ReusePass
-pub mod Sent
-pub mod SentMeaning
-pub mod SentWalk

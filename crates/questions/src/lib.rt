@@ -1,7 +1,188 @@
-// Questions on a stored plan: the plan is checked first, then the question is answered.
-mod reuse; // whether a buffer may be filled again from a queue
-mod sent; // the frontier sent out for an operation
+// The reuse question: the verdict by the columns of a plan and the rows that its check leaves in the table.
+use checker::Counted;
+use plan_format::Told;
+use plan_order::Verdict;
+ghost use mathlib.Core.Path.{_≡_};
+ghost use mathlib.Core.Bool.{true};
+ghost use Prim.Native.Nat.{_<_};
+ghost use Rattle.plan_format.specs.Plan.{Plan};
+ghost use Rattle.plan_format.specs.Stored.{Tells};
+ghost use Rattle.plan_order.specs.Reuse.{verdict as verdict-of, number-of, question-refusal};
+ghost use Rattle.plan_order.specs.declared.Verdict.the-variants.{Fresh};
+ghost use Rattle.plan_marks.specs.Passes.{shown-from};
+ghost use Rattle.questions.specs.Reuse.{Asked};
+ghost use Rattle.questions.specs.ReusePass.{Opened, Shown, last-shown, seen as is-seen, verdict-after, verdict-from};
 
-pub use reuse::reuse_question;
-pub use sent::Sent;
-pub use sent::frontier_of;
+// The reuse question: a verdict as the answer; or the refusal of the plan, of the queue or of the buffer.
+pub fn reuse_question(
+    plan: &[u8],
+    queue: u32,
+    buffer: u32,
+    table: &mut [u32],
+    list: &mut [u32],
+) -> Told
+    ensures { λ r. ⌜ Asked (now (plan .entry)) queue buffer r (now (table .entry)) (now (table .exit)) (now (list .entry)) (now (list .exit)) ⌝ }
+{
+    let mut head = [0u64; 340];
+    let mut queues = [0u16; 1024];
+    let mut mark = [0u16; 4096];
+    let mut mop = [0u16; 4096];
+    let k = checker::check_known(
+        plan,
+        &mut head,
+        &mut queues,
+        &mut mark,
+        &mut mop,
+        table,
+        list,
+    );
+    if k.counted.number != 0 {
+        return Told {
+            number: k.counted.number,
+            place: k.counted.place,
+            answer: 0,
+        };
+    }
+    answer(
+        k.counted,
+        k.marks,
+        queue as usize,
+        buffer as usize,
+        &queues,
+        &mark,
+        &mop,
+        table,
+    )
+}
+
+// The question on a plan that passes, by its counts, its columns and its rows in the table.
+fn answer(
+    c: Counted,
+    marks: usize,
+    q: usize,
+    b: usize,
+    queue: &[u16; 1024],
+    mark: &[u16; 4096],
+    mop: &[u16; 4096],
+    table: &[u32],
+) -> Told
+    ensures { λ r. ⌜ ((p : Plan) → Opened p c marks (now (queue .entry)) (now (mark .entry)) (now (mop .entry)) (now (table .entry)) → Tells (question-refusal p q b) (number-of (verdict-of p q b)) r) ⌝ }
+{
+    if c.queues <= q {
+        return plan_format::refused(12, q);
+    }
+    if c.buffers <= b {
+        return plan_format::refused(13, b);
+    }
+    let v = verdict(q, b, c.operations, marks, queue, mark, mop, table);
+    Told {
+        number: 0,
+        place: 0,
+        answer: number_of(v),
+    }
+}
+
+// The verdict on a buffer for a queue, by the columns of a plan of n operations and its rows in the table.
+fn verdict(
+    q: usize,
+    b: usize,
+    n: usize,
+    marks: usize,
+    queue: &[u16; 1024],
+    mark: &[u16; 4096],
+    mop: &[u16; 4096],
+    table: &[u32],
+) -> Verdict
+    ensures { λ r. ⌜ ((p : Plan) → Shown p n marks (now (queue .entry)) (now (mark .entry)) (now (mop .entry)) (now (table .entry)) → r ≡ verdict-of p q b) ⌝ }
+{
+    let last = last_on(n, queue, q);
+    judged(b, last, marks, queue, mark, mop, table)
+}
+
+// The queue's last operation; 1,024 where it has none.
+fn last_on(n: usize, queue: &[u16], q: usize) -> usize
+    ensures { λ r. ⌜ r ≡ last-shown (now (queue .entry)) q n ⌝ }
+{
+    let mut i = n;
+    while 0 < i {
+        i -= 1;
+        if cells::get16(queue, i) == q {
+            return i;
+        }
+    }
+    1024
+}
+
+// The verdict by the marks on a buffer in plan order, each taken for the last one until another comes.
+fn judged(
+    b: usize,
+    last: usize,
+    marks: usize,
+    queue: &[u16],
+    mark: &[u16],
+    mop: &[u16],
+    table: &[u32],
+) -> Verdict
+    ensures { λ r. ⌜ r ≡ verdict-from (is-seen (now (queue .entry)) (now (table .entry)) last) b Fresh true (shown-from (now (mark .entry)) (now (mop .entry)) marks 0) ⌝ }
+{
+    let mut verdict = Verdict::Fresh;
+    let mut all = true;
+    let mut k = 0;
+    while k < marks {
+        let m = cells::get16(mark, k) % 512;
+        let i = cells::get16(mop, k) % 1024;
+        k += 1;
+        if m / 2 == b {
+            let placed = seen(queue, table, last, i);
+            all = all & placed;
+            verdict = after(m % 2 == 1, placed, all);
+        }
+    }
+    verdict
+}
+
+// The verdict where a mark is the last one: whether it frees, whether its operation is seen, whether all up to it are.
+fn after(frees: bool, placed: bool, all: bool) -> Verdict
+    ensures { λ r. ⌜ r ≡ verdict-after frees placed all ⌝ }
+{
+    if frees {
+        if placed {
+            if all {
+                Verdict::Reusable
+            } else {
+                Verdict::StrayUse
+            }
+        } else {
+            Verdict::NotOrdered
+        }
+    } else {
+        Verdict::Held
+    }
+}
+
+// Whether i is the queue's last operation or before it, by the column of i's queue in their rows.
+fn seen(queue: &[u16], table: &[u32], last: usize, i: usize) -> bool
+    requires { ⌜ i < 1024 ⌝ }
+    ensures { λ r. ⌜ r ≡ is-seen (now (queue .entry)) (now (table .entry)) last i ⌝ }
+{
+    if 1024 <= last {
+        return false;
+    }
+    let q = cells::get16(queue, i) % 16;
+    let own = cells::get32(table, 16 * i + q);
+    let other = cells::get32(table, 16 * last + q);
+    own <= other
+}
+
+// 01's number of a verdict.
+fn number_of(v: Verdict) -> u64
+    ensures { λ r. ⌜ r ≡ number-of v ⌝ }
+{
+    match v {
+        Verdict::Fresh => 0,
+        Verdict::Reusable => 1,
+        Verdict::Held => 2,
+        Verdict::NotOrdered => 3,
+        Verdict::StrayUse => 4,
+    }
+}

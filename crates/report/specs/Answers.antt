@@ -13,8 +13,8 @@ use Rattle.checker.specs.Counting.{Sizes-told}
 use Rattle.checker.specs.declared.Counted.{Counted}
 use Rattle.frontier.specs.declared.Frontier.{Frontier}
 use Rattle.questions.specs.Reuse.{Asked}
-use Rattle.questions.specs.SentMeaning.{Frontier-right}
-use Rattle.questions.specs.declared.sent.Sent.{Sent}
+use Rattle.frontier_sent.specs.SentMeaning.{Frontier-right}
+use Rattle.frontier_sent.specs.declared.Sent.{Sent}
 use Rattle.text.specs.Text.{Puts, decimal, blanked, spaced}
 
 -- words in ASCII: `refused`, `passed 0` with the next line's `size`, and, behind the end of a line, `run` and `ready`

@@ -165,7 +165,7 @@ pub fn frontier(plan: &[u8], operation: u32, capacity: u32, out: &mut [u8]) -> u
 {
     let mut table = [0u32; 16384];
     let mut list = [0u32; 2048];
-    let sent = questions::frontier_of(plan, operation, capacity, &mut table, &mut list);
+    let sent = frontier_sent::frontier_of(plan, operation, capacity, &mut table, &mut list);
     if sent.number != 0 {
         return refused(out, sent.number, sent.place);
     }

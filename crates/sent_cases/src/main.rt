@@ -2,8 +2,8 @@
 // length and its entries; what dominance says of two; and what is left in the lent table and list, which hold 7s before.
 use frontier::Dominance;
 use frontier::Frontier;
+use frontier_sent::Sent;
 use libc::STDOUT_FILENO;
-use questions::Sent;
 ghost use Prim.Native.Nat.{_≤_};
 
 fn text(words: &[u8]) {
@@ -67,7 +67,7 @@ fn show(operation: u32, capacity: u32, sent: Sent) {
 fn ask(plan: &[u8], operation: u32, capacity: u32) -> Frontier {
     let mut table = [7u32; 256];
     let mut list = [7u32; 32];
-    let sent = questions::frontier_of(plan, operation, capacity, &mut table, &mut list);
+    let sent = frontier_sent::frontier_of(plan, operation, capacity, &mut table, &mut list);
     show(operation, capacity, sent);
     sent.frontier
 }
@@ -146,7 +146,7 @@ fn left(plan: &[u8], operation: u32, capacity: u32, table: usize, list: usize)
 {
     let mut rows = [7u32; 64];
     let mut run = [7u32; 64];
-    let sent = questions::frontier_of(
+    let sent = frontier_sent::frontier_of(
         plan,
         operation,
         capacity,

@@ -1,0 +1,88 @@
+-- `gather` meets its contract. The loop's invariant: the axes that are left, raised on what is gathered, give what all give on the empty
+-- frontier. The measure is how many are left. Assumes nothing.
+use mathlib.Core.Path.{_≡_, sym, _∙_}
+use mathlib.Core.Bool.{false}
+use mathlib.Core.List.{[]}
+use Prim.Native.Nat.{_-_, _≤_, zero-le}
+use native.Mathlib.Omega.{arith}
+use borrow.Author.Needs.{needs}
+use Rattle.frontier.specs.Frontiers.{pack}
+use Rattle.frontier.proofs.Raising.{raises}
+use Rattle.frontier_sent.proofs.SentWalk.{left-from, raised-none, raised-more, raised-all, raised-whole}
+use Rattle.frontier_sent.proofs.gather.Statement.{statement}
+use Rattle.frontier_sent.proofs.gather.Tie as tie
+
+abbrev Inv-loop : tie.InvT-loop
+Inv-loop head table queues first f₀ q₀ f q =
+    (q ≤ queues) × (raises (left-from head table first queues q) f ≡ raises (left-from head table first queues 0) (pack [] false))
+
+abbrev μ-loop : tie.MeasureT-loop
+μ-loop head table queues first f₀ q₀ f q = queues - q
+
+empty-requires : tie.Need-empty-requires Inv-loop μ-loop
+empty-requires c κs = search needs
+
+loop-holds : tie.Need-loop-holds Inv-loop μ-loop
+loop-holds c = (zero-le, raised-none _ _ _ _ _ (c .empty .ensures))
+
+add-raise : tie.Need-add-raise Inv-loop μ-loop
+add-raise c = search needs
+
+mul-raise : tie.Need-mul-raise Inv-loop μ-loop
+mul-raise c = search needs
+
+element-copy-out-raise : tie.Need-element-copy-out-raise Inv-loop μ-loop
+element-copy-out-raise c = search needs
+
+add-wide : tie.Need-add-wide Inv-loop μ-loop
+add-wide c = search needs
+
+mul-wide : tie.Need-mul-wide Inv-loop μ-loop
+mul-wide c = search needs
+
+shared-slice-read-wide : tie.Need-shared-slice-read-wide Inv-loop μ-loop
+shared-slice-read-wide c = search needs
+
+wide-requires : tie.Need-wide-requires Inv-loop μ-loop
+wide-requires c κs = search needs
+
+raise-requires : tie.Need-raise-requires Inv-loop μ-loop
+raise-requires c κs = search needs
+
+add-q : tie.Need-add-q Inv-loop μ-loop
+add-q c = search needs
+
+loop-less : tie.Need-loop-less Inv-loop μ-loop
+loop-less c = search needs
+
+loop-again : tie.Need-loop-again Inv-loop μ-loop
+loop-again c = (
+  omega arith,
+  raised-more _ _ _ _ _ _ _ _ (c .before .before .before .before .before .loop-test .taken) (c .before .before .wide .ensures) (c .before .raise .ensures .0)
+      ∙ c .before .before .before .before .before .before .loop .inv .1,
+)
+
+returns : tie.Need-returns Inv-loop μ-loop
+returns c =
+    sym (raised-all _ _ _ _ _ _ (c .loop-test .left)) ∙ c .before .loop .inv .1 ∙ raised-whole _ _ _ _ (c .before .before .before .before .pre .0)
+
+pub gather-spec : {M : Type 1} → statement M
+gather-spec =
+    tie.close
+    (tie.spec
+    Inv-loop
+    μ-loop
+    empty-requires
+    loop-holds
+    add-raise
+    mul-raise
+    element-copy-out-raise
+    add-wide
+    mul-wide
+    shared-slice-read-wide
+    wide-requires
+    raise-requires
+    add-q
+    loop-less
+    loop-again
+    returns)

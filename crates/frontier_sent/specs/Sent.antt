@@ -1,0 +1,53 @@
+-- The frontier sent out for an operation of a plan (01, "Sparse frontiers"). Assumes nothing: these are definitions.
+use mathlib.Core.Path.{_≡_}
+use mathlib.Core.Bool.{false, _&&_, cond}
+use mathlib.Core.List.{List, []}
+use Prim.Native.Nat.{ℕ}
+use lib.Dec.{ltb, leb}
+use lib.ListN.{length, getD}
+use Rattle.basics.specs.Lists.{tabulate-from}
+use Rattle.frontier.specs.declared.Entry.{Entry}
+use Rattle.frontier.specs.Entries.{cut}
+use Rattle.frontier.specs.Frontiers.{pack, gathered}
+use Rattle.frontier.specs.declared.Frontier.{Frontier}
+use Rattle.plan_format.specs.Refusal.{Refusal, refusal, none-given, given, or-else}
+use Rattle.plan_format.specs.Plan.{Plan, count, queues}
+use Rattle.plan_format.specs.Stored.{plan-in}
+use Rattle.plan_format.specs.declared.Told.{Told}
+use Rattle.plan_order.specs.Rows.{row}
+use Rattle.plan_order.specs.Check.{Outcome, outcome, or-then, rows-and-run, check-outcome, Says}
+use Rattle.frontier_sent.specs.declared.Sent.{Sent}
+
+-- 01: "its row's entries .. under the queues' axes": one for each queue, in the plan's order
+unfoldable pub row-entries : Plan → (j : ℕ) → List Entry
+row-entries p j = tabulate-from (queues p) 0 (λ q. record { axis = getD (p .axes) q 0; epoch = getD (row p j) q 0 })
+
+-- 01: "The frontier sent out for an operation of a plan lists its row's entries above 0", "axes rising"
+unfoldable pub sent-entries : Plan → (j : ℕ) → List Entry
+sent-entries p j = gathered (row-entries p j)
+
+-- 01: "cut to a capacity as a merge is", "if more than the capacity remain .. the result is tainted"
+abbrev pub cut-to : (capacity : ℕ) → List Entry → Frontier
+cut-to c xs = pack (cut c xs) (ltb c (length xs))
+
+unfoldable pub sent : Plan → (j capacity : ℕ) → Frontier
+sent p j c = cut-to c (sent-entries p j)
+
+-- 01: "21: question names no such operation, the number asked. 15: frontier capacity not 1..16, 0"; "then 21, then 15"
+unfoldable pub sent-refusal : Plan → (j capacity : ℕ) → Refusal
+sent-refusal p j c =
+    or-else (cond (leb (count p) j) (refusal 21 j) none-given) (cond (leb 1 c && leb c 16) none-given (refusal 15 0))
+
+-- 01: "The plan's refusals come first, then 21, then 15."; "12, 13, 15 and 21 leave the rows and the run there"
+unfoldable pub sent-outcome : (bytes : List ℕ) → (j capacity table list : ℕ) → Outcome
+sent-outcome bs j c t l = or-then (check-outcome bs t l) (outcome (sent-refusal (plan-in bs) j c) rows-and-run)
+
+-- the number and the place that are handed back beside the frontier
+abbrev pub told : Sent → Told
+told r = record { number = r .number; place = r .place; answer = 0 }
+
+-- what the call hands back and leaves; 01: "A refusal hands back an empty untainted frontier"
+pub record Frontier-says (bytes : List ℕ) (j capacity : ℕ) (r : Sent) (table table-now list list-now : List ℕ) : Type 0 where
+  pub says : Says (sent-outcome bytes j capacity (length table) (length list)) 0 (plan-in bytes) (told r) table table-now list list-now
+  pub frontier-is : r .frontier ≡
+      cond (given (sent-outcome bytes j capacity (length table) (length list) .refusal)) (pack [] false) (sent (plan-in bytes) j capacity)

@@ -1,0 +1,114 @@
+// The frontier sent out for an operation of a stored plan.
+use checker::Counted;
+use frontier::Frontier;
+ghost use mathlib.Core.Path.{_≡_};
+ghost use mathlib.Core.Bool.{false};
+ghost use mathlib.Core.List.{[]};
+ghost use Prim.Native.Nat.{_+_, _*_, _≤_};
+ghost use lib.ListN.{length};
+ghost use Rattle.frontier.specs.Frontiers.{pack, gathered};
+ghost use Rattle.plan_format.specs.Plan.{Plan};
+ghost use Rattle.frontier_sent.specs.Sent.{cut-to};
+ghost use Rattle.frontier_sent.specs.SentMeaning.{Frontier-right};
+ghost use Rattle.frontier_sent.specs.SentWalk.{Opened, Sent-tells, row-in};
+
+// A frontier; or a refusal and its place, beside the empty untainted frontier.
+pub struct Sent {
+    pub number: u32,
+    pub place: u64,
+    pub frontier: Frontier,
+}
+
+// The frontier of an operation's row, cut to a capacity. The check's refusals come first, then 21, then 15.
+pub fn frontier_of(
+    plan: &[u8],
+    operation: u32,
+    capacity: u32,
+    table: &mut [u32],
+    list: &mut [u32],
+) -> Sent
+    ensures { λ r. ⌜ Frontier-right (now (plan .entry)) operation capacity r (now (table .entry)) (now (table .exit)) (now (list .entry)) (now (list .exit)) ⌝ }
+{
+    let mut head = [0u64; 340];
+    let mut queues = [0u16; 1024];
+    let mut mark = [0u16; 4096];
+    let mut mop = [0u16; 4096];
+    let k = checker::check_known(
+        plan,
+        &mut head,
+        &mut queues,
+        &mut mark,
+        &mut mop,
+        table,
+        list,
+    );
+    if k.counted.number != 0 {
+        return refused(k.counted.number, k.counted.place);
+    }
+    answer(k.counted, &head, table, operation, capacity)
+}
+
+// The question on a plan that passes, by its counts, its axes and its rows in the table.
+fn answer(c: Counted, head: &[u64; 340], table: &[u32], operation: u32, capacity: u32) -> Sent
+    requires { ⌜ (c .queues ≤ 16) × (16 * c .operations ≤ length (now table)) ⌝ }
+    ensures { λ r. ⌜ ((p : Plan) → Opened p c (now (head .entry)) (now (table .entry)) → Sent-tells p operation capacity r) ⌝ }
+{
+    let j = operation as usize;
+    if c.operations <= j {
+        return refused(21, operation as u64);
+    }
+    if capacity < 1 {
+        return refused(15, 0);
+    }
+    if Frontier::MOST < capacity {
+        return refused(15, 0);
+    }
+    let frontier = send(head, table, c.queues, 16 * j, capacity);
+    Sent {
+        number: 0,
+        place: 0,
+        frontier,
+    }
+}
+
+// A refusal hands back the empty untainted frontier.
+fn refused(number: u32, place: u64) -> Sent
+    ensures { λ r. ⌜ r ≡ record { number = number; place = place; frontier = pack [] false } ⌝ }
+{
+    Sent {
+        number,
+        place,
+        frontier: Frontier::empty(),
+    }
+}
+
+// The row that begins at `first` in the table, under the axes, cut to a capacity as a merge is.
+fn send(head: &[u64; 340], table: &[u32], queues: usize, first: usize, capacity: u32) -> Frontier
+    requires { ⌜ (queues ≤ 16) × (first + queues ≤ length (now table)) × (1 ≤ capacity) × (capacity ≤ 16) ⌝ }
+    ensures { λ r. ⌜ r ≡ cut-to capacity (gathered (row-in (now (head .entry)) (now (table .entry)) first queues 0)) ⌝ }
+{
+    let whole = gather(head, table, queues, first);
+    let merged = whole.merge(Frontier::empty(), capacity);
+    merged.frontier
+}
+
+// One axis raised after the other: no capacity cuts sixteen.
+fn gather(head: &[u64; 340], table: &[u32], queues: usize, first: usize) -> Frontier
+    requires { ⌜ (queues ≤ 16) × (first + queues ≤ length (now table)) ⌝ }
+    ensures { λ r. ⌜ r ≡ pack (gathered (row-in (now (head .entry)) (now (table .entry)) first queues 0)) false ⌝ }
+{
+    let mut f = Frontier::empty();
+    let mut q: usize = 0;
+    while q < queues {
+        let raised = f.raise(head[1 + q], wide(table[first + q]), Frontier::MOST);
+        f = raised.frontier;
+        q += 1;
+    }
+    f
+}
+
+fn wide(x: u32) -> u64
+    ensures { λ r. ⌜ r ≡ x ⌝ }
+{
+    x as u64
+}
