@@ -1,4 +1,4 @@
--- The reader's refusals as answers of the check, and an answer without a length. Assumes nothing.
+-- Refusals 1 to 5 as answers of the check, which has no answer of its own. Assumes nothing.
 use mathlib.Core.Path.{_≡_, _∙_}
 use mathlib.Core.List.{List}
 use Prim.Native.Nat.{ℕ}
