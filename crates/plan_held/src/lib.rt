@@ -1,11 +1,11 @@
 // A reader that holds the bytes of a stored plan and its place in them: thin functions over it, and one above them with plain parameters.
 use plan_format::Told;
-use plan_reader::rule::Field;
-use plan_reader::rule::Rule;
+use plan_numbers::rule::Field;
+use plan_numbers::rule::Rule;
 ghost use mathlib.Core.Path.{_≡_};
 ghost use lib.ListN.{drop};
 ghost use Rattle.plan_format.specs.Stored.{Read-says};
-ghost use Rattle.plan_reader.specs.Judging.{field-read};
+ghost use Rattle.plan_numbers.specs.Judging.{field-read};
 
 // The bytes of a plan, lent, and a place in them.
 pub struct Reader<'a> {
@@ -24,7 +24,7 @@ pub fn new<'a>(src: &'a [u8]) -> Reader<'a>
 pub fn next_field<'a>(r: Reader<'a>, rule: Rule) -> Field
     ensures { λ f. ⌜ f ≡ field-read (now (r .entry .src)) (r .entry .at) rule ⌝ }
 {
-    plan_reader::rule::field_at(r.src, r.at, rule)
+    plan_numbers::rule::field_at(r.src, r.at, rule)
 }
 
 // The reader handed on, at another place of the same bytes.

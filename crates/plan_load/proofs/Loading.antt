@@ -13,10 +13,10 @@ use Rattle.plan_format.proofs.Blocks.{Block}
 use Rattle.plan_format.proofs.Repeats.{times-last}
 use Rattle.plan_columns.specs.Filling.{next-at, signal-count, mark-count, Added}
 use Rattle.plan_columns.proofs.Parts.{Filling, filling-none, filling-next}
-use Rattle.plan_reader.specs.declared.Head.{Head}
-use Rattle.plan_reader.specs.declared.cursor.Cursor.{Cursor}
-use Rattle.plan_reader.specs.Reading.{fault-of, here, head-cursor, Head-read, Operation-read}
-use Rattle.plan_reader.proofs.Fields.{here-clean}
+use Rattle.plan_numbers.specs.declared.Head.{Head}
+use Rattle.plan_numbers.specs.declared.cursor.Cursor.{Cursor}
+use Rattle.plan_numbers.specs.Reading.{fault-of, here, head-cursor, Head-read, Operation-read}
+use Rattle.plan_numbers.proofs.Fields.{here-clean}
 use Rattle.plan_load.proofs.Blind.{after, blind-read, operation-blind}
 use Rattle.plan_load.proofs.Blocks.{Small, block-read}
 use Rattle.plan_load.proofs.Windows.{added-among}

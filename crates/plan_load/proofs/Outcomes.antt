@@ -22,11 +22,11 @@ use Rattle.plan_format.proofs.Sections.{plan-whole}
 use Rattle.plan_columns.specs.Columns.{Axis-column}
 use Rattle.plan_columns.proofs.Limits.{shape, few-semaphores, limits}
 use Rattle.plan_columns.proofs.Plans.{filling-end}
-use Rattle.plan_reader.specs.declared.Head.{Head}
-use Rattle.plan_reader.specs.declared.cursor.Cursor.{Cursor}
-use Rattle.plan_reader.specs.Reading.{fault-of, here, head-cursor, Plan-read, Numbers-read, Heading, Head-read, Operation-read}
-use Rattle.plan_reader.proofs.Answers.{read-refused, read-more, read-whole}
-use Rattle.plan_reader.proofs.Fields.{here-given}
+use Rattle.plan_numbers.specs.declared.Head.{Head}
+use Rattle.plan_numbers.specs.declared.cursor.Cursor.{Cursor}
+use Rattle.plan_numbers.specs.Reading.{fault-of, here, head-cursor, Plan-read, Numbers-read, Heading, Head-read, Operation-read}
+use Rattle.plan_numbers.proofs.Answers.{read-refused, read-more, read-whole}
+use Rattle.plan_numbers.proofs.Fields.{here-given}
 use Rattle.plan_load.specs.declared.Loaded.{Loaded}
 use Rattle.plan_load.specs.Loading.{Loads}
 use Rattle.plan_load.proofs.Blocks.{Small}

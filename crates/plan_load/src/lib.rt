@@ -1,12 +1,12 @@
 // A stored plan read straight into its columns: each operation into a window of numbers, and from there behind the operations before it.
-use plan_reader::Head;
+use plan_numbers::Head;
 ghost use mathlib.Core.Path.{_≡_};
 ghost use mathlib.Core.List.{List};
 ghost use Prim.Native.Nat.{ℕ, _+_, _≤_};
 ghost use lib.ListN.{take, drop};
 ghost use Rattle.plan_format.specs.Stored.{plan-in};
 ghost use Rattle.plan_columns.specs.Columns.{Owner-column};
-ghost use Rattle.plan_reader.specs.Reading.{Head-read};
+ghost use Rattle.plan_numbers.specs.Reading.{Head-read};
 ghost use Rattle.plan_load.specs.Loading.{Loads};
 
 // How many queues, semaphores, buffers, operations, signals and marks a plan has; or the reader's refusal and its place.
@@ -39,7 +39,7 @@ pub fn load(
     ensures { λ r. ⌜ Loads (now (plan .entry)) r (now (head .exit)) (now (queue .exit)) (now (wsem .exit)) (now (wval .exit)) (now (ssem .exit)) (now (sval .exit)) (now (sop .exit)) (now (mark .exit)) (now (mop .exit)) ⌝ }
     ensures { λ r. ⌜ (r .number ≡ 0 → Owner-column (plan-in (now (plan .entry))) (now (owner .exit))) ⌝ }
 {
-    let h = plan_reader::read_head(plan, head);
+    let h = plan_numbers::read_head(plan, head);
     if h.number != 0 {
         return refused(h.number, h.at);
     }
@@ -138,7 +138,7 @@ fn operations(
     let mut marks: u16 = 0;
     let mut i: u16 = 0;
     while i < many {
-        let o = plan_reader::read_operation(
+        let o = plan_numbers::read_operation(
             plan,
             at,
             h.queues,

@@ -1,74 +1,23 @@
--- What the reader answers: from the end of the reading to the numbers handed back. Assumes nothing.
-use mathlib.Core.Path.{_≡_, refl, sym, ap, _∙_, subst}
+-- What the numbers that were read are to the room. Assumes nothing.
+use mathlib.Core.Path.{_≡_, ap, _∙_}
 use mathlib.Core.List.{List, []}
-use Prim.Native.Nat.{ℕ, _≤_, _<_}
+use Prim.Native.Nat.{ℕ, _≤_}
 use native.Mathlib.Omega.{arith}
-use lib.ListN.{length, take, drop, length-drop, length-take}
-use lib.Seq.{length-take-le}
-use borrow.Author.Tests.{ne-eqb, eqb-false}
+use lib.ListN.{length, take, length-take}
 use Rattle.basics.specs.Lists.{in-front}
-use Rattle.plan_format.specs.Refusal.{refusal, none-given, given}
-use Rattle.plan_format.specs.Grammar.{bytes, Scan, scan, ended}
-use Rattle.plan_format.specs.Form.{first-form, scanned-by}
-use Rattle.plan_format.specs.Stored.{scanned, Tells}
+use Rattle.plan_format.specs.Stored.{scanned}
 use Rattle.plan_format.specs.declared.Told.{Told}
-use Rattle.plan_format.proofs.Answers.{ended-none, ended-more, answer-long}
-use Rattle.plan_format.proofs.Faults.{ended-stays}
-use Rattle.plan_reader.specs.declared.cursor.Cursor.{Cursor}
-use Rattle.plan_reader.specs.Reading.{fault-of, here, Plan-read, Numbers-read}
-use Rattle.plan_reader.proofs.Fields.{here-given, here-clean, fault-number}
+use Rattle.plan_format.proofs.Answers.{answer-long}
+use Rattle.plan_numbers.specs.Reading.{Numbers-read}
 
--- ---- the end of the reading
-scanned-is : {bs : List ℕ} {c : Cursor} {nums : List ℕ} → Plan-read bs c nums → scanned bs ≡ ended (here bs c nums)
-unfolding scanned scanned-by first-form bytes
-scanned-is p = ap ended (p .read)
+module _ {bs : List ℕ} {r : Told} {nums : List ℕ} (n : Numbers-read bs r nums) (z : r .number ≡ 0) where
+  -- they fit the array that they were read into
+  pub read-fits : r .answer ≤ length nums
+  read-fits =
+      omega (arith, answer-long (scanned bs .fault) (scanned bs .got) (n .told) [] z, ap length (n .numbers z), length-take (length (scanned bs .got)) nums)
 
-numbers-read : {bs : List ℕ} {r : Told} {nums : List ℕ} (s : Scan) → scanned bs ≡ s → Tells (s .fault) (length (s .got)) r → (r .number ≡ 0 → take (length (s .got)) nums ≡ s .got) → r .answer ≤ 22868 → length nums ≡ 22868 → Numbers-read bs r nums
-numbers-read {bs} {r} {nums} s e t n few long =
-    record {
-      told = subst (λ (x : Scan). Tells (x .fault) (length (x .got)) r) (sym e) t;
-      numbers = λ z. subst (λ (x : Scan). take (length (x .got)) nums ≡ x .got) (sym e) (n z);
-      few = few;
-      long = long;
-    }
-
-fault-place : (c : Cursor) → (c .number ≡ 0 → ⊥) → fault-of c .place ≡ c .at
-unfolding fault-of refusal
-fault-place c z = rw (ne-eqb (c .number) 0 z)
-
-module _ {bs : List ℕ} {c : Cursor} {nums : List ℕ} (p : Plan-read bs c nums) (long : length nums ≡ 22868) where
-  -- a refusal on the way
-  pub read-refused : (c .number ≡ 0 → ⊥) → Numbers-read bs (record { number = c .number; place = c .at; answer = 0 }) nums
-  unfolding here scan
-  read-refused z =
-      numbers-read (here bs c nums) (scanned-is p ∙ ended-stays (here bs c nums) (here-given bs c nums z))
-      (record { number = sym (fault-number c z); place = sym (fault-place c z); answer-is = rw (here-given bs c nums z) }) (λ e. absurd (z e)) (omega arith) long
-
-  -- bytes behind the last section
-  pub read-more : c .number ≡ 0 → c .at < length bs → Numbers-read bs (record { number = 3; place = c .at; answer = 0 }) nums
-  unfolding scan refusal given
-  read-more z h =
-      numbers-read (scan (drop (c .at) bs) (c .at) (take (c .got) nums) (refusal 3 (c .at)))
-      (scanned-is p ∙ ap ended (here-clean bs c nums z)
-      ∙ ended-more (drop (c .at) bs) (c .at) (take (c .got) nums) (λ e. omega (arith, length-drop (c .at) bs)))
-      (record { number = refl; place = refl; answer-is = refl }) (λ e. absurd (eqb-false 3 0 refl e)) (omega arith) long
-
-  -- a whole plan
-  pub read-whole : c .number ≡ 0 → length bs ≤ c .at → Numbers-read bs (record { number = c .number; place = 0; answer = c .got }) nums
-  unfolding scan none-given given
-  read-whole z h =
-      let l = length-take-le (c .got) nums (omega (arith, p .few)) in
-      numbers-read (scan (drop (c .at) bs) (c .at) (take (c .got) nums) none-given)
-      (scanned-is p ∙ ap ended (here-clean bs c nums z)
-      ∙ ended-none (drop (c .at) bs) (c .at) (take (c .got) nums) (length-drop (c .at) bs ∙ omega arith))
-      (record { number = z; place = refl; answer-is = sym l }) (λ e. ap (λ (n : ℕ). take n nums) l) (p .few) long
-
--- numbers that were read fit the array that they were read into
-pub read-fits : {bs : List ℕ} {r : Told} {nums : List ℕ} → Numbers-read bs r nums → r .number ≡ 0 → r .answer ≤ length nums
-read-fits {bs} {r} {nums} n z =
-    omega (arith, answer-long (scanned bs .fault) (scanned bs .got) (n .told) [] z, ap length (n .numbers z), length-take (length (scanned bs .got)) nums)
-
-pub read-front : {bs : List ℕ} {r : Told} {nums : List ℕ} → Numbers-read bs r nums → r .number ≡ 0 → (room : List ℕ) → in-front (take (r .answer) nums) room ≡ in-front (scanned bs .got) room
-read-front {bs} {r} {nums} n z room =
-    ap (λ (l : List ℕ). in-front l room)
-    (ap (λ (k : ℕ). take k nums) (answer-long (scanned bs .fault) (scanned bs .got) (n .told) [] z) ∙ n .numbers z)
+  -- and stand in front
+  pub read-front : (room : List ℕ) → in-front (take (r .answer) nums) room ≡ in-front (scanned bs .got) room
+  read-front room =
+      ap (λ (l : List ℕ). in-front l room)
+      (ap (λ (k : ℕ). take k nums) (answer-long (scanned bs .fault) (scanned bs .got) (n .told) [] z) ∙ n .numbers z)

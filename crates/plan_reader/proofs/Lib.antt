@@ -1,8 +1,2 @@
-pub mod Words
-pub mod Fields
-pub mod Cursors
-pub mod Counts
 pub mod Answers
-pub mod Heads
-pub mod Rules
 pub mod Parts

@@ -1,5 +1,1 @@
-pub mod Halves
-pub mod Fields
-pub mod Cursors
-pub mod Counts
 pub mod Answers

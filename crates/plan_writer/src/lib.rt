@@ -1,10 +1,4 @@
-// The writer of stored plans: one pass over a list of numbers, a cursor by value, each number judged and its bytes put as it is read.
-mod cursor;
-mod digits;
-mod field;
-mod operation;
-mod section;
-
+// The writer of stored plans: the bytes of the numbers, stored in the room that the caller lends.
 use plan_format::Told;
 use plan_format::refused;
 ghost use mathlib.Core.Path.{_≡_};
@@ -12,26 +6,6 @@ ghost use Prim.Native.Nat.{_≤_};
 ghost use lib.ListN.{length, take};
 ghost use Rattle.basics.specs.Lists.{in-front};
 ghost use Rattle.plan_format.specs.Stored.{Write-says};
-ghost use Rattle.plan_writer.specs.Writing.{Bytes-written};
-
-// The bytes of a list of numbers, or the first of refusals 1 to 5; the answer is how many bytes there are.
-fn write_bytes(numbers: &[u64], bytes: &mut [u8; 63686]) -> Told
-    ensures { λ r. ⌜ Bytes-written (now (numbers .entry)) r (now (bytes .exit)) ⌝ }
-{
-    let c = section::sections(numbers, bytes);
-    let at = c.at;
-    if c.number != 0 {
-        return refused(c.number, at);
-    }
-    if at < numbers.len() {
-        return refused(3, at);
-    }
-    Told {
-        number: c.number,
-        place: 0,
-        answer: c.put as u64,
-    }
-}
 
 // The first `many` bytes, in front of the room.
 fn store(bytes: &[u8; 63686], many: usize, room: &mut [u8])
@@ -50,7 +24,7 @@ pub fn write_plan(numbers: &[u64], room: &mut [u8]) -> Told
     ensures { λ r. ⌜ Write-says (now (numbers .entry)) r (now (room .entry)) (now (room .exit)) ⌝ }
 {
     let mut bytes = [0u8; 63686];
-    let told = write_bytes(numbers, &mut bytes);
+    let told = plan_bytes::write_bytes(numbers, &mut bytes);
     if told.number != 0 {
         return told;
     }

@@ -45,20 +45,20 @@ use denote.Triple.Table.{entered, cited}
 use denote.Triple.Walked.{says, Stays, stay-none, walkOf, goes-none, Walks, ends-at, walked, walk-meets}
 use denote.Exit.{yes}
 use denote.Triple.Clauses.{ensured, lasts}
-use Rattle.plan_reader.specs.Judging.{field-read}
+use Rattle.plan_numbers.specs.Judging.{field-read}
 use Rattle.plan_held.specs.declared.Reader.{Reader}
-use Rattle.plan_reader.specs.declared.rule.Field.{Field}
+use Rattle.plan_numbers.specs.declared.rule.Field.{Field}
 use Rattle.plan_held.proofs.Reader as T
 use Rattle.plan_held.proofs.Reader.Laws as T′
-use Rattle.plan_reader.specs.declared.rule.Rule.{Rule}
-use Rattle.plan_reader.proofs.rule.Rule as Q
-use Rattle.plan_reader.proofs.rule.Rule.Laws as Q′
-use Rattle.plan_reader.proofs.rule.Field as S
-use Rattle.plan_reader.proofs.rule.Field.Laws as S′
-use Rattle.plan_reader.proofs.rule.field_at as step
-use Rattle.plan_reader.proofs.rule.field_at.Symbol as at-def
-use Rattle.plan_reader.proofs.rule.field_at.Symbol.{name as #field-at}
-use Rattle.plan_reader.proofs.rule.field_at.Met as at-thm
+use Rattle.plan_numbers.specs.declared.rule.Rule.{Rule}
+use Rattle.plan_numbers.proofs.rule.Rule as Q
+use Rattle.plan_numbers.proofs.rule.Rule.Laws as Q′
+use Rattle.plan_numbers.proofs.rule.Field as S
+use Rattle.plan_numbers.proofs.rule.Field.Laws as S′
+use Rattle.plan_numbers.proofs.rule.field_at as step
+use Rattle.plan_numbers.proofs.rule.field_at.Symbol as at-def
+use Rattle.plan_numbers.proofs.rule.field_at.Symbol.{name as #field-at}
+use Rattle.plan_numbers.proofs.rule.field_at.Met as at-thm
 use Rattle.plan_held.proofs.next_field.Key.{name as #plan-held·next-field}
 use Rattle.plan_held.proofs.next_field as field
 use Rattle.plan_held.proofs.next_field.Statement as stated
@@ -195,5 +195,5 @@ next-field-spec 𝓤 H 𝓜 𝓖 𝓡 =
     entered 𝓤 H (tripleOf 𝓤 H (𝓖 .A) field.signature (field.spec 𝓤 H (𝓖 .A) (𝓜 .mem) (𝓡 .run)))
     (tables 𝓤 H 𝓜 𝓡 code.env .C) (tables 𝓤 H 𝓜 𝓡 code.env .Λ) #plan-held·next-field code.function (code.unfolded 𝓤 H 𝓜 𝓡)
     (field-meets 𝓤 H (𝓖 .A) (givenOf 𝓤 H 𝓜 𝓖) (𝓜 .mem) (𝓡 .run) (tablesOf 𝓤 H 𝓜 (tables 𝓤 H 𝓜 𝓡 code.env))
-    (cited 𝓤 H (FieldAt 𝓤 H (𝓖 .A) (𝓜 .mem) (𝓡 .run)) 𝓜 𝓡 code.env #field-at at-def.routine code.calls-plan-reader·rule·field-at
+    (cited 𝓤 H (FieldAt 𝓤 H (𝓖 .A) (𝓜 .mem) (𝓡 .run)) 𝓜 𝓡 code.env #field-at at-def.routine code.calls-plan-numbers·rule·field-at
     (at-thm.met 𝓤 H 𝓜 𝓖 𝓡)))

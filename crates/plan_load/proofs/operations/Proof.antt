@@ -5,7 +5,7 @@ use Prim.Native.Nat.{ℕ, _+_, _-_, _*_, _≤_}
 use native.Mathlib.Omega.{arith}
 use borrow.Author.Needs.{needs}
 use borrow.Author.Tests.{eqb-false}
-use Rattle.plan_reader.specs.Reading.{Head-read}
+use Rattle.plan_numbers.specs.Reading.{Head-read}
 use Rattle.plan_load.proofs.Loading.{Load, load-none, load-next, few-more}
 use Rattle.plan_load.proofs.Outcomes.{load-refused, load-more, load-columns, load-owners, refused-loads}
 use Rattle.plan_load.proofs.operations.Statement.{statement}

@@ -1,0 +1,65 @@
+-- What the writer's functions say: the reading and the spelling that a cursor stands for, and the bytes of a number.
+-- Assumes nothing: these are definitions.
+use mathlib.Core.Path.{_≡_}
+use mathlib.Core.Bool.{cond}
+use mathlib.Core.List.{List, [], _++_}
+use Prim.Native.Nat.{ℕ, _+_, _-_, _≤_}
+use lib.Dec.{eqb}
+use lib.ListN.{length, getD, take, drop}
+use Rattle.plan_format.specs.Refusal.{Refusal, refusal, none-given}
+use Rattle.plan_format.specs.Grammar.{Grammar, field, digits, numbers, Scan, scan, last-got, read-by, Spelling, spell-by}
+use Rattle.plan_format.specs.Form.{first-form, plan-grammar}
+use Rattle.plan_format.specs.Stored.{listed, spelled, Tells}
+use Rattle.plan_format.specs.declared.Told.{Told}
+use Rattle.plan_format.specs.Sections.{limited}
+use Rattle.plan_bytes.specs.declared.cursor.Cursor.{Cursor}
+
+-- the reading of the list `xs` that a cursor stands for, and the spelling, its bytes being in front of `bytes`
+unfoldable pub fault-of : Cursor → Refusal
+fault-of c = cond (eqb (c .number) 0) none-given (refusal (c .number) (c .at))
+
+unfoldable pub here : (xs : List ℕ) → Cursor → Scan
+here xs c = scan (drop (c .at) xs) (c .at) (take (c .at) xs) (fault-of c)
+
+unfoldable pub spelling : (xs : List ℕ) → Cursor → (bytes : List ℕ) → Spelling
+spelling xs c bytes = record { left = drop (c .at) xs; made = take (c .put) bytes }
+
+-- a cursor that stands in the list, with room for so many bytes more
+pub record Room (many : ℕ) (xs : List ℕ) (c : Cursor) (bytes : List ℕ) : Type 0 where
+  pub inside : c .at ≤ length xs
+  pub room : c .put + many ≤ length bytes
+
+-- from the cursor `c` to the cursor `r` a thing is read from the list and, where there is no refusal, spelled, at most so many bytes long
+pub record Writes (g : Grammar) (many : ℕ) (xs : List ℕ) (c : Cursor) (bytes : List ℕ) (r : Cursor) (bytes-now : List ℕ) : Type 0 where
+  pub read : read-by numbers g (here xs c) ≡ here xs r
+  pub spell : r .number ≡ 0 → spell-by g (spelling xs c bytes) ≡ spelling xs r bytes-now
+  pub inside : r .at ≤ length xs
+  pub few : r .put ≤ c .put + many
+  pub as-long : length bytes-now ≡ length bytes
+
+-- the bytes of a number were put at a place
+pub record Puts (width : ℕ) (bytes : List ℕ) (at v : ℕ) (bytes-now : List ℕ) : Type 0 where
+  pub front : take (at + width) bytes-now ≡ take at bytes ++ digits width v
+  pub as-long : length bytes-now ≡ length bytes
+
+-- a limited field was written, and the cursor has its number: 0 where it is refused
+pub record Limited (width limit over : ℕ) (xs : List ℕ) (c : Cursor) (bytes : List ℕ) (r : Cursor) (bytes-now : List ℕ) : Type 0 where
+  pub writes : Writes (field width (limited limit over)) width xs c bytes r bytes-now
+  pub value-is : r .number ≡ 0 → last-got (here xs r) ≡ r .value
+  pub value-read : r .number ≡ 0 → getD (drop (c .at) xs) 0 0 ≡ r .value
+  pub value-below : r .value ≤ limit - 1
+
+-- the whole list was read and spelled, but for its end
+pub record Plan-written (xs : List ℕ) (r : Cursor) (bytes-now : List ℕ) : Type 0 where
+  pub read : read-by numbers (plan-grammar first-form) (scan xs 0 [] none-given) ≡ here xs r
+  pub spell : r .number ≡ 0 → spell-by (plan-grammar first-form) (record { left = xs; made = [] }) ≡ spelling xs r bytes-now
+  pub inside : r .at ≤ length xs
+  pub few : r .put ≤ 63686
+
+-- 01: "The writer takes such a list and refuses by 1 to 5"; the answer is the length in bytes; past it, and on a refusal, the
+-- bytes are free
+pub record Bytes-written (xs : List ℕ) (r : Told) (bytes-now : List ℕ) : Type 0 where
+  pub told : Tells (listed xs .fault) (length (spelled xs)) r
+  pub bytes : r .number ≡ 0 → take (length (spelled xs)) bytes-now ≡ spelled xs
+  pub few : r .answer ≤ 63686
+  pub long : length bytes-now ≡ 63686

@@ -1,0 +1,30 @@
+// The bytes of stored plans: one pass over a list of numbers, a cursor by value, each number judged and its bytes put as it is read.
+mod cursor;
+mod digits;
+mod field;
+mod operation;
+mod section;
+
+use plan_format::Told;
+use plan_format::refused;
+ghost use Rattle.plan_bytes.specs.Writing.{Bytes-written};
+
+// The bytes of a list of numbers in front of the array, with their length as the answer; or the first of refusals 1 to 5. Past the bytes, and on a
+// refusal, the array is free.
+pub fn write_bytes(numbers: &[u64], bytes: &mut [u8; 63686]) -> Told
+    ensures { λ r. ⌜ Bytes-written (now (numbers .entry)) r (now (bytes .exit)) ⌝ }
+{
+    let c = section::sections(numbers, bytes);
+    let at = c.at;
+    if c.number != 0 {
+        return refused(c.number, at);
+    }
+    if at < numbers.len() {
+        return refused(3, at);
+    }
+    Told {
+        number: c.number,
+        place: 0,
+        answer: c.put as u64,
+    }
+}

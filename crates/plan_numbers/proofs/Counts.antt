@@ -1,0 +1,120 @@
+-- The four sections of a plan: what the checks ask of the numbers read is what the reader took from its array. Assumes nothing.
+use mathlib.Core.Path.{_≡_, refl, sym, ap, _∙_}
+use mathlib.Core.List.{List, [], _∷_, _++_, append-assoc}
+use Prim.Native.Nat.{ℕ, _+_, _≤_}
+use native.Mathlib.Omega.{arith}
+use lib.ListN.{length, getD, take}
+use lib.Seq.{length-take-le}
+use Rattle.plan_format.specs.Refusal.{none-given}
+use Rattle.plan_format.specs.Grammar.{field, counted, bytes, Scan, scan, read-by}
+use Rattle.plan_format.specs.Form.{first-form, queue-count, any-number, new-axis, a-queue, operation, plan-grammar}
+use Rattle.plan_format.specs.Sections.{limited, axis-field, size-field, operation-below}
+use Rattle.plan_format.proofs.Alike.{alike-from}
+use Rattle.plan_format.proofs.Counts.{number-at, owners-alike, operations-alike, counts-of}
+use Rattle.plan_format.proofs.Follows.{Section, section}
+use Rattle.plan_numbers.specs.declared.cursor.Cursor.{Cursor}
+use Rattle.plan_numbers.specs.Reading.{fault-of, here, Reads, Plan-read, Heading, Front-read}
+use Rattle.plan_numbers.proofs.Fields.{here-clean}
+
+glued : {got₁ got₂ got₃ : List ℕ} (axes owners sizes : List ℕ) (q m b n : ℕ) → got₁ ≡ q ∷ axes → got₂ ≡ got₁ ++ (m ∷ owners) → got₃ ≡ got₂ ++ (b ∷ sizes) →
+    got₃ ++ (n ∷ []) ≡ q ∷ (axes ++ (m ∷ (owners ++ (b ∷ (sizes ++ (n ∷ []))))))
+glued axes owners sizes q m b n e₁ e₂ e₃ =
+    let split : ((axes ++ (m ∷ owners)) ++ (b ∷ sizes)) ++ (n ∷ []) ≡ axes ++ (m ∷ (owners ++ (b ∷ (sizes ++ (n ∷ []))))) = simp append-assoc in
+    ap (λ (l : List ℕ). l ++ (n ∷ [])) (e₃ ∙ ap (λ (l : List ℕ). l ++ (b ∷ sizes)) (e₂ ∙ ap (λ (l : List ℕ). l ++ (m ∷ owners)) e₁))
+    ∙ ap (λ (l : List ℕ). q ∷ l) split
+
+abbrev origin : Cursor
+origin = record { number = 0; at = 0; got = 0; value = 0 }
+
+module _ (bs : List ℕ) {c₁ c₂ c₃ : Cursor} {n₀ n₁ n₂ n₃ : List ℕ} {q m b : ℕ} (roomy : 340 ≤ length n₀)
+    (axes : Reads (counted 0 16 1 axis-field) 17 bs origin n₀ c₁ n₁) (queues-are : q ≡ getD n₁ 0 0)
+    (owners : Reads (counted 0 64 1 (field 1 (limited q 4))) 65 bs c₁ n₁ c₂ n₂) (semaphores-are : m ≡ getD n₂ (c₁ .got) 0)
+    (sizes : Reads (counted 0 256 2 size-field) 257 bs c₂ n₂ c₃ n₃) (buffers-are : b ≡ getD n₃ (c₂ .got) 0) where
+  first : here bs c₁ n₁ .fault .number ≡ 0 → Section (here bs origin n₀) (here bs c₁ n₁)
+  unfolding axis-field
+  first e = section bytes 0 16 1 8 new-axis (here bs origin n₀) (here bs c₁ n₁) (axes .read) e
+
+  second : here bs c₂ n₂ .fault .number ≡ 0 → Section (here bs c₁ n₁) (here bs c₂ n₂)
+  second e = section bytes 0 64 1 1 (limited q 4) (here bs c₁ n₁) (here bs c₂ n₂) (owners .read) e
+
+  third : here bs c₃ n₃ .fault .number ≡ 0 → Section (here bs c₂ n₂) (here bs c₃ n₃)
+  unfolding size-field
+  third e = section bytes 0 256 2 4 any-number (here bs c₂ n₂) (here bs c₃ n₃) (sizes .read) e
+
+  queues-read : (A : Section (here bs origin n₀) (here bs c₁ n₁)) → q ≡ A .count
+  unfolding here scan
+  queues-read A = queues-are ∙ number-at n₁ (c₁ .got) 0 [] (A .count) (A .rest) (A .got) refl
+
+  semaphores-read : (B : Section (here bs c₁ n₁) (here bs c₂ n₂)) → m ≡ B .count
+  unfolding here scan
+  semaphores-read B =
+      semaphores-are
+      ∙ number-at n₂ (c₂ .got) (c₁ .got) (take (c₁ .got) n₁) (B .count) (B .rest) (B .got)
+      (length-take-le (c₁ .got) n₁ (omega (arith, axes .few, axes .as-long)))
+
+  buffers-read : (C : Section (here bs c₂ n₂) (here bs c₃ n₃)) → b ≡ C .count
+  unfolding here scan
+  buffers-read C =
+      buffers-are
+      ∙ number-at n₃ (c₃ .got) (c₂ .got) (take (c₂ .got) n₂) (C .count) (C .rest) (C .got)
+      (length-take-le (c₂ .got) n₂ (omega (arith, axes .few, axes .as-long, owners .few, owners .as-long)))
+
+  owners-same : read-by bytes (counted 0 64 1 (field 1 a-queue)) (here bs c₁ n₁) ≡ read-by bytes (counted 0 64 1 (field 1 (limited q 4))) (here bs c₁ n₁)
+  unfolding queue-count here scan
+  owners-same =
+      alike-from bytes (counted 0 64 1 (field 1 a-queue)) (counted 0 64 1 (field 1 (limited q 4))) (here bs c₁ n₁)
+      (λ e. let A = first e in owners-alike (take (c₁ .got) n₁) q (λ rest. ap (λ (l : List ℕ). getD (l ++ rest) 0 0) (A .got) ∙ sym (queues-read A)))
+
+  heading : (n : ℕ) → here bs c₃ n₃ .fault .number ≡ 0 → Heading q m b n (take (c₃ .got) n₃ ++ (n ∷ []))
+  unfolding here scan
+  heading n e =
+      let C = third e in
+      let B = second (C .clean) in
+      let A = first (B .clean) in
+      let at₁ : take (c₁ .got) n₁ ≡ q ∷ A .rest = A .got ∙ ap (λ (x : ℕ). x ∷ A .rest) (sym (queues-read A)) in
+      let at₂ : take (c₂ .got) n₂ ≡ take (c₁ .got) n₁ ++ (m ∷ B .rest) = B .got ∙ ap (λ (x : ℕ). take (c₁ .got) n₁ ++ (x ∷ B .rest)) (sym (semaphores-read B)) in
+      let at₃ : take (c₃ .got) n₃ ≡ take (c₂ .got) n₂ ++ (b ∷ C .rest) = C .got ∙ ap (λ (x : ℕ). take (c₂ .got) n₂ ++ (x ∷ C .rest)) (sym (buffers-read C)) in
+      record {
+        axes = A .rest;
+        owners = B .rest;
+        sizes = C .rest;
+        axes-long = A .long ∙ sym (queues-read A);
+        owners-long = B .long ∙ sym (semaphores-read B);
+        sizes-long = C .long ∙ sym (buffers-read C);
+        numbers-are = glued (A .rest) (B .rest) (C .rest) q m b n at₁ at₂ at₃;
+      }
+
+  operations-same : read-by bytes (counted 0 1024 2 (operation first-form)) (here bs c₃ n₃) ≡ read-by bytes (counted 0 1024 2 (operation-below q m b)) (here bs c₃ n₃)
+  unfolding here scan
+  operations-same =
+      alike-from bytes (counted 0 1024 2 (operation first-form)) (counted 0 1024 2 (operation-below q m b)) (here bs c₃ n₃)
+      (λ e. let C = third e in let B = second (C .clean) in let A = first (B .clean) in operations-alike
+      (counts-of (A .rest) (B .rest) (C .rest) (A .got ∙ ap (λ (x : ℕ). x ∷ A .rest) (sym (queues-read A)))
+      (B .got ∙ ap (λ (x : ℕ). take (c₁ .got) n₁ ++ (x ∷ B .rest)) (sym (semaphores-read B)))
+      (C .got ∙ ap (λ (x : ℕ). take (c₂ .got) n₂ ++ (x ∷ C .rest)) (sym (buffers-read C)))
+      (A .long ∙ sym (queues-read A)) (B .long ∙ sym (semaphores-read B)) (C .long ∙ sym (buffers-read C))))
+
+  -- what the four sections read is the plan
+  plan-read : (r : Cursor) (all : List ℕ) → read-by bytes (counted 0 1024 2 (operation-below q m b)) (here bs c₃ n₃) ≡ here bs r all →
+      r .at ≤ length bs → r .got ≤ c₃ .got + 22529 → Plan-read bs r all
+  unfolding plan-grammar first-form read-by here fault-of axis-field size-field
+  plan-read r all e inside few =
+      record {
+        read =
+            ap (λ (s : Scan). read-by bytes (counted 0 1024 2 (operation first-form)) (read-by bytes (counted 0 256 2 size-field) (read-by bytes (counted 0 64 1 (field 1 a-queue)) s))) (axes .read)
+            ∙ ap (λ (s : Scan). read-by bytes (counted 0 1024 2 (operation first-form)) (read-by bytes (counted 0 256 2 size-field) s)) (owners-same ∙ owners .read)
+            ∙ ap (λ (s : Scan). read-by bytes (counted 0 1024 2 (operation first-form)) s) (sizes .read)
+            ∙ operations-same
+            ∙ e;
+        inside = inside;
+        few = omega (arith, axes .few, owners .few, sizes .few, few);
+      }
+
+  pub front-read : Front-read bs c₃ q m b n₃
+  unfolding scan none-given
+  front-read = record {
+    plan = plan-read;
+    heading = λ n z. heading n (ap (λ (s : Scan). s .fault .number) (here-clean bs c₃ n₃ z));
+    inside = sizes .inside;
+    few = omega (arith, axes .few, owners .few, sizes .few);
+  }

@@ -1,0 +1,19 @@
+-- `read_operation` meets its contract: an operation read at the place, or at the end of the bytes. Assumes nothing.
+use borrow.Author.Needs.{needs}
+use Rattle.plan_numbers.proofs.Heads.{read-at}
+use Rattle.plan_numbers.proofs.read_operation.Statement.{statement}
+use Rattle.plan_numbers.proofs.read_operation.Tie as tie
+
+lower-requires : tie.Need-lower-requires
+lower-requires c κs = search needs
+
+operation-requires : tie.Need-operation-requires
+operation-requires c κs = search needs
+
+returns : tie.Need-returns
+returns c =
+    let s = c .before .before .before .before .args in
+    read-at (s .queues) (s .semaphores) (s .buffers) (s .at) (c .before .before .lower .ensures) (c .operation .ensures)
+
+pub read-operation-spec : {M : Type 1} → statement M
+read-operation-spec = tie.close (tie.spec lower-requires operation-requires returns)
