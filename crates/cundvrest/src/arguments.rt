@@ -1,8 +1,7 @@
 // The arguments: what is asked, or a line on standard error that says what is wrong and what would be right.
-use crate::decimal;
-use crate::decimal::Word;
 use crate::usage;
 use check::same;
+use decimal::Word;
 
 // What is asked of a plan.
 pub enum Question {

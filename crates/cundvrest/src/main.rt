@@ -1,6 +1,5 @@
 // The program: arguments and standard input in, the answer's text out. All that is judged is judged by the libraries.
 mod arguments;
-mod decimal;
 mod input;
 mod numbers;
 mod output;

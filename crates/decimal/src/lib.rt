@@ -1,10 +1,9 @@
 // Numbers in decimal, as arguments and in the text that `write` reads.
 ghost use mathlib.Core.Path.{_≡_};
-ghost use Prim.Native.Nat.{ℕ, _+_, _*_, _-_, _≤_};
-ghost use Rattle.cundvrest.specs.Decimal.{digit-test, digits-of, word-of};
-ghost use mathlib.Core.Bool.{true};
+ghost use Prim.Native.Nat.{ℕ, _+_, _*_};
+ghost use Rattle.decimal.specs.Decimal.{digit-value, digits-of, word-of};
 
-// A number as its digits come: its value, or that it is over its limit.
+// A number as its digits come: its value, or that it is of 2^64 or more.
 pub struct Digits {
     pub value: u64,
     pub large: bool,
@@ -17,39 +16,41 @@ pub enum Word {
     Other,
 }
 
-pub fn is_digit(b: u8) -> bool
-    ensures { λ r. ⌜ r ≡ digit-test b ⌝ }
+// The value of a digit; 10 for a byte that is none.
+pub fn digit(b: u8) -> u8
+    ensures { λ r. ⌜ r ≡ digit-value b ⌝ }
 {
     if b < b'0' {
-        return false;
+        return 10;
     }
-    b <= b'9'
+    if b > b'9' {
+        return 10;
+    }
+    b - b'0'
 }
 
 // One digit more.
-pub fn more(d: Digits, digit: u8, limit: u64) -> Digits
-    requires { ⌜ (digit-test digit ≡ true) × (9 ≤ limit) ⌝ }
-    ensures { λ r. ⌜ ((v : ℕ) → d ≡ digits-of limit v → r ≡ digits-of limit (10 * v + (digit - 48))) ⌝ }
+pub fn more(d: Digits, unit: u8) -> Digits
+    ensures { λ r. ⌜ ((v : ℕ) → d ≡ digits-of v → r ≡ digits-of (10 * v + unit)) ⌝ }
 {
-    let unit = (digit - b'0') as u64;
     if d.large {
         return d;
     }
-    if d.value > (limit - unit) / 10 {
+    let last = unit as u64;
+    if d.value > (u64::MAX - last) / 10 {
         return Digits {
             value: 0,
             large: true,
         };
     }
     Digits {
-        value: 10 * d.value + unit,
+        value: 10 * d.value + last,
         large: false,
     }
 }
 
 // A word as a number of at most `limit`.
 pub fn of_word(text: &[u8], limit: u64) -> Word
-    requires { ⌜ 9 ≤ limit ⌝ }
     ensures { λ r. ⌜ r ≡ word-of limit (now (text .entry)) ⌝ }
 {
     if text.len() == 0 {
@@ -61,13 +62,17 @@ pub fn of_word(text: &[u8], limit: u64) -> Word
     };
     let mut i = 0;
     while i < text.len() {
-        if !is_digit(text[i]) {
+        let unit = digit(text[i]);
+        if unit > 9 {
             return Word::Other;
         }
-        d = more(d, text[i], limit);
+        d = more(d, unit);
         i += 1;
     }
     if d.large {
+        return Word::Large;
+    }
+    if d.value > limit {
         return Word::Large;
     }
     Word::Number(d.value)
