@@ -44,6 +44,11 @@ fn command(word: &[u8]) -> Asked {
     if same(word, b"frontier") {
         return frontier();
     }
+    plain(word)
+}
+
+// A command that takes no number.
+fn plain(word: &[u8]) -> Asked {
     if same(word, b"read") {
         return alone(Asked::Plan(Question::Read), word);
     }
