@@ -23,12 +23,13 @@ barred-name n =
     (cond (eqb n 3) (32 ∷ 110 ∷ 111 ∷ 116 ∷ 45 ∷ 111 ∷ 114 ∷ 100 ∷ 101 ∷ 114 ∷ 101 ∷ 100 ∷ 10 ∷ [])
     (32 ∷ 115 ∷ 116 ∷ 114 ∷ 97 ∷ 121 ∷ 45 ∷ 117 ∷ 115 ∷ 101 ∷ 10 ∷ []))
 
--- the same, with `fresh` and `reusable`
+-- the same of every verdict: `fresh`, `reusable`, or one of these
 unfoldable pub verdict-name : (number : ℕ) → List ℕ
 verdict-name n =
     cond (eqb n 0) (32 ∷ 102 ∷ 114 ∷ 101 ∷ 115 ∷ 104 ∷ 10 ∷ [])
     (cond (eqb n 1) (32 ∷ 114 ∷ 101 ∷ 117 ∷ 115 ∷ 97 ∷ 98 ∷ 108 ∷ 101 ∷ 10 ∷ []) (barred-name n))
 
+-- the line of a verdict: its number and its name
 unfoldable pub verdict-text : (number : ℕ) → List ℕ
 verdict-text n = verdict-word ++ (32 ∷ decimal n) ++ verdict-name n
 
@@ -50,6 +51,7 @@ whole-words t =
 unfoldable pub entry-text : (axes epochs : List ℕ) → (i : ℕ) → List ℕ
 entry-text axes epochs i = (32 ∷ decimal (getD axes i 0)) ++ (58 ∷ []) ++ decimal (getD epochs i 0)
 
+-- the line of a frontier
 unfoldable pub frontier-text : Frontier → List ℕ
 frontier-text f = whole-words (f .tainted) ++ join-from (f .len) 0 (entry-text (f .axes) (f .epochs)) ++ (10 ∷ [])
 
