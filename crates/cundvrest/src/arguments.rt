@@ -1,8 +1,7 @@
 // The arguments: what is asked, or a line on standard error that says what is wrong and what would be right.
-use crate::decimal;
-use crate::decimal::Word;
 use crate::usage;
 use check::same;
+use decimal::Word;
 
 // What is asked of a plan.
 pub enum Question {
@@ -45,6 +44,11 @@ fn command(word: &[u8]) -> Asked {
     if same(word, b"frontier") {
         return frontier();
     }
+    plain(word)
+}
+
+// A command that takes no number.
+fn plain(word: &[u8]) -> Asked {
     if same(word, b"read") {
         return alone(Asked::Plan(Question::Read), word);
     }

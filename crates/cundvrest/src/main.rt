@@ -1,6 +1,5 @@
 // The program: arguments and standard input in, the answer's text out. All that is judged is judged by the libraries.
 mod arguments;
-mod decimal;
 mod input;
 mod numbers;
 mod output;
@@ -32,9 +31,14 @@ fn on_first(question: Question, bytes: &[u8], n: usize, out: &mut [u8]) -> usize
 fn answered(question: Question, plan: &[u8], out: &mut [u8]) -> usize {
     match question {
         Question::Check => report::check(plan, out),
-        Question::Reuse(queue, buffer) => report::reuse(plan, queue, buffer, out),
-        Question::Frontier(operation, capacity) => report::frontier(plan, operation, capacity, out),
-        Question::Read => report::read(plan, out),
+        Question::Reuse(queue, buffer) => report_questions::reuse(plan, queue, buffer, out),
+        Question::Frontier(operation, capacity) => report_questions::frontier(
+            plan,
+            operation,
+            capacity,
+            out,
+        ),
+        Question::Read => report_stored::read(plan, out),
     }
 }
 
@@ -51,7 +55,7 @@ fn write(out: &mut [u8]) -> usize {
         usage::bad_number(s.before, s.fault);
         return 0;
     }
-    report::write(&list, s.kept, out)
+    report_stored::write(&list, s.kept, out)
 }
 
 // The text of what is asked; of length 0 where a line on standard error says why there is none.

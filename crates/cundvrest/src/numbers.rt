@@ -1,7 +1,6 @@
 // The numbers that `write` reads: in decimal, separated by white space.
-use crate::decimal;
-use crate::decimal::Digits;
 use crate::input;
+use decimal::Digits;
 use libc::STDIN_FILENO;
 
 // How far the text has been read: how many numbers are before, how many of them are kept, and the digits of a number that has begun.
@@ -77,10 +76,11 @@ fn next(s: Scan, b: u8, list: &mut [u64]) -> Scan {
     if is_space(b) {
         return ended(s, list);
     }
-    if !decimal::is_digit(b) {
+    let unit = decimal::digit(b);
+    if unit > 9 {
         return faulty(s, 1);
     }
-    let digits = decimal::more(s.digits, b, u64::MAX);
+    let digits = decimal::more(s.digits, unit);
     Scan {
         kept: s.kept,
         before: s.before,

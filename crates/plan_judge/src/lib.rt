@@ -30,17 +30,7 @@ pub fn check_columns(
     ensures { λ r. ⌜ ((bs : List ℕ) → Read bs n signals marks (now (owner .entry)) (now (queue .entry)) (now (wsem .entry)) (now (wval .entry)) (now (ssem .entry)) (now (sval .entry)) (now (sop .entry)) (now (mark .entry)) (now (mop .entry)) →
         Check-says bs r (now (table .entry)) (now (table .exit)) (now (list .entry)) (now (list .exit))) ⌝ }
 {
-    let ruled = rules(
-        n,
-        signals,
-        owner,
-        queue,
-        wsem,
-        wval,
-        ssem,
-        sval,
-        sop,
-    );
+    let ruled = rules(n, signals, owner, queue, wsem, wval, ssem, sval, sop);
     if ruled.number != 0 {
         return ruled;
     }
@@ -69,16 +59,7 @@ fn rules(
             answer: 0,
         };
     }
-    let waited = plan_waits::resolve(
-        n,
-        signals,
-        ssem,
-        sval,
-        sop,
-        wsem,
-        wval,
-        &signalled.last,
-    );
+    let waited = plan_waits::resolve(n, signals, ssem, sval, sop, wsem, wval, &signalled.last);
     Told {
         number: waited.number,
         place: waited.place,

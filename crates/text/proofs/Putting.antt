@@ -5,12 +5,12 @@ use Prim.Native.Nat.{ℕ, zero, suc, _+_, _<_, _≤_, min, max}
 use native.Mathlib.Omega.{arith}
 use native.Mathlib.Numerals.{add-one}
 use lib.Dec.{ltb}
-use borrow.Author.Tests.{ltb-true, ltb-false}
+use borrow.Author.Tests.{ltb-true, ltb-false, eq-eqb, ne-eqb}
 use lib.ListN.{length, set, take, getD, length-set, length-append}
 use lib.Seq.{set-out, take-suc, take-all}
 use Rattle.basics.specs.Lists.{join-from}
 use Rattle.basics.proofs.Tests.{by-cases}
-use Rattle.text.specs.Text.{put, Puts, decimal, blanked}
+use Rattle.text.specs.Text.{put, Puts, decimal, blanked, refused-text, or-refused}
 
 pub put-length : (t : List ℕ) (a : ℕ) (o : List ℕ) → length (put t a o) ≡ length o
 unfolding put
@@ -105,3 +105,13 @@ puts-join f i {o} {x} {y} {a} {e} {g} p q = rw (add-one, join-more i 0 f) (puts-
 pub puts-joined :
     (f : ℕ → List ℕ) {n i : ℕ} {o x : List ℕ} {a e : ℕ} → i ≡ n → Puts (join-from i 0 f) o a x e → Puts (join-from n 0 f) o a x e
 puts-joined f h p = rw h at p
+
+-- ---- a refusal's line or an answer
+
+pub line-refused : (n p : ℕ) (t : List ℕ) → (n ≡ 0 → ⊥) → or-refused n p t ≡ refused-text n p
+unfolding or-refused
+line-refused n p t h = rw (ne-eqb n 0 h)
+
+pub line-answered : (n p : ℕ) (t : List ℕ) → n ≡ 0 → or-refused n p t ≡ t
+unfolding or-refused
+line-answered n p t h = rw (eq-eqb n 0 h)

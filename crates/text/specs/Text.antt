@@ -3,7 +3,7 @@ use mathlib.Core.Path.{_≡_}
 use mathlib.Core.Bool.{cond}
 use mathlib.Core.List.{List, [], _∷_, _++_}
 use Prim.Native.Nat.{ℕ, zero, suc, _+_, _/_, _%_, min, max}
-use lib.Dec.{ltb}
+use lib.Dec.{ltb, eqb}
 use lib.ListN.{length, set}
 use Rattle.io.specs.Digits.{glyph}
 
@@ -34,3 +34,15 @@ blanked (n ∷ ns) = (32 ∷ decimal n) ++ blanked ns
 unfoldable pub spaced : List ℕ → List ℕ
 spaced [] = []
 spaced (n ∷ ns) = decimal n ++ blanked ns
+
+-- `refused` in ASCII
+abbrev pub refused-word : List ℕ
+refused-word = 114 ∷ 101 ∷ 102 ∷ 117 ∷ 115 ∷ 101 ∷ 100 ∷ []
+
+-- 01: "A refused plan prints one line, as `refused 10 0`."
+unfoldable pub refused-text : (number place : ℕ) → List ℕ
+refused-text n p = refused-word ++ (32 ∷ decimal n) ++ (32 ∷ decimal p) ++ (10 ∷ [])
+
+-- a refusal's line, or the text of an answer
+unfoldable pub or-refused : (number place : ℕ) → (answer : List ℕ) → List ℕ
+or-refused n p text = cond (eqb n 0) text (refused-text n p)

@@ -3,7 +3,7 @@
 ghost use mathlib.Core.List.{[], _∷_};
 ghost use mathlib.Core.Path.{_≡_};
 ghost use lib.ListN.{take};
-ghost use Rattle.text.specs.Text.{Puts, decimal, blanked, spaced};
+ghost use Rattle.text.specs.Text.{Puts, decimal, blanked, spaced, refused-text};
 
 // One byte.
 pub fn byte(out: &mut [u8], at: usize, b: u8) -> usize
@@ -97,4 +97,14 @@ pub fn line(out: &mut [u8], at: usize, numbers: &[u64], n: usize) -> usize
         return spaced_list(out, at, &numbers[..n]);
     }
     spaced_list(out, at, numbers)
+}
+
+// One line, `refused N P`.
+pub fn refused(out: &mut [u8], number: u32, place: u64) -> usize
+    ensures { λ r. ⌜ Puts (refused-text number place) (now (out .entry)) 0 (now (out .exit)) r ⌝ }
+{
+    let word = words(out, 0, b"refused");
+    let numbered = next(out, word, number as u64);
+    let placed = next(out, numbered, place);
+    byte(out, placed, b'\n')
 }

@@ -1,5 +1,5 @@
 -- `check` meets its contract.
-use Rattle.report.proofs.Answering.{few-counts, line-refused, line-answered}
+use Rattle.report.proofs.Counts.{few-counts}
 use native.Mathlib.Omega.{arith}
 use borrow.Author.Needs.{needs}
 use Rattle.report.proofs.check.Statement.{statement}
@@ -14,49 +14,29 @@ slice-aggregate-check-counted-2 c = search needs
 check-counted-requires : tie.Need-check-counted-requires
 check-counted-requires c κs = search needs
 
-refused-requires : tie.Need-refused-requires
-refused-requires c κs = search needs
+slice-aggregate-checked : tie.Need-slice-aggregate-checked
+slice-aggregate-checked c = search needs
+
+slice-aggregate-checked-2 : tie.Need-slice-aggregate-checked-2
+slice-aggregate-checked-2 c = search needs
+
+checked-requires : tie.Need-checked-requires
+checked-requires c κs =
+    let few = few-counts _ (c .before .before .before .before .before .check-counted .result) (c .before .before .before .before .before .check-counted .ensures .1) in
+    (few .0, few .1, omega (arith, c .before .before .before .before .table2 .given), omega (arith, c .before .before .before .list2 .given))
 
 same-length : tie.Need-same-length
 same-length c = search needs
 
 returns : tie.Need-returns
 returns c =
-    let counted = c .before .before .before .before .before .before .before .before .check-counted in
     record {
-      counts = counted .result;
+      counts = c .before .before .before .before .before .before .before .before .check-counted .result;
       table = _;
       list = _;
-      checked = counted .ensures .0;
-      sizes = counted .ensures .1;
-      text = rw (line-refused (counted .result .number) (counted .result .place) _ (c .before .before .before .before .if1 .taken)) (c .before .before .refused .ensures);
-    }
-
-slice-aggregate-passed : tie.Need-slice-aggregate-passed
-slice-aggregate-passed c = search needs
-
-slice-aggregate-passed-2 : tie.Need-slice-aggregate-passed-2
-slice-aggregate-passed-2 c = search needs
-
-passed-requires : tie.Need-passed-requires
-passed-requires c κs =
-    let counted = c .before .before .before .before .before .before .before .check-counted in
-    let few = few-counts _ (counted .result) (counted .ensures .1) in
-    (few .0, few .1, omega (arith, c .before .before .before .before .before .before .table2 .given), omega (arith, c .before .before .before .before .before .list2 .given))
-
-same-length-2 : tie.Need-same-length-2
-same-length-2 c = search needs
-
-returns-2 : tie.Need-returns-2
-returns-2 c =
-    let counted = c .before .before .before .before .before .before .before .before .before .before .check-counted in
-    record {
-      counts = counted .result;
-      table = _;
-      list = _;
-      checked = counted .ensures .0;
-      sizes = counted .ensures .1;
-      text = rw (line-answered (counted .result .number) (counted .result .place) _ (c .before .before .before .before .before .before .if1 .left)) (c .before .before .passed .ensures);
+      checked = c .before .before .before .before .before .before .before .before .check-counted .ensures .0;
+      sizes = c .before .before .before .before .before .before .before .before .check-counted .ensures .1;
+      text = c .before .before .checked .ensures;
     }
 
 pub check-spec : {M : Type 1} → statement M
@@ -66,11 +46,8 @@ check-spec =
     slice-aggregate-check-counted
     slice-aggregate-check-counted-2
     check-counted-requires
-    refused-requires
+    slice-aggregate-checked
+    slice-aggregate-checked-2
+    checked-requires
     same-length
-    returns
-    slice-aggregate-passed
-    slice-aggregate-passed-2
-    passed-requires
-    same-length-2
-    returns-2)
+    returns)

@@ -11,24 +11,18 @@ slice-aggregate-words c = search needs
 words-requires : tie.Need-words-requires
 words-requires c κs = search needs
 
-next-requires : tie.Need-next-requires
-next-requires c κs = search needs
+slice-aggregate-line : tie.Need-slice-aggregate-line
+slice-aggregate-line c = search needs
 
-next-requires-2 : tie.Need-next-requires-2
-next-requires-2 c κs = search needs
-
-next-requires-3 : tie.Need-next-requires-3
-next-requires-3 c κs = search needs
-
-next-requires-4 : tie.Need-next-requires-4
-next-requires-4 c κs = search needs
+line-requires : tie.Need-line-requires
+line-requires c κs = search needs
 
 same-length : tie.Need-same-length
 same-length c = search needs
 
 returns : tie.Need-returns
 unfolding sizes-text
-returns c = puts-both (puts-both (puts-both (puts-both (c .before .before .before .before .before .before .before .before .before .before .before .before .before .before .before .before .before .before .words .ensures) (c .before .before .before .before .before .before .before .before .before .before .before .before .before .before .next .ensures)) (c .before .before .before .before .before .before .before .before .before .before .next2 .ensures)) (c .before .before .before .before .before .before .next3 .ensures)) (c .before .before .next4 .ensures)
+returns c = puts-both (c .before .before .before .before .before .before .before .words .ensures) (c .before .before .line .ensures)
 
 pub sizes-spec : {M : Type 1} → statement M
 sizes-spec =
@@ -36,9 +30,7 @@ sizes-spec =
     (tie.spec
     slice-aggregate-words
     words-requires
-    next-requires
-    next-requires-2
-    next-requires-3
-    next-requires-4
+    slice-aggregate-line
+    line-requires
     same-length
     returns)

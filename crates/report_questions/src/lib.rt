@@ -1,0 +1,111 @@
+// What is printed for a question on a plan, as text in lent room; the text's length is handed back.
+use frontier_sent::Sent;
+use plan_format::Told;
+ghost use mathlib.Core.List.{[], _∷_, _++_};
+ghost use Rattle.basics.specs.Lists.{join-from};
+ghost use Rattle.text.specs.Text.{Puts, decimal, or-refused};
+ghost use Rattle.report_questions.specs.Questions.{barred-name, verdict-name, verdict-text, whole-words, entry-text, frontier-text, Reuse-printed, Frontier-printed};
+
+// The verdict on a buffer for a queue.
+pub fn reuse(plan: &[u8], queue: u32, buffer: u32, out: &mut [u8]) -> usize
+    ensures { λ r. ⌜ Reuse-printed (now (plan .entry)) queue buffer (now (out .entry)) (now (out .exit)) r ⌝ }
+{
+    let mut table = [0u32; 16384];
+    let mut list = [0u32; 2048];
+    let told = questions::reuse_question(plan, queue, buffer, &mut table, &mut list);
+    judged(out, told)
+}
+
+// The line of a refusal or of a verdict.
+fn judged(out: &mut [u8], told: Told) -> usize
+    ensures { λ r. ⌜ Puts (or-refused (told .number) (told .place) (verdict-text (told .answer))) (now (out .entry)) 0 (now (out .exit)) r ⌝ }
+{
+    if told.number != 0 {
+        return text::refused(out, told.number, told.place);
+    }
+    let word = text::words(out, 0, b"verdict");
+    let number = text::next(out, word, told.answer);
+    verdict(out, number, told.answer)
+}
+
+// The word of a verdict's number, behind a blank, with the end of the line.
+fn verdict(out: &mut [u8], at: usize, number: u64) -> usize
+    ensures { λ r. ⌜ Puts (verdict-name number) (now (out .entry)) at (now (out .exit)) r ⌝ }
+{
+    if number == 0 {
+        return text::words(out, at, b" fresh\n");
+    }
+    if number == 1 {
+        return text::words(out, at, b" reusable\n");
+    }
+    barred(out, at, number)
+}
+
+// The same of a verdict that bars the queue from the buffer.
+fn barred(out: &mut [u8], at: usize, number: u64) -> usize
+    ensures { λ r. ⌜ Puts (barred-name number) (now (out .entry)) at (now (out .exit)) r ⌝ }
+{
+    if number == 2 {
+        return text::words(out, at, b" held\n");
+    }
+    if number == 3 {
+        return text::words(out, at, b" not-ordered\n");
+    }
+    text::words(out, at, b" stray-use\n")
+}
+
+// The frontier sent out for an operation.
+pub fn frontier(plan: &[u8], operation: u32, capacity: u32, out: &mut [u8]) -> usize
+    ensures { λ r. ⌜ Frontier-printed (now (plan .entry)) operation capacity (now (out .entry)) (now (out .exit)) r ⌝ }
+{
+    let mut table = [0u32; 16384];
+    let mut list = [0u32; 2048];
+    let sent = frontier_sent::frontier_of(plan, operation, capacity, &mut table, &mut list);
+    entered(out, sent)
+}
+
+// The line of a refusal or of a frontier.
+fn entered(out: &mut [u8], sent: Sent) -> usize
+    ensures { λ r. ⌜ Puts (or-refused (sent .number) (sent .place) (frontier-text (sent .frontier))) (now (out .entry)) 0 (now (out .exit)) r ⌝ }
+{
+    if sent.number != 0 {
+        return text::refused(out, sent.number, sent.place);
+    }
+    let f = sent.frontier;
+    let axes = f.axes;
+    let epochs = f.epochs;
+    let word = whole(out, f.tainted);
+    let listed = entries(out, word, &axes, &epochs, f.len);
+    text::byte(out, listed, b'\n')
+}
+
+// `frontier`, and whether it is whole.
+fn whole(out: &mut [u8], tainted: bool) -> usize
+    ensures { λ r. ⌜ Puts (whole-words tainted) (now (out .entry)) 0 (now (out .exit)) r ⌝ }
+{
+    if tainted {
+        return text::words(out, 0, b"frontier tainted");
+    }
+    text::words(out, 0, b"frontier whole")
+}
+
+// The first n entries, AXIS:EPOCH, each behind a blank.
+fn entries(out: &mut [u8], at: usize, axes: &[u64], epochs: &[u64], n: usize) -> usize
+    ensures { λ r. ⌜ Puts (join-from n 0 (entry-text (now (axes .entry)) (now (epochs .entry)))) (now (out .entry)) at (now (out .exit)) r ⌝ }
+{
+    let mut end = at;
+    let mut i = 0;
+    while i < n {
+        end = entry(out, end, cells::get64(axes, i), cells::get64(epochs, i));
+        i += 1;
+    }
+    end
+}
+
+fn entry(out: &mut [u8], at: usize, axis: u64, epoch: u64) -> usize
+    ensures { λ r. ⌜ Puts ((32 ∷ decimal axis) ++ (58 ∷ []) ++ decimal epoch) (now (out .entry)) at (now (out .exit)) r ⌝ }
+{
+    let name = text::next(out, at, axis);
+    let colon = text::byte(out, name, b':');
+    text::number(out, colon, epoch)
+}

@@ -1,0 +1,56 @@
+-- `read` meets its contract.
+use Rattle.report_stored.proofs.Answering.{read-refused, read-listed}
+use Prim.Native.Nat.{ℕ}
+use lib.ListN.{length-replicate}
+use Rattle.text.proofs.Putting.{puts-both}
+use borrow.Author.Needs.{needs}
+use Rattle.report_stored.proofs.read.Statement.{statement}
+use Rattle.report_stored.proofs.read.Tie as tie
+
+slice-aggregate-read-held : tie.Need-slice-aggregate-read-held
+slice-aggregate-read-held c = search needs
+
+read-held-requires : tie.Need-read-held-requires
+read-held-requires c κs = search needs
+
+refused-requires : tie.Need-refused-requires
+refused-requires c κs = search needs
+
+same-length : tie.Need-same-length
+same-length c = search needs
+
+returns : tie.Need-returns
+returns c =
+    rw (← (read-refused _ _ _ (c .before .before .before .before .before .before .before .read-held .result) (c .before .before .before .before .before .before .before .read-held .ensures) (length-replicate {A = ℕ} 22868 0) (c .before .before .before .before .if1 .taken))) (c .before .before .refused .ensures)
+
+slice-aggregate-line : tie.Need-slice-aggregate-line
+slice-aggregate-line c = search needs
+
+line-requires : tie.Need-line-requires
+line-requires c κs = search needs
+
+byte-requires : tie.Need-byte-requires
+byte-requires c κs = search needs
+
+same-length-2 : tie.Need-same-length-2
+same-length-2 c = search needs
+
+returns-2 : tie.Need-returns-2
+returns-2 c =
+    rw (← (read-listed _ _ _ (c .before .before .before .before .before .before .before .before .before .before .before .before .read-held .result) (c .before .before .before .before .before .before .before .before .before .before .before .before .read-held .ensures) (length-replicate {A = ℕ} 22868 0) (c .before .before .before .before .before .before .before .before .before .if1 .left)))
+    (puts-both (c .before .before .before .before .before .before .line .ensures) (c .before .before .byte .ensures))
+
+pub read-spec : {M : Type 1} → statement M
+read-spec =
+    tie.close
+    (tie.spec
+    slice-aggregate-read-held
+    read-held-requires
+    refused-requires
+    same-length
+    returns
+    slice-aggregate-line
+    line-requires
+    byte-requires
+    same-length-2
+    returns-2)

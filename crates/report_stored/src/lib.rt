@@ -1,0 +1,38 @@
+// What is printed for a read and a write, as text in lent room; the text's length is handed back.
+ghost use lib.ListN.{length, take};
+ghost use Rattle.text.specs.Text.{Puts};
+ghost use Rattle.report_stored.specs.Texts.{read-text, write-text};
+
+// The numbers of a plan, on one line.
+pub fn read(plan: &[u8], out: &mut [u8]) -> usize
+    ensures { λ r. ⌜ Puts (read-text (now (plan .entry))) (now (out .entry)) 0 (now (out .exit)) r ⌝ }
+{
+    let mut numbers = [0u64; 22868];
+    let told = plan_held::read_held(plan, &mut numbers);
+    if told.number != 0 {
+        return text::refused(out, told.number, told.place);
+    }
+    let many = told.answer as usize;
+    let line = text::line(out, 0, &numbers, many);
+    text::byte(out, line, b'\n')
+}
+
+// The stored plan of the first n numbers.
+pub fn write(numbers: &[u64], n: usize, out: &mut [u8]) -> usize
+    ensures { λ r. ⌜ Puts (write-text (take n (now (numbers .entry))) (length (now (out .entry)))) (now (out .entry)) 0 (now (out .exit)) r ⌝ }
+{
+    if n < numbers.len() {
+        return written(&numbers[..n], out);
+    }
+    written(numbers, out)
+}
+
+fn written(numbers: &[u64], out: &mut [u8]) -> usize
+    ensures { λ r. ⌜ Puts (write-text (now (numbers .entry)) (length (now (out .entry)))) (now (out .entry)) 0 (now (out .exit)) r ⌝ }
+{
+    let told = plan_writer::write_plan(numbers, out);
+    if told.number != 0 {
+        return text::refused(out, told.number, told.place);
+    }
+    told.answer as usize
+}
