@@ -157,6 +157,7 @@ fn with_counts(l: Loaded, number: u32, place: u64) -> Counted
     }
 }
 
+// The same, and the number of marks.
 fn with_marks(l: Loaded, number: u32, place: u64) -> Known
     ensures { λ r. ⌜ r ≡ known-of l number place ⌝ }
 {

@@ -29,7 +29,7 @@ pub fn digit(b: u8) -> u8
     b - b'0'
 }
 
-// One digit more.
+// One digit more; free where d is the digits of no number.
 pub fn more(d: Digits, unit: u8) -> Digits
     ensures { λ r. ⌜ ((v : ℕ) → d ≡ digits-of v → r ≡ digits-of (10 * v + unit)) ⌝ }
 {

@@ -12,7 +12,7 @@ pub struct Cursor {
 
 impl Cursor {
     // The same place, with a refusal.
-    pub fn refused(self, number: u32) -> Cursor
+    pub(crate) fn refused(self, number: u32) -> Cursor
         ensures { λ r. ⌜ r ≡ record { number = number; at = self .at; put = self .put; value = 0 } ⌝ }
     {
         Cursor {
@@ -24,7 +24,7 @@ impl Cursor {
     }
 
     // Past a number whose `width` bytes are put.
-    pub fn past(self, width: usize, value: u64) -> Cursor
+    pub(crate) fn past(self, width: usize, value: u64) -> Cursor
         requires { ⌜ (self .at + 1 < 2 ^ 64) × (self .put + width < 2 ^ 64) ⌝ }
         ensures { λ r. ⌜ r ≡ record { number = 0; at = self .at + 1; put = self .put + width; value = value } ⌝ }
     {

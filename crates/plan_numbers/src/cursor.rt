@@ -12,7 +12,7 @@ pub struct Cursor {
 
 impl Cursor {
     // The same place, with a refusal.
-    pub fn refused(self, number: u32) -> Cursor
+    pub(crate) fn refused(self, number: u32) -> Cursor
         ensures { λ r. ⌜ r ≡ record { number = number; at = self .at; got = self .got; value = 0 } ⌝ }
     {
         Cursor {
@@ -24,7 +24,7 @@ impl Cursor {
     }
 
     // Past a field of `width` bytes, whose number is stored.
-    pub fn past(self, width: usize, value: u64) -> Cursor
+    pub(crate) fn past(self, width: usize, value: u64) -> Cursor
         requires { ⌜ (self .at + width < 2 ^ 64) × (self .got + 1 < 2 ^ 64) ⌝ }
         ensures { λ r. ⌜ r ≡ record { number = 0; at = self .at + width; got = self .got + 1; value = value } ⌝ }
     {

@@ -30,6 +30,7 @@ runs-text n l = (run-word ++ blanked (take n l)) ++ (ready-word ++ blanked (take
 unfoldable pub row-text : (queues : ℕ) → (table : List ℕ) → (i : ℕ) → List ℕ
 row-text q t i = decimal i ++ ((58 ∷ []) ++ blanked (take q (drop (16 * i) t))) ++ (10 ∷ [])
 
+-- the text of a pass: counts, run and ready numbers, rows
 unfoldable pub passed-text : Counted → (table list : List ℕ) → List ℕ
 passed-text c t l = sizes-text c ++ runs-text (c .operations) l ++ join-from (c .operations) 0 (row-text (c .queues) t)
 

@@ -78,6 +78,7 @@ fn rows(out: &mut [u8], at: usize, n: usize, queues: usize, table: &[u32]) -> us
     end
 }
 
+// The line of operation i: its position, and its row behind a colon.
 fn row(out: &mut [u8], at: usize, i: usize, queues: usize, table: &[u32]) -> usize
     requires { ⌜ (i < 1024) × (queues ≤ 16) × (16384 ≤ length (now table)) ⌝ }
     ensures { λ r. ⌜ Puts (row-text queues (now (table .entry)) i) (now (out .entry)) at (now (out .exit)) r ⌝ }

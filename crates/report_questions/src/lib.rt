@@ -102,6 +102,7 @@ fn entries(out: &mut [u8], at: usize, axes: &[u64], epochs: &[u64], n: usize) ->
     end
 }
 
+// AXIS:EPOCH behind a blank.
 fn entry(out: &mut [u8], at: usize, axis: u64, epoch: u64) -> usize
     ensures { λ r. ⌜ Puts ((32 ∷ decimal axis) ++ (58 ∷ []) ++ decimal epoch) (now (out .entry)) at (now (out .exit)) r ⌝ }
 {

@@ -27,6 +27,7 @@ pub fn write(numbers: &[u64], n: usize, out: &mut [u8]) -> usize
     written(numbers, out)
 }
 
+// The stored plan of all numbers.
 fn written(numbers: &[u64], out: &mut [u8]) -> usize
     ensures { λ r. ⌜ Puts (write-text (now (numbers .entry)) (length (now (out .entry)))) (now (out .entry)) 0 (now (out .exit)) r ⌝ }
 {
