@@ -41,7 +41,7 @@
  * THREADS AND STACK. There is no state between calls, so calls on separate
  * memory may run at the same time on any threads. A call uses less than
  * CUNDVREST_STACK bytes of its thread's stack, whatever the input. Measured:
- * read 184 kB, check, reuse and frontier 128 kB, write 64 kB, the others 3 kB.
+ * read 184 kB, check, reuse and frontier 120 kB, write 64 kB, the others 3 kB.
  */
 #ifndef CUNDVREST_H
 #define CUNDVREST_H
