@@ -11,7 +11,7 @@ use lib.Seq.{take-suc, take-all}
 use borrow.Author.Tests.{lt-ltb, le-ltb, ltb-true, ltb-false, leb-true}
 use Rattle.basics.specs.Lists.{all}
 use Rattle.basics.proofs.Tests.{by-cases, clash, and-both, and-left, and-right}
-use Rattle.decimal.specs.Decimal.{digit-test, digit-value, value-behind, limited, word-of, digits-of}
+use Rattle.decimal.specs.Decimal.{digit-test, digit-value, value-behind, limited, word-of, digits-of, more-of}
 use Rattle.decimal.specs.declared.Digits.{Digits}
 use Rattle.decimal.specs.declared.Word.the-variants.{Number, Large, Other}
 
@@ -56,21 +56,26 @@ beyond d v large e =
     (λ f. clash (d .large) large (ap (λ (x : Digits). x .large) (e ∙ within v (ltb-false 18446744073709551615 v f))))
 
 -- one digit more: large already, now, or not yet
-pub stays : (d : Digits) (u v : ℕ) → d .large ≡ true → d ≡ digits-of v → d ≡ digits-of (10 * v + u)
-stays d u v large e =
-    let h = beyond d v large e in e ∙ over v h ∙ sym (over (10 * v + u) (omega (arith, h)))
+module _ (d : Digits) (u : ℕ) where
+  pub stays : d .large ≡ true → d ≡ more-of d u
+  unfolding more-of
+  stays large = rw large
 
-pub passes :
-    (d : Digits) (u v : ℕ) → d .large ≡ false → (18446744073709551615 - u) / 10 < d .value →
-    d ≡ digits-of v → record { value = 0; large = true } ≡ digits-of (10 * v + u)
-passes d u v small h e = let k = holds d v small e in sym (over (10 * v + u) (omega (arith, k .1)))
+  pub passes : d .large ≡ false → (18446744073709551615 - u) / 10 < d .value → record { value = 0; large = true } ≡ more-of d u
+  unfolding more-of
+  passes small h = rw small (sym (over (10 * d .value + u) (omega arith)))
 
-pub grows :
-    (d : Digits) (u v : ℕ) → d .large ≡ false → u ≤ 255 → d .value ≤ (18446744073709551615 - u) / 10 →
-    d ≡ digits-of v → record { value = 10 * d .value + u; large = false } ≡ digits-of (10 * v + u)
-grows d u v small byte h e =
-    let k = holds d v small e in
-    rw (k .1) (sym (within (10 * v + u) (omega (arith, k .1))))
+  pub grows : d .large ≡ false → u ≤ 255 → d .value ≤ (18446744073709551615 - u) / 10 → record { value = 10 * d .value + u; large = false } ≡ more-of d u
+  unfolding more-of
+  grows small byte h = rw small (sym (within (10 * d .value + u) (omega arith)))
+
+-- behind the digits of a number
+more-digits : (d : Digits) (u v : ℕ) → d ≡ digits-of v → more-of d u ≡ digits-of (10 * v + u)
+unfolding more-of
+more-digits d u v e =
+    by-cases (d .large)
+    (λ large. let h = beyond d v large e in sym (stays d u large) ∙ e ∙ over v h ∙ sym (over (10 * v + u) (omega (arith, h))))
+    (λ small. rw (small, holds d v small e .1))
 
 -- ---- words
 
@@ -105,7 +110,7 @@ reads-none text = record { inside = omega arith; digits = refl; value = sym (wit
 
 pub reads-more :
     (text : List ℕ) (i : ℕ) (d r : Digits) → i < length text → digit-value (getD text i 0) ≤ 9 → Reads text i d →
-    ((v : ℕ) → d ≡ digits-of v → r ≡ digits-of (10 * v + digit-value (getD text i 0))) → Reads text (i + 1) r
+    r ≡ more-of d (digit-value (getD text i 0)) → Reads text (i + 1) r
 reads-more text i d r h t k step =
     let known = digit-known (getD text i 0) t in
     record {
@@ -113,7 +118,7 @@ reads-more text i d r h t k step =
       digits = rw (add-one, take-suc text i 0 h) (all-more digit-test (take i text) (getD text i 0) (k .digits) (known .0));
       value =
           rw (add-one, take-suc text i 0 h, value-append 0 (take i text) (getD text i 0), ← (known .1))
-          (step (value-behind 0 (take i text)) (k .value));
+          (step ∙ more-digits d (digit-value (getD text i 0)) (value-behind 0 (take i text)) (k .value));
     }
 
 pub word-none : (limit : ℕ) (text : List ℕ) → length text ≡ 0 → Other ≡ word-of limit text

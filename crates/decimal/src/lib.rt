@@ -1,7 +1,6 @@
 // Numbers in decimal, as arguments and in the text that `write` reads.
 ghost use mathlib.Core.Path.{_≡_};
-ghost use Prim.Native.Nat.{ℕ, _+_, _*_};
-ghost use Rattle.decimal.specs.Decimal.{digit-value, digits-of, word-of};
+ghost use Rattle.decimal.specs.Decimal.{digit-value, more-of, word-of};
 
 // A number as its digits come: its value, or that it is of 2^64 or more.
 pub struct Digits {
@@ -29,9 +28,9 @@ pub fn digit(b: u8) -> u8
     b - b'0'
 }
 
-// One digit more; free where d is the digits of no number.
+// One digit more.
 pub fn more(d: Digits, unit: u8) -> Digits
-    ensures { λ r. ⌜ ((v : ℕ) → d ≡ digits-of v → r ≡ digits-of (10 * v + unit)) ⌝ }
+    ensures { λ r. ⌜ r ≡ more-of d unit ⌝ }
 {
     if d.large {
         return d;
