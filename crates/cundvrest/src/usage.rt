@@ -84,10 +84,11 @@ pub fn bad_number(before: u64, fault: u8) {
     let mut out = line();
     let name = text::words(&mut out, 0, b"cundvrest: standard input: behind ");
     let first = text::number(&mut out, name, before);
-    let second = fault_words(&mut out, first, fault);
+    let second = text::words(&mut out, first, b" numbers comes ");
+    let third = fault_words(&mut out, second, fault);
     let end = text::words(
         &mut out,
-        second,
+        third,
         b"; right: decimal digits, at most 18446744073709551615, white space between\n",
     );
     output::write(STDERR_FILENO, &out, end);
@@ -95,7 +96,7 @@ pub fn bad_number(before: u64, fault: u8) {
 
 fn fault_words(out: &mut [u8], at: usize, fault: u8) -> usize {
     if fault == 1 {
-        return text::words(out, at, b" numbers comes no number");
+        return text::words(out, at, b"no number");
     }
-    text::words(out, at, b" numbers comes one too large")
+    text::words(out, at, b"one too large")
 }

@@ -16,22 +16,18 @@ use Rattle.text.specs.Text.{Puts, decimal, or-refused}
 abbrev pub verdict-word : List ℕ
 verdict-word = 118 ∷ 101 ∷ 114 ∷ 100 ∷ 105 ∷ 99 ∷ 116 ∷ []
 
--- behind a blank, with the end of the line: `held`, `not-ordered`, `stray-use`
-unfoldable pub barred-name : (number : ℕ) → List ℕ
-barred-name n =
-    cond (eqb n 2) (32 ∷ 104 ∷ 101 ∷ 108 ∷ 100 ∷ 10 ∷ [])
-    (cond (eqb n 3) (32 ∷ 110 ∷ 111 ∷ 116 ∷ 45 ∷ 111 ∷ 114 ∷ 100 ∷ 101 ∷ 114 ∷ 101 ∷ 100 ∷ 10 ∷ [])
-    (32 ∷ 115 ∷ 116 ∷ 114 ∷ 97 ∷ 121 ∷ 45 ∷ 117 ∷ 115 ∷ 101 ∷ 10 ∷ []))
-
--- the same of every verdict: `fresh`, `reusable`, or one of these
+-- behind a blank: `fresh`, `reusable`, `held`, `not-ordered`, `stray-use`
 unfoldable pub verdict-name : (number : ℕ) → List ℕ
 verdict-name n =
-    cond (eqb n 0) (32 ∷ 102 ∷ 114 ∷ 101 ∷ 115 ∷ 104 ∷ 10 ∷ [])
-    (cond (eqb n 1) (32 ∷ 114 ∷ 101 ∷ 117 ∷ 115 ∷ 97 ∷ 98 ∷ 108 ∷ 101 ∷ 10 ∷ []) (barred-name n))
+    cond (eqb n 0) (32 ∷ 102 ∷ 114 ∷ 101 ∷ 115 ∷ 104 ∷ [])
+    (cond (eqb n 1) (32 ∷ 114 ∷ 101 ∷ 117 ∷ 115 ∷ 97 ∷ 98 ∷ 108 ∷ 101 ∷ [])
+    (cond (eqb n 2) (32 ∷ 104 ∷ 101 ∷ 108 ∷ 100 ∷ [])
+    (cond (eqb n 3) (32 ∷ 110 ∷ 111 ∷ 116 ∷ 45 ∷ 111 ∷ 114 ∷ 100 ∷ 101 ∷ 114 ∷ 101 ∷ 100 ∷ [])
+    (32 ∷ 115 ∷ 116 ∷ 114 ∷ 97 ∷ 121 ∷ 45 ∷ 117 ∷ 115 ∷ 101 ∷ []))))
 
 -- the line of a verdict: its number and its name
 unfoldable pub verdict-text : (number : ℕ) → List ℕ
-verdict-text n = verdict-word ++ (32 ∷ decimal n) ++ verdict-name n
+verdict-text n = verdict-word ++ (32 ∷ decimal n) ++ verdict-name n ++ (10 ∷ [])
 
 -- the text of a reuse question
 pub record Reuse-printed (bytes : List ℕ) (queue buffer : ℕ) (room room-now : List ℕ) (end : ℕ) : Type 0 where

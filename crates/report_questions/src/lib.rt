@@ -4,7 +4,7 @@ use plan_format::Told;
 ghost use mathlib.Core.List.{[], _∷_, _++_};
 ghost use Rattle.basics.specs.Lists.{join-from};
 ghost use Rattle.text.specs.Text.{Puts, decimal, or-refused};
-ghost use Rattle.report_questions.specs.Questions.{barred-name, verdict-name, verdict-text, whole-words, entry-text, frontier-text, Reuse-printed, Frontier-printed};
+ghost use Rattle.report_questions.specs.Questions.{verdict-name, verdict-text, whole-words, entry-text, frontier-text, Reuse-printed, Frontier-printed};
 
 // The verdict on a buffer for a queue.
 pub fn reuse(plan: &[u8], queue: u32, buffer: u32, out: &mut [u8]) -> usize
@@ -25,33 +25,27 @@ fn judged(out: &mut [u8], told: Told) -> usize
     }
     let word = text::words(out, 0, b"verdict");
     let number = text::next(out, word, told.answer);
-    verdict(out, number, told.answer)
+    let name = verdict(out, number, told.answer);
+    text::byte(out, name, b'\n')
 }
 
-// The word of a verdict's number, behind a blank, with the end of the line.
+// The name of a verdict's number, behind a blank.
 fn verdict(out: &mut [u8], at: usize, number: u64) -> usize
     ensures { λ r. ⌜ Puts (verdict-name number) (now (out .entry)) at (now (out .exit)) r ⌝ }
 {
     if number == 0 {
-        return text::words(out, at, b" fresh\n");
+        return text::words(out, at, b" fresh");
     }
     if number == 1 {
-        return text::words(out, at, b" reusable\n");
+        return text::words(out, at, b" reusable");
     }
-    barred(out, at, number)
-}
-
-// The same of a verdict that bars the queue from the buffer.
-fn barred(out: &mut [u8], at: usize, number: u64) -> usize
-    ensures { λ r. ⌜ Puts (barred-name number) (now (out .entry)) at (now (out .exit)) r ⌝ }
-{
     if number == 2 {
-        return text::words(out, at, b" held\n");
+        return text::words(out, at, b" held");
     }
     if number == 3 {
-        return text::words(out, at, b" not-ordered\n");
+        return text::words(out, at, b" not-ordered");
     }
-    text::words(out, at, b" stray-use\n")
+    text::words(out, at, b" stray-use")
 }
 
 // The frontier sent out for an operation.

@@ -26,14 +26,17 @@ next-requires c κs = search needs
 verdict-requires : tie.Need-verdict-requires
 verdict-requires c κs = search needs
 
+byte-requires : tie.Need-byte-requires
+byte-requires c κs = search needs
+
 same-length-2 : tie.Need-same-length-2
 same-length-2 c = search needs
 
 returns-2 : tie.Need-returns-2
 unfolding verdict-text
 returns-2 c =
-    rw (line-answered (c .before .before .before .before .before .before .before .before .before .before .before .before .before .before .before .before .args .told .number) (c .before .before .before .before .before .before .before .before .before .before .before .before .before .before .before .before .args .told .place) _ (c .before .before .before .before .before .before .before .before .before .before .before .before .before .if1 .left))
-    (puts-both (puts-both (c .before .before .before .before .before .before .before .before .before .before .words .ensures) (c .before .before .before .before .before .before .next .ensures)) (c .before .before .verdict .ensures))
+    rw (line-answered (c .before .before .before .before .before .before .before .before .before .before .before .before .before .before .before .before .before .before .before .before .args .told .number) (c .before .before .before .before .before .before .before .before .before .before .before .before .before .before .before .before .before .before .before .before .args .told .place) _ (c .before .before .before .before .before .before .before .before .before .before .before .before .before .before .before .before .before .if1 .left))
+    (puts-both (puts-both (puts-both (c .before .before .before .before .before .before .before .before .before .before .before .before .before .before .words .ensures) (c .before .before .before .before .before .before .before .before .before .before .next .ensures)) (c .before .before .before .before .before .before .verdict .ensures)) (c .before .before .byte .ensures))
 
 pub judged-spec : {M : Type 1} → statement M
 judged-spec =
@@ -46,5 +49,6 @@ judged-spec =
     words-requires
     next-requires
     verdict-requires
+    byte-requires
     same-length-2
     returns-2)
