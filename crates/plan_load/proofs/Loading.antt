@@ -1,7 +1,7 @@
 -- The loop over the operations: what is read so far, and what stands in the columns. Assumes nothing.
-use mathlib.Core.Path.{_≡_, refl, sym, ap, _∙_, subst}
+use mathlib.Core.Path.{_≡_, sym, ap, _∙_, subst}
 use mathlib.Core.List.{List, [], _++_, append-assoc, append-nil}
-use Prim.Native.Nat.{ℕ, suc, _+_, _*_, _≤_, _<_, min}
+use Prim.Native.Nat.{ℕ, _+_, _*_, _≤_, _<_, min}
 use native.Mathlib.Numerals.{add-one}
 use native.Mathlib.Omega.{arith}
 use lib.ListN.{length, take, drop, length-append, length-take, take-append-drop}
@@ -15,7 +15,7 @@ use Rattle.plan_columns.specs.Filling.{next-at, signal-count, mark-count, Added
 use Rattle.plan_columns.proofs.Parts.{Filling, filling-none, filling-next}
 use Rattle.plan_numbers.specs.declared.Head.{Head}
 use Rattle.plan_numbers.specs.declared.cursor.Cursor.{Cursor}
-use Rattle.plan_numbers.specs.Reading.{fault-of, here, head-cursor, Head-read, Operation-read}
+use Rattle.plan_numbers.specs.Reading.{fault-of, here, head-cursor, Operation-read}
 use Rattle.plan_numbers.proofs.Fields.{here-clean}
 use Rattle.plan_load.proofs.Blind.{after, blind-read, operation-blind}
 use Rattle.plan_load.proofs.Blocks.{Small, block-read}

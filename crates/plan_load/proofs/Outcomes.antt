@@ -1,5 +1,5 @@
 -- What a loading comes to: the reader's refusal, or the columns of the plan. Assumes nothing.
-use mathlib.Core.Path.{_≡_, refl, sym, ap, _∙_, subst}
+use mathlib.Core.Path.{_≡_, refl, sym, ap, _∙_}
 use mathlib.Core.Bool.{true, cond}
 use mathlib.Core.List.{List, [], _∷_, _++_, append-assoc, append-nil}
 use Prim.Native.Nat.{ℕ, suc, _+_, _-_, _*_, _≤_, _<_}
@@ -7,7 +7,7 @@ use native.Mathlib.Omega.{arith}
 use lib.ListN.{length, getD, take, drop, replicate, length-append, length-take, length-drop, length-replicate, take-append-drop, List·getD-append}
 use lib.Seq.{take-append-seam, drop-append-seam, take-at}
 use Rattle.plan_format.specs.Refusal.{none-given, given}
-use Rattle.plan_format.specs.Grammar.{bytes, Scan, scan, times, read-by}
+use Rattle.plan_format.specs.Grammar.{bytes, Scan, scan, times}
 use Rattle.plan_format.specs.Form.{first-form}
 use Rattle.plan_format.specs.Plan.{Plan, count, queues, operations-in, plan-of}
 use Rattle.plan_format.specs.Sections.{operation-below}
@@ -16,7 +16,7 @@ use Rattle.plan_format.proofs.Answers.{answer-long}
 use Rattle.plan_format.proofs.Judged.{zero-not-given, other-given}
 use Rattle.plan_format.proofs.Faults.{times-stays, read-stays}
 use Rattle.plan_format.proofs.Operations.{operations-long}
-use Rattle.plan_format.proofs.Repeats.{repeat, read-repeat, repeat-stops}
+use Rattle.plan_format.proofs.Repeats.{read-repeat, repeat-stops}
 use Rattle.plan_format.proofs.Seams.{after-seam}
 use Rattle.plan_format.proofs.Sections.{plan-whole}
 use Rattle.plan_columns.specs.Columns.{Axis-column}
@@ -27,7 +27,6 @@ use Rattle.plan_numbers.specs.declared.cursor.Cursor.{Cursor}
 use Rattle.plan_numbers.specs.Reading.{fault-of, here, head-cursor, Plan-read, Numbers-read, Heading, Head-read, Operation-read}
 use Rattle.plan_numbers.proofs.Answers.{read-refused, read-more, read-whole}
 use Rattle.plan_numbers.proofs.Fields.{here-given}
-use Rattle.plan_load.specs.declared.Loaded.{Loaded}
 use Rattle.plan_load.specs.Loading.{Loads}
 use Rattle.plan_load.proofs.Blocks.{Small}
 use Rattle.plan_load.proofs.Loading.{step, Load, read-next, goes-on, few-numbers}

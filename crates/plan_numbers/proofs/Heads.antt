@@ -1,12 +1,11 @@
 -- What stands in front of the operations, with their count read behind it. Assumes nothing.
 use mathlib.Core.Path.{_≡_, refl, sym, ap, _∙_, subst}
 use mathlib.Core.List.{List, [], _∷_, _++_}
-use Prim.Native.Nat.{ℕ, _+_, _*_, min}
-use native.Mathlib.Nat.{mul-le-mul-left}
+use Prim.Native.Nat.{ℕ, _+_, min}
 use native.Mathlib.Omega.{arith}
 use lib.ListN.{length, take, drop}
 use Rattle.plan_format.specs.Refusal.{none-given}
-use Rattle.plan_format.specs.Grammar.{field, bytes, Scan, scan, last-got, read-by}
+use Rattle.plan_format.specs.Grammar.{bytes, Scan, scan, last-got, read-by}
 use Rattle.plan_format.specs.Sections.{limited, operation-below}
 use Rattle.plan_format.proofs.Fields.{field-done}
 use Rattle.plan_format.proofs.Reading.{last-is}

@@ -24,7 +24,8 @@ pub struct Head {
     pub operations: u64,
 }
 
-// The numbers in front of the operations, with the four counts.
+// The numbers in front of the operations, with the four counts; or the first of refusals 1, 2, 4 and 5. Behind the numbers read the array is
+// free.
 pub fn read_head(plan: &[u8], numbers: &mut [u64; 340]) -> Head
     ensures { λ r. ⌜ Head-read (now (plan .entry)) r (now (numbers .exit)) ⌝ }
 {
@@ -43,6 +44,7 @@ pub fn read_head(plan: &[u8], numbers: &mut [u64; 340]) -> Head
 }
 
 // The numbers of the operation at a place, in front of the window, where the counts are as given; or the first of refusals 1, 2 and 4.
+// Behind the numbers read the window is free.
 pub fn read_operation(
     plan: &[u8],
     at: usize,

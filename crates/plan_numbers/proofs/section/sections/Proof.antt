@@ -1,5 +1,4 @@
 -- `sections` meets its contract: the operations behind the first three sections.
-use mathlib.Core.Path.{_∙_}
 use borrow.Author.Needs.{needs}
 use Rattle.plan_numbers.proofs.section.sections.Statement.{statement}
 use Rattle.plan_numbers.proofs.section.sections.Tie as tie
