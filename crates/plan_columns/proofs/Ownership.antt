@@ -12,18 +12,24 @@ use Rattle.plan_format.specs.Plan.{Plan, queues}
 use Rattle.plan_columns.specs.Columns.{Owner-column}
 use Rattle.plan_columns.specs.Filling.{owner-numbers}
 
-module _ (p : Plan) (X before now : List ℕ) (first many at m : ℕ) where
+pub owners-stored : (X before now : List ℕ) (first many at m : ℕ) → at ≡ min first 22868 → m ≡ min many 64 → now ≡ sets before 0 (owner-numbers X m at) →
+    now ≡ sets before 0 (owner-numbers X (min many 64) (min first 22868))
+owners-stored X before now first many at m at-is m-is stored = stored ∙ rw (at-is, m-is)
+
+module _ (p : Plan) (X before now : List ℕ) (first many : ℕ) where
   pub owners-shown : p .owners ≡ take many (drop first X) → first ≤ 22868 → many ≤ 64 → queues p ≤ 16 →
-      ((s : ℕ) → s < length (p .owners) → getD (p .owners) s 0 < queues p) → at ≡ min first 22868 → m ≡ min many 64 →
-      now ≡ sets before 0 (owner-numbers X m at) → length before ≡ 64 → Owner-column p now
+      ((s : ℕ) → s < length (p .owners) → getD (p .owners) s 0 < queues p) →
+      now ≡ sets before 0 (owner-numbers X (min many 64) (min first 22868)) → length before ≡ 64 → Owner-column p now
   unfolding Owner-column
-  owners-shown stand low few queues-few known at-is m-is stored size s l =
-      let f : ℕ → ℕ = λ j. getD X (at + j) 0 % 65536 in
+  owners-shown stand low few queues-few known stored size s l =
+      let at-is : min first 22868 ≡ first = omega arith in
+      let m-is : min many 64 ≡ many = omega arith in
+      let f : ℕ → ℕ = λ j. getD X (first + j) 0 % 65536 in
       let cut = length-take many (drop first X) in
       let inside : s < many = omega (arith, ap (λ (z : List ℕ). length z) stand) in
-      let own : getD (p .owners) s 0 ≡ getD X (at + s) 0 =
-      ap (λ (z : List ℕ). getD z s 0) stand ∙ getD-take many (drop first X) s 0 inside ∙ getD-drop first X s 0 ∙ ap (λ (z : ℕ). getD X z 0) (omega arith) in
-      ap (λ (z : List ℕ). getD z s 0) stored
-      ∙ sets-at before (owner-numbers X m at) s 0 (omega (arith, tabulate-length f m 0)) (omega (arith, tabulate-length f m 0))
-      ∙ tabulate-at f m 0 s 0 (omega arith) ∙ ap f (zero-add s)
+      let own : getD (p .owners) s 0 ≡ getD X (first + s) 0 =
+      ap (λ (z : List ℕ). getD z s 0) stand ∙ getD-take many (drop first X) s 0 inside ∙ getD-drop first X s 0 in
+      ap (λ (z : List ℕ). getD z s 0) (rw (at-is, m-is) at stored)
+      ∙ sets-at before (owner-numbers X many first) s 0 (omega (arith, tabulate-length f many 0)) (omega (arith, tabulate-length f many 0))
+      ∙ tabulate-at f many 0 s 0 (omega arith) ∙ ap f (zero-add s)
       ∙ omega (arith, own, known s l)

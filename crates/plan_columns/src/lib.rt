@@ -15,8 +15,9 @@ pub struct Filled {
     pub marks: usize,
 }
 
-// Fills the column of owners: `many` numbers from `first` on. Where they are no plan's owners the column is free.
+// Fills the column of owners: `many` numbers from `first` on, cut to sixteen bits. It takes 64 at most, and a plan's owners begin at 22,868 at most.
 pub fn owners(numbers: &[u64], first: usize, many: usize, owner: &mut [u16; 64])
+    ensures { λ _. ⌜ now (owner .exit) ≡ sets (now (owner .entry)) 0 (owner-numbers (now (numbers .entry)) (min many 64) (min first 22868)) ⌝ }
     ensures { λ _. ⌜ ((p : Plan) → p .owners ≡ take many (drop first (now (numbers .entry))) → first ≤ 22868 → many ≤ 64 → queues p ≤ 16 → ((s : ℕ) → s < length (p .owners) → getD (p .owners) s 0 < queues p) → Owner-column p (now (owner .exit))) ⌝ }
 {
     owned(numbers, lower(first, 22868), lower(many, 64), owner);

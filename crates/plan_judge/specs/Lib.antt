@@ -1,2 +1,3 @@
 pub mod Leaving
 pub mod Passing
+pub mod Answering

@@ -2,9 +2,11 @@
 use plan_format::Told;
 ghost use mathlib.Core.List.{List};
 ghost use Prim.Native.Nat.{ℕ};
+ghost use lib.ListN.{length};
 ghost use Rattle.plan_format.specs.Plan.{Plan};
 ghost use Rattle.plan_format.specs.Stored.{Tells};
 ghost use Rattle.plan_order.specs.Check.{room-refusal, order-refusal, Check-says};
+ghost use Rattle.plan_judge.specs.Answering.{order-by, Answers-by};
 ghost use Rattle.plan_judge.specs.Passing.{Resolved, Run-shown};
 
 // The check of a plan with none of refusals 1 to 8, whose waits are resolved: 9, else the run and what it shows.
@@ -18,6 +20,7 @@ pub fn check_order(
     table: &mut [u32],
     list: &mut [u32],
 ) -> Told
+    ensures { λ r. ⌜ Answers-by (room-refusal n (length (now (table .entry))) (length (now (list .entry)))) n marks (now (queue .entry)) (now (mark .entry)) (now (mop .entry)) r (now (table .entry)) (now (table .exit)) (now (list .entry)) (now (list .exit)) ⌝ }
     ensures { λ r. ⌜ ((bs : List ℕ) → Resolved bs n marks (now (queue .entry)) (now (source .entry)) (now (mark .entry)) (now (mop .entry)) →
         Check-says bs r (now (table .entry)) (now (table .exit)) (now (list .entry)) (now (list .exit))) ⌝ }
 {
@@ -64,6 +67,7 @@ fn judge(
     mop: &[u16; 4096],
     rows: &[u16; 16416],
 ) -> Told
+    ensures { λ r. ⌜ Tells (order-by n ran marks (now (queue .entry)) (now (mark .entry)) (now (mop .entry)) (now (rows .entry))) 0 r ⌝ }
     ensures { λ r. ⌜ ((p : Plan) → Run-shown p n ran marks (now (queue .entry)) (now (mark .entry)) (now (mop .entry)) (now (rows .entry)) → Tells (order-refusal p) 0 r) ⌝ }
 {
     let many = n as usize;

@@ -5,12 +5,16 @@ mod leave;
 use plan_format::Told;
 ghost use mathlib.Core.List.{List};
 ghost use Prim.Native.Nat.{ℕ};
+ghost use lib.ListN.{length};
 ghost use Rattle.plan_format.specs.Plan.{Plan};
-ghost use Rattle.plan_order.specs.Check.{Check-says};
+ghost use Rattle.plan_format.specs.Refusal.{or-else};
+ghost use Rattle.plan_format.specs.Stored.{Tells};
+ghost use Rattle.plan_order.specs.Check.{room-refusal, Check-says};
+ghost use Rattle.plan_judge.specs.Answering.{rules-by, Answers-by};
 ghost use Rattle.plan_judge.specs.Passing.{Read, Rules-shown, Ruled};
 
 // Refusals 6 and 7, then 8, then 9, then the order: the answer, and what is left in table and list. Where the columns show no plan that the
-// reader takes, all three are free; the columns of semaphores are free afterwards.
+// reader takes, what the run gives is free: how many ran, the rows, and the front of the list. The columns of semaphores are free afterwards.
 pub fn check_columns(
     n: u16,
     signals: usize,
@@ -27,6 +31,7 @@ pub fn check_columns(
     table: &mut [u32],
     list: &mut [u32],
 ) -> Told
+    ensures { λ r. ⌜ Answers-by (or-else (rules-by n signals (now (owner .entry)) (now (queue .entry)) (now (wsem .entry)) (now (wval .entry)) (now (ssem .entry)) (now (sval .entry)) (now (sop .entry))) (room-refusal n (length (now (table .entry))) (length (now (list .entry))))) n marks (now (queue .entry)) (now (mark .entry)) (now (mop .entry)) r (now (table .entry)) (now (table .exit)) (now (list .entry)) (now (list .exit)) ⌝ }
     ensures { λ r. ⌜ ((bs : List ℕ) → Read bs n signals marks (now (owner .entry)) (now (queue .entry)) (now (wsem .entry)) (now (wval .entry)) (now (ssem .entry)) (now (sval .entry)) (now (sop .entry)) (now (mark .entry)) (now (mop .entry)) →
         Check-says bs r (now (table .entry)) (now (table .exit)) (now (list .entry)) (now (list .exit))) ⌝ }
 {
@@ -49,6 +54,7 @@ fn rules(
     sval: &[u64; 2048],
     sop: &[u16; 2048],
 ) -> Told
+    ensures { λ r. ⌜ Tells (rules-by n signals (now (owner .entry)) (now (queue .entry)) (now (wsem .entry)) (now (wval .entry)) (now (ssem .entry)) (now (sval .entry)) (now (sop .entry))) 0 r ⌝ }
     ensures { λ r. ⌜ ((p : Plan) → Rules-shown p n signals (now (owner .entry)) (now (queue .entry)) (now (wsem .entry)) (now (wval .entry)) (now (ssem .entry)) (now (sval .entry)) (now (sop .entry)) → Ruled p r (now (wsem .exit))) ⌝ }
 {
     let signalled = plan_rules::judge(signals, owner, queue, ssem, sval, sop);

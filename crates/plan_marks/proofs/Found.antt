@@ -20,7 +20,7 @@ use Rattle.plan_order.specs.Holdings.{is-free, freed-by, free-after, Ask, use-a
 use Rattle.plan_order.proofs.Keeping.{asked-marks, all-asks-has, broken-some, broken-none}
 use Rattle.plan_columns.specs.Columns.{Queue-column, Marked, plan-marks, Row-columns}
 use Rattle.plan_marks.specs.Shown.{Shown}
-use Rattle.plan_marks.specs.Passes.{shown-from, none-noted, noted, free-in, noted-back, late, early, first-late, first-early}
+use Rattle.plan_marks.specs.Passes.{shown-from, none-noted, noted, free-in, noted-back, late, early, first-late, first-early, first-broken}
 use Rattle.plan_marks.proofs.Marks.{Each, Known, marks-known, Rising, marks-rising, marks-shown}
 use Rattle.plan_marks.proofs.Order.{late-right, late-nothing, early-nothing, early-right}
 use Rattle.plan_marks.proofs.Asks.{place, of-buffer, after, of-uses, of-reuses, none-yet, all-asks-split, uses-all, reuses-all, uses-rising, reuses-rising}
@@ -215,11 +215,19 @@ module _ (p : Plan) (sound : Sound p) (few : length (p .sizes) ≤ 256) (f : Lis
       (λ m. omega (arith, b .asked, unmet-least forced 0 (count p) us a (uses-rising (plan-marks p) 0 (marks-rising p)) m (b .unforced)))
       (λ m. omega (arith, b .asked, unmet-least forced 0 (count p) rs a (reuses-rising (plan-marks p) none-yet 0 (marks-rising p)) m (b .unforced)))))
 
-pub broken-found : (p : Plan) (n many cut : ℕ) (queue mark operation rows : List ℕ) → cut ≡ min many 4096 → Shown p n many queue mark operation rows →
-    min (first-late queue rows n (shown-from mark operation cut 0)) (first-early queue rows n none-noted (shown-from mark operation cut 0)) ≡ place-or n (broken p)
-broken-found p n many cut queue mark operation rows least c =
+-- ---- the lower of the two
+pub lower-found : (n many cut a b r : ℕ) (queue mark operation rows : List ℕ) → cut ≡ min many 4096 →
+    a ≡ first-late queue rows n (shown-from mark operation cut 0) → b ≡ first-early queue rows n none-noted (shown-from mark operation cut 0) →
+    r ≡ min a b → r ≡ first-broken queue rows n many mark operation
+unfolding first-broken
+lower-found n many cut a b r queue mark operation rows c ea eb er = rw (er, ea, eb, c)
+
+pub broken-found : (p : Plan) (n many : ℕ) (queue mark operation rows : List ℕ) → Shown p n many queue mark operation rows →
+    first-broken queue rows n many mark operation ≡ place-or n (broken p)
+unfolding first-broken
+broken-found p n many queue mark operation rows c =
     let known = marks-known p (c .sound) in
-    let all : cut ≡ many = omega (arith, c .marks-shown .few) in
+    let all : min many 4096 ≡ many = omega (arith, c .marks-shown .few) in
     rw (
       all,
       ← c .many,

@@ -2,7 +2,7 @@
 -- marks against the free before their holding. Assumes nothing: these are definitions.
 use mathlib.Core.Bool.{Bool, _&&_, _||_, not, cond}
 use mathlib.Core.List.{List, [], _∷_}
-use Prim.Native.Nat.{ℕ, _+_, _*_, _/_, _%_}
+use Prim.Native.Nat.{ℕ, _+_, _*_, _/_, _%_, min}
 use lib.Dec.{ltb, leb, eqb}
 use lib.ListN.{getD, set, replicate}
 use Rattle.basics.specs.Lists.{tabulate-from}
@@ -53,3 +53,8 @@ module _ (queue rows : List ℕ) where
   unfoldable pub first-early : (n : ℕ) → (last : List ℕ) → List Marked → ℕ
   first-early n last [] = n
   first-early n last (m ∷ ms) = cond (early (free-in last (m .buffer)) (m .by)) (m .by) (first-early n (noted m last) ms)
+
+  -- the lower of the two, by the first `many` marks of columns with 4,096 places; n where there is neither
+  unfoldable pub first-broken : (n many : ℕ) → (mark operation : List ℕ) → ℕ
+  first-broken n many mark operation =
+      let ms = shown-from mark operation (min many 4096) 0 in min (first-late n ms) (first-early n none-noted ms)

@@ -8,9 +8,9 @@ ghost use Rattle.plan_format.specs.Plan.{Plan};
 ghost use Rattle.plan_order.specs.Holdings.{broken as broken-mark};
 ghost use Rattle.basics.specs.Lists.{place-or};
 ghost use Rattle.plan_marks.specs.Shown.{Shown};
-ghost use Rattle.plan_marks.specs.Passes.{mark-of, shown-from, none-noted, noted, free-in, ordered as is-ordered, late as is-late, early as is-early, first-late, first-early};
+ghost use Rattle.plan_marks.specs.Passes.{mark-of, shown-from, none-noted, noted, free-in, ordered as is-ordered, late as is-late, early as is-early, first-late, first-early, first-broken};
 
-// The lowest operation with a broken mark; n where there is none. Where the columns show no plan the answer is free.
+// The lower of what the two passes find; n where they find nothing. By the columns of a plan it is the lowest operation with a broken mark.
 pub fn broken(
     n: u16,
     marks: usize,
@@ -19,6 +19,7 @@ pub fn broken(
     mop: &[u16; 4096],
     rows: &[u16; 16416],
 ) -> usize
+    ensures { λ r. ⌜ r ≡ first-broken (now (queue .entry)) (now (rows .entry)) n marks (now (mark .entry)) (now (mop .entry)) ⌝ }
     ensures { λ r. ⌜ ((p : Plan) → Shown p n marks (now (queue .entry)) (now (mark .entry)) (now (mop .entry)) (now (rows .entry)) → r ≡ place-or n (broken-mark p)) ⌝ }
 {
     let none = n as usize;

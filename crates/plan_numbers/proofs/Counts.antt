@@ -6,14 +6,14 @@ use native.Mathlib.Omega.{arith}
 use lib.ListN.{length, getD, take}
 use lib.Seq.{length-take-le}
 use Rattle.plan_format.specs.Refusal.{none-given}
-use Rattle.plan_format.specs.Grammar.{field, counted, bytes, Scan, scan, read-by}
+use Rattle.plan_format.specs.Grammar.{Grammar, field, counted, bytes, Scan, scan, read-by}
 use Rattle.plan_format.specs.Form.{first-form, queue-count, any-number, new-axis, a-queue, operation, plan-grammar}
 use Rattle.plan_format.specs.Sections.{limited, axis-field, size-field, operation-below}
 use Rattle.plan_format.proofs.Alike.{alike-from}
 use Rattle.plan_format.proofs.Counts.{number-at, owners-alike, operations-alike, counts-of}
 use Rattle.plan_format.proofs.Follows.{Section, section}
 use Rattle.plan_numbers.specs.declared.cursor.Cursor.{Cursor}
-use Rattle.plan_numbers.specs.Reading.{fault-of, here, Reads, Plan-read, Heading, Front-read}
+use Rattle.plan_numbers.specs.Reading.{fault-of, here, Reads, Plan-read, Heading, fronted, Front-read}
 use Rattle.plan_numbers.proofs.Fields.{here-clean}
 
 glued : {got₁ got₂ got₃ : List ℕ} (axes owners sizes : List ℕ) (q m b n : ℕ) → got₁ ≡ q ∷ axes → got₂ ≡ got₁ ++ (m ∷ owners) → got₃ ≡ got₂ ++ (b ∷ sizes) →
@@ -94,18 +94,21 @@ module _ (bs : List ℕ) {c₁ c₂ c₃ : Cursor} {n₀ n₁ n₂ n₃ : List �
       (C .got ∙ ap (λ (x : ℕ). take (c₂ .got) n₂ ++ (x ∷ C .rest)) (sym (buffers-read C)))
       (A .long ∙ sym (queues-read A)) (B .long ∙ sym (semaphores-read B)) (C .long ∙ sym (buffers-read C))))
 
+  -- what the three sections read stands in front of whatever follows
+  fronted-read : (g : Grammar) → read-by bytes (fronted g) (scan bs 0 [] none-given) ≡ read-by bytes g (here bs c₃ n₃)
+  unfolding fronted read-by here fault-of axis-field size-field
+  fronted-read g =
+      ap (λ (s : Scan). read-by bytes g (read-by bytes (counted 0 256 2 size-field) (read-by bytes (counted 0 64 1 (field 1 a-queue)) s))) (axes .read)
+      ∙ ap (λ (s : Scan). read-by bytes g (read-by bytes (counted 0 256 2 size-field) s)) (owners-same ∙ owners .read)
+      ∙ ap (λ (s : Scan). read-by bytes g s) (sizes .read)
+
   -- what the four sections read is the plan
   plan-read : (r : Cursor) (all : List ℕ) → read-by bytes (counted 0 1024 2 (operation-below q m b)) (here bs c₃ n₃) ≡ here bs r all →
       r .at ≤ length bs → r .got ≤ c₃ .got + 22529 → Plan-read bs r all
-  unfolding plan-grammar first-form read-by here fault-of axis-field size-field
+  unfolding plan-grammar first-form fronted
   plan-read r all e inside few =
       record {
-        read =
-            ap (λ (s : Scan). read-by bytes (counted 0 1024 2 (operation first-form)) (read-by bytes (counted 0 256 2 size-field) (read-by bytes (counted 0 64 1 (field 1 a-queue)) s))) (axes .read)
-            ∙ ap (λ (s : Scan). read-by bytes (counted 0 1024 2 (operation first-form)) (read-by bytes (counted 0 256 2 size-field) s)) (owners-same ∙ owners .read)
-            ∙ ap (λ (s : Scan). read-by bytes (counted 0 1024 2 (operation first-form)) s) (sizes .read)
-            ∙ operations-same
-            ∙ e;
+        read = fronted-read (counted 0 1024 2 (operation first-form)) ∙ operations-same ∙ e;
         inside = inside;
         few = omega (arith, axes .few, owners .few, sizes .few, few);
       }
@@ -113,6 +116,7 @@ module _ (bs : List ℕ) {c₁ c₂ c₃ : Cursor} {n₀ n₁ n₂ n₃ : List �
   pub front-read : Front-read bs c₃ q m b n₃
   unfolding scan none-given
   front-read = record {
+    read = fronted-read;
     plan = plan-read;
     heading = λ n z. heading n (ap (λ (s : Scan). s .fault .number) (here-clean bs c₃ n₃ z));
     inside = sizes .inside;

@@ -13,7 +13,7 @@ use Rattle.plan_format.proofs.Counts.{count-limited}
 use Rattle.plan_format.proofs.Repeats.{repeat, read-counted, repeat-stops, field-same}
 use Rattle.plan_numbers.specs.declared.cursor.Cursor.{Cursor}
 use Rattle.plan_numbers.specs.Reading.{fault-of, here, Reads, Limited}
-use Rattle.plan_numbers.proofs.Fields.{here-given, fault-none}
+use Rattle.plan_numbers.proofs.Fields.{here-given, fault-none, value-last}
 
 module _ {bs : List ℕ} {c d r : Cursor} {nums nums₁ nums₂ : List ℕ} where
   -- one thing after another
@@ -44,7 +44,7 @@ counted-read g {bs} {c} {start} {nums} {nums₁} {w} most p n e =
     read-counted bytes 0 most w n g (here bs c nums) (here bs start nums₁)
     (field-same bytes w (λ v. count-check 0 most v) (λ v. limited (most + 1) 2 (take (c .got) nums) v) (here bs c nums)
     (count-limited most (bytes .front w (drop (c .at) bs))) ∙ p .reads .read)
-    (λ z. p .value-is (fault-none start z) ∙ sym e)
+    (λ z. value-last p (fault-none start z) ∙ sym e)
 
 pub reads-counted : {g : Grammar} {bs : List ℕ} {c start r : Cursor} {nums nums₁ nums₂ : List ℕ} {w most : ℕ} (m : ℕ) → Limited w (most + 1) 2 bs c nums start nums₁ → (n : ℕ) → n ≡ start .value → Reads (repeat n g) (m * n) bs start nums₁ r nums₂ → Reads (counted 0 most w g) (1 + m * most) bs c nums r nums₂
 reads-counted {g} {most = most} m p n e q =

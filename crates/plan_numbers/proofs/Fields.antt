@@ -18,7 +18,7 @@ use Rattle.plan_format.proofs.Faults.{read-stays}
 use Rattle.plan_format.proofs.Judged.{other-given}
 use Rattle.plan_format.proofs.Seams.{last-snoc}
 use Rattle.plan_numbers.specs.declared.cursor.Cursor.{Cursor}
-use Rattle.plan_numbers.specs.Reading.{fault-of, here, Reads, Word, Limited}
+use Rattle.plan_numbers.specs.Reading.{fault-of, here, Reads, Word, Valued, Limited}
 
 module _ (w : ℕ) (c : ℕ → ℕ) (rest : List ℕ) (p : ℕ) (got : List ℕ) where
   field-cut : length rest < w → read-field bytes w c (scan rest p got none-given) ≡ scan rest p got (refusal 1 p)
@@ -111,28 +111,37 @@ module _ {w : ℕ} {check : Check} {bs : List ℕ} {c : Cursor} {nums : List ℕ
         }
 
 -- ---- limited fields, whose number the cursor has
+pub value-last : {w limit over : ℕ} {bs : List ℕ} {c r : Cursor} {nums nums-now : List ℕ} → Limited w limit over bs c nums r nums-now → r .number ≡ 0 → last-got (here bs r nums-now) ≡ r .value
+unfolding Valued
+value-last {bs = bs} {r = r} {nums-now = nums-now} p z = sym (p .valued ∙ ap (λ (n : ℕ). cond (eqb n 0) (last-got (here bs r nums-now)) 0) z)
+
+value-none : (n x : ℕ) → (n ≡ 0 → ⊥) → 0 ≡ cond (eqb n 0) x 0
+value-none n x z = rw (ne-eqb n 0 z)
+
 module _ {w limit over : ℕ} {bs : List ℕ} {c : Cursor} {nums : List ℕ} where
   pub limited-passed : (c .number ≡ 0 → ⊥) → c .at ≤ length bs → Limited w limit over bs c nums (cursor (c .number) (c .at) (c .got) 0) nums
-  limited-passed z h = record { reads = passed z h; value-is = λ e. absurd (z e); value-below = omega arith }
+  unfolding Valued
+  limited-passed z h = record { reads = passed z h; valued = value-none (c .number) _ z; value-below = omega arith }
 
   pub limited-cut : c .number ≡ 0 → c .at ≤ length bs → length bs - c .at < w → Limited w limit over bs c nums (cursor 1 (c .at) (c .got) 0) nums
-  limited-cut e h l = record { reads = cut e h l; value-is = λ q. absurd (eqb-false 1 0 refl q); value-below = omega arith }
+  unfolding Valued
+  limited-cut e h l = record { reads = cut e h l; valued = refl; value-below = omega arith }
 
   module _ (clean : c .number ≡ 0) (h : c .at ≤ length bs) (l : w ≤ length bs - c .at) {v : ℕ} (d : Word w bs (c .at) v) where
     pub limited-over : 1 ≤ over → limit ≤ v → Limited w limit over bs c nums (cursor over (c .at) (c .got) 0) nums
-    unfolding limited
+    unfolding limited Valued
     limited-over o m =
         record {
           reads = wrong clean h l d (rw (le-ltb v limit m)) (λ e. omega arith);
-          value-is = λ e. absurd (let z : over ≡ 0 = e in omega arith);
+          valued = value-none over _ (λ e. omega arith);
           value-below = omega arith;
         }
 
     pub limited-kept : c .got < length nums → v < limit → Limited w limit over bs c nums (cursor 0 (c .at + w) (c .got + 1) v) (set nums (c .got) v)
-    unfolding limited here scan last-got
+    unfolding limited here scan last-got Valued
     limited-kept k m =
         record {
           reads = kept clean h l d k (rw (lt-ltb v limit m));
-          value-is = λ e. rw (add-one (c .got), take-suc-set nums (c .got) v k) (last-snoc (take (c .got) nums) v);
+          valued = sym (rw (add-one (c .got), take-suc-set nums (c .got) v k) (last-snoc (take (c .got) nums) v));
           value-below = omega arith;
         }

@@ -7,8 +7,8 @@ use Prim.Native.Nat.{ℕ, _+_, _-_, _*_, _≤_, _<_, _^_, min}
 use lib.Dec.{eqb}
 use lib.ListN.{length, take, drop}
 use Rattle.plan_format.specs.Refusal.{Refusal, refusal, none-given}
-use Rattle.plan_format.specs.Grammar.{Grammar, field, counted, value, bytes, Scan, scan, last-got, times, read-by}
-use Rattle.plan_format.specs.Form.{first-form, plan-grammar}
+use Rattle.plan_format.specs.Grammar.{Grammar, field, seq, counted, value, bytes, Scan, scan, last-got, times, count-check, read-by}
+use Rattle.plan_format.specs.Form.{first-form, any-number, new-axis, a-queue, plan-grammar}
 use Rattle.plan_format.specs.Sections.{limited, operation-below}
 use Rattle.plan_format.specs.Stored.{scanned, Tells}
 use Rattle.plan_format.specs.declared.Told.{Told}
@@ -39,10 +39,14 @@ pub record Word (width : ℕ) (bs : List ℕ) (at v : ℕ) : Type 0 where
   pub word : v ≡ value (take width (drop at bs))
   pub small : v < 256 ^ width
 
--- a limited field was read, and the cursor has its number: 0 where it is refused
+-- the cursor has the number read last: 0 where there is a refusal
+unfoldable pub Valued : (bs : List ℕ) → Cursor → (nums : List ℕ) → Type 0
+Valued bs r nums = r .value ≡ cond (eqb (r .number) 0) (last-got (here bs r nums)) 0
+
+-- a limited field was read, and the cursor has its number
 pub record Limited (width limit over : ℕ) (bs : List ℕ) (c : Cursor) (nums : List ℕ) (r : Cursor) (nums-now : List ℕ) : Type 0 where
   pub reads : Reads (field width (limited limit over)) 1 bs c nums r nums-now
-  pub value-is : r .number ≡ 0 → last-got (here bs r nums-now) ≡ r .value
+  pub valued : Valued bs r nums-now
   pub value-below : r .value ≤ limit - 1
 
 -- where the operations begin
@@ -65,16 +69,27 @@ pub record Heading (q m b n : ℕ) (nums : List ℕ) : Type 0 where
   pub sizes-long : length sizes ≡ b
   pub numbers-are : nums ≡ q ∷ (axes ++ (m ∷ (owners ++ (b ∷ (sizes ++ (n ∷ []))))))
 
+-- the first three sections of a plan, and what stands behind them
+unfoldable pub fronted : Grammar → Grammar
+fronted g = seq (counted 0 16 1 (field 8 new-axis)) (seq (counted 0 64 1 (field 1 a-queue)) (seq (counted 0 256 2 (field 4 any-number)) g))
+
+-- what stands in front of the operations: three sections, and the count of the fourth
+unfoldable pub head-grammar : Grammar
+head-grammar = fronted (field 2 (λ g v. count-check 0 1024 v))
+
 -- three sections were read: the fourth, wherever its numbers go, makes the plan
 pub record Front-read (bs : List ℕ) (c : Cursor) (q m b : ℕ) (nums-now : List ℕ) : Type 0 where
+  pub read : (g : Grammar) → read-by bytes (fronted g) (scan bs 0 [] none-given) ≡ read-by bytes g (here bs c nums-now)
   pub plan : (r : Cursor) (all : List ℕ) → read-by bytes (counted 0 1024 2 (operation-below q m b)) (here bs c nums-now) ≡ here bs r all →
       r .at ≤ length bs → r .got ≤ c .got + 22529 → Plan-read bs r all
   pub heading : (n : ℕ) → c .number ≡ 0 → Heading q m b n (take (c .got) nums-now ++ (n ∷ []))
   pub inside : c .at ≤ length bs
   pub few : c .got ≤ 339
 
--- and the count of the fourth: so many operations, wherever their numbers go, make the plan
+-- and the count of the fourth: so many operations, wherever their numbers go, make the plan. Beside a refusal the counts are 0
 pub record Head-read (bs : List ℕ) (h : Head) (nums-now : List ℕ) : Type 0 where
+  pub read : read-by bytes head-grammar (scan bs 0 [] none-given) ≡ here bs (head-cursor h) nums-now
+  pub none : (h .number ≡ 0 → ⊥) → (h .queues ≡ 0) × (h .semaphores ≡ 0) × (h .buffers ≡ 0) × (h .operations ≡ 0)
   pub plan : (r : Cursor) (all : List ℕ) →
       times (h .operations) (λ s. read-by bytes (operation-below (h .queues) (h .semaphores) (h .buffers)) s) (here bs (head-cursor h) nums-now) ≡ here bs r all →
       r .at ≤ length bs → r .got ≤ h .got + 22 * h .operations → Plan-read bs r all

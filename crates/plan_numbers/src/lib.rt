@@ -11,7 +11,7 @@ use plan_format::Told;
 use plan_format::refused;
 ghost use mathlib.Core.Path.{_≡_};
 ghost use Prim.Native.Nat.{min};
-ghost use Rattle.plan_numbers.specs.Reading.{Head-read, Operation-read, Numbers-read};
+ghost use Rattle.plan_numbers.specs.Reading.{Head-read, Operation-read, Numbers-read, Valued};
 
 // What stands in front of the operations: the refusal met there, or 0; the place and how many numbers are stored behind it; the four counts.
 pub struct Head {
@@ -24,14 +24,25 @@ pub struct Head {
     pub operations: u64,
 }
 
-// The numbers in front of the operations, with the four counts; or the first of refusals 1, 2, 4 and 5. Behind the numbers read the array is
-// free.
+// The numbers in front of the operations, with the four counts; or the first of refusals 1, 2, 4 and 5 that is met there, and no counts. Behind
+// the numbers read the array is free.
 pub fn read_head(plan: &[u8], numbers: &mut [u64; 340]) -> Head
     ensures { λ r. ⌜ Head-read (now (plan .entry)) r (now (numbers .exit)) ⌝ }
 {
     let f = section::first_sections(plan, numbers);
     let before = f.cursor;
     let c = field::pair(plan, before, 1025, 2, numbers);
+    if c.number != 0 {
+        return Head {
+            number: c.number,
+            at: c.at,
+            got: c.got,
+            queues: 0,
+            semaphores: 0,
+            buffers: 0,
+            operations: 0,
+        };
+    }
     Head {
         number: c.number,
         at: c.at,
@@ -43,8 +54,8 @@ pub fn read_head(plan: &[u8], numbers: &mut [u64; 340]) -> Head
     }
 }
 
-// The numbers of the operation at a place, in front of the window, where the counts are as given; or the first of refusals 1, 2 and 4.
-// Behind the numbers read the window is free.
+// The numbers of the operation at a place, in front of the window, where the counts are as given; or the first of refusals 1, 2 and 4. The
+// cursor's value is the last number read, 0 beside a refusal. Behind the numbers read the window is free.
 pub fn read_operation(
     plan: &[u8],
     at: usize,
@@ -54,6 +65,7 @@ pub fn read_operation(
     window: &mut [u64; 32],
 ) -> Cursor
     ensures { λ r. ⌜ Operation-read queues semaphores buffers (now (plan .entry)) at (now (window .entry)) r (now (window .exit)) ⌝ }
+    ensures { λ r. ⌜ Valued (now (plan .entry)) r (now (window .exit)) ⌝ }
 {
     let c = Cursor {
         number: 0,

@@ -4,7 +4,7 @@ use crate::field;
 ghost use Prim.Native.Nat.{_+_, _*_};
 ghost use Rattle.plan_format.specs.Grammar.{counted};
 ghost use Rattle.plan_format.specs.Sections.{point-below, mark-below, operation-below};
-ghost use Rattle.plan_numbers.specs.Reading.{Room, Reads};
+ghost use Rattle.plan_numbers.specs.Reading.{Room, Reads, Valued};
 
 // A wait or a signal: a semaphore and a value.
 fn point(plan: &[u8], c: Cursor, semaphores: u64, numbers: &mut [u64]) -> Cursor
@@ -38,6 +38,7 @@ fn points(plan: &[u8], c: Cursor, most: u64, semaphores: u64, numbers: &mut [u64
 fn mark(plan: &[u8], c: Cursor, buffers: u64, numbers: &mut [u64]) -> Cursor
     requires { ⌜ Room 2 (now plan) c (now numbers) ⌝ }
     ensures { λ r. ⌜ Reads (mark-below buffers) 2 (now (plan .entry)) c (now (numbers .entry)) r (now (numbers .exit)) ⌝ }
+    ensures { λ r. ⌜ Valued (now (plan .entry)) r (now (numbers .exit)) ⌝ }
 {
     let buffer = field::pair(plan, c, buffers, 4, numbers);
     field::byte(plan, buffer, 2, 4, numbers)
@@ -47,6 +48,7 @@ fn mark(plan: &[u8], c: Cursor, buffers: u64, numbers: &mut [u64]) -> Cursor
 fn marks(plan: &[u8], c: Cursor, buffers: u64, numbers: &mut [u64]) -> Cursor
     requires { ⌜ Room 9 (now plan) c (now numbers) ⌝ }
     ensures { λ r. ⌜ Reads (counted 0 4 1 (mark-below buffers)) 9 (now (plan .entry)) c (now (numbers .entry)) r (now (numbers .exit)) ⌝ }
+    ensures { λ r. ⌜ Valued (now (plan .entry)) r (now (numbers .exit)) ⌝ }
 {
     let start = field::byte(plan, c, 5, 2, numbers);
     let count = start.value;
@@ -73,6 +75,7 @@ pub fn operation(
 ) -> Cursor
     requires { ⌜ Room 22 (now plan) c (now numbers) ⌝ }
     ensures { λ r. ⌜ Reads (operation-below queues semaphores buffers) 22 (now (plan .entry)) c (now (numbers .entry)) r (now (numbers .exit)) ⌝ }
+    ensures { λ r. ⌜ Valued (now (plan .entry)) r (now (numbers .exit)) ⌝ }
 {
     let queue = field::byte(plan, c, queues, 4, numbers);
     let waits = points(plan, queue, 3, semaphores, numbers);

@@ -6,7 +6,7 @@ use mathlib.Core.List.{List, [], _∷_, _++_, List·Memᴰ, List·Memᴰ·not-ni
 use Prim.Native.Nat.{ℕ, suc, _+_, _≤_, _<_, max}
 use native.Mathlib.Omega.{arith}
 use lib.Dec.{leb, eqb}
-use lib.ListN.{length, getD, set, length-set, replicate, getD-replicate}
+use lib.ListN.{length, getD, set, length-set, getD-replicate}
 use lib.Seq.{getD-set-same, getD-set-other}
 use borrow.Author.Tests.{leb-false, eqb-true, eqb-false}
 use Rattle.basics.proofs.Tests.{by-cases, either}
@@ -15,6 +15,7 @@ use Rattle.plan_format.specs.Plan.{Point, Operation, Plan, no-operation, count,
 use Rattle.plan_format.specs.Sound.{highest-in, highest, owns, signals-number, signals-refusal, In-range}
 use Rattle.plan_order.specs.Precedence.{Signal, signals-of, signals-from, plan-signals}
 use Rattle.plan_columns.specs.Columns.{no-point}
+use Rattle.plan_rules.specs.Walks.{zeros}
 
 unfoldable pub flat : Plan → (last : List ℕ) → List Signal → Refusal
 flat p t [] = none-given
@@ -174,9 +175,6 @@ from-inside p i (o ∷ os) l ok y m =
     (λ t. from-inside p (suc i) os (omega arith) (λ k b. ok (suc k) (omega arith)) y t)
 
 -- ---- a whole plan, from a table of zeros
-abbrev pub zeros : List ℕ
-zeros = replicate 64 0
-
 module _ (p : Plan) (few : length (p .owners) ≤ 64) (in-range : (i : ℕ) → i < count p → In-range p (op p i)) where
   tail : Tail p 0 (p .operations)
   unfolding op count

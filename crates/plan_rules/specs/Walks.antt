@@ -4,7 +4,7 @@ use mathlib.Core.Bool.{cond}
 use mathlib.Core.List.{List, []}
 use Prim.Native.Nat.{ℕ, zero, suc, _≤_, _<_}
 use lib.Dec.{leb, eqb}
-use lib.ListN.{length, getD, set}
+use lib.ListN.{length, getD, set, replicate}
 use Rattle.plan_format.specs.Refusal.{Refusal, refusal, none-given}
 use Rattle.plan_format.specs.Plan.{Plan, count, op}
 use Rattle.plan_format.specs.Sound.{highest, signals-refusal, In-range}
@@ -39,7 +39,14 @@ module _ (owner queue ssem sval sop : List ℕ) where
       (signals-walk left (suc k) (set last (getD ssem k 0) (getD sval k 0))))
       (refusal 6 (getD sop k 0))
 
--- the table after these signals
-unfoldable pub lasts : (ssem sval : List ℕ) → (left k : ℕ) → (last : List ℕ) → List ℕ
-lasts ssem sval zero k last = last
-lasts ssem sval (suc left) k last = lasts ssem sval left (suc k) (set last (getD ssem k 0) (getD sval k 0))
+  -- the table of last values where that walk ends
+  unfoldable pub lasts-walk : (left k : ℕ) → (last : List ℕ) → List ℕ
+  lasts-walk zero k last = last
+  lasts-walk (suc left) k last =
+      cond (eqb (getD owner (getD ssem k 0) 0) (getD queue (getD sop k 0) 0))
+      (cond (leb (getD sval k 0) (getD last (getD ssem k 0) 0)) last (lasts-walk left (suc k) (set last (getD ssem k 0) (getD sval k 0))))
+      last
+
+-- nothing is signalled on any of the 64 semaphores
+abbrev pub zeros : List ℕ
+zeros = replicate 64 0

@@ -1,6 +1,8 @@
 // Refusals 6 and 7 of a plan: each signal is its owner's, and above the last of its semaphore.
+ghost use mathlib.Core.Path.{_≡_};
+ghost use Rattle.plan_format.specs.Refusal.{refusal};
 ghost use Rattle.plan_format.specs.Plan.{Plan};
-ghost use Rattle.plan_rules.specs.Walks.{Shown, Judged};
+ghost use Rattle.plan_rules.specs.Walks.{Shown, Judged, signals-walk, lasts-walk, zeros};
 
 // 6 or 7 and its place, 0 for none; and the last value of each semaphore.
 pub struct Signalled {
@@ -9,8 +11,8 @@ pub struct Signalled {
     pub last: [u64; 64],
 }
 
-// 6 or 7 at the first signal that breaks a rule, or none and the last values. Beside a refusal and past the plan's semaphores the last values
-// are free. Where the columns show no plan the answer is free.
+// 6 or 7 at the first signal that breaks a rule, or none; and the last values of the signals before it. By the columns of a plan the refusal
+// is the plan's, and where there is none the last values of its semaphores are the highest.
 pub fn judge(
     signals: usize,
     owner: &[u16; 64],
@@ -19,6 +21,8 @@ pub fn judge(
     sval: &[u64; 2048],
     sop: &[u16; 2048],
 ) -> Signalled
+    ensures { λ r. ⌜ refusal (r .number) (r .place) ≡ signals-walk (now (owner .entry)) (now (queue .entry)) (now (ssem .entry)) (now (sval .entry)) (now (sop .entry)) signals 0 zeros ⌝ }
+    ensures { λ r. ⌜ r .last ≡ lasts-walk (now (owner .entry)) (now (queue .entry)) (now (ssem .entry)) (now (sval .entry)) (now (sop .entry)) signals 0 zeros ⌝ }
     ensures { λ r. ⌜ ((p : Plan) → Shown p signals (now (owner .entry)) (now (queue .entry)) (now (ssem .entry)) (now (sval .entry)) (now (sop .entry)) → Judged p r) ⌝ }
 {
     let mut last = [0u64; 64];

@@ -78,3 +78,9 @@ module _ (p : Plan) (n : ℕ) (first r list list₁ list₂ : List ℕ) (i j rea
         ∙ ap (λ (x : List ℕ). drop (2 * n) x) first-is ∙ drop-set-lt (2 * n) list (i + n) (ready % 4294967296) (let h : i + n < 2 * n = omega arith in h) ∙ listed .past;
     long = ap length then-is ∙ length-set list₁ i (j % 4294967296) ∙ long ∙ listed .long;
   }
+
+-- ---- whatever the columns show
+pub list-past : (n i a b : ℕ) (list list₁ list₂ : List ℕ) → i < n → list₁ ≡ set list (i + n) a → list₂ ≡ set list₁ i b → drop (2 * n) list₂ ≡ drop (2 * n) list
+list-past n i a b list list₁ list₂ l first-is then-is =
+    ap (λ (x : List ℕ). drop (2 * n) x) then-is ∙ drop-set-lt (2 * n) list₁ i b (let h : i < 2 * n = omega arith in h)
+    ∙ ap (λ (x : List ℕ). drop (2 * n) x) first-is ∙ drop-set-lt (2 * n) list (i + n) a (let h : i + n < 2 * n = omega arith in h)

@@ -35,6 +35,14 @@ pub record Listed (p : Plan) (n : ℕ) (run list list-now : List ℕ) : Type 0 w
   pub past : drop (2 * n) list-now ≡ drop (2 * n) list
   pub long : length list-now ≡ length list
 
+-- whatever the columns show: no more than n operations ran, the list is as long as before and the same past 2 n, and where there are no places for
+-- n operations nothing is done
+pub record Bounded (n answer : ℕ) (rows rows-now list list-now : List ℕ) : Type 0 where
+  pub few : answer ≤ n
+  pub long : length list-now ≡ length list
+  pub past : drop (2 * n) list-now ≡ drop (2 * n) list
+  pub over : 1024 < n → (answer ≡ 0) × (rows-now ≡ rows) × (list-now ≡ list)
+
 -- the whole pass
 pub record Ran (p : Plan) (n answer : ℕ) (rows list list-now : List ℕ) : Type 0 where
   pub many : answer ≡ length (standard p)

@@ -6,10 +6,11 @@ mod steps;
 ghost use Prim.Native.Nat.{_*_, _≤_};
 ghost use lib.ListN.{length};
 ghost use Rattle.plan_format.specs.Plan.{Plan};
-ghost use Rattle.plan_run.specs.Run.{Shown, Cleared, Ran};
+ghost use Rattle.plan_run.specs.Run.{Shown, Cleared, Bounded, Ran};
 
 // The standard run into `list`, with the number ready before each step from place n on, and the row of each operation that ran into `rows`,
-// which are all zero before; how many operations ran. Where the columns show no plan, the answer, the list and the rows are free.
+// which are all zero before; how many operations ran. Where the columns show no plan, the rows, the first 2 n of the list and an answer up to n are
+// free; where n is above 1,024 nothing is done.
 pub fn run(
     n: u16,
     queue: &[u16; 1024],
@@ -17,6 +18,7 @@ pub fn run(
     rows: &mut [u16; 16416],
     list: &mut [u32],
 ) -> usize
+    ensures { λ r. ⌜ Bounded n r (now (rows .entry)) (now (rows .exit)) (now (list .entry)) (now (list .exit)) ⌝ }
     ensures { λ r. ⌜ ((p : Plan) → Shown p n (now (queue .entry)) (now (source .entry)) → Cleared (now (rows .entry)) → 2 * n ≤ length (now (list .entry)) →
         Ran p n r (now (rows .exit)) (now (list .entry)) (now (list .exit))) ⌝ }
 {

@@ -3,5 +3,7 @@ pub mod Grouping
 pub mod Answers
 pub mod Reached
 pub mod Rising
+pub mod Placed
+pub mod Anyhow
 pub mod Resolved
 pub mod Rules

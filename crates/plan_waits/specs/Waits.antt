@@ -1,16 +1,17 @@
 -- What the pass over the waits is given and what it answers, and refusal 8 as a walk over the wait places. Assumes nothing: these are
 -- definitions.
 use mathlib.Core.Path.{_≡_}
-use mathlib.Core.Bool.{cond}
+use mathlib.Core.Bool.{Bool, true, false, _&&_, cond}
 use mathlib.Core.List.{List, []}
-use Prim.Native.Nat.{ℕ, zero, suc, _/_, _%_, _≤_, _<_}
-use lib.Dec.{ltb}
+use Prim.Native.Nat.{ℕ, zero, suc, _*_, _/_, _%_, _≤_, _<_}
+use lib.Dec.{ltb, leb}
 use lib.ListN.{length, getD}
 use Rattle.plan_format.specs.Refusal.{Refusal, refusal, none-given}
 use Rattle.plan_format.specs.Plan.{Plan, count, op}
 use Rattle.plan_format.specs.Sound.{signals-refusal, waits-refusal, In-range}
 use Rattle.plan_columns.specs.Columns.{Wait-columns, Signal-columns, Source-column}
 use Rattle.plan_rules.specs.Walks.{Highest-column}
+use Rattle.plan_waits.specs.Groups.{Low}
 use Rattle.plan_waits.specs.declared.Ruled.{Ruled}
 
 -- the columns show a plan with neither refusal 6 nor 7, and the highest value of each semaphore
@@ -35,3 +36,29 @@ unfoldable pub waits-walk : (wsem wval last : List ℕ) → (left k : ℕ) → R
 waits-walk wsem wval last zero k = none-given
 waits-walk wsem wval last (suc left) k =
     cond (ltb (getD last (getD wsem k 0 % 64) 0) (getD wval k 0)) (refusal 8 (k / 3)) (waits-walk wsem wval last left (suc k))
+
+-- the columns have places for so many operations and signals
+unfoldable pub has-places : (n signals : ℕ) → Bool
+has-places n signals = leb n 1024 && leb signals 2048
+
+-- 8 by the wait places of n operations; none where the columns have no places for them or for the signals
+unfoldable pub waits-found : (n signals : ℕ) → (wsem wval last : List ℕ) → Refusal
+waits-found n signals wsem wval last = cond (has-places n signals) (waits-walk wsem wval last (3 * n) 0) none-given
+
+-- signal j is of semaphore s and reaches v, above 0: none before it does, and all from it on do
+pub record Rests (ssem sval : List ℕ) (signals s v j : ℕ) : Type 0 where
+  pub inside : j < signals
+  pub above : 0 < v
+  pub own : getD ssem j 0 ≡ s
+  pub earlier : (i : ℕ) → i < j → getD ssem i 0 ≡ s → getD sval i 0 < v
+  pub later : (i : ℕ) → j ≤ i → i < signals → getD ssem i 0 ≡ s → v ≤ getD sval i 0
+
+-- the column of the waits' semaphores afterwards, whatever is shown: as long as before; past the places of n operations as before, and all of it
+-- where the columns have no places for the plan; and where nothing is refused a wait for 0 rests on nothing, and another, where each signal is of one
+-- of 64 semaphores, on the first signal that reaches it, if those after it do
+pub record Sources (n signals number : ℕ) (ssem sval sop wsem wval source : List ℕ) : Type 0 where
+  pub long : length source ≡ length wsem
+  pub past : (k : ℕ) → 3 * n ≤ k → getD source k 0 ≡ getD wsem k 0
+  pub no-places : has-places n signals ≡ false → source ≡ wsem
+  pub free : has-places n signals ≡ true → number ≡ 0 → (k : ℕ) → k < 3 * n → getD wval k 0 ≡ 0 → getD source k 0 ≡ 1024
+  pub found : has-places n signals ≡ true → number ≡ 0 → Low ssem signals → (k j : ℕ) → k < 3 * n → Rests ssem sval signals (getD wsem k 0 % 64) (getD wval k 0) j → getD source k 0 ≡ getD sop j 0

@@ -42,7 +42,7 @@ returns-2 c =
     let l = c .before .before .before .before .before .before .before .before .before .before .before .before .before .before .before .before .before .before .before .before .before .load .ensures in
     let left = c .before .before .before .before .before .before .before .before .before .before .before .before .before .before .before .before .before .before .before .if1 .left in
     rw (c .with-marks2 .ensures)
-    (checked _ _ _ _ _ _ (answerless _ _ _ _ _ _ (c .before .before .before .before .before .check-columns .ensures _ (loaded-read (l .0) left _ (l .1 left)))), (l .0 .sizes, loaded-known (l .0)))
+    (checked _ _ _ _ _ _ (answerless _ _ _ _ _ _ (c .before .before .before .before .before .check-columns .ensures .1 _ (loaded-read (l .0) left _ (l .1 left)))), (l .0 .sizes, loaded-known (l .0)))
 
 pub check-known-spec : {M : Type 1} → statement M
 check-known-spec =

@@ -1,6 +1,6 @@
--- `plan_columns::owners` fills a column that shows the owners. Assumes nothing.
+-- `plan_columns::owners` fills a column, which shows the owners of a plan. Assumes nothing.
 use borrow.Author.Needs.{needs}
-use Rattle.plan_columns.proofs.Ownership.{owners-shown}
+use Rattle.plan_columns.proofs.Ownership.{owners-stored, owners-shown}
 use Rattle.plan_columns.proofs.owners.Statement.{statement}
 use Rattle.plan_columns.proofs.owners.Tie as tie
 
@@ -15,8 +15,9 @@ owned-requires c κs = search needs
 
 returns : tie.Need-returns
 returns c =
-    λ p stand low few queues known.
-    owners-shown p _ _ _ _ _ _ _ stand low few queues known (c .before .before .before .lower .ensures) (c .before .before .lower2 .ensures) (c .owned .ensures) (c .before .owned-arg .given .0 .1)
+    let start = c .before .before .before .before .before .args in
+    let e = owners-stored (start .numbers .now) (start .owner .now) _ _ _ _ _ (c .before .before .before .lower .ensures) (c .before .before .lower2 .ensures) (c .owned .ensures) in
+    (e, λ p stand low few queues known. owners-shown p (start .numbers .now) (start .owner .now) _ _ _ stand low few queues known e (c .before .owned-arg .given .0 .1))
 
 pub owners-spec : {M : Type 1} → statement M
 owners-spec = tie.close (tie.spec lower-requires lower-requires-2 owned-requires returns)

@@ -23,7 +23,7 @@ returns c =
       o .0,
       λ e.
           let clean = sym (o .0 .number) ∙ e in
-          c .before .before .before .before .before .before .before .before .before .owners .ensures _ (o .1 e) (omega (arith, head-few head z)) (omega (arith, few-semaphores _ clean, head-semaphores head z (o .1 e))) (shape _ clean .few-queues) (shape _ clean .owners-in),
+          c .before .before .before .before .before .before .before .before .before .owners .ensures .1 _ (o .1 e) (omega (arith, head-few head z)) (omega (arith, few-semaphores _ clean, head-semaphores head z (o .1 e))) (shape _ clean .few-queues) (shape _ clean .owners-in),
     )
 
 pub columns-spec : {M : Type 1} → statement M

@@ -36,7 +36,7 @@ refused-requires c κs = search needs
 returns : tie.Need-returns Inv-loop μ-loop
 returns c =
     let taken = c .before .if1 .taken in
-    let o = c .before .before .before .read-operation .ensures in
+    let o = c .before .before .before .read-operation .ensures .0 in
     let l = c .before .before .before .before .before .before .loop .inv .5 in
     rw (c .refused .ensures)
     (λ nums head z. (refused-loads (load-refused _ _ nums _ _ _ _ _ _ _ _ head (l nums head z) (c .before .before .before .before .before .loop-test .taken) _ _ _ o taken) taken, λ e. absurd (taken e)))
@@ -70,7 +70,7 @@ loop-again c =
       omega arith,
       omega (arith, few-more a .0, l .3),
       omega (arith, few-more a .1, l .4),
-      λ nums head z. load-next _ _ nums _ _ _ _ _ _ _ _ (l .5 nums head z) on _ _ _ (c .before .before .before .before .before .before .before .before .before .before .before .before .before .before .read-operation .ensures) (c .before .before .before .before .before .before .before .before .before .before .before .before .if1 .left) a,
+      λ nums head z. load-next _ _ nums _ _ _ _ _ _ _ _ (l .5 nums head z) on _ _ _ (c .before .before .before .before .before .before .before .before .before .before .before .before .before .before .read-operation .ensures .0) (c .before .before .before .before .before .before .before .before .before .before .before .before .if1 .left) a,
     )
 
 refused-requires-2 : tie.Need-refused-requires-2 Inv-loop μ-loop

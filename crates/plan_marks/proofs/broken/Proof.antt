@@ -1,8 +1,7 @@
 -- `plan_marks::broken` gives the lower of what the two passes find. Assumes nothing.
-use mathlib.Core.Path.{ap₂, _∙_}
-use Prim.Native.Nat.{ℕ, min}
+use mathlib.Core.Path.{_∙_}
 use borrow.Author.Needs.{needs}
-use Rattle.plan_marks.proofs.Found.{broken-found}
+use Rattle.plan_marks.proofs.Found.{lower-found, broken-found}
 use Rattle.plan_marks.proofs.broken.Statement.{statement}
 use Rattle.plan_marks.proofs.broken.Tie as tie
 
@@ -20,10 +19,8 @@ lower-requires-2 c κs = search needs
 
 returns : tie.Need-returns
 returns c =
-    λ p shown.
-    c .lower2 .ensures
-    ∙ ap₂ (λ (a b : ℕ). min a b) (c .before .before .uses .ensures) (c .before .reuses .ensures)
-    ∙ broken-found p _ _ _ _ _ _ _ (c .before .before .before .lower .ensures) shown
+    let e = lower-found _ _ _ _ _ _ _ _ _ _ (c .before .before .before .lower .ensures) (c .before .before .uses .ensures) (c .before .reuses .ensures) (c .lower2 .ensures) in
+    (e, λ p shown. e ∙ broken-found p _ _ _ _ _ _ shown)
 
 pub broken-spec : {M : Type 1} → statement M
 broken-spec =

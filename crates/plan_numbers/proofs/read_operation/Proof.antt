@@ -13,7 +13,7 @@ operation-requires c κs = search needs
 returns : tie.Need-returns
 returns c =
     let s = c .before .before .before .before .args in
-    read-at (s .queues) (s .semaphores) (s .buffers) (s .at) (c .before .before .lower .ensures) (c .operation .ensures)
+    (read-at (s .queues) (s .semaphores) (s .buffers) (s .at) (c .before .before .lower .ensures) (c .operation .ensures .0), c .operation .ensures .1)
 
 pub read-operation-spec : {M : Type 1} → statement M
 read-operation-spec = tie.close (tie.spec lower-requires operation-requires returns)

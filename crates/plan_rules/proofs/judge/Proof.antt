@@ -5,9 +5,9 @@ use native.Mathlib.Omega.{arith}
 use borrow.Author.Needs.{needs}
 use lib.ListN.{length, length-set}
 use Rattle.plan_format.specs.Refusal.{refusal, none-given}
-use Rattle.plan_rules.proofs.Flat.{zeros}
+use Rattle.plan_rules.specs.Walks.{zeros}
 use Rattle.plan_rules.proofs.Shows.{judged}
-use Rattle.plan_rules.proofs.Loops.{Signals-left, signals-none, signals-six, signals-seven, signals-more, signals-end, table-end}
+use Rattle.plan_rules.proofs.Loops.{Signals-left, signals-none, signals-six, signals-seven, signals-more, signals-end}
 use Rattle.plan_rules.proofs.judge.Statement.{statement}
 use Rattle.plan_rules.proofs.judge.Tie as tie
 
@@ -36,13 +36,12 @@ get16-requires-4 : tie.Need-get16-requires-4 Inv-loop μ-loop
 get16-requires-4 c κs = search needs
 
 returns : tie.Need-returns Inv-loop μ-loop
-returns c p shown =
+returns c =
     let read = c .before in
     let first = read .before .before .before .before .before .before .before .before in
-    judged shown _
-    (signals-six (first .before .before .before .loop .inv .1) (first .before .before .loop-test .taken) (first .get16 .ensures) (read .before .before .before .before .before .before .get162 .ensures) (read .before .before .before .before .get64 .ensures)
-    (read .before .before .get163 .ensures) (read .get164 .ensures) (c .if1 .taken))
-    (λ z. absurd (omega arith))
+    let e = signals-six (first .before .before .before .loop .inv .1) (first .before .before .loop-test .taken) (first .get16 .ensures) (read .before .before .before .before .before .before .get162 .ensures) (read .before .before .before .before .get64 .ensures)
+    (read .before .before .get163 .ensures) (read .get164 .ensures) (c .if1 .taken) in
+    (e .found, (e .table, λ p shown. judged shown _ e))
 
 slice-aggregate-get64 : tie.Need-slice-aggregate-get64 Inv-loop μ-loop
 slice-aggregate-get64 c = search needs
@@ -51,13 +50,12 @@ get64-requires-2 : tie.Need-get64-requires-2 Inv-loop μ-loop
 get64-requires-2 c κs = search needs
 
 returns-2 : tie.Need-returns-2 Inv-loop μ-loop
-returns-2 c p shown =
+returns-2 c =
     let read = c .before .before .before .before in
     let first = read .before .before .before .before .before .before .before .before in
-    judged shown _
-    (signals-seven (first .before .before .before .loop .inv .1) (first .before .before .loop-test .taken) (first .get16 .ensures) (read .before .before .before .before .before .before .get162 .ensures) (read .before .before .before .before .get64 .ensures)
-    (read .before .before .get163 .ensures) (read .get164 .ensures) (c .before .before .before .if1 .left) (c .before .get642 .ensures) (c .if2 .taken))
-    (λ z. absurd (omega arith))
+    let e = signals-seven (first .before .before .before .loop .inv .1) (first .before .before .loop-test .taken) (first .get16 .ensures) (read .before .before .before .before .before .before .get162 .ensures) (read .before .before .before .before .get64 .ensures)
+    (read .before .before .get163 .ensures) (read .get164 .ensures) (c .before .before .before .if1 .left) (c .before .get642 .ensures) (c .if2 .taken) in
+    (e .found, (e .table, λ p shown. judged shown _ e))
 
 slice-aggregate-put64 : tie.Need-slice-aggregate-put64 Inv-loop μ-loop
 slice-aggregate-put64 c = search needs
@@ -82,8 +80,8 @@ loop-again c =
 
 returns-3 : tie.Need-returns-3 Inv-loop μ-loop
 unfolding none-given refusal
-returns-3 c p shown =
-    judged shown _ (signals-end (c .before .loop .inv .1) (c .loop-test .left)) (λ z. table-end (c .before .loop .inv .1) (c .loop-test .left))
+returns-3 c =
+    let e = signals-end (c .before .loop .inv .1) (c .loop-test .left) in (e .found, (e .table, λ p shown. judged shown _ e))
 
 pub judge-spec : {M : Type 1} → statement M
 judge-spec =

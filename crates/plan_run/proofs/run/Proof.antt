@@ -6,7 +6,10 @@ use mathlib.Core.Path.{refl}
 use native.Mathlib.Omega.{arith}
 
 returns : tie.Need-returns
-returns c = λ p shown cleared room. absurd (omega (arith, shown .sound .few-operations, shown .many))
+returns c = (
+  record { few = omega arith; long = refl; past = refl; over = λ l. (refl, refl, refl) },
+  λ p shown cleared room. absurd (omega (arith, shown .sound .few-operations, shown .many)),
+)
 
 array-write-ran : tie.Need-array-write-ran
 array-write-ran c = search needs
@@ -28,8 +31,11 @@ returns-2 c =
     let steps = c .before .before in
     let woken = steps .before .before .before .before .before .before .before in
     let chained = woken .before .before .before .before in
-    λ p shown cleared room.
-    steps .all .ensures p _ shown cleared room (record { chained = chained .chain .ensures; ran-is = refl; looked = woken .wake .ensures .1 })
+    let all = steps .all .ensures in (
+      record { few = all .0 .0; long = all .0 .1; past = all .0 .2; over = λ l. absurd (omega arith) },
+      λ p shown cleared room.
+          all .1 p _ shown cleared room (record { chained = chained .chain .ensures; ran-is = refl; looked = woken .wake .ensures .1 }),
+    )
 
 pub run-spec : {M : Type 1} → statement M
 run-spec =

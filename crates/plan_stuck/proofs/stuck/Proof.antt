@@ -7,7 +7,7 @@ use Prim.Native.Nat.{ℕ, _+_, _-_, _*_, _%_, _≤_, _<_}
 use native.Mathlib.Omega.{arith}
 use lib.ListN.{getD}
 use borrow.Author.Count.{below-none, below-more}
-use Rattle.plan_stuck.proofs.Missing.{own-cell, stuck-at, stuck-nowhere}
+use Rattle.plan_stuck.proofs.Missing.{own-cell, zero-at, zero-nowhere, first-missing}
 
 abbrev Inv-loop : tie.InvT-loop
 Inv-loop n queue rows many i₀ i = (i ≤ n) × ((k : ℕ) → k < i → getD rows (16 * k + getD queue k 0 % 16) 0 ≡ 0 → ⊥)
@@ -35,9 +35,10 @@ returns c =
     let seen = c .before .before .before in
     let top = seen .before .before .before in
     let here = top .before .args in
-    λ p sound many shows filled.
-    stuck-at p _ _ _ sound many shows filled _ (seen .before .before .loop-test .taken)
-    (own-cell (here .queue .now) (here .rows .now) (top .loop .i) _ _ (seen .get16 .ensures) (c .before .get162 .ensures) ∙ c .if1 .taken) (top .loop .inv .1)
+    let e =
+    zero-at _ _ _ _ (seen .before .before .loop-test .taken)
+    (own-cell (here .queue .now) (here .rows .now) (top .loop .i) _ _ (seen .get16 .ensures) (c .before .get162 .ensures) ∙ c .if1 .taken) (top .loop .inv .1) in
+    (e, λ p sound many shows filled. e ∙ first-missing p _ _ _ sound many shows filled)
 
 add-i : tie.Need-add-i Inv-loop μ-loop
 add-i c = search needs
@@ -56,7 +57,10 @@ loop-again c =
     )
 
 returns-2 : tie.Need-returns-2 Inv-loop μ-loop
-returns-2 c = λ p sound many shows filled. let e : c .before .loop .i ≡ c .before .before .args .n = omega arith in rw e (stuck-nowhere p _ _ _ sound many shows filled (rw e at (c .before .loop .inv .1)))
+returns-2 c =
+    let e : c .before .loop .i ≡ c .before .before .args .n = omega arith in
+    let f = e ∙ zero-nowhere _ _ _ (rw e at (c .before .loop .inv .1)) in
+    (f, λ p sound many shows filled. f ∙ first-missing p _ _ _ sound many shows filled)
 
 pub stuck-spec : {M : Type 1} → statement M
 stuck-spec =

@@ -1,5 +1,6 @@
 -- `decide::judge` meets its contract: an operation that did not run, a broken mark, or neither. Assumes nothing.
 use Rattle.plan_judge.proofs.Orders.{stuck-told, marks-given, broken-told, passed-told}
+use Rattle.plan_judge.proofs.Anyhow.{order-stuck, order-broken, order-passed}
 use borrow.Author.Needs.{needs}
 use Rattle.plan_judge.proofs.decide.judge.Statement.{statement}
 use Rattle.plan_judge.proofs.decide.judge.Tie as tie
@@ -12,10 +13,12 @@ refused-requires c κs = search needs
 
 returns : tie.Need-returns
 returns c =
-    λ p shown.
-    rw (c .refused .ensures)
-    (stuck-told shown (c .before .before .if1 .taken)
-    (c .before .stuck .ensures p (shown .sound) (shown .many) (shown .queues-shown) (shown .filled)))
+    let fewer = c .before .before .if1 .taken in
+    let stuck = c .before .stuck .ensures in
+    rw (c .refused .ensures) (
+      order-stuck _ _ _ _ _ _ _ _ fewer (stuck .0),
+      λ p shown. stuck-told shown fewer (stuck .1 p (shown .sound) (shown .many) (shown .queues-shown) (shown .filled)),
+    )
 
 broken-requires : tie.Need-broken-requires
 broken-requires c κs = search needs
@@ -25,15 +28,18 @@ refused-requires-2 c κs = search needs
 
 returns-2 : tie.Need-returns-2
 returns-2 c =
-    λ p shown.
     let whole = c .before .before .before .if1 .left in
-    rw (c .refused2 .ensures) (broken-told shown whole (c .before .if2 .taken) (c .before .before .broken .ensures p (marks-given shown whole)))
+    let broken = c .before .before .broken .ensures in
+    rw (c .refused2 .ensures) (
+      order-broken _ _ _ _ _ _ _ _ whole (c .before .if2 .taken) (broken .0),
+      λ p shown. broken-told shown whole (c .before .if2 .taken) (broken .1 p (marks-given shown whole)),
+    )
 
 returns-3 : tie.Need-returns-3
 returns-3 c =
-    λ p shown.
     let whole = c .before .before .if1 .left in
-    passed-told shown whole (c .if2 .left) (c .before .broken .ensures p (marks-given shown whole))
+    let broken = c .before .broken .ensures in
+    (order-passed _ _ _ _ _ _ _ _ whole (c .if2 .left) (broken .0), λ p shown. passed-told shown whole (c .if2 .left) (broken .1 p (marks-given shown whole)))
 
 pub judge-spec : {M : Type 1} → statement M
 judge-spec = tie.close (tie.spec stuck-requires refused-requires returns broken-requires refused-requires-2 returns-2 returns-3)

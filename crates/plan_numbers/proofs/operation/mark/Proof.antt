@@ -17,7 +17,7 @@ same-length c = search needs
 returns : tie.Need-returns
 unfolding mark-below
 returns c =
-    reads-seq (c .before .before .before .before .before .before .pair .ensures .reads) (c .before .before .byte .ensures .reads)
+    let last = c .before .before .byte .ensures in (reads-seq (c .before .before .before .before .before .before .pair .ensures .reads) (last .reads), last .valued)
 
 pub mark-spec : {M : Type 1} → statement M
 mark-spec =

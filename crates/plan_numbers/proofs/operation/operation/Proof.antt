@@ -27,7 +27,7 @@ returns c =
     let queue = c .before .before .before .before .before .before .before .before .before .before .before .before .before .before .byte .ensures .reads in
     let waits = c .before .before .before .before .before .before .before .before .before .before .points .ensures in
     let signals = c .before .before .before .before .before .before .points2 .ensures in
-    reads-seq queue (reads-seq (reads-nothing (queue .inside)) (reads-seq waits (reads-seq signals (c .before .before .marks .ensures))))
+    let marks = c .before .before .marks .ensures in (reads-seq queue (reads-seq (reads-nothing (queue .inside)) (reads-seq waits (reads-seq signals (marks .0)))), marks .1)
 
 pub operation-spec : {M : Type 1} → statement M
 operation-spec =

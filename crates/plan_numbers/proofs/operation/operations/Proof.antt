@@ -38,7 +38,7 @@ returns c =
     let s = start .before .before .before .before in
     reads-counted 22 (start .pair .ensures) (start .pair .result .value) refl
     (reads-stopped (operation-below (s .args .queues) (s .args .semaphores) (s .args .buffers)) 22 (head .loop .i + 1) (start .pair .result .value) (c .if1 .taken) (omega arith)
-    (reads-more (head .loop .i) (head .loop .inv .1) (turn .operation .ensures)))
+    (reads-more (head .loop .i) (head .loop .inv .1) (turn .operation .ensures .0)))
 
 add-i : tie.Need-add-i Inv-loop μ-loop
 add-i c = search needs
@@ -50,7 +50,7 @@ loop-again : tie.Need-loop-again Inv-loop μ-loop
 loop-again c =
     let turn = c .before .before .before .before in
     let head = turn .before .before .before in
-    (omega arith, reads-more (head .loop .i) (head .loop .inv .1) (turn .operation .ensures))
+    (omega arith, reads-more (head .loop .i) (head .loop .inv .1) (turn .operation .ensures .0))
 
 same-length-2 : tie.Need-same-length-2 Inv-loop μ-loop
 same-length-2 c = search needs

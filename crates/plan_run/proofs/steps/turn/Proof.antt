@@ -6,6 +6,7 @@ use native.Mathlib.Omega.{arith}
 use lib.Count.{ones-le}
 use Rattle.plan_run.proofs.Words.{has-le}
 use Rattle.plan_run.proofs.Looks.{unit-shifted, shifted-small, mask-small}
+use Rattle.plan_run.proofs.Listings.{list-past}
 use Rattle.plan_run.proofs.Turns.{turned}
 
 lowest-requires : tie.Need-lowest-requires
@@ -76,6 +77,7 @@ returns c =
     let start = low .before .before in
     let l = low .lowest in (
       c .wake .ensures .0,
+      list-past _ _ _ _ _ _ _ (start .pre .2) (counted .put32 .ensures) (listed .put322 .ensures),
       λ p queue first shown tables room going.
           turned p (start .args .n) queue _ _ _ first shown tables room _ _ _ _ _ _ _ _ going (start .pre .0) (start .pre .1) (start .pre .2)
           _ _ (l .ensures .0) (l .ensures .1) (chosen .slot .ensures) _ _ (counted .put32 .ensures) (listed .put322 .ensures)
