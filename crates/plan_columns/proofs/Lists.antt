@@ -62,16 +62,16 @@ module _ {A : Type 0} (of : ℕ → Operation → List A) where
 -- ---- parts of operations that fit are what the operations say
 module _ (X : List ℕ) {A : Type 0} (f : Part) (h : A → ℕ) (of : ℕ → Operation → List A)
     (same : (i at : ℕ) → Fits (here X at) → f i at ≡ map h (of i (here X at))) where
-  pub parts-map : (n i at : ℕ) → ((j : ℕ) → j < n → Fits (getD (operations-in first-form n (drop at X)) j no-operation)) →
-      parts X f n i at ≡ map h (joined of i (operations-in first-form n (drop at X)))
+  pub parts-map : (n i at : ℕ) → ((j : ℕ) → j < n → Fits (getD (operations-in n (drop at X)) j no-operation)) →
+      parts X f n i at ≡ map h (joined of i (operations-in n (drop at X)))
   unfolding parts joined operations-in
   parts-map zero i at fit = refl
   parts-map (suc n) i at fit =
       let fits = fit 0 (omega arith) in
-      let on : drop (next-at X at) X ≡ drop (operation-long first-form (drop at X)) (drop at X) =
-      ap (λ (z : ℕ). drop z X) (next-is X at fits) ∙ sym (drop-drop (operation-long first-form (drop at X)) at X) in
+      let on : drop (next-at X at) X ≡ drop (operation-long (drop at X)) (drop at X) =
+      ap (λ (z : ℕ). drop z X) (next-is X at fits) ∙ sym (drop-drop (operation-long (drop at X)) at X) in
       let rest = parts-map n (suc i) (next-at X at) (rw on (λ j l. fit (suc j) (omega arith))) in
-      ap₂ (λ (x y : List ℕ). x ++ y) (same i at fits) (rw on at rest) ∙ sym (map-append h (of i (here X at)) (joined of (suc i) (operations-in first-form n (drop (operation-long first-form (drop at X)) (drop at X)))))
+      ap₂ (λ (x y : List ℕ). x ++ y) (same i at fits) (rw on at rest) ∙ sym (map-append h (of i (here X at)) (joined of (suc i) (operations-in n (drop (operation-long (drop at X)) (drop at X)))))
 
 -- ---- each column
 signal-at : (i a : ℕ) (xs : List Point) (j : ℕ) → j < length xs → getD (signals-of i a xs) j no-signal ≡ record { operation = i; position = a + j; semaphore = getD xs j no-point .semaphore; value = getD xs j no-point .value }

@@ -25,10 +25,10 @@ unfolding marks-in
 marks-long zero xs = refl
 marks-long (suc k) xs = ap suc (marks-long k (drop 2 xs))
 
-pub operations-long : (n : ℕ) (xs : List ℕ) → length (operations-in first-form n xs) ≡ n
+pub operations-long : (n : ℕ) (xs : List ℕ) → length (operations-in n xs) ≡ n
 unfolding operations-in
 operations-long zero xs = refl
-operations-long (suc n) xs = ap suc (operations-long n (drop (operation-long first-form xs) xs))
+operations-long (suc n) xs = ap suc (operations-long n (drop (operation-long xs) xs))
 
 -- numbers further on
 past : (xs : List ℕ) (j c : ℕ) → getD (drop 2 xs) (2 * j + c) 0 ≡ getD xs (2 * suc j + c) 0
@@ -72,7 +72,7 @@ pub record Fits (o : Operation) : Type 0 where
 -- the operation at a place of the numbers
 module _ (X : List ℕ) (at : ℕ) where
   abbrev pub here : Operation
-  here = operation-in first-form (drop at X)
+  here = operation-in (drop at X)
 
   abbrev w : ℕ
   w = getD (drop at X) 1 0
@@ -88,19 +88,19 @@ module _ (X : List ℕ) (at : ℕ) where
   queue-here = getD-drop at X 0 0 ∙ ap (λ (z : ℕ). getD X z 0) (omega arith)
 
   waits-here : here .waits ≡ points-in w (drop 2 (drop at X))
-  unfolding operation-in heading first-form
+  unfolding operation-in heading
   waits-here = refl
 
   signals-here : here .signals ≡ points-in s (drop (3 + 2 * w) (drop at X))
-  unfolding operation-in heading first-form
+  unfolding operation-in heading
   signals-here = refl
 
   marks-here : here .marks ≡ marks-in m (drop (4 + 2 * w + 2 * s) (drop at X))
-  unfolding operation-in heading first-form
+  unfolding operation-in heading
   marks-here = refl
 
-  long-here : operation-long first-form (drop at X) ≡ 4 + 2 * w + 2 * s + 2 * m
-  unfolding operation-long heading first-form
+  long-here : operation-long (drop at X) ≡ 4 + 2 * w + 2 * s + 2 * m
+  unfolding operation-long heading
   long-here = refl
 
   -- a number past a part's start
@@ -137,7 +137,7 @@ module _ (X : List ℕ) (at : ℕ) where
     unfolding mark-count
     mark-count-is = omega (arith, m-few, getD-drop at X (3 + 2 * w + 2 * s) 0, ap (λ (z : ℕ). getD X z 0) marks-at-is)
 
-    pub next-is : next-at X at ≡ at + operation-long first-form (drop at X)
+    pub next-is : next-at X at ≡ at + operation-long (drop at X)
     unfolding next-at
     next-is = omega (arith, marks-at-is, mark-count-is, long-here)
 

@@ -46,7 +46,7 @@ module _ (F : Form) where
     at-both a b e = same a ∙ ap (λ (z : ℕ). getD ys z 0) e
 
     abbrev h : ℕ
-    h = heading F
+    h = heading
 
     w-same : getD xs h 0 ≡ getD ys h 0
     w-same = same h
@@ -62,22 +62,22 @@ module _ (F : Form) where
     m-same =
         at-both (h + 2 + 2 * getD xs h 0 + 2 * getD xs (h + 1 + 2 * getD xs h 0) 0) (h + 2 + 2 * getD ys h 0 + 2 * getD ys (h + 1 + 2 * getD ys h 0) 0) to-marks
 
-    long-alike : operation-long F xs ≡ operation-long F ys
+    long-alike : operation-long xs ≡ operation-long ys
     unfolding operation-long
     long-alike = omega (arith, w-same, s-same, m-same)
 
-    waits-alike : operation-in F xs .waits ≡ operation-in F ys .waits
+    waits-alike : operation-in xs .waits ≡ operation-in ys .waits
     unfolding operation-in
     waits-alike = ap (λ (k : ℕ). points-in k (drop (h + 1) xs)) w-same ∙ points-alike (getD ys h 0) (drop (h + 1) xs) (drop (h + 1) ys) (drop-alike xs ys same (h + 1) (h + 1) refl)
 
-    signals-alike : operation-in F xs .signals ≡ operation-in F ys .signals
+    signals-alike : operation-in xs .signals ≡ operation-in ys .signals
     unfolding operation-in
     signals-alike =
         ap (λ (k : ℕ). points-in k (drop (h + 2 + 2 * getD xs h 0) xs)) s-same
         ∙ points-alike (getD ys (h + 1 + 2 * getD ys h 0) 0) (drop (h + 2 + 2 * getD xs h 0) xs) (drop (h + 2 + 2 * getD ys h 0) ys)
         (drop-alike xs ys same (h + 2 + 2 * getD xs h 0) (h + 2 + 2 * getD ys h 0) (omega (arith, w-same)))
 
-    marks-same : operation-in F xs .marks ≡ operation-in F ys .marks
+    marks-same : operation-in xs .marks ≡ operation-in ys .marks
     unfolding operation-in
     marks-same =
         let c = h + 3 + 2 * getD xs h 0 + 2 * getD xs (h + 1 + 2 * getD xs h 0) 0 in
@@ -85,20 +85,20 @@ module _ (F : Form) where
         ap (λ (k : ℕ). marks-in k (drop c xs)) m-same
         ∙ marks-alike (getD ys (h + 2 + 2 * getD ys h 0 + 2 * getD ys (h + 1 + 2 * getD ys h 0) 0) 0) (drop c xs) (drop d ys) (drop-alike xs ys same c d (omega (arith, w-same, s-same)))
 
-    operation-alike : operation-in F xs ≡ operation-in F ys
+    operation-alike : operation-in xs ≡ operation-in ys
     operation-alike = λ i. record { queue = queue-same i; waits = waits-alike i; signals = signals-alike i; marks = marks-same i }
       where
-        queue-same : operation-in F xs .queue ≡ operation-in F ys .queue
+        queue-same : operation-in xs .queue ≡ operation-in ys .queue
         queue-same = unfold operation-in in (same 0)
 
-  pub operations-alike : (n : ℕ) (xs ys : List ℕ) → Alike xs ys → operations-in F n xs ≡ operations-in F n ys
+  pub operations-alike : (n : ℕ) (xs ys : List ℕ) → Alike xs ys → operations-in n xs ≡ operations-in n ys
   unfolding operations-in
   operations-alike zero xs ys same = refl
   operations-alike (suc n) xs ys same =
       ap₂ {C = List Operation} (λ (o : Operation) (l : List Operation). o ∷ l) (operation-alike xs ys same)
-      (operations-alike n (drop (operation-long F xs) xs) (drop (operation-long F ys) ys) (drop-alike xs ys same (operation-long F xs) (operation-long F ys) (long-alike xs ys same)))
+      (operations-alike n (drop (operation-long xs) xs) (drop (operation-long ys) ys) (drop-alike xs ys same (operation-long xs) (operation-long ys) (long-alike xs ys same)))
 
   -- behind the first numbers, of a list with zeros after it
-  pub padded-operations : (n first : ℕ) (xs : List ℕ) (m : ℕ) → operations-in F n (drop first (xs ++ replicate m 0)) ≡ operations-in F n (drop first xs)
+  pub padded-operations : (n first : ℕ) (xs : List ℕ) (m : ℕ) → operations-in n (drop first (xs ++ replicate m 0)) ≡ operations-in n (drop first xs)
   padded-operations n first xs m =
       operations-alike n (drop first (xs ++ replicate m 0)) (drop first xs) (drop-alike (xs ++ replicate m 0) xs (padded-alike xs m) first first refl)

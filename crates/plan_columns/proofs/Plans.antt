@@ -39,7 +39,7 @@ module _ {X : List ℕ} {f : Part} {room n first : ℕ} {before now : List ℕ} 
   column-many = column-count done b ∙ parts-long
 
 -- ---- a plan whose operations stand among the numbers
-module _ (p : Plan) (limits : Limits p) (X : List ℕ) (n first : ℕ) (stand : p .operations ≡ operations-in first-form n (drop first X)) where
+module _ (p : Plan) (limits : Limits p) (X : List ℕ) (n first : ℕ) (stand : p .operations ≡ operations-in n (drop first X)) where
   many-is : count p ≡ n
   unfolding count
   many-is = ap (λ (z : List Operation). length z) stand ∙ operations-long n (drop first X)
@@ -58,7 +58,7 @@ module _ (p : Plan) (limits : Limits p) (X : List ℕ) (n first : ℕ) (stand : 
         kinds = r .kinds;
       }
 
-  all-fit : (j : ℕ) → j < n → Fits (getD (operations-in first-form n (drop first X)) j no-operation)
+  all-fit : (j : ℕ) → j < n → Fits (getD (operations-in n (drop first X)) j no-operation)
   unfolding op
   all-fit j l = subst (λ (z : List Operation). Fits (getD z j no-operation)) stand (plan-fits j (omega (arith, many-is)))
 

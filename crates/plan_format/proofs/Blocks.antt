@@ -31,7 +31,7 @@ pub record Block (F : Form) (q s b : ℕ) (xs : List ℕ) : Type 0 where
   pub ss : List ℕ
   pub ms : List ℕ
   pub queue-in : queue < q
-  pub part-long : suc (length part) ≡ heading F
+  pub part-long : suc (length part) ≡ heading
   pub few-waits : waits ≤ 3
   pub few-signals : signals ≤ 2
   pub few-marks : marks ≤ 4
@@ -71,13 +71,9 @@ glued : (pt : List ℕ) {vs v₁ v₂ v₃ v₄ v₅ v₆ v₇ ws ss ms : List �
 glued pt a b c d e f g h = cc
 
 module _ (D : Spelt) where
-  part-heads : (F : Form) (got vs ds : List ℕ) → Parses D (part F) got vs ds → suc (length vs) ≡ heading F
+  part-heads : (got vs ds : List ℕ) → Parses D part got vs ds → suc (length vs) ≡ heading
   unfolding part heading
-  part-heads F got vs ds p = go (F .has-part) p
-    where
-      go : (h : Bool) → Parses D (cond h (field 4 any-number) nothing) got vs ds → suc (length vs) ≡ cond h 2 1
-      go true q = ap (λ z. suc (length z)) (q .holds .numbers-are)
-      go false q = ap (λ z. suc (length z)) (q .numbers-are)
+  part-heads got vs ds p = ap (λ z. suc (length z)) (p .numbers-are)
 
   module _ (F : Form) (q s b : ℕ) where
     pub is-queue : (got : List ℕ) (v : ℕ) → Kept q s b got → a-queue got v ≡ 0 → v < q
@@ -133,7 +129,7 @@ module _ (D : Spelt) where
           ss = cs .entries;
           ms = cm .entries;
           queue-in = is-queue got (o .number) g (o .holds .passes);
-          part-long = part-heads F got₁ (p₁ .vs₁) (p₁ .ds₁) (p₁ .first);
+          part-long = part-heads got₁ (p₁ .vs₁) (p₁ .ds₁) (p₁ .first);
           few-waits = cw .most;
           few-signals = cs .most;
           few-marks = cm .most;

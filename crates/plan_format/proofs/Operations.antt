@@ -12,7 +12,7 @@ use Rattle.plan_format.proofs.Seams.{at-seam, after-seam}
 use Rattle.plan_format.proofs.Blocks.{Block}
 
 -- ---- one operation
-module _ (F : Form) (q : ℕ) (part : List ℕ) (w s m : ℕ) (ws ss ms : List ℕ) (lp : suc (length part) ≡ heading F) (lw : length ws ≡ 2 * w)
+module _ (F : Form) (q : ℕ) (part : List ℕ) (w s m : ℕ) (ws ss ms : List ℕ) (lp : suc (length part) ≡ heading) (lw : length ws ≡ 2 * w)
     (ls : length ss ≡ 2 * s)
     (lm : length ms ≡ 2 * m) (rest : List ℕ) where
   unfoldable pub block : List ℕ
@@ -33,21 +33,21 @@ module _ (F : Form) (q : ℕ) (part : List ℕ) (w s m : ℕ) (ws ss ms : List �
   unfolding whole block
   split-m = simp append-assoc
 
-  at-w : getD whole (heading F) 0 ≡ w
-  at-w = at-seam whole (q ∷ part) (ws ++ (s ∷ (ss ++ (m ∷ (ms ++ rest))))) w (heading F) split-w lp
+  at-w : getD whole (heading) 0 ≡ w
+  at-w = at-seam whole (q ∷ part) (ws ++ (s ∷ (ss ++ (m ∷ (ms ++ rest))))) w (heading) split-w lp
 
-  at-s : getD whole (heading F + 1 + 2 * w) 0 ≡ s
-  at-s = at-seam whole (q ∷ (part ++ (w ∷ ws))) (ss ++ (m ∷ (ms ++ rest))) s (heading F + 1 + 2 * w) split-s (simp length-append (omega arith))
+  at-s : getD whole (heading + 1 + 2 * w) 0 ≡ s
+  at-s = at-seam whole (q ∷ (part ++ (w ∷ ws))) (ss ++ (m ∷ (ms ++ rest))) s (heading + 1 + 2 * w) split-s (simp length-append (omega arith))
 
-  at-m : getD whole (heading F + 2 + 2 * w + 2 * s) 0 ≡ m
-  at-m = at-seam whole (q ∷ (part ++ (w ∷ (ws ++ (s ∷ ss))))) (ms ++ rest) m (heading F + 2 + 2 * w + 2 * s) split-m
+  at-m : getD whole (heading + 2 + 2 * w + 2 * s) 0 ≡ m
+  at-m = at-seam whole (q ∷ (part ++ (w ∷ (ws ++ (s ∷ ss))))) (ms ++ rest) m (heading + 2 + 2 * w + 2 * s) split-m
       (simp length-append (omega arith))
 
-  pub long-is : operation-long F whole ≡ length block
+  pub long-is : operation-long whole ≡ length block
   unfolding operation-long block
   long-is = rw (at-w, at-s, at-m) (simp length-append (omega arith))
 
-  pub operation-is : operation-in F whole ≡ record { queue = q; waits = points-in w ws; signals = points-in s ss; marks = marks-in m ms }
+  pub operation-is : operation-in whole ≡ record { queue = q; waits = points-in w ws; signals = points-in s ss; marks = marks-in m ms }
   unfolding operation-in
   operation-is =
       rw (
@@ -66,14 +66,14 @@ module _ (F : Form) (q : ℕ) (part : List ℕ) (w s m : ℕ) (ws ss ms : List �
       at-q : getD whole 0 0 ≡ q
       at-q = ap (λ z. getD z 0 0) split-w
 
-      to-w : drop (heading F + 1) whole ≡ ws ++ (s ∷ (ss ++ (m ∷ (ms ++ rest))))
-      to-w = after-seam whole (q ∷ part) (ws ++ (s ∷ (ss ++ (m ∷ (ms ++ rest))))) w (heading F + 1) split-w (omega arith)
+      to-w : drop (heading + 1) whole ≡ ws ++ (s ∷ (ss ++ (m ∷ (ms ++ rest))))
+      to-w = after-seam whole (q ∷ part) (ws ++ (s ∷ (ss ++ (m ∷ (ms ++ rest))))) w (heading + 1) split-w (omega arith)
 
-      to-s : drop (heading F + 2 + 2 * w) whole ≡ ss ++ (m ∷ (ms ++ rest))
-      to-s = after-seam whole (q ∷ (part ++ (w ∷ ws))) (ss ++ (m ∷ (ms ++ rest))) s (heading F + 2 + 2 * w) split-s (simp length-append (omega arith))
+      to-s : drop (heading + 2 + 2 * w) whole ≡ ss ++ (m ∷ (ms ++ rest))
+      to-s = after-seam whole (q ∷ (part ++ (w ∷ ws))) (ss ++ (m ∷ (ms ++ rest))) s (heading + 2 + 2 * w) split-s (simp length-append (omega arith))
 
-      to-m : drop (heading F + 3 + 2 * w + 2 * s) whole ≡ ms ++ rest
-      to-m = after-seam whole (q ∷ (part ++ (w ∷ (ws ++ (s ∷ ss))))) (ms ++ rest) m (heading F + 3 + 2 * w + 2 * s) split-m
+      to-m : drop (heading + 3 + 2 * w + 2 * s) whole ≡ ms ++ rest
+      to-m = after-seam whole (q ∷ (part ++ (w ∷ (ws ++ (s ∷ ss))))) (ms ++ rest) m (heading + 3 + 2 * w + 2 * s) split-m
           (simp length-append (omega arith))
 
 module _ (F : Form) (q s b : ℕ) where
@@ -86,16 +86,16 @@ module _ (F : Form) (q s b : ℕ) where
         (k .marks) (k .ms);
   }
 
-  pub block-long : (xs rest : List ℕ) → Block F q s b xs → operation-long F (xs ++ rest) ≡ length xs
+  pub block-long : (xs rest : List ℕ) → Block F q s b xs → operation-long (xs ++ rest) ≡ length xs
   unfolding whole block
   block-long xs rest k =
       rw (k .numbers-are) (long-is F (k .queue) (k .part) (k .waits) (k .signals) (k .marks) (k .ws) (k .ss) (k .ms) (k .part-long) (k .waited .long)
       (k .signalled .long) (k .marked .long) rest)
 
-  pub block-operation : (xs rest : List ℕ) (k : Block F q s b xs) → operation-in F (xs ++ rest) ≡ operation-of xs k
+  pub block-operation : (xs rest : List ℕ) (k : Block F q s b xs) → operation-in (xs ++ rest) ≡ operation-of xs k
   unfolding whole block
   block-operation xs rest k =
-      ap (λ z. operation-in F (z ++ rest)) (k .numbers-are)
+      ap (λ z. operation-in (z ++ rest)) (k .numbers-are)
       ∙ operation-is F (k .queue) (k .part) (k .waits) (k .signals) (k .marks) (k .ws) (k .ss) (k .ms) (k .part-long) (k .waited .long)
       (k .signalled .long) (k .marked .long) rest
 
@@ -111,27 +111,27 @@ module _ (F : Form) (q s b : ℕ) where
   Blocks zero xs = xs ≡ []
   Blocks (suc n) xs = Block-then (Blocks n) xs
 
-  block-then : (n : ℕ) (xs rest : List ℕ) (k : Block F q s b xs) → operations-in F (suc n) (xs ++ rest) ≡ operation-of xs k ∷ operations-in F n rest
+  block-then : (n : ℕ) (xs rest : List ℕ) (k : Block F q s b xs) → operations-in (suc n) (xs ++ rest) ≡ operation-of xs k ∷ operations-in n rest
   unfolding operations-in
   block-then n xs rest k =
-      ap₂ {C = List Operation} (λ x y. x ∷ operations-in F n y) (block-operation xs rest k)
-      (drop-at xs rest (operation-long F (xs ++ rest)) (sym (block-long xs rest k)))
+      ap₂ {C = List Operation} (λ x y. x ∷ operations-in n y) (block-operation xs rest k)
+      (drop-at xs rest (operation-long (xs ++ rest)) (sym (block-long xs rest k)))
 
   pub operations-cons : (n : ℕ) (xs : List ℕ) (k : Blocks (suc n) xs) →
-      operations-in F (suc n) xs ≡ operation-of (k .block) (k .first) ∷ operations-in F n (k .rest)
-  operations-cons n xs k = ap (λ z. operations-in F (suc n) z) (k .numbers-are) ∙ block-then n (k .block) (k .rest) (k .first)
+      operations-in (suc n) xs ≡ operation-of (k .block) (k .first) ∷ operations-in n (k .rest)
+  operations-cons n xs k = ap (λ z. operations-in (suc n) z) (k .numbers-are) ∙ block-then n (k .block) (k .rest) (k .first)
 
   -- what follows the blocks changes no operation
-  pub operations-front : (n : ℕ) (xs rest : List ℕ) → Blocks n xs → operations-in F n (xs ++ rest) ≡ operations-in F n xs
+  pub operations-front : (n : ℕ) (xs rest : List ℕ) → Blocks n xs → operations-in n (xs ++ rest) ≡ operations-in n xs
   unfolding operations-in
   operations-front zero xs rest k = refl
   operations-front (suc n) xs rest k =
-      ap (λ z. operations-in F (suc n) z) (ap (λ z. z ++ rest) (k .numbers-are) ∙ append-assoc (k .block) (k .rest) rest)
+      ap (λ z. operations-in (suc n) z) (ap (λ z. z ++ rest) (k .numbers-are) ∙ append-assoc (k .block) (k .rest) rest)
       ∙ block-then n (k .block) (k .rest ++ rest) (k .first)
       ∙ ap (λ z. operation-of (k .block) (k .first) ∷ z) (operations-front n (k .rest) rest (k .more))
       ∙ sym (operations-cons n xs k)
 
-pub operations-long : (F : Form) (n : ℕ) (xs : List ℕ) → length (operations-in F n xs) ≡ n
+pub operations-long : (F : Form) (n : ℕ) (xs : List ℕ) → length (operations-in n xs) ≡ n
 unfolding operations-in
 operations-long F zero xs = refl
-operations-long F (suc n) xs = ap suc (operations-long F n (drop (operation-long F xs) xs))
+operations-long F (suc n) xs = ap suc (operations-long F n (drop (operation-long xs) xs))

@@ -37,28 +37,28 @@ marks-back (x ∷ xs) = ap (λ z. x ∷ z) (marks-back xs)
 
 -- ---- operations
 module _ (o : Operation) (rest : List ℕ) where
-  operation-goes : operation-long first-form (operation-numbers o ++ rest) ≡ length (operation-numbers o)
-  unfolding operation-numbers counted-numbers block whole heading first-form
+  operation-goes : operation-long (operation-numbers o ++ rest) ≡ length (operation-numbers o)
+  unfolding operation-numbers counted-numbers block whole heading
   operation-goes =
       long-is first-form (o .queue) [] (length (o .waits)) (length (o .signals)) (length (o .marks)) (flatMap point-numbers (o .waits))
       (flatMap point-numbers (o .signals)) (flatMap mark-numbers (o .marks)) refl (points-long (o .waits)) (points-long (o .signals))
       (marks-long (o .marks)) rest
 
-  operation-back : operation-in first-form (operation-numbers o ++ rest) ≡ o
-  unfolding operation-numbers counted-numbers block whole heading first-form
+  operation-back : operation-in (operation-numbers o ++ rest) ≡ o
+  unfolding operation-numbers counted-numbers block whole heading
   operation-back =
       operation-is first-form (o .queue) [] (length (o .waits)) (length (o .signals)) (length (o .marks)) (flatMap point-numbers (o .waits))
       (flatMap point-numbers (o .signals)) (flatMap mark-numbers (o .marks)) refl (points-long (o .waits)) (points-long (o .signals))
       (marks-long (o .marks)) rest
       ∙ rw (points-back (o .waits), points-back (o .signals), marks-back (o .marks))
 
-operations-back : (os : List Operation) → operations-in first-form (length os) (flatMap operation-numbers os) ≡ os
+operations-back : (os : List Operation) → operations-in (length os) (flatMap operation-numbers os) ≡ os
 unfolding flatMap operations-in
 operations-back [] = refl
 operations-back (o ∷ os) =
     let more = flatMap operation-numbers os in
-    ap₂ {C = List Operation} (λ x z. x ∷ operations-in first-form (length os) z) (operation-back o more)
-    (drop-at (operation-numbers o) more (operation-long first-form (operation-numbers o ++ more)) (sym (operation-goes o more)))
+    ap₂ {C = List Operation} (λ x z. x ∷ operations-in (length os) z) (operation-back o more)
+    (drop-at (operation-numbers o) more (operation-long (operation-numbers o ++ more)) (sym (operation-goes o more)))
     ∙ ap (λ z. o ∷ z) (operations-back os)
 
 -- ---- the plan
@@ -67,7 +67,7 @@ unfolding flatMap one-number
 ones [] = refl
 ones (x ∷ xs) = ap (λ z. x ∷ z) (ones xs)
 
-pub plan-back : (p : Plan) → plan-of first-form (numbers-of p) ≡ p
+pub plan-back : (p : Plan) → plan-of (numbers-of p) ≡ p
 unfolding numbers-of counted-numbers sections.whole
 plan-back p =
     let q = length (p .axes) in

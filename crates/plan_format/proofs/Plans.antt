@@ -20,7 +20,7 @@ module _ (F : Form) (bs : List ℕ) (e : scanned-by bytes F bs .fault .number �
   unfolding loose-bytes
   bytes-sections = let w = whole-of bytes Loose loose-bytes F bs tt e in sections Loose F (scanned-by bytes F bs .got) (w .ds) (w .parsed)
 
-  pub bytes-shape : Shaped F (plan-of F (scanned-by bytes F bs .got))
+  pub bytes-shape : Shaped F (plan-of (scanned-by bytes F bs .got))
   unfolding loose-bytes
   bytes-shape = let w = whole-of bytes Loose loose-bytes F bs tt e in shape F Loose (scanned-by bytes F bs .got) (w .ds) (w .parsed)
 
@@ -28,7 +28,7 @@ module _ (F : Form) (xs : List ℕ) (e : scanned-by numbers F xs .fault .number 
   pub numbers-sections : Sections F xs
   numbers-sections = let (ds, p) = numbers-read F xs e in sections Exact F xs ds p
 
-  pub numbers-shape : Shaped F (plan-of F xs)
+  pub numbers-shape : Shaped F (plan-of xs)
   numbers-shape = let (ds, p) = numbers-read F xs e in shape F Exact xs ds p
 
 -- ---- the first form
@@ -40,7 +40,7 @@ pub scanned-shape : (bs : List ℕ) → scanned bs .fault .number ≡ 0 → Shap
 unfolding scanned plan-in
 scanned-shape bs e = bytes-shape first-form bs e
 
-pub listed-shape : (xs : List ℕ) → listed xs .fault .number ≡ 0 → Shaped first-form (plan-of first-form xs)
+pub listed-shape : (xs : List ℕ) → listed xs .fault .number ≡ 0 → Shaped first-form (plan-of xs)
 unfolding listed
 listed-shape xs e = numbers-shape first-form xs e
 

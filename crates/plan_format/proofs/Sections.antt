@@ -149,7 +149,7 @@ module _ (F : Form) (q s b n : ℕ) (axes owners sizes blocks : List ℕ) (la : 
     operations = at-seam whole (q ∷ (axes ++ (s ∷ (owners ++ (b ∷ sizes))))) blocks n (3 + q + s + b) seam-n (simp length-append (omega arith));
   }
 
-  pub plan-at : plan-of F whole ≡ record { axes = axes; owners = owners; sizes = sizes; operations = operations-in F n blocks }
+  pub plan-at : plan-of whole ≡ record { axes = axes; owners = owners; sizes = sizes; operations = operations-in n blocks }
   unfolding plan-of
   plan-at =
       rw (counts-at .queues, counts-at .semaphores, counts-at .buffers, counts-at .operations, to-axes, to-owners, to-sizes, to-blocks)
@@ -170,15 +170,15 @@ module _ (F : Form) (q s b n : ℕ) (axes owners sizes blocks : List ℕ) (la : 
 
 -- the plan of sections that are as long as their counts say
 pub plan-whole : (F : Form) (q s b n : ℕ) (axes owners sizes blocks : List ℕ) → length axes ≡ q → length owners ≡ s → length sizes ≡ b →
-    plan-of F (q ∷ (axes ++ (s ∷ (owners ++ (b ∷ (sizes ++ (n ∷ blocks))))))) ≡ record { axes = axes; owners = owners; sizes = sizes; operations = operations-in F n blocks }
+    plan-of (q ∷ (axes ++ (s ∷ (owners ++ (b ∷ (sizes ++ (n ∷ blocks))))))) ≡ record { axes = axes; owners = owners; sizes = sizes; operations = operations-in n blocks }
 unfolding whole
 plan-whole F q s b n axes owners sizes blocks la lo lb = plan-at F q s b n axes owners sizes blocks la lo lb
 
 pub plan-is : (F : Form) (xs : List ℕ) (c : Sections F xs) →
-    plan-of F xs ≡ record { axes = c .axes; owners = c .owners; sizes = c .sizes; operations = operations-in F (c .operations) (c .blocks) }
+    plan-of xs ≡ record { axes = c .axes; owners = c .owners; sizes = c .sizes; operations = operations-in (c .operations) (c .blocks) }
 unfolding whole
 plan-is F xs c =
-    ap (λ z. plan-of F z) (c .numbers-are)
+    ap (λ z. plan-of z) (c .numbers-are)
     ∙ plan-at F (c .queues) (c .semaphores) (c .buffers) (c .operations) (c .axes) (c .owners) (c .sizes) (c .blocks) (c .axes-row .long)
     (c .owners-row .long) (c .sizes-long)
 
@@ -194,10 +194,10 @@ module _ (F : Form) (xs rest : List ℕ) (c : Sections F xs) where
       (counts-at F (c .queues) (c .semaphores) (c .buffers) (c .operations) (c .axes) (c .owners) (c .sizes) (c .blocks ++ rest) (c .axes-row .long)
       (c .owners-row .long) (c .sizes-long))
 
-  pub plan-front : plan-of F (xs ++ rest) ≡ plan-of F xs
+  pub plan-front : plan-of (xs ++ rest) ≡ plan-of xs
   unfolding whole
   plan-front =
-      ap (λ z. plan-of F z) longer
+      ap (λ z. plan-of z) longer
       ∙ plan-at F (c .queues) (c .semaphores) (c .buffers) (c .operations) (c .axes) (c .owners) (c .sizes) (c .blocks ++ rest) (c .axes-row .long)
       (c .owners-row .long) (c .sizes-long)
       ∙ ap {B = Plan} (λ z. record { axes = c .axes; owners = c .owners; sizes = c .sizes; operations = z })

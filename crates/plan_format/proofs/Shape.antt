@@ -93,7 +93,7 @@ module _ (F : Form) where
   }
 
   each-operation : (q s b : ℕ) (P : Operation → Type 0) → ((xs : List ℕ) (k : Block F q s b xs) → P (operation-of F q s b xs k)) →
-      (n : ℕ) (xs : List ℕ) → Blocks F q s b n xs → (i : ℕ) → i < n → P (getD (operations-in F n xs) i no-operation)
+      (n : ℕ) (xs : List ℕ) → Blocks F q s b n xs → (i : ℕ) → i < n → P (getD (operations-in n xs) i no-operation)
   each-operation q s b P h zero xs k i l = absurd (not-suc-le-zero l)
   each-operation q s b P h (suc n) xs k zero l = subst (λ z. P (getD z 0 no-operation)) (sym (operations-cons F q s b n xs k))
       (h (k .block) (k .first))
@@ -102,7 +102,7 @@ module _ (F : Form) where
       (each-operation q s b P h n (k .rest) (k .more) i (le-of-suc-le-suc l))
 
   abbrev told : (xs : List ℕ) → Sections F xs → Plan
-  told xs c = record { axes = c .axes; owners = c .owners; sizes = c .sizes; operations = operations-in F (c .operations) (c .blocks) }
+  told xs c = record { axes = c .axes; owners = c .owners; sizes = c .sizes; operations = operations-in (c .operations) (c .blocks) }
 
   sections-shaped : (xs : List ℕ) (c : Sections F xs) → Shaped F (told xs c)
   unfolding queues count op
@@ -125,14 +125,14 @@ module _ (F : Form) where
       lo : length (c .owners) ≡ c .semaphores
       lo = c .owners-row .long
 
-      ln : length (operations-in F (c .operations) (c .blocks)) ≡ c .operations
+      ln : length (operations-in (c .operations) (c .blocks)) ≡ c .operations
       ln = operations-long F (c .operations) (c .blocks)
 
       each : (P : Operation → Type 0) →
           ((xs : List ℕ) (k : Block F (c .queues) (c .semaphores) (c .buffers) xs) →
           P (operation-of F (c .queues) (c .semaphores) (c .buffers) xs k)) →
-          (i : ℕ) → i < c .operations → P (getD (operations-in F (c .operations) (c .blocks)) i no-operation)
+          (i : ℕ) → i < c .operations → P (getD (operations-in (c .operations) (c .blocks)) i no-operation)
       each P h = each-operation (c .queues) (c .semaphores) (c .buffers) P h (c .operations) (c .blocks) (c .blocks-are)
 
-  pub shape : (D : Spelt) (xs ds : List ℕ) → Parses D (plan-grammar F) [] xs ds → Shaped F (plan-of F xs)
+  pub shape : (D : Spelt) (xs ds : List ℕ) → Parses D (plan-grammar F) [] xs ds → Shaped F (plan-of xs)
   shape D xs ds p = let c = sections D F xs ds p in subst (Shaped F) (sym (plan-is F xs c)) (sections-shaped xs c)

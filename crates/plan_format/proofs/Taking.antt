@@ -23,19 +23,19 @@ stored-plan p w =
     record {
       are-bytes = parsed-bytes (plan-grammar first-form) [] (numbers-of p) (bytes-of p) parsed;
       read = read;
-      plan-read = ap (λ (s : Scan). plan-of first-form (s .got)) read ∙ plan-back p;
+      plan-read = ap (λ (s : Scan). plan-of (s .got)) read ∙ plan-back p;
       taken = numbers-whole first-form (numbers-of p) (bytes-of p) parsed;
       plan-taken = plan-back p;
       written = spelled-parsed first-form (numbers-of p) (bytes-of p) parsed;
     }
 
 -- numbers that are taken are those of the plan that they tell
-listed-plan : (xs : List ℕ) → listed xs .fault .number ≡ 0 → Within (plan-of first-form xs) × (xs ≡ numbers-of (plan-of first-form xs))
+listed-plan : (xs : List ℕ) → listed xs .fault .number ≡ 0 → Within (plan-of xs) × (xs ≡ numbers-of (plan-of xs))
 unfolding listed
 listed-plan xs e =
     let (ds, parsed) = numbers-read first-form xs e in
     let (p, w, is) = parsed-plan xs ds parsed in
-    let told : p ≡ plan-of first-form xs = sym (ap (λ z. plan-of first-form z) is ∙ plan-back p) in
+    let told : p ≡ plan-of xs = sym (ap (λ z. plan-of z) is ∙ plan-back p) in
     (subst Within told w, is ∙ ap numbers-of told)
 
 pub takes-plans : Takes-plans
@@ -46,11 +46,11 @@ takes-plans = record {
     λ e.
         let xs = scanned bs .got in
         let (w, is) = listed-plan xs (ap (λ (s : Scan). s .fault .number) (listed-scanned bs b e)) in
-        (w, sym (spelled-scanned bs b e) ∙ ap spelled is ∙ stored-plan (plan-of first-form xs) w .written),
-    λ h. ap (λ z. scanned z .fault .number) (h .1) ∙ ap (λ (s : Scan). s .fault .number) (stored-plan (plan-of first-form (scanned bs .got)) (h .0) .read),
+        (w, sym (spelled-scanned bs b e) ∙ ap spelled is ∙ stored-plan (plan-of xs) w .written),
+    λ h. ap (λ z. scanned z .fault .number) (h .1) ∙ ap (λ (s : Scan). s .fault .number) (stored-plan (plan-of (scanned bs .got)) (h .0) .read),
   );
   taken = λ xs. (
     listed-plan xs,
-    λ h. ap (λ z. listed z .fault .number) (h .1) ∙ ap (λ (s : Scan). s .fault .number) (stored-plan (plan-of first-form xs) (h .0) .taken),
+    λ h. ap (λ z. listed z .fault .number) (h .1) ∙ ap (λ (s : Scan). s .fault .number) (stored-plan (plan-of xs) (h .0) .taken),
   );
 }

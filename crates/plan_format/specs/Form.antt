@@ -4,7 +4,7 @@
 --   semaphores  count 1 byte, 0..64      owner: a queue, 1 byte
 --   buffers     count 2 bytes, 0..256    size in bytes, 4 bytes, any number
 --   operations  count 2 bytes, 0..1,024  queue 1; waits 1 + 9 each, 0..3; signals 1 + 9 each, 0..2; marks 1 + 3 each, 0..4
-use mathlib.Core.Bool.{Bool, false, cond}
+use mathlib.Core.Bool.{cond}
 use mathlib.Core.List.{List, [], _++_}
 use Prim.Native.Nat.{ℕ, _+_, _*_}
 use lib.Dec.{ltb}
@@ -14,16 +14,15 @@ use Rattle.plan_format.specs.Refusal.{none-given}
 use Rattle.plan_format.specs.Grammar.{Check, Grammar, field, seq, counted, nothing, Source, Scan, scan, read-by, ended, spell-by}
 
 -- what tells one stored form from another: the bytes in front, the width of a semaphore's position and of the semaphore count, the
--- limits of that count, and whether a part number follows an operation's queue
+-- limits of that count
 pub record Form : Type 0 where
   pub lead : List ℕ
   pub semaphore-width : ℕ
   pub semaphores-least : ℕ
   pub semaphores-most : ℕ
-  pub has-part : Bool
 
 unfoldable pub first-form : Form
-first-form = record { lead = []; semaphore-width = 1; semaphores-least = 0; semaphores-most = 64; has-part = false }
+first-form = record { lead = []; semaphore-width = 1; semaphores-least = 0; semaphores-most = 64 }
 
 -- where the counts stand among the numbers read
 unfoldable pub queue-count : (got : List ℕ) → ℕ
@@ -68,13 +67,13 @@ point F = seq (field (F .semaphore-width) a-semaphore) (field 8 any-number)
 unfoldable pub mark : Grammar
 mark = seq (field 2 a-buffer) (field 1 a-kind)
 
-unfoldable pub part : Form → Grammar
-part F = cond (F .has-part) (field 4 any-number) nothing
+unfoldable pub part : Grammar
+part = nothing
 
 -- 01: "An operation: queue (1 byte); wait count (1 byte, 0..3) ..; signal count (1 byte, 0..2) ..; mark count (1 byte, 0..4)"
 unfoldable pub operation : Form → Grammar
 operation F =
-    seq (field 1 a-queue) (seq (part F) (seq (counted 0 3 1 (point F)) (seq (counted 0 2 1 (point F)) (counted 0 4 1 mark))))
+    seq (field 1 a-queue) (seq part (seq (counted 0 3 1 (point F)) (seq (counted 0 2 1 (point F)) (counted 0 4 1 mark))))
 
 unfoldable pub plan-grammar : Form → Grammar
 plan-grammar F =

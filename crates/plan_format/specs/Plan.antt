@@ -1,9 +1,7 @@
 -- A plan, and the plan of a list of numbers. Assumes nothing: these are definitions.
-use mathlib.Core.Bool.{cond}
 use mathlib.Core.List.{List, [], _∷_}
 use Prim.Native.Nat.{ℕ, zero, suc, _+_, _*_}
 use lib.ListN.{length, getD, take, drop}
-use Rattle.plan_format.specs.Form.{Form}
 
 -- a value of a semaphore, waited for or signalled
 pub record Point : Type 0 where
@@ -51,30 +49,30 @@ marks-in zero xs = []
 marks-in (suc k) xs = record { buffer = getD xs 0 0; kind = getD xs 1 0 } ∷ marks-in k (drop 2 xs)
 
 -- how many numbers stand before an operation's wait count
-unfoldable pub heading : Form → ℕ
-heading F = cond (F .has-part) 2 1
+unfoldable pub heading : ℕ
+heading = 1
 
-unfoldable pub operation-in : Form → List ℕ → Operation
-operation-in F xs =
-    let h = heading F in
+unfoldable pub operation-in : List ℕ → Operation
+operation-in xs =
+    let h = heading in
     let w = getD xs h 0 in
     let s = getD xs (h + 1 + 2 * w) 0 in
     let m = getD xs (h + 2 + 2 * w + 2 * s) 0 in
     record { queue = getD xs 0 0; waits = points-in w (drop (h + 1) xs); signals = points-in s (drop (h + 2 + 2 * w) xs); marks = marks-in m (drop (h + 3 + 2 * w + 2 * s) xs) }
 
 -- how many numbers an operation takes
-unfoldable pub operation-long : Form → List ℕ → ℕ
-operation-long F xs =
-    let h = heading F in
+unfoldable pub operation-long : List ℕ → ℕ
+operation-long xs =
+    let h = heading in
     let w = getD xs h 0 in
     let s = getD xs (h + 1 + 2 * w) 0 in h + 3 + 2 * w + 2 * s + 2 * getD xs (h + 2 + 2 * w + 2 * s) 0
 
-unfoldable pub operations-in : Form → (many : ℕ) → List ℕ → List Operation
-operations-in F zero xs = []
-operations-in F (suc k) xs = operation-in F xs ∷ operations-in F k (drop (operation-long F xs) xs)
+unfoldable pub operations-in : (many : ℕ) → List ℕ → List Operation
+operations-in zero xs = []
+operations-in (suc k) xs = operation-in xs ∷ operations-in k (drop (operation-long xs) xs)
 
-unfoldable pub plan-of : Form → List ℕ → Plan
-plan-of F xs =
+unfoldable pub plan-of : List ℕ → Plan
+plan-of xs =
     let q = getD xs 0 0 in
     let s = getD xs (1 + q) 0 in
     let b = getD xs (2 + q + s) 0 in
@@ -82,5 +80,5 @@ plan-of F xs =
       axes = take q (drop 1 xs);
       owners = take s (drop (2 + q) xs);
       sizes = take b (drop (3 + q + s) xs);
-      operations = operations-in F (getD xs (3 + q + s + b) 0) (drop (4 + q + s + b) xs);
+      operations = operations-in (getD xs (3 + q + s + b) 0) (drop (4 + q + s + b) xs);
     }

@@ -24,11 +24,11 @@ pub record Stored-plan (p : Plan) : Type 0 where
   pub read : scanned (bytes-of p) ≡ scan [] (length (bytes-of p)) (numbers-of p) none-given
   pub plan-read : plan-in (bytes-of p) ≡ p
   pub taken : listed (numbers-of p) ≡ scan [] (length (numbers-of p)) (numbers-of p) none-given
-  pub plan-taken : plan-of first-form (numbers-of p) ≡ p
+  pub plan-taken : plan-of (numbers-of p) ≡ p
   pub written : spelled (numbers-of p) ≡ bytes-of p
 
 -- 01: "Stored plan"; "No number is given on other grounds.": reader and writer take every plan within the limits, and nothing else
 pub record Takes-plans : Type 0 where
   pub every : (p : Plan) → Within p → Stored-plan p
   pub read : (bs : List ℕ) → all-bytes bs ≡ true → (scanned bs .fault .number ≡ 0) ↔ (Within (plan-in bs) × (bs ≡ bytes-of (plan-in bs)))
-  pub taken : (xs : List ℕ) → (listed xs .fault .number ≡ 0) ↔ (Within (plan-of first-form xs) × (xs ≡ numbers-of (plan-of first-form xs)))
+  pub taken : (xs : List ℕ) → (listed xs .fault .number ≡ 0) ↔ (Within (plan-of xs) × (xs ≡ numbers-of (plan-of xs)))

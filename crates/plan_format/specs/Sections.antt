@@ -4,7 +4,7 @@ use mathlib.Core.Bool.{cond}
 use Prim.Native.Nat.{ℕ}
 use lib.Dec.{ltb}
 use Rattle.plan_format.specs.Grammar.{Check, Grammar, field, seq, counted}
-use Rattle.plan_format.specs.Form.{first-form, any-number, new-axis, part}
+use Rattle.plan_format.specs.Form.{any-number, new-axis, part}
 
 unfoldable pub limited : (limit over : ℕ) → Check
 limited l n g v = cond (ltb v l) 0 n
@@ -24,4 +24,4 @@ mark-below b = seq (field 2 (limited b 4)) (field 1 (limited 2 4))
 unfoldable pub operation-below : (queues semaphores buffers : ℕ) → Grammar
 operation-below q m b =
     seq (field 1 (limited q 4))
-    (seq (part first-form) (seq (counted 0 3 1 (point-below m)) (seq (counted 0 2 1 (point-below m)) (counted 0 4 1 (mark-below b)))))
+    (seq part (seq (counted 0 3 1 (point-below m)) (seq (counted 0 2 1 (point-below m)) (counted 0 4 1 (mark-below b)))))

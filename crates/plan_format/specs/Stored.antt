@@ -25,7 +25,7 @@ unfoldable pub listed : List ℕ → Scan
 listed xs = scanned-by numbers first-form xs
 
 unfoldable pub plan-in : List ℕ → Plan
-plan-in bs = plan-of first-form (scanned bs .got)
+plan-in bs = plan-of (scanned bs .got)
 
 -- the stored bytes of a list of numbers
 unfoldable pub spelled : List ℕ → List ℕ

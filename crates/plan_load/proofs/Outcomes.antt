@@ -129,10 +129,10 @@ module _ (bs : List ℕ) (h : Head) (nums queue₀ wsem₀ wval₀ ssem₀ sval�
         all-are : all ≡ h .queues ∷ (front .axes ++ (h .semaphores ∷ (front .owners ++ (h .buffers ∷ (front .sizes ++ (h .operations ∷ l .blocks))))))
         all-are = ap (λ (x : List ℕ). x ++ l .blocks) (front .numbers-are) ∙ simp append-assoc
 
-        plan-is : plan-in bs ≡ record { axes = front .axes; owners = front .owners; sizes = front .sizes; operations = operations-in first-form (h .operations) (l .blocks) }
+        plan-is : plan-in bs ≡ record { axes = front .axes; owners = front .owners; sizes = front .sizes; operations = operations-in (h .operations) (l .blocks) }
         unfolding plan-in
         plan-is =
-            ap (plan-of first-form) (scanned-are ∙ all-are)
+            ap (plan-of) (scanned-are ∙ all-are)
             ∙ plan-whole first-form (h .queues) (h .semaphores) (h .buffers) (h .operations) (front .axes) (front .owners) (front .sizes) (l .blocks) (front .axes-long) (front .owners-long) (front .sizes-long)
 
         small : Small (h .queues) (h .semaphores) (h .buffers)
@@ -143,10 +143,10 @@ module _ (bs : List ℕ) (h : Head) (nums queue₀ wsem₀ wval₀ ssem₀ sval�
           few-buffers = omega (arith, shape bs clean .few-buffers, ap (λ (p : Plan). length (p .sizes)) plan-is, front .sizes-long);
         }
 
-        operations-are : plan-in bs .operations ≡ operations-in first-form (h .operations) (drop (length heading) (all ++ []))
+        operations-are : plan-in bs .operations ≡ operations-in (h .operations) (drop (length heading) (all ++ []))
         operations-are =
             ap (λ (p : Plan). p .operations) plan-is
-            ∙ ap (operations-in first-form (h .operations)) (sym (ap (λ (x : List ℕ). drop (length heading) x) (append-nil all) ∙ drop-append-seam heading (l .blocks)))
+            ∙ ap (operations-in (h .operations)) (sym (ap (λ (x : List ℕ). drop (length heading) x) (append-nil all) ∙ drop-append-seam heading (l .blocks)))
 
         -- the numbers in front of the operations, and what stands behind them
         split : nums ≡ (h .queues ∷ front .axes) ++ (h .semaphores ∷ (front .owners ++ ((h .buffers ∷ (front .sizes ++ (h .operations ∷ []))) ++ drop (h .got) nums)))

@@ -31,7 +31,7 @@ module _ {q m b : ℕ} (small : Small q m b) (front block more junk : List ℕ) 
   o = operation-of first-form q m b block k
 
   there : here all at ≡ o
-  there = ap (operation-in first-form) (drop-append-seam front (block ++ more)) ∙ block-operation first-form q m b block more k
+  there = ap (operation-in) (drop-append-seam front (block ++ more)) ∙ block-operation first-form q m b block more k
 
   first : here window 0 ≡ o
   first = block-operation first-form q m b block junk k
@@ -48,7 +48,7 @@ module _ {q m b : ℕ} (small : Small q m b) (front block more junk : List ℕ) 
   further : length (front ++ block) ≡ next-at all at
   further =
       length-append front block
-      ∙ sym (next-is all at fits ∙ ap (λ (n : ℕ). at + n) (ap (operation-long first-form) (drop-append-seam front (block ++ more)) ∙ block-long first-form q m b block more k))
+      ∙ sym (next-is all at fits ∙ ap (λ (n : ℕ). at + n) (ap (operation-long) (drop-append-seam front (block ++ more)) ∙ block-long first-form q m b block more k))
 
   moved : {A : Type 0} (h : A → ℕ) (of : Operation → List A) {part other : List ℕ} → part ≡ map h (of (here window 0)) → other ≡ map h (of (here all at)) → part ≡ other
   moved h of e f = e ∙ ap (λ (z : Operation). map h (of z)) same ∙ sym f
