@@ -13,7 +13,7 @@ use Rattle.basics.proofs.Stores.{map-append, tabulate-map}
 use Rattle.basics.proofs.Tables.{tabulate-length, tabulate-at}
 use Rattle.basics.proofs.Tests.{by-cases}
 use Rattle.plan_format.specs.Form.{first-form}
-use Rattle.plan_format.specs.Plan.{Point, Mark, Operation, no-operation, operation-long, operations-in}
+use Rattle.plan_format.specs.Plan.{Point, Mark, Operation, empty-operation, operation-long, operations-in}
 use Rattle.plan_order.specs.Precedence.{Signal, signals-of, signals-from}
 use Rattle.plan_columns.specs.Columns.{no-point, no-signal, Marked, no-mark, marked-of, marked-from}
 use Rattle.plan_columns.specs.Filling.{three, Part, wait-count, signal-count, mark-count, signals-at, marks-at, first-at, second-at, next-at, queue-part, wait-semaphore-part, wait-value-part, signal-semaphore-part, signal-value-part, signal-operation-part, mark-part, mark-operation-part, parts}
@@ -26,7 +26,7 @@ joined of i (o ∷ os) = of i o ++ joined of (suc i) os
 
 module _ {A : Type 0} (of : ℕ → Operation → List A) where
   -- at most so many each
-  pub joined-few : (c i : ℕ) (os : List Operation) → ((j : ℕ) → j < length os → length (of (i + j) (getD os j no-operation)) ≤ c) → length (joined of i os) ≤ c * length os
+  pub joined-few : (c i : ℕ) (os : List Operation) → ((j : ℕ) → j < length os → length (of (i + j) (getD os j empty-operation)) ≤ c) → length (joined of i os) ≤ c * length os
   unfolding joined
   joined-few c i [] h = omega arith
   joined-few c i (o ∷ os) h =
@@ -35,7 +35,7 @@ module _ {A : Type 0} (of : ℕ → Operation → List A) where
         arith,
         length-append (of i o) (joined of (suc i) os),
         mul-suc c (length os),
-        joined-few c (suc i) os (λ j l. subst (λ (z : ℕ). length (of z (getD os j no-operation)) ≤ c) (omega arith) (h (suc j) (omega arith))),
+        joined-few c (suc i) os (λ j l. subst (λ (z : ℕ). length (of z (getD os j empty-operation)) ≤ c) (omega arith) (h (suc j) (omega arith))),
       )
 
   -- as many each
@@ -46,7 +46,7 @@ module _ {A : Type 0} (of : ℕ → Operation → List A) where
     joined-long i (o ∷ os) = omega (arith, length-append (of i o) (joined of (suc i) os), even i o, joined-long (suc i) os, mul-suc width (length os))
 
     pub joined-at : (i : ℕ) (os : List Operation) (j c : ℕ) (d : A) → j < length os → c < width →
-        getD (joined of i os) (width * j + c) d ≡ getD (of (i + j) (getD os j no-operation)) c d
+        getD (joined of i os) (width * j + c) d ≡ getD (of (i + j) (getD os j empty-operation)) c d
     unfolding joined
     joined-at i [] j c d l b = absurd (not-suc-le-zero l)
     joined-at i (o ∷ os) zero c d l b =
@@ -57,12 +57,12 @@ module _ {A : Type 0} (of : ℕ → Operation → List A) where
         ap (λ (z : ℕ). getD (of i o ++ joined of (suc i) os) z d) (let e : width * suc j + c ≡ length (of i o) + (width * j + c) = omega (arith, even i o, mul-suc width j) in e)
         ∙ getD-append-add (of i o) (joined of (suc i) os) (width * j + c) d
         ∙ joined-at (suc i) os j c d (le-of-suc-le-suc l) b
-        ∙ ap (λ (z : ℕ). getD (of z (getD os j no-operation)) c d) (let e : suc i + j ≡ i + suc j = omega arith in e)
+        ∙ ap (λ (z : ℕ). getD (of z (getD os j empty-operation)) c d) (let e : suc i + j ≡ i + suc j = omega arith in e)
 
 -- ---- parts of operations that fit are what the operations say
 module _ (X : List ℕ) {A : Type 0} (f : Part) (h : A → ℕ) (of : ℕ → Operation → List A)
     (same : (i at : ℕ) → Fits (here X at) → f i at ≡ map h (of i (here X at))) where
-  pub parts-map : (n i at : ℕ) → ((j : ℕ) → j < n → Fits (getD (operations-in n (drop at X)) j no-operation)) →
+  pub parts-map : (n i at : ℕ) → ((j : ℕ) → j < n → Fits (getD (operations-in n (drop at X)) j empty-operation)) →
       parts X f n i at ≡ map h (joined of i (operations-in n (drop at X)))
   unfolding parts joined operations-in
   parts-map zero i at fit = refl

@@ -8,7 +8,7 @@ use lib.Seq.{sets}
 use Rattle.basics.proofs.Stores.{sets-at}
 use Rattle.basics.proofs.Tables.{tabulate-length, tabulate-at}
 use Rattle.plan_format.specs.Form.{first-form}
-use Rattle.plan_format.specs.Plan.{Point, Operation, Plan, no-operation, count, op, operations-in}
+use Rattle.plan_format.specs.Plan.{Point, Operation, Plan, empty-operation, count, op, operations-in}
 use Rattle.plan_order.specs.Precedence.{Signal, plan-signals}
 use Rattle.plan_columns.specs.Columns.{no-point, no-signal, Marked, no-mark, plan-marks, Queue-column, wait-at, Wait-columns, Signal-columns, Mark-columns}
 use Rattle.plan_columns.specs.Shown.{Limits, Shown}
@@ -58,9 +58,9 @@ module _ (p : Plan) (limits : Limits p) (X : List ℕ) (n first : ℕ) (stand : 
         kinds = r .kinds;
       }
 
-  all-fit : (j : ℕ) → j < n → Fits (getD (operations-in n (drop first X)) j no-operation)
+  all-fit : (j : ℕ) → j < n → Fits (getD (operations-in n (drop first X)) j empty-operation)
   unfolding op
-  all-fit j l = subst (λ (z : List Operation). Fits (getD z j no-operation)) stand (plan-fits j (omega (arith, many-is)))
+  all-fit j l = subst (λ (z : List Operation). Fits (getD z j empty-operation)) stand (plan-fits j (omega (arith, many-is)))
 
   -- a column's parts, by the plan's operations
   says : {A : Type 0} (f : Part) (h : A → ℕ) (of : ℕ → Operation → List A) → ((i at : ℕ) → Fits (here X at) → f i at ≡ map h (of i (here X at))) →
@@ -75,10 +75,10 @@ module _ (p : Plan) (limits : Limits p) (X : List ℕ) (n first : ℕ) (stand : 
         let of : ℕ → Operation → List Operation = λ i o. o ∷ [] in
         let long = joined-long of 1 (λ i o. refl) 0 (p .operations) in
         let e : 1 * j + 0 ≡ j = omega arith in
-        column-shows done (b .queues) (λ o. o .queue) no-operation (joined of 0 (p .operations)) (says (queue-part X) (λ o. o .queue) of (λ i at f. queue-same X i at f)) refl
+        column-shows done (b .queues) (λ o. o .queue) empty-operation (joined of 0 (p .operations)) (says (queue-part X) (λ o. o .queue) of (λ i at f. queue-same X i at f)) refl
         (omega (arith, long, limits .few-operations)) j (omega (arith, long))
-        ∙ ap (λ (o : Operation). o .queue) (subst (λ (z : ℕ). getD (joined of 0 (p .operations)) z no-operation ≡ getD (p .operations) j no-operation) e
-        (joined-at of 1 (λ i o. refl) 0 (p .operations) j 0 no-operation l (omega arith)))
+        ∙ ap (λ (o : Operation). o .queue) (subst (λ (z : ℕ). getD (joined of 0 (p .operations)) z empty-operation ≡ getD (p .operations) j empty-operation) e
+        (joined-at of 1 (λ i o. refl) 0 (p .operations) j 0 empty-operation l (omega arith)))
 
     -- a number of a wait
     wait-shown : (h : Point → ℕ) → h no-point ≡ 0 → {f : Part} {before now : List ℕ} → parts X f n 0 first ≡ map h (joined three-waits 0 (p .operations)) → Column X f 3072 n first before now i at (3 * i) →
@@ -87,7 +87,7 @@ module _ (p : Plan) (limits : Limits p) (X : List ℕ) (n first : ℕ) (stand : 
     wait-shown h z s c j k l u =
         let even : (i : ℕ) (o : Operation) → length (three-waits i o) ≡ 3 = λ i o. tabulate-length (λ j. getD (o .waits) j no-point) 3 0 in
         let long = joined-long three-waits 3 even 0 (p .operations) in
-        let o = getD (p .operations) j no-operation in
+        let o = getD (p .operations) j empty-operation in
         column-shows done c h no-point (joined three-waits 0 (p .operations)) s z (omega (arith, long, limits .few-operations)) (3 * j + k) (omega (arith, long))
         ∙ ap h (joined-at three-waits 3 even 0 (p .operations) j k no-point l u ∙ tabulate-at (λ j. getD (o .waits) j no-point) 3 0 k no-point u
         ∙ ap (λ (z : ℕ). getD (o .waits) z no-point) (let e : 0 + k ≡ k = omega arith in e))

@@ -11,7 +11,7 @@ use lib.ListN.{length, getD, take, drop, getElem?}
 use lib.Seq.{take-suc}
 use borrow.Author.Tests.{eqb-true, eq-eqb}
 use Rattle.basics.proofs.Tests.{by-cases}
-use Rattle.plan_format.specs.Plan.{Point, Operation, Plan, no-operation}
+use Rattle.plan_format.specs.Plan.{Point, Operation, Plan, empty-operation}
 use Rattle.plan_format.specs.Sound.{highest-in, highest, is-queue, owns}
 
 -- ---- a list from a place on
@@ -52,7 +52,7 @@ module _ (s v : ℕ) where
       getD xs l (record { semaphore = 0; value = 0 }) .value < v
 
   abbrev pub Over-all : List Operation → Type 0
-  Over-all os = (j : ℕ) → Over (getD os j no-operation .signals)
+  Over-all os = (j : ℕ) → Over (getD os j empty-operation .signals)
 
   pub over-in : (xs : List Point) → 0 < v → Over xs → highest-in s xs < v
   unfolding highest-in
@@ -83,7 +83,7 @@ module _ (s v : ℕ) where
   highest-over (o ∷ os) h =
       let t = highest-over os (omega arith) in (t .0, λ j. at-operation j (t .1))
     where
-      at-operation : (j : ℕ) → Over-all os → Over (getD (o ∷ os) j no-operation .signals)
+      at-operation : (j : ℕ) → Over-all os → Over (getD (o ∷ os) j empty-operation .signals)
       at-operation zero r = in-over (o .signals) (omega arith) .1
       at-operation (suc j) r = r j
 
@@ -103,13 +103,13 @@ module _ (s v : ℕ) where
   taken-over (x ∷ xs) (suc k) h zero a = h 0 (omega arith) (omega arith)
   taken-over (x ∷ xs) (suc k) h (suc l) a = taken-over xs k (λ m c d. h (suc m) (omega arith) (omega arith)) l (le-of-suc-le-suc a)
 
-  pub all-taken : (os : List Operation) (i : ℕ) → Over-all (take i os) → (j : ℕ) → j < i → Over (getD os j no-operation .signals)
+  pub all-taken : (os : List Operation) (i : ℕ) → Over-all (take i os) → (j : ℕ) → j < i → Over (getD os j empty-operation .signals)
   all-taken [] i o j a = λ l b. absurd (not-suc-le-zero b)
   all-taken (q ∷ os) zero o j a = absurd (not-suc-le-zero a)
   all-taken (q ∷ os) (suc i) o zero a = o 0
   all-taken (q ∷ os) (suc i) o (suc j) a = all-taken os i (λ m. o (suc m)) j (le-of-suc-le-suc a)
 
-  pub taken-all : (os : List Operation) (i : ℕ) → ((j : ℕ) → j < i → Over (getD os j no-operation .signals)) → Over-all (take i os)
+  pub taken-all : (os : List Operation) (i : ℕ) → ((j : ℕ) → j < i → Over (getD os j empty-operation .signals)) → Over-all (take i os)
   taken-all [] zero h j = λ l b. absurd (not-suc-le-zero b)
   taken-all [] (suc i) h j = λ l b. absurd (not-suc-le-zero b)
   taken-all (q ∷ os) zero h j = λ l b. absurd (not-suc-le-zero b)

@@ -12,7 +12,7 @@ use lib.Seq.{take-suc}
 use borrow.Author.Tests.{ltb-true, ltb-false, leb-true, leb-false, lt-ltb, eqb-true, eqb-false, eq-eqb}
 use Rattle.basics.proofs.Tests.{by-cases, clash, and-right, and-both, or-cases, or-left, or-right, either}
 use Rattle.plan_format.specs.Refusal.{Refusal, refusal, none-given}
-use Rattle.plan_format.specs.Plan.{Point, Operation, Plan, no-operation, op}
+use Rattle.plan_format.specs.Plan.{Point, Operation, Plan, empty-operation, op}
 use Rattle.plan_format.specs.Sound.{highest-in, highest, owns, signals-number, signals-refusal, too-high, any-too-high, waits-refusal}
 use Rattle.plan_format.specs.Meaning.{signal-at, wait-at, Is-signal, Owned, Rising, First, Bad-owner, Not-rising, Signals-good, Too-high}
 use Rattle.plan_format.proofs.Heights.{begins, ends, owns-means, Over, over-in, in-over, over-highest, highest-over, over-taken, taken-over, all-taken, taken-all, highest-more}
@@ -30,7 +30,7 @@ module _ (p : Plan) where
   signal-inside i k h =
       by-cases (ltb i (length (p .operations))) (λ t. ltb-true i (length (p .operations)) t)
       (λ f. absurd (not-suc-le-zero (subst (λ (o : Operation). k < length (o .signals))
-      (List·getD-eq-default (p .operations) no-operation (ltb-false i (length (p .operations)) f)) h)))
+      (List·getD-eq-default (p .operations) empty-operation (ltb-false i (length (p .operations)) f)) h)))
 
   -- ---- rising: above the highest before
   module _ (i k : ℕ) where
@@ -137,12 +137,12 @@ module _ (p : Plan) where
   unfolding signals-refusal op
   signals-say i [] e good = signals-good refl (λ j l g. good j l (omega (arith, ends (p .operations) i e, signal-inside j l g)) g)
   signals-say i (o ∷ os) e good =
-      let w = begins no-operation (p .operations) i o os e in
+      let w = begins empty-operation (p .operations) i o os e in
       let before = take i (p .operations) in
       subst (λ (z : Operation). Signals-say (signals-refusal i p before (z ∷ os))) (w .here)
       (signals-step i (signals-number p (op p i .queue) before [] (op p i .signals)) (signals-refusal (suc i) p (before ++ (op p i ∷ [])) os) good
       (number-says i 0 [] (op p i .signals) refl (λ s. refl) (λ l a. absurd (not-suc-le-zero a)))
-      (λ own. subst (λ (z : List Operation). Signals-say (signals-refusal (suc i) p z os)) (take-suc (p .operations) i no-operation (w .inside))
+      (λ own. subst (λ (z : List Operation). Signals-say (signals-refusal (suc i) p z os)) (take-suc (p .operations) i empty-operation (w .inside))
       (signals-say (suc i) os (w .on) (lower-more i good own))))
 
   -- ---- waits
@@ -184,13 +184,13 @@ module _ (p : Plan) where
   wait-inside i k t =
       by-cases (ltb i (length (p .operations))) (λ a. ltb-true i (length (p .operations)) a)
       (λ f. absurd (not-suc-le-zero (subst (λ (o : Operation). k < length (o .waits))
-      (List·getD-eq-default (p .operations) no-operation (ltb-false i (length (p .operations)) f)) (t .wait))))
+      (List·getD-eq-default (p .operations) empty-operation (ltb-false i (length (p .operations)) f)) (t .wait))))
 
   waits-say : (i : ℕ) (os : List Operation) → drop i (p .operations) ≡ os → ((j l : ℕ) → j < i → Too-high p j l → ⊥) → Waits-say (waits-refusal i p os)
   unfolding waits-refusal op
   waits-say i [] e low = waits-good refl (λ j l t. low j l (omega (arith, ends (p .operations) i e, wait-inside j l t)) t)
   waits-say i (o ∷ os) e low =
-      let w = begins no-operation (p .operations) i o os e in
+      let w = begins empty-operation (p .operations) i o os e in
       let same : any-too-high p (op p i .waits) ≡ any-too-high p (o .waits) = ap (λ (z : Operation). any-too-high p (z .waits)) (w .here) in
       by-cases (any-too-high p (o .waits))
       (λ t. let r = any-gives (op p i .waits) (same ∙ t) in rw t (waits-eight i (r .0) refl (high-too i (r .0) (r .1) (r .2)) low))

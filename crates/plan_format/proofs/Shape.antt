@@ -10,7 +10,7 @@ use lib.Seq.{getD-take, length-take-le}
 use Rattle.basics.specs.Lists.{member}
 use Rattle.basics.proofs.Members.{member-here, member-there}
 use Rattle.plan_format.specs.Form.{Form, queue-count, new-axis, a-queue, plan-grammar}
-use Rattle.plan_format.specs.Plan.{Point, Mark, Operation, Plan, no-operation, count, op, queues, points-in, marks-in, operations-in, plan-of}
+use Rattle.plan_format.specs.Plan.{Point, Mark, Operation, Plan, empty-operation, count, op, queues, points-in, marks-in, operations-in, plan-of}
 use Rattle.plan_format.specs.Sound.{In-range}
 use Rattle.plan_format.proofs.Parses.{Spelt, Parses}
 use Rattle.plan_format.proofs.Entries.{Row}
@@ -93,12 +93,12 @@ module _ (F : Form) where
   }
 
   each-operation : (q s b : ℕ) (P : Operation → Type 0) → ((xs : List ℕ) (k : Block F q s b xs) → P (operation-of F q s b xs k)) →
-      (n : ℕ) (xs : List ℕ) → Blocks F q s b n xs → (i : ℕ) → i < n → P (getD (operations-in n xs) i no-operation)
+      (n : ℕ) (xs : List ℕ) → Blocks F q s b n xs → (i : ℕ) → i < n → P (getD (operations-in n xs) i empty-operation)
   each-operation q s b P h zero xs k i l = absurd (not-suc-le-zero l)
-  each-operation q s b P h (suc n) xs k zero l = subst (λ z. P (getD z 0 no-operation)) (sym (operations-cons F q s b n xs k))
+  each-operation q s b P h (suc n) xs k zero l = subst (λ z. P (getD z 0 empty-operation)) (sym (operations-cons F q s b n xs k))
       (h (k .block) (k .first))
   each-operation q s b P h (suc n) xs k (suc i) l =
-      subst (λ z. P (getD z (suc i) no-operation)) (sym (operations-cons F q s b n xs k))
+      subst (λ z. P (getD z (suc i) empty-operation)) (sym (operations-cons F q s b n xs k))
       (each-operation q s b P h n (k .rest) (k .more) i (le-of-suc-le-suc l))
 
   abbrev told : (xs : List ℕ) → Sections F xs → Plan
@@ -131,7 +131,7 @@ module _ (F : Form) where
       each : (P : Operation → Type 0) →
           ((xs : List ℕ) (k : Block F (c .queues) (c .semaphores) (c .buffers) xs) →
           P (operation-of F (c .queues) (c .semaphores) (c .buffers) xs k)) →
-          (i : ℕ) → i < c .operations → P (getD (operations-in (c .operations) (c .blocks)) i no-operation)
+          (i : ℕ) → i < c .operations → P (getD (operations-in (c .operations) (c .blocks)) i empty-operation)
       each P h = each-operation (c .queues) (c .semaphores) (c .buffers) P h (c .operations) (c .blocks) (c .blocks-are)
 
   pub shape : (D : Spelt) (xs ds : List ℕ) → Parses D (plan-grammar F) [] xs ds → Shaped F (plan-of xs)

@@ -10,6 +10,7 @@ use Prim.Native.Nat.{ℕ, _+_, _*_}
 use lib.Dec.{ltb}
 use lib.ListN.{length, getD, drop}
 use Rattle.basics.specs.Lists.{member}
+use Rattle.plan_format.specs.Sizes.{most-queues, most-semaphores, most-buffers, most-operations, most-waits, most-signals, most-marks}
 use Rattle.plan_format.specs.Refusal.{none-given}
 use Rattle.plan_format.specs.Grammar.{Check, Grammar, field, seq, counted, nothing, Source, Scan, scan, read-by, ended, spell-by}
 
@@ -22,7 +23,7 @@ pub record Form : Type 0 where
   pub semaphores-most : ℕ
 
 unfoldable pub first-form : Form
-first-form = record { lead = []; semaphore-width = 1; semaphores-least = 0; semaphores-most = 64 }
+first-form = record { lead = []; semaphore-width = 1; semaphores-least = 0; semaphores-most = most-semaphores }
 
 -- where the counts stand among the numbers read
 unfoldable pub queue-count : (got : List ℕ) → ℕ
@@ -73,13 +74,13 @@ part = nothing
 -- 01: "An operation: queue (1 byte); wait count (1 byte, 0..3) ..; signal count (1 byte, 0..2) ..; mark count (1 byte, 0..4)"
 unfoldable pub operation : Form → Grammar
 operation F =
-    seq (field 1 a-queue) (seq part (seq (counted 0 3 1 (point F)) (seq (counted 0 2 1 (point F)) (counted 0 4 1 mark))))
+    seq (field 1 a-queue) (seq part (seq (counted 0 most-waits 1 (point F)) (seq (counted 0 most-signals 1 (point F)) (counted 0 most-marks 1 mark))))
 
 unfoldable pub plan-grammar : Form → Grammar
 plan-grammar F =
-    seq (counted 0 16 1 (field 8 new-axis))
+    seq (counted 0 most-queues 1 (field 8 new-axis))
     (seq (counted (F .semaphores-least) (F .semaphores-most) (F .semaphore-width) (field 1 a-queue))
-    (seq (counted 0 256 2 (field 4 any-number)) (counted 0 1024 2 (operation F))))
+    (seq (counted 0 most-buffers 2 (field 4 any-number)) (counted 0 most-operations 2 (operation F))))
 
 -- reading a whole plan: from behind the lead byte to the end
 unfoldable pub scanned-by : Source → Form → List ℕ → Scan

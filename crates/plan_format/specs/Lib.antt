@@ -1,3 +1,4 @@
+pub mod Sizes
 pub mod Refusal
 pub mod Grammar
 pub mod Form

@@ -4,6 +4,7 @@ use mathlib.Core.Path.{_≡_}
 use mathlib.Core.List.{List, [], _∷_, _++_, flatMap}
 use Prim.Native.Nat.{ℕ, _^_, _≤_, _<_}
 use lib.ListN.{length, getD}
+use Rattle.plan_format.specs.Sizes.{most-queues, most-semaphores, most-buffers, most-operations, most-waits, most-signals, most-marks}
 use Rattle.plan_format.specs.Grammar.{digits}
 use Rattle.plan_format.specs.Plan.{Point, Mark, Operation, Plan}
 
@@ -24,24 +25,24 @@ pub record Mark-within (buffers : ℕ) (m : Mark) : Type 0 where
 -- 01: "An operation: queue (1 byte); wait count (1 byte, 0..3) ..; signal count (1 byte, 0..2) ..; mark count (1 byte, 0..4)"
 pub record Operation-within (queues semaphores buffers : ℕ) (o : Operation) : Type 0 where
   pub queue : o .queue < queues
-  pub few-waits : length (o .waits) ≤ 3
+  pub few-waits : length (o .waits) ≤ most-waits
   pub waits : Each (Point-within semaphores) (o .waits)
-  pub few-signals : length (o .signals) ≤ 2
+  pub few-signals : length (o .signals) ≤ most-signals
   pub signals : Each (Point-within semaphores) (o .signals)
-  pub few-marks : length (o .marks) ≤ 4
+  pub few-marks : length (o .marks) ≤ most-marks
   pub marks : Each (Mark-within buffers) (o .marks)
 
 -- 01: "queues, 0..16: axis, 8 bytes, all distinct", "semaphores, 0..64: owner: a queue", "buffers, 0..256: size in bytes, 4 bytes, any number",
 -- "operations, 0..1,024"
 pub record Within (p : Plan) : Type 0 where
-  pub few-queues : length (p .axes) ≤ 16
+  pub few-queues : length (p .axes) ≤ most-queues
   pub axes : Each (λ a. a < 2 ^ 64) (p .axes)
   pub axes-distinct : (i k : ℕ) → i < k → k < length (p .axes) → getD (p .axes) i 0 ≡ getD (p .axes) k 0 → ⊥
-  pub few-semaphores : length (p .owners) ≤ 64
+  pub few-semaphores : length (p .owners) ≤ most-semaphores
   pub owners : Each (λ q. q < length (p .axes)) (p .owners)
-  pub few-buffers : length (p .sizes) ≤ 256
+  pub few-buffers : length (p .sizes) ≤ most-buffers
   pub sizes : Each (λ n. n < 2 ^ 32) (p .sizes)
-  pub few-operations : length (p .operations) ≤ 1024
+  pub few-operations : length (p .operations) ≤ most-operations
   pub operations : Each (Operation-within (length (p .axes)) (length (p .owners)) (length (p .sizes))) (p .operations)
 
 -- ---- 01: "A read plan is a list of numbers, one for each field in stored order, counts included"

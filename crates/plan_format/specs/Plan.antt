@@ -26,15 +26,15 @@ pub record Plan : Type 0 where
   pub sizes : List ℕ
   pub operations : List Operation
 
-abbrev pub no-operation : Operation
-no-operation = record { queue = 0; waits = []; signals = []; marks = [] }
+abbrev pub empty-operation : Operation
+empty-operation = record { queue = 0; waits = []; signals = []; marks = [] }
 
 -- how many operations, and the one at a position
 unfoldable pub count : Plan → ℕ
 count p = length (p .operations)
 
 unfoldable pub op : Plan → (i : ℕ) → Operation
-op p i = getD (p .operations) i no-operation
+op p i = getD (p .operations) i empty-operation
 
 unfoldable pub queues : Plan → ℕ
 queues p = length (p .axes)

@@ -3,6 +3,7 @@
 use mathlib.Core.Bool.{cond}
 use Prim.Native.Nat.{ℕ}
 use lib.Dec.{ltb}
+use Rattle.plan_format.specs.Sizes.{most-waits, most-signals, most-marks}
 use Rattle.plan_format.specs.Grammar.{Check, Grammar, field, seq, counted}
 use Rattle.plan_format.specs.Form.{any-number, new-axis, part}
 
@@ -24,4 +25,4 @@ mark-below b = seq (field 2 (limited b 4)) (field 1 (limited 2 4))
 unfoldable pub operation-below : (queues semaphores buffers : ℕ) → Grammar
 operation-below q m b =
     seq (field 1 (limited q 4))
-    (seq part (seq (counted 0 3 1 (point-below m)) (seq (counted 0 2 1 (point-below m)) (counted 0 4 1 (mark-below b)))))
+    (seq part (seq (counted 0 most-waits 1 (point-below m)) (seq (counted 0 most-signals 1 (point-below m)) (counted 0 most-marks 1 (mark-below b)))))

@@ -6,6 +6,7 @@ use mathlib.Core.Option.{Option, none, some}
 use Prim.Native.Nat.{ℕ, suc, _≤_, _<_, max}
 use lib.Dec.{ltb, leb, eqb}
 use lib.ListN.{length, getD, getElem?}
+use Rattle.plan_format.specs.Sizes.{most-queues, most-operations}
 use Rattle.plan_format.specs.Refusal.{Refusal, refusal, none-given, or-else}
 use Rattle.plan_format.specs.Plan.{Point, Operation, Plan, count, op, queues}
 
@@ -67,8 +68,8 @@ pub record In-range (p : Plan) (o : Operation) : Type 0 where
 
 -- what the theorems on plans need of one that gets none of refusals 1 to 8
 pub record Sound (p : Plan) : Type 0 where
-  pub few-queues : queues p ≤ 16
-  pub few-operations : count p ≤ 1024
+  pub few-queues : queues p ≤ most-queues
+  pub few-operations : count p ≤ most-operations
   pub axes-distinct : (i k : ℕ) → i < k → k < queues p → getD (p .axes) i 0 ≡ getD (p .axes) k 0 → ⊥
   pub in-range : (i : ℕ) → i < count p → In-range p (op p i)
   pub rules : rules-refusal p .number ≡ 0

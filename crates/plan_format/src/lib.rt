@@ -1,4 +1,6 @@
 // What every call on a stored plan hands back, a refusal among it, and the search that judges an axis; the format itself is in specs/.
+pub mod limits;
+
 ghost use mathlib.Core.Path.{_≡_};
 ghost use lib.ListN.{drop};
 ghost use Rattle.basics.specs.Lists.{member};

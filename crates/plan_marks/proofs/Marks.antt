@@ -8,7 +8,7 @@ use lib.ListN.{length, getD}
 use lib.Seq.{ext-getD}
 use Rattle.basics.specs.Lists.{tabulate-from}
 use Rattle.basics.proofs.Tables.{tabulate-length, tabulate-at}
-use Rattle.plan_format.specs.Plan.{Mark, Operation, Plan, no-operation, count, op}
+use Rattle.plan_format.specs.Plan.{Mark, Operation, Plan, empty-operation, count, op}
 use Rattle.plan_format.specs.Sound.{Sound}
 use Rattle.plan_columns.specs.Columns.{Marked, no-mark, marked-of, marked-from, plan-marks, Mark-columns}
 use Rattle.plan_marks.specs.Passes.{mark-of, shown-from}
@@ -31,13 +31,13 @@ module _ (P : Marked → Type 0) where
   each-of i [] h = tt
   each-of i (m ∷ ms) h = (h 0 (omega arith), each-of i ms (λ k l. h (suc k) (omega arith)))
 
-  each-from : (i : ℕ) (os : List Operation) → ((k : ℕ) → k < length os → Each P (marked-of (i + k) (getD os k no-operation .marks))) → Each P (marked-from i os)
+  each-from : (i : ℕ) (os : List Operation) → ((k : ℕ) → k < length os → Each P (marked-of (i + k) (getD os k empty-operation .marks))) → Each P (marked-from i os)
   unfolding marked-from
   each-from i [] h = tt
   each-from i (o ∷ os) h =
       each-append (marked-of i (o .marks)) (marked-from (suc i) os)
       (subst (λ (z : ℕ). Each P (marked-of z (o .marks))) (omega arith) (h 0 (omega arith)))
-      (each-from (suc i) os (λ k l. subst (λ (z : ℕ). Each P (marked-of z (getD os k no-operation .marks))) (omega arith) (h (suc k) (omega arith))))
+      (each-from (suc i) os (λ k l. subst (λ (z : ℕ). Each P (marked-of z (getD os k empty-operation .marks))) (omega arith) (h (suc k) (omega arith))))
 
   each-at : (ms : List Marked) → Each P ms → (k : ℕ) → k < length ms → P (getD ms k no-mark)
   each-at [] a k l = absurd (not-suc-le-zero l)

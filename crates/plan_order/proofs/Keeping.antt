@@ -14,7 +14,7 @@ use Rattle.basics.proofs.Tests.{by-cases, clash, or-cases, or-left, or-right, e
 use Rattle.basics.proofs.Searches.{all-gives, all-by, all-fails, all-no, lowest-some, lowest-none}
 use Rattle.basics.proofs.Tables.{join-gives, join-has}
 use Rattle.order.specs.Runs.{step-of}
-use Rattle.plan_format.specs.Plan.{Mark, Operation, Plan, no-operation, count, op}
+use Rattle.plan_format.specs.Plan.{Mark, Operation, Plan, empty-operation, count, op}
 use Rattle.plan_format.specs.Sound.{signals-refusal, waits-refusal}
 use Rattle.plan_order.specs.Precedence.{before}
 use Rattle.plan_order.specs.Runs.{is-full, ahead}
@@ -51,13 +51,13 @@ marks-each P i b (m ∷ ms) h =
     (λ t. let h′ : 0 < suc (length (marks-of i b ms)) → P i = rw t at h in rw t (h′ (omega arith), marks-each P i b ms (λ l. h′ (omega arith))))
     (λ f. rw f (marks-each P i b ms (rw f at h)))
 
-from-each : (P : ℕ → Type 0) (i b : ℕ) (os : List Operation) → ((k : ℕ) → k < length os → 0 < length (marks-of (i + k) b (getD os k no-operation .marks)) → P (i + k)) → Each P (marks-from i b os)
+from-each : (P : ℕ → Type 0) (i b : ℕ) (os : List Operation) → ((k : ℕ) → k < length os → 0 < length (marks-of (i + k) b (getD os k empty-operation .marks)) → P (i + k)) → Each P (marks-from i b os)
 unfolding marks-from
 from-each P i b [] h = tt
 from-each P i b (o ∷ os) h =
     each-append P (marks-of i b (o .marks)) (marks-from (suc i) b os)
     (marks-each P i b (o .marks) (subst (λ (z : ℕ). 0 < length (marks-of z b (o .marks)) → P z) (omega arith) (h 0 (omega arith))))
-    (from-each P (suc i) b os (λ k l. subst (λ (z : ℕ). 0 < length (marks-of z b (getD os k no-operation .marks)) → P z) (omega arith) (h (suc k) (omega arith))))
+    (from-each P (suc i) b os (λ k l. subst (λ (z : ℕ). 0 < length (marks-of z b (getD os k empty-operation .marks)) → P z) (omega arith) (h (suc k) (omega arith))))
 
 -- an operation of the plan that marks the buffer
 pub record Marks (p : Plan) (b i : ℕ) : Type 0 where

@@ -15,7 +15,7 @@ use Rattle.basics.specs.Lists.{tabulate-from}
 use Rattle.basics.proofs.Tables.{tabulate-length, tabulate-at}
 use Rattle.basics.proofs.Places.{mem-place, mem-at}
 use Rattle.basics.proofs.Pairwise.{Pairwise, pairwise-nil, pairwise-cons, pairwise-append, pairwise-same}
-use Rattle.plan_format.specs.Plan.{Mark, Operation, Plan, no-operation, op}
+use Rattle.plan_format.specs.Plan.{Mark, Operation, Plan, empty-operation, op}
 use Rattle.plan_order.specs.Holdings.{Placed, placed, marks-of, marks-from, buffer-marks}
 use Rattle.plan_order.specs.Meaning.{mark-at, own-mark, Marks-means, Marked}
 
@@ -78,7 +78,7 @@ of-only i b n (m ∷ ms) x t =
         (w .0, (suc (g .0), omega (arith, g .1), record { inside = omega (arith, g .2 .inside); on-buffer = g .2 .on-buffer; same-kind = g .2 .same-kind }))
 
 from-only : (i b : ℕ) (os : List Operation) (x : Located) → List·Memᴰ x (located-from i b os) →
-    (k : ℕ) × (x .by ≡ i + k) × Marking b (getD os k no-operation .marks) (x .place) (x .kind)
+    (k : ℕ) × (x .by ≡ i + k) × Marking b (getD os k empty-operation .marks) (x .place) (x .kind)
 unfolding located-from
 from-only i b [] x t = absurd (List·Memᴰ·not-nil t)
 from-only i b (o ∷ os) x t =
@@ -99,8 +99,8 @@ of-every i b n (suc k) (m ∷ ms) l e =
     (of-every i b (suc n) k ms (le-of-suc-le-suc l) e) in
     by-cases (eqb (m .buffer) b) (λ u. rw u (List·Memᴰ·tail t)) (λ f. rw f t)
 
-from-every : (i b j n : ℕ) (os : List Operation) → n < length (getD os j no-operation .marks) → mark-in (getD os j no-operation .marks) n .buffer ≡ b →
-    List·Memᴰ (located (i + j) n (mark-in (getD os j no-operation .marks) n .kind)) (located-from i b os)
+from-every : (i b j n : ℕ) (os : List Operation) → n < length (getD os j empty-operation .marks) → mark-in (getD os j empty-operation .marks) n .buffer ≡ b →
+    List·Memᴰ (located (i + j) n (mark-in (getD os j empty-operation .marks) n .kind)) (located-from i b os)
 unfolding located-from
 from-every i b j n [] l e = absurd (not-suc-le-zero l)
 from-every i b zero n (o ∷ os) l e =
@@ -108,7 +108,7 @@ from-every i b zero n (o ∷ os) l e =
     (subst₂ (λ (y z : ℕ). List·Memᴰ (located y z (mark-in (o .marks) n .kind)) (located-of i b 0 (o .marks))) (let q : i ≡ i + 0 = omega arith in q) (zero-add n) (of-every i b 0 n (o .marks) l e))
 from-every i b (suc j) n (o ∷ os) l e =
     Memᴰ·append-right (located-of i b 0 (o .marks))
-    (subst (λ (z : ℕ). List·Memᴰ (located z n (mark-in (getD os j no-operation .marks) n .kind)) (located-from (suc i) b os)) (let q : suc i + j ≡ i + suc j = omega arith in q) (from-every (suc i) b j n os l e))
+    (subst (λ (z : ℕ). List·Memᴰ (located z n (mark-in (getD os j empty-operation .marks) n .kind)) (located-from (suc i) b os)) (let q : suc i + j ≡ i + suc j = omega arith in q) (from-every (suc i) b j n os l e))
 
 -- ---- in plan order, inside one operation in list order
 abbrev Earlier : (x y : Located) → Type 0
@@ -169,7 +169,7 @@ module _ (p : Plan) (b : ℕ) where
   marking k l =
       let x = at all-located k in
       let w = from-only 0 b (p .operations) x (mem-at all-located nowhere k (omega (arith, long))) in
-      subst (λ (z : ℕ). Marking b (getD (p .operations) z no-operation .marks) (x .place) (x .kind)) (let e : w .0 ≡ mark-at (buffer-marks p b) k .by = omega (arith, w .1, same-by k) in e) (w .2)
+      subst (λ (z : ℕ). Marking b (getD (p .operations) z empty-operation .marks) (x .place) (x .kind)) (let e : w .0 ≡ mark-at (buffer-marks p b) k .by = omega (arith, w .1, same-by k) in e) (w .2)
 
   found : (i n : ℕ) → n < length (op p i .marks) → own-mark p i n .buffer ≡ b →
       (k : ℕ) × (k < length (buffer-marks p b)) × (mark-at (buffer-marks p b) k .by ≡ i) × (at all-located k .place ≡ n)

@@ -11,7 +11,7 @@ use lib.Dec.{ltb, leb, eqb}
 use lib.ListN.{length, getD}
 use borrow.Author.Tests.{ltb-true, ltb-false, leb-true, le-leb, eqb-true, eqb-false, eq-eqb}
 use Rattle.basics.proofs.Tests.{by-cases, by-option, clash, and-left, and-right, and-both, either}
-use Rattle.plan_format.specs.Plan.{Point, Operation, Plan, no-operation, count, op}
+use Rattle.plan_format.specs.Plan.{Point, Operation, Plan, empty-operation, count, op}
 use Rattle.plan_order.specs.Precedence.{Signal, signals-of, signals-from, plan-signals, reaches, nearer, nearest, Resolution, free, on, never, resolution-of, resolve, rests-on}
 use Rattle.plan_order.proofs.Signals.{signals-value, value-here, value-there, value-cons}
 
@@ -68,7 +68,7 @@ value-at s v (x ∷ xs) (suc k) l a b = value-there s v x xs (value-at s v xs k 
 pub record Signalled (os : List Operation) (i : ℕ) (y : Signal) : Type 0 where
   pub low : i ≤ y .operation
   pub high : y .operation < length os + i
-  pub stands : Stands (y .operation) 0 (getD os (y .operation - i) no-operation .signals) y
+  pub stands : Stands (y .operation) 0 (getD os (y .operation - i) empty-operation .signals) y
 
 from-signalled : (i : ℕ) (os : List Operation) (y : Signal) → List·Memᴰ y (signals-from i os) → Signalled os i y
 unfolding signals-from
@@ -80,7 +80,7 @@ from-signalled i (o ∷ os) y m =
     record {
       low = omega (arith, w .by-it);
       high = omega (arith, w .by-it);
-      stands = subst (λ (n : ℕ). Stands (y .operation) 0 (getD (o ∷ os) n no-operation .signals) y) here
+      stands = subst (λ (n : ℕ). Stands (y .operation) 0 (getD (o ∷ os) n empty-operation .signals) y) here
           (subst (λ (n : ℕ). Stands n 0 (o .signals) y) (sym (w .by-it)) w);
     })
     (λ t. let w = from-signalled (suc i) os y t in
@@ -88,10 +88,10 @@ from-signalled i (o ∷ os) y m =
     record {
       low = omega (arith, w .low);
       high = omega (arith, w .high);
-      stands = subst (λ (n : ℕ). Stands (y .operation) 0 (getD (o ∷ os) n no-operation .signals) y) further (w .stands);
+      stands = subst (λ (n : ℕ). Stands (y .operation) 0 (getD (o ∷ os) n empty-operation .signals) y) further (w .stands);
     })
 
-from-has : (i s v : ℕ) (os : List Operation) (k : ℕ) → k < length os → signals-value s v (getD os k no-operation .signals) ≡ true →
+from-has : (i s v : ℕ) (os : List Operation) (k : ℕ) → k < length os → signals-value s v (getD os k empty-operation .signals) ≡ true →
     (y : Signal) × List·Memᴰ y (signals-from i os) × (y .operation ≡ i + k) × (y .semaphore ≡ s) × (y .value ≡ v)
 unfolding signals-from
 from-has i s v [] k l h = absurd (not-suc-le-zero l)
@@ -180,7 +180,7 @@ module _ (p : Plan) (w : Point) where
       let sem = eqb-true (x .semaphore) (w .semaphore) (and-left (eqb (x .semaphore) (w .semaphore)) (leb (w .value) (x .value)) r) in
       let at-it : x .operation - 0 ≡ x .operation = omega arith in
       let in-it : x .position - 0 ≡ x .position = omega arith in
-      let whole : Stands (x .operation) 0 (op p (x .operation) .signals) x = subst (λ (k : ℕ). Stands (x .operation) 0 (getD (p .operations) k no-operation .signals) x) at-it st in
+      let whole : Stands (x .operation) 0 (op p (x .operation) .signals) x = subst (λ (k : ℕ). Stands (x .operation) 0 (getD (p .operations) k empty-operation .signals) x) at-it st in
       let sem-at : getD (op p (x .operation) .signals) (x .position) no-point .semaphore ≡ w .semaphore = ap (λ (k : ℕ). getD (op p (x .operation) .signals) k no-point .semaphore) (sym in-it) ∙ whole .semaphore-there ∙ sem in
       let val-at : getD (op p (x .operation) .signals) (x .position) no-point .value ≡ x .value = ap (λ (k : ℕ). getD (op p (x .operation) .signals) k no-point .value) (sym in-it) ∙ whole .value-there-is in
       let inside-it : x .position < length (op p (x .operation) .signals) = omega (arith, whole .high) in

@@ -12,7 +12,7 @@ use lib.Seq.{getD-take}
 use borrow.Author.Tests.{ltb-false, leb-true, leb-false, eqb-true, eqb-false, eq-eqb, lt-ltb}
 use Rattle.basics.proofs.Tests.{by-cases, by-option, clash, is-false, and-left, and-right, and-both, or-cases, or-left, or-right, either}
 use Rattle.plan_format.specs.Refusal.{refusal, none-given}
-use Rattle.plan_format.specs.Plan.{Point, Operation, Plan, no-operation, count, op}
+use Rattle.plan_format.specs.Plan.{Point, Operation, Plan, empty-operation, count, op}
 use Rattle.plan_format.specs.Sound.{highest-in, highest, is-queue, owns, signals-number, signals-refusal, too-high, any-too-high, waits-refusal}
 
 -- an operation's list signals s to v
@@ -58,7 +58,7 @@ high-gives s v (x ∷ xs) a h =
     (λ g. let h′ : v ≤ max 0 (highest-in s xs) = rw g at h in absurd (omega (arith, leb-false v (highest-in s xs) f))))
 
 -- ---- over operations
-pub highest-gives : (s v : ℕ) (os : List Operation) → 0 < v → v ≤ highest s os → (i : ℕ) × (y : ℕ) × (v ≤ y) × (signals-value s y (getD os i no-operation .signals) ≡ true)
+pub highest-gives : (s v : ℕ) (os : List Operation) → 0 < v → v ≤ highest s os → (i : ℕ) × (y : ℕ) × (v ≤ y) × (signals-value s y (getD os i empty-operation .signals) ≡ true)
 unfolding highest
 highest-gives s v [] a h = absurd (omega arith)
 highest-gives s v (o ∷ os) a h =
@@ -66,7 +66,7 @@ highest-gives s v (o ∷ os) a h =
     (λ t. let w = highest-gives s v os a (leb-true v (highest s os) t) in (suc (w .0), w .1, w .2, w .3))
     (λ f. let w = high-gives s v (o .signals) a (omega (arith, leb-false v (highest s os) f)) in (0, w .0, w .1, w .2))
 
-pub highest-over : (s v : ℕ) (os : List Operation) (i : ℕ) → signals-value s v (getD os i no-operation .signals) ≡ true → v ≤ highest s os
+pub highest-over : (s v : ℕ) (os : List Operation) (i : ℕ) → signals-value s v (getD os i empty-operation .signals) ≡ true → v ≤ highest s os
 unfolding highest signals-value
 highest-over s v [] i h = absurd (false≢true h)
 highest-over s v (o ∷ os) zero h = omega (arith, value-under s v (o .signals) h)
@@ -101,7 +101,7 @@ refusal-head i p bs o os e =
     (λ f. absurd (eqb-false (signals-number p (o .queue) bs [] (o .signals)) 0 f (rw f at e)))
 
 pub refusal-none : (i : ℕ) (p : Plan) (bs os : List Operation) → signals-refusal i p bs os .number ≡ 0 → (k : ℕ) → k < length os →
-    signals-number p (getD os k no-operation .queue) (bs ++ take k os) [] (getD os k no-operation .signals) ≡ 0
+    signals-number p (getD os k empty-operation .queue) (bs ++ take k os) [] (getD os k empty-operation .signals) ≡ 0
 refusal-none i p bs [] e k l = absurd (not-suc-le-zero l)
 refusal-none i p bs (o ∷ os) e zero l = rw append-nil (refusal-head i p bs o os e .0)
 refusal-none i p bs (o ∷ os) e (suc k) l =
@@ -121,7 +121,7 @@ too-high-none p w ws e =
       (rw f at e),
     ))
 
-pub waits-none : (i : ℕ) (p : Plan) (os : List Operation) → waits-refusal i p os .number ≡ 0 → (k : ℕ) → k < length os → any-too-high p (getD os k no-operation .waits) ≡ false
+pub waits-none : (i : ℕ) (p : Plan) (os : List Operation) → waits-refusal i p os .number ≡ 0 → (k : ℕ) → k < length os → any-too-high p (getD os k empty-operation .waits) ≡ false
 unfolding waits-refusal refusal none-given
 waits-none i p [] e k l = absurd (not-suc-le-zero l)
 waits-none i p (o ∷ os) e zero l = is-false (any-too-high p (o .waits)) (λ t. let z : 8 ≡ 0 = rw t at e in omega arith)
@@ -129,7 +129,7 @@ waits-none i p (o ∷ os) e (suc k) l =
     by-cases (any-too-high p (o .waits)) (λ t. absurd (let z : 8 ≡ 0 = rw t at e in omega arith)) (λ f. waits-none (suc i) p os (rw f at e) k (le-of-suc-le-suc l))
 
 -- what signals is an operation of the list
-pub value-inside : (s v : ℕ) (os : List Operation) (k : ℕ) → signals-value s v (getD os k no-operation .signals) ≡ true → k < length os
+pub value-inside : (s v : ℕ) (os : List Operation) (k : ℕ) → signals-value s v (getD os k empty-operation .signals) ≡ true → k < length os
 unfolding signals-value
 value-inside s v [] k e = absurd (false≢true e)
 value-inside s v (o ∷ os) zero e = omega arith
@@ -157,5 +157,5 @@ module _ (p : Plan) (signals-good : signals-refusal 0 p [] (p .operations) .numb
   unfolding op
   rises i k s v w a b h g =
       let under : v ≤ highest s (take k (p .operations)) =
-      highest-over s v (take k (p .operations)) i (rw (getD-take k (p .operations) i no-operation a) h) in
+      highest-over s v (take k (p .operations)) i (rw (getD-take k (p .operations) i empty-operation a) h) in
       omega (arith, signal-facts k s w b g .1)

@@ -7,6 +7,7 @@ use mathlib.Core.Option.{Option, none, some}
 use Prim.Native.Nat.{ℕ, _*_}
 use lib.ListN.{length, replicate}
 use Rattle.basics.specs.Lists.{in-front}
+use Rattle.plan_format.specs.Sizes.{row-width}
 use Rattle.plan_format.specs.Refusal.{Refusal, refusal, none-given, given, or-else}
 use Rattle.plan_format.specs.Plan.{Plan, count}
 use Rattle.plan_format.specs.Stored.{plan-in, plan-refusal, room-for, Tells}
@@ -17,7 +18,7 @@ use Rattle.plan_order.specs.Holdings.{broken}
 
 -- 01: "9: lent table under 16 numbers for each operation, or lent run list under two for each", "table before list"
 unfoldable pub room-refusal : (n table list : ℕ) → Refusal
-room-refusal n t l = or-else (room-for (16 * n) t) (room-for (2 * n) l)
+room-refusal n t l = or-else (room-for (row-width * n) t) (room-for (2 * n) l)
 
 unfoldable pub refused-at : (number : ℕ) → (place : Option ℕ) → (otherwise : Refusal) → Refusal
 refused-at n none r = r
@@ -60,7 +61,7 @@ left-in zeros k new old = in-front (replicate k 0) old
 left-in rows-and-run k new old = in-front new old
 
 unfoldable pub table-left : Leaves → Plan → (table : List ℕ) → List ℕ
-table-left l p t = left-in l (16 * count p) (rows p) t
+table-left l p t = left-in l (row-width * count p) (rows p) t
 
 unfoldable pub list-left : Leaves → Plan → (list : List ℕ) → List ℕ
 list-left l p t = left-in l (2 * count p) (run-list p) t

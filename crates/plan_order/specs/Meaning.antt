@@ -7,6 +7,7 @@ use Prim.Native.Nat.{ℕ, suc, _+_, _*_, _≤_, _<_}
 use lib.ListN.{length, getD, take}
 use Rattle.basics.specs.Places.{Among, Counts}
 use Rattle.order.specs.Runs.{step-of}
+use Rattle.plan_format.specs.Sizes.{row-width}
 use Rattle.plan_format.specs.Refusal.{Refusal}
 use Rattle.plan_format.specs.Plan.{Point, Mark, Plan, count, op, queues}
 use Rattle.plan_format.specs.Stored.{plan-in, plan-refusal}
@@ -189,9 +190,9 @@ pub record Verdict-table (p : Plan) (q b n : ℕ) : Type 0 where
 -- ---- room
 -- 01: "9: lent table under 16 numbers for each operation, or lent run list under two for each; length needed", "table before list"
 pub record Room-means (n table list : ℕ) (f : Refusal) : Type 0 where
-  pub table-short : table < 16 * n → Refuses f 9 (16 * n)
-  pub list-short : 16 * n ≤ table → list < 2 * n → Refuses f 9 (2 * n)
-  pub enough : 16 * n ≤ table → 2 * n ≤ list → Refuses f 0 0
+  pub table-short : table < row-width * n → Refuses f 9 (row-width * n)
+  pub list-short : row-width * n ≤ table → list < 2 * n → Refuses f 9 (2 * n)
+  pub enough : row-width * n ≤ table → 2 * n ≤ list → Refuses f 0 0
 
 -- ---- the check
 -- an outcome by its number, its place and what it leaves
@@ -241,8 +242,8 @@ pub record Zeros-left (k : ℕ) (old now : List ℕ) : Type 0 where
 
 -- 01: "Sixteen numbers for each operation j. Column q is the number of operations on queue q that are j or before j"
 pub record Rows-left (p : Plan) (old now : List ℕ) : Type 0 where
-  pub kept : Past-kept (16 * count p) old now
-  pub entry : (j q : ℕ) → j < count p → q < 16 → Counts (In-column p j q) (getD now (16 * j + q) 0)
+  pub kept : Past-kept (row-width * count p) old now
+  pub entry : (j q : ℕ) → j < count p → q < row-width → Counts (In-column p j q) (getD now (row-width * j + q) 0)
 
 -- 01: "The run list holds the n positions in run order, then the n ready numbers", "the number ready before each step"
 pub record Run-left (p : Plan) (old now : List ℕ) : Type 0 where
@@ -255,5 +256,5 @@ pub record Run-left (p : Plan) (old now : List ℕ) : Type 0 where
 -- and the run there"; n is the number handed back
 pub record Left-by-number (p : Plan) (n : ℕ) (table table-now list list-now : List ℕ) : Type 0 where
   pub untouched : 1 ≤ n → n ≤ 9 → (table-now ≡ table) × (list-now ≡ list)
-  pub zeros : 10 ≤ n → n ≤ 11 → Zeros-left (16 * count p) table table-now × Zeros-left (2 * count p) list list-now
+  pub zeros : 10 ≤ n → n ≤ 11 → Zeros-left (row-width * count p) table table-now × Zeros-left (2 * count p) list list-now
   pub rows-and-run : (n ≡ 0) ⊎ (12 ≤ n) → Rows-left p table table-now × Run-left p list list-now

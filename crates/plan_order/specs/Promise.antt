@@ -11,6 +11,7 @@ use lib.ListN.{length, getD, take}
 use Rattle.basics.specs.Lists.{member}
 use Rattle.basics.specs.Places.{Counts}
 use Rattle.order.specs.Runs.{step-of}
+use Rattle.plan_format.specs.Sizes.{row-width}
 use Rattle.plan_format.specs.Refusal.{given}
 use Rattle.plan_format.specs.Plan.{Plan, count, op}
 use Rattle.plan_format.specs.Sound.{Sound}
@@ -72,7 +73,7 @@ Demand-3-stored bs t l n i = unrefused bs t l ≡ true → Demand-3 (plan-in bs)
 -- ---- DEMAND 2
 -- an entry of the table is the number of the queue's operations that are j or before j, by chains
 unfoldable pub Demand-2 : Plan → (table : List ℕ) → Type 0
-Demand-2 p t = (j q : ℕ) → j < count p → q < 16 → Counts (In-column p j q) (getD t (16 * j + q) 0)
+Demand-2 p t = (j q : ℕ) → j < count p → q < row-width → Counts (In-column p j q) (getD t (row-width * j + q) 0)
 
 -- what is worked out as before is before by chains
 unfoldable pub Before-right : Type 0
@@ -87,7 +88,7 @@ Before-forces p =
 -- a row's entry reaches an operation's epoch exactly if that operation is it or before it
 unfoldable pub Row-epoch : Plan → Type 0
 Row-epoch p =
-    (i j : ℕ) → i < count p → op p i .queue < 16 →
+    (i j : ℕ) → i < count p → op p i .queue < row-width →
     ((i ≡ j) ⊎ Before p i j) ↔ (epoch p i ≤ getD (row p j) (op p i .queue) 0)
 
 -- the largest entry of some rows in a column
@@ -99,7 +100,7 @@ most-of p q (k ∷ ks) = max (getD (row p k) q 0) (most-of p q ks)
 unfoldable pub Row-step : Plan → Type 0
 Row-step p =
     (j : ℕ) (ks : List ℕ) → j < count p → ((k : ℕ) → member k ks ≡ true → direct p k j ≡ true) →
-    ((i : ℕ) → direct p i j ≡ true → (k : ℕ) × (member k ks ≡ true) × (at-or-before p i k ≡ true)) → (q : ℕ) → q < 16 →
+    ((i : ℕ) → direct p i j ≡ true → (k : ℕ) × (member k ks ≡ true) × (at-or-before p i k ≡ true)) → (q : ℕ) → q < row-width →
     getD (row p j) q 0 ≡ max (cond (eqb (op p j .queue) q) (epoch p j) 0) (most-of p q ks)
 
 -- ---- THE STANDARD RUN

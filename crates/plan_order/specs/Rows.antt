@@ -4,6 +4,7 @@ use mathlib.Core.List.{List}
 use Prim.Native.Nat.{ℕ, suc}
 use lib.Dec.{eqb}
 use Rattle.basics.specs.Lists.{member, tally, tabulate-from, join-from}
+use Rattle.plan_format.specs.Sizes.{row-width}
 use Rattle.plan_format.specs.Plan.{Plan, count, op}
 use Rattle.plan_order.specs.Precedence.{same-queue, all-before}
 
@@ -16,7 +17,7 @@ unfoldable pub column : Plan → (j : ℕ) → (earlier : List ℕ) → (q : ℕ
 column p j xs q = tally (count p) (λ i. eqb (op p i .queue) q && (eqb i j || member i xs))
 
 unfoldable pub row : Plan → (j : ℕ) → List ℕ
-row p j = let xs = all-before p j in tabulate-from 16 0 (λ q. column p j xs q)
+row p j = let xs = all-before p j in tabulate-from row-width 0 (λ q. column p j xs q)
 
 -- the table: row after row
 unfoldable pub rows : Plan → List ℕ

@@ -11,7 +11,7 @@ use lib.Seq.{getD-set-same, getD-set-other}
 use borrow.Author.Tests.{leb-false, eqb-true, eqb-false}
 use Rattle.basics.proofs.Tests.{by-cases, either}
 use Rattle.plan_format.specs.Refusal.{Refusal, refusal, none-given}
-use Rattle.plan_format.specs.Plan.{Point, Operation, Plan, no-operation, count, op}
+use Rattle.plan_format.specs.Plan.{Point, Operation, Plan, empty-operation, count, op}
 use Rattle.plan_format.specs.Sound.{highest-in, highest, owns, signals-number, signals-refusal, In-range}
 use Rattle.plan_order.specs.Precedence.{Signal, signals-of, signals-from, plan-signals}
 use Rattle.plan_columns.specs.Columns.{no-point}
@@ -98,12 +98,12 @@ highest-snoc s (b ∷ bs) o = omega (arith, highest-snoc s bs o)
 
 -- the operations from i on
 pub record Tail (p : Plan) (i : ℕ) (os : List Operation) : Type 0 where
-  pub queues-there : (k : ℕ) → k < length os → op p (i + k) .queue ≡ getD os k no-operation .queue
-  pub named : (k : ℕ) → k < length os → Named p (getD os k no-operation .signals)
+  pub queues-there : (k : ℕ) → k < length os → op p (i + k) .queue ≡ getD os k empty-operation .queue
+  pub named : (k : ℕ) → k < length os → Named p (getD os k empty-operation .signals)
 
 tail-more : {p : Plan} {i : ℕ} {o : Operation} {os : List Operation} → Tail p i (o ∷ os) → Tail p (suc i) os
 tail-more {p} {i} {o} {os} h = record {
-  queues-there = λ k l. subst (λ (n : ℕ). op p n .queue ≡ getD os k no-operation .queue) (let e : i + suc k ≡ suc i + k = omega arith in e) (h .queues-there (suc k) (omega arith));
+  queues-there = λ k l. subst (λ (n : ℕ). op p n .queue ≡ getD os k empty-operation .queue) (let e : i + suc k ≡ suc i + k = omega arith in e) (h .queues-there (suc k) (omega arith));
   named = λ k l. h .named (suc k) (omega arith);
 }
 
@@ -166,7 +166,7 @@ of-inside p i k (x ∷ xs) l ok y m =
     })
     (λ t. of-inside p i (suc k) xs l (λ j b. ok (suc j) (omega arith)) y t)
 
-from-inside : (p : Plan) (i : ℕ) (os : List Operation) → i + length os ≤ count p → ((k : ℕ) → k < length os → Named p (getD os k no-operation .signals)) → (y : Signal) → List·Memᴰ y (signals-from i os) → Inside p y
+from-inside : (p : Plan) (i : ℕ) (os : List Operation) → i + length os ≤ count p → ((k : ℕ) → k < length os → Named p (getD os k empty-operation .signals)) → (y : Signal) → List·Memᴰ y (signals-from i os) → Inside p y
 unfolding signals-from
 from-inside p i [] l ok y m = absurd (List·Memᴰ·not-nil m)
 from-inside p i (o ∷ os) l ok y m =

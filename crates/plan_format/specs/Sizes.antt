@@ -1,0 +1,59 @@
+-- The limits of a plan and the sizes made of them; src/limits.rt has the same names. Assumes nothing: these are definitions.
+use Prim.Native.Nat.{ℕ, _+_, _*_}
+
+-- what a plan has at most
+abbrev pub most-queues : ℕ
+most-queues = 16
+
+abbrev pub most-semaphores : ℕ
+most-semaphores = 64
+
+abbrev pub most-buffers : ℕ
+most-buffers = 256
+
+abbrev pub most-operations : ℕ
+most-operations = 1024
+
+-- what one operation has at most
+abbrev pub most-waits : ℕ
+most-waits = 3
+
+abbrev pub most-signals : ℕ
+most-signals = 2
+
+abbrev pub most-marks : ℕ
+most-marks = 4
+
+-- places for the waits, the signals and the marks of all operations
+abbrev pub wait-places : ℕ
+wait-places = most-waits * most-operations
+
+abbrev pub signal-places : ℕ
+signal-places = most-signals * most-operations
+
+abbrev pub mark-places : ℕ
+mark-places = most-marks * most-operations
+
+-- a row has a place for each queue; the rows have two more than there are operations, which stay zero
+abbrev pub row-width : ℕ
+row-width = most-queues
+
+abbrev pub row-places : ℕ
+row-places = row-width * (most-operations + 2)
+
+-- the most numbers before the operations, of one operation and of a plan; the most bytes of a plan
+abbrev pub head-numbers : ℕ
+head-numbers = 4 + most-queues + most-semaphores + most-buffers
+
+abbrev pub block-numbers : ℕ
+block-numbers = 4 + 2 * (most-waits + most-signals + most-marks)
+
+abbrev pub plan-numbers : ℕ
+plan-numbers = head-numbers + most-operations * block-numbers
+
+abbrev pub plan-bytes : ℕ
+plan-bytes = 63686
+
+-- the number that stands for no operation
+abbrev pub no-operation : ℕ
+no-operation = most-operations

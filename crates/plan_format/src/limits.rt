@@ -1,0 +1,55 @@
+// The limits of a plan and the sizes made of them; specs/Sizes.antt has the same names.
+
+// What a plan has at most.
+pub const MOST_QUEUES: usize = 16;
+
+pub const MOST_SEMAPHORES: usize = 64;
+
+pub const MOST_BUFFERS: usize = 256;
+
+pub const MOST_OPERATIONS: usize = 1024;
+
+// What one operation has at most.
+pub const MOST_WAITS: usize = 3;
+
+pub const MOST_SIGNALS: usize = 2;
+
+pub const MOST_MARKS: usize = 4;
+
+// Places for the waits, the signals and the marks of all operations.
+pub const WAIT_PLACES: usize = MOST_WAITS * MOST_OPERATIONS;
+
+pub const SIGNAL_PLACES: usize = MOST_SIGNALS * MOST_OPERATIONS;
+
+pub const MARK_PLACES: usize = MOST_MARKS * MOST_OPERATIONS;
+
+// A row has a place for each queue; the rows have two more than there are operations, which stay zero.
+pub const ROW_WIDTH: usize = MOST_QUEUES;
+
+pub const ROW_PLACES: usize = ROW_WIDTH * (MOST_OPERATIONS + 2);
+
+// The most numbers before the operations, of one operation and of a plan; the most bytes of a plan.
+pub const HEAD_NUMBERS: usize = 4 + MOST_QUEUES + MOST_SEMAPHORES + MOST_BUFFERS;
+
+pub const BLOCK_NUMBERS: usize = 4 + 2 * (MOST_WAITS + MOST_SIGNALS + MOST_MARKS);
+
+pub const PLAN_NUMBERS: usize = HEAD_NUMBERS + MOST_OPERATIONS * BLOCK_NUMBERS;
+
+pub const PLAN_BYTES: usize = 63686;
+
+// Room for the numbers of one operation, with its counts cut to their bits.
+pub const WINDOW: usize = 32;
+
+// The number that stands for no operation, to compute with and as a column holds it.
+pub const NO_OPERATION: usize = MOST_OPERATIONS;
+
+pub const NO_OPERATION_STORED: u16 = NO_OPERATION as u16;
+
+// The numbers before the operations, those of one operation, those of a plan, and its bytes.
+pub type Head = [u64; HEAD_NUMBERS];
+
+pub type Window = [u64; WINDOW];
+
+pub type Numbers = [u64; PLAN_NUMBERS];
+
+pub type Bytes = [u8; PLAN_BYTES];
