@@ -1,5 +1,14 @@
 // The check of a stored plan: shown as columns, and judged by them; its counts, and its columns for those who ask on.
+use plan_columns::MarkColumn;
+use plan_columns::QueueColumn;
 use plan_format::Told;
+use plan_format::limits::HEAD_NUMBERS;
+use plan_format::limits::HeadNumbers;
+use plan_format::limits::MARK_PLACES;
+use plan_format::limits::MOST_OPERATIONS;
+use plan_format::limits::MOST_SEMAPHORES;
+use plan_format::limits::SIGNAL_PLACES;
+use plan_format::limits::WAIT_PLACES;
 use plan_load::Loaded;
 ghost use mathlib.Core.Path.{_≡_};
 ghost use Rattle.plan_format.specs.Stored.{scanned, plan-in};
@@ -28,16 +37,16 @@ pub struct Known {
 pub fn counts(plan: &[u8]) -> Counted
     ensures { λ r. ⌜ Counts-told (now (plan .entry)) r ⌝ }
 {
-    let mut head = [0u64; 340];
-    let mut owner = [0u16; 64];
-    let mut queue = [0u16; 1024];
-    let mut wsem = [0u16; 3072];
-    let mut wval = [0u64; 3072];
-    let mut ssem = [0u16; 2048];
-    let mut sval = [0u64; 2048];
-    let mut sop = [0u16; 2048];
-    let mut mark = [0u16; 4096];
-    let mut mop = [0u16; 4096];
+    let mut head = [0u64; HEAD_NUMBERS];
+    let mut owner = [0u16; MOST_SEMAPHORES];
+    let mut queue = [0u16; MOST_OPERATIONS];
+    let mut wsem = [0u16; WAIT_PLACES];
+    let mut wval = [0u64; WAIT_PLACES];
+    let mut ssem = [0u16; SIGNAL_PLACES];
+    let mut sval = [0u64; SIGNAL_PLACES];
+    let mut sop = [0u16; SIGNAL_PLACES];
+    let mut mark = [0u16; MARK_PLACES];
+    let mut mop = [0u16; MARK_PLACES];
     let l = plan_load::load(
         plan,
         &mut head,
@@ -71,10 +80,10 @@ pub fn check_counted(plan: &[u8], table: &mut [u32], list: &mut [u32]) -> Counte
     ensures { λ r. ⌜ Checked (now (plan .entry)) (record { number = r .number; place = r .place; answer = 0 }) (now (table .entry)) (now (table .exit)) (now (list .entry)) (now (list .exit)) ⌝ }
     ensures { λ r. ⌜ Sizes-told (now (plan .entry)) r ⌝ }
 {
-    let mut head = [0u64; 340];
-    let mut queue = [0u16; 1024];
-    let mut mark = [0u16; 4096];
-    let mut mop = [0u16; 4096];
+    let mut head = [0u64; HEAD_NUMBERS];
+    let mut queue = [0u16; MOST_OPERATIONS];
+    let mut mark = [0u16; MARK_PLACES];
+    let mut mop = [0u16; MARK_PLACES];
     let k = check_known(
         plan,
         &mut head,
@@ -91,10 +100,10 @@ pub fn check_counted(plan: &[u8], table: &mut [u32], list: &mut [u32]) -> Counte
 // these, and where the reader refuses the plan, what is lent is free, as is the number of marks there.
 pub fn check_known(
     plan: &[u8],
-    head: &mut [u64; 340],
-    queue: &mut [u16; 1024],
-    mark: &mut [u16; 4096],
-    mop: &mut [u16; 4096],
+    head: &mut HeadNumbers,
+    queue: &mut QueueColumn,
+    mark: &mut MarkColumn,
+    mop: &mut MarkColumn,
     table: &mut [u32],
     list: &mut [u32],
 ) -> Known
@@ -102,12 +111,12 @@ pub fn check_known(
     ensures { λ r. ⌜ Sizes-told (now (plan .entry)) (r .counted) ⌝ }
     ensures { λ r. ⌜ (scanned (now (plan .entry)) .fault .number ≡ 0 → Known-columns (plan-in (now (plan .entry))) (r .marks) (now (head .exit)) (now (queue .exit)) (now (mark .exit)) (now (mop .exit))) ⌝ }
 {
-    let mut owner = [0u16; 64];
-    let mut wsem = [0u16; 3072];
-    let mut wval = [0u64; 3072];
-    let mut ssem = [0u16; 2048];
-    let mut sval = [0u64; 2048];
-    let mut sop = [0u16; 2048];
+    let mut owner = [0u16; MOST_SEMAPHORES];
+    let mut wsem = [0u16; WAIT_PLACES];
+    let mut wval = [0u64; WAIT_PLACES];
+    let mut ssem = [0u16; SIGNAL_PLACES];
+    let mut sval = [0u64; SIGNAL_PLACES];
+    let mut sop = [0u16; SIGNAL_PLACES];
     let l = plan_load::load(
         plan,
         head,

@@ -1,12 +1,18 @@
 // The frontier sent out for an operation of a stored plan.
 use checker::Counted;
 use frontier::Frontier;
+use plan_format::limits::HEAD_NUMBERS;
+use plan_format::limits::HeadNumbers;
+use plan_format::limits::MARK_PLACES;
+use plan_format::limits::MOST_OPERATIONS;
+use plan_format::limits::ROW_WIDTH;
 ghost use mathlib.Core.Path.{_≡_};
 ghost use mathlib.Core.Bool.{false};
 ghost use mathlib.Core.List.{[]};
 ghost use Prim.Native.Nat.{_+_, _*_, _≤_};
 ghost use lib.ListN.{length};
 ghost use Rattle.frontier.specs.Frontiers.{pack, gathered};
+ghost use Rattle.plan_format.specs.Sizes.{row-width};
 ghost use Rattle.plan_format.specs.Plan.{Plan};
 ghost use Rattle.frontier_sent.specs.Sent.{cut-to};
 ghost use Rattle.frontier_sent.specs.SentMeaning.{Frontier-right};
@@ -29,10 +35,10 @@ pub fn frontier_of(
 ) -> Sent
     ensures { λ r. ⌜ Frontier-right (now (plan .entry)) operation capacity r (now (table .entry)) (now (table .exit)) (now (list .entry)) (now (list .exit)) ⌝ }
 {
-    let mut head = [0u64; 340];
-    let mut queues = [0u16; 1024];
-    let mut mark = [0u16; 4096];
-    let mut mop = [0u16; 4096];
+    let mut head = [0u64; HEAD_NUMBERS];
+    let mut queues = [0u16; MOST_OPERATIONS];
+    let mut mark = [0u16; MARK_PLACES];
+    let mut mop = [0u16; MARK_PLACES];
     let k = checker::check_known(
         plan,
         &mut head,
@@ -49,8 +55,8 @@ pub fn frontier_of(
 }
 
 // The question on a plan that passes, by its counts, its axes and its rows in the table.
-fn answer(c: Counted, head: &[u64; 340], table: &[u32], operation: u32, capacity: u32) -> Sent
-    requires { ⌜ (c .queues ≤ 16) × (16 * c .operations ≤ length (now table)) ⌝ }
+fn answer(c: Counted, head: &HeadNumbers, table: &[u32], operation: u32, capacity: u32) -> Sent
+    requires { ⌜ (c .queues ≤ 16) × (row-width * c .operations ≤ length (now table)) ⌝ }
     ensures { λ r. ⌜ ((p : Plan) → Opened p c (now (head .entry)) (now (table .entry)) → Sent-tells p operation capacity r) ⌝ }
 {
     let j = operation as usize;
@@ -63,7 +69,7 @@ fn answer(c: Counted, head: &[u64; 340], table: &[u32], operation: u32, capacity
     if Frontier::MOST < capacity {
         return refused(15, 0);
     }
-    let frontier = send(head, table, c.queues, 16 * j, capacity);
+    let frontier = send(head, table, c.queues, ROW_WIDTH * j, capacity);
     Sent {
         number: 0,
         place: 0,
@@ -83,7 +89,7 @@ fn refused(number: u32, place: u64) -> Sent
 }
 
 // The row that begins at `first` in the table, under the axes, cut to a capacity as a merge is.
-fn send(head: &[u64; 340], table: &[u32], queues: usize, first: usize, capacity: u32) -> Frontier
+fn send(head: &HeadNumbers, table: &[u32], queues: usize, first: usize, capacity: u32) -> Frontier
     requires { ⌜ (queues ≤ 16) × (first + queues ≤ length (now table)) × (1 ≤ capacity) × (capacity ≤ 16) ⌝ }
     ensures { λ r. ⌜ r ≡ cut-to capacity (gathered (row-in (now (head .entry)) (now (table .entry)) first queues 0)) ⌝ }
 {
@@ -93,7 +99,7 @@ fn send(head: &[u64; 340], table: &[u32], queues: usize, first: usize, capacity:
 }
 
 // One axis raised after the other: no capacity cuts sixteen.
-fn gather(head: &[u64; 340], table: &[u32], queues: usize, first: usize) -> Frontier
+fn gather(head: &HeadNumbers, table: &[u32], queues: usize, first: usize) -> Frontier
     requires { ⌜ (queues ≤ 16) × (first + queues ≤ length (now table)) ⌝ }
     ensures { λ r. ⌜ r ≡ pack (gathered (row-in (now (head .entry)) (now (table .entry)) first queues 0)) false ⌝ }
 {

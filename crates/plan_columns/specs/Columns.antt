@@ -4,6 +4,7 @@ use mathlib.Core.Path.{_≡_}
 use mathlib.Core.List.{List, [], _∷_, _++_}
 use Prim.Native.Nat.{ℕ, suc, _+_, _*_, _≤_, _<_}
 use lib.ListN.{length, getD}
+use Rattle.plan_format.specs.Sizes.{most-waits, signal-places, mark-places, row-width, no-operation}
 use Rattle.plan_format.specs.Plan.{Point, Mark, Operation, Plan, count, op, queues}
 use Rattle.plan_order.specs.Precedence.{Signal, plan-signals, Resolution, free, on, never, resolve}
 use Rattle.plan_order.specs.Rows.{row}
@@ -32,13 +33,13 @@ wait-at p i k = getD (op p i .waits) k no-point
 
 -- three places for each operation
 pub record Wait-columns (p : Plan) (semaphore value : List ℕ) : Type 0 where
-  pub few : (i : ℕ) → i < count p → length (op p i .waits) ≤ 3
-  pub semaphores : (i k : ℕ) → i < count p → k < 3 → getD semaphore (3 * i + k) 0 ≡ wait-at p i k .semaphore
-  pub values : (i k : ℕ) → i < count p → k < 3 → getD value (3 * i + k) 0 ≡ wait-at p i k .value
+  pub few : (i : ℕ) → i < count p → length (op p i .waits) ≤ most-waits
+  pub semaphores : (i k : ℕ) → i < count p → k < most-waits → getD semaphore (most-waits * i + k) 0 ≡ wait-at p i k .semaphore
+  pub values : (i k : ℕ) → i < count p → k < most-waits → getD value (most-waits * i + k) 0 ≡ wait-at p i k .value
 
 -- one place for each signal, and how many there are
 pub record Signal-columns (p : Plan) (many : ℕ) (semaphore value operation : List ℕ) : Type 0 where
-  pub few : many ≤ 2048
+  pub few : many ≤ signal-places
   pub all : many ≡ length (plan-signals p)
   pub semaphores : (k : ℕ) → k < many → getD semaphore k 0 ≡ getD (plan-signals p) k no-signal .semaphore
   pub values : (k : ℕ) → k < many → getD value k 0 ≡ getD (plan-signals p) k no-signal .value
@@ -66,20 +67,20 @@ plan-marks p = marked-from 0 (p .operations)
 
 -- one place for each mark, twice its buffer and one more for a free, and how many there are
 pub record Mark-columns (p : Plan) (many : ℕ) (mark operation : List ℕ) : Type 0 where
-  pub few : many ≤ 4096
+  pub few : many ≤ mark-places
   pub all : many ≡ length (plan-marks p)
   pub marks : (k : ℕ) → k < many → getD mark k 0 ≡ 2 * getD (plan-marks p) k no-mark .buffer + getD (plan-marks p) k no-mark .kind
   pub operations : (k : ℕ) → k < many → getD operation k 0 ≡ getD (plan-marks p) k no-mark .by
 
 -- the operation that a wait rests on; 1,024 for none
 unfoldable pub source-of : Resolution → ℕ
-source-of free = 1024
+source-of free = no-operation
 source-of (on x) = x .operation
-source-of never = 1024
+source-of never = no-operation
 
 unfoldable pub Source-column : Plan → (source : List ℕ) → Type 0
-Source-column p source = (i k : ℕ) → i < count p → k < 3 → getD source (3 * i + k) 0 ≡ source-of (resolve p (wait-at p i k))
+Source-column p source = (i k : ℕ) → i < count p → k < most-waits → getD source (most-waits * i + k) 0 ≡ source-of (resolve p (wait-at p i k))
 
 -- rows one after the other, sixteen places each, of the operations in a list
 unfoldable pub Row-columns : Plan → (done : ℕ → Type 0) → (rows : List ℕ) → Type 0
-Row-columns p done rows = (j q : ℕ) → done j → q < 16 → getD rows (16 * j + q) 0 ≡ getD (row p j) q 0
+Row-columns p done rows = (j q : ℕ) → done j → q < row-width → getD rows (row-width * j + q) 0 ≡ getD (row p j) q 0

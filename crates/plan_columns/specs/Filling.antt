@@ -8,6 +8,7 @@ use lib.Dec.{ltb}
 use lib.ListN.{length, getD}
 use lib.Seq.{sets}
 use Rattle.basics.specs.Lists.{tabulate-from}
+use Rattle.plan_format.specs.Sizes.{most-buffers, most-operations, most-waits, wait-places, signal-places, mark-places}
 
 -- the number of each of three waits, 0 in place of one that is missing
 abbrev pub three : (many : ℕ) → (number : ℕ → ℕ) → (j : ℕ) → ℕ
@@ -34,10 +35,10 @@ module _ (numbers : List ℕ) where
   second-at at j = getD numbers (at + 2 + 2 * j) 0
 
   abbrev pub wait-semaphores : (many at : ℕ) → List ℕ
-  wait-semaphores many at = tabulate-from 3 0 (λ j. three many (first-at at) j % 65536)
+  wait-semaphores many at = tabulate-from most-waits 0 (λ j. three many (first-at at) j % 65536)
 
   abbrev pub wait-values : (many at : ℕ) → List ℕ
-  wait-values many at = tabulate-from 3 0 (λ j. three many (second-at at) j)
+  wait-values many at = tabulate-from most-waits 0 (λ j. three many (second-at at) j)
 
   abbrev pub signal-semaphores : (many at : ℕ) → List ℕ
   signal-semaphores many at = tabulate-from many 0 (λ j. first-at at j % 65536)
@@ -46,7 +47,7 @@ module _ (numbers : List ℕ) where
   signal-values many at = tabulate-from many 0 (λ j. second-at at j)
 
   abbrev pub mark-codes : (many at : ℕ) → List ℕ
-  mark-codes many at = tabulate-from many 0 (λ j. 2 * (first-at at j % 256) + second-at at j % 2)
+  mark-codes many at = tabulate-from many 0 (λ j. 2 * (first-at at j % most-buffers) + second-at at j % 2)
 
   -- ---- where the parts of an operation stand
   unfoldable pub wait-count : (at : ℕ) → ℕ
@@ -106,14 +107,14 @@ pub record Put (room : ℕ) (part : List ℕ) (place : ℕ) (before after : List
 -- operation i at a place stands in every column; `signals` and `marks` are how many stand before it
 pub record Added (numbers : List ℕ) (i at signals marks : ℕ) (queue wsem wval ssem sval sop mark mop : List ℕ)
     (queue′ wsem′ wval′ ssem′ sval′ sop′ mark′ mop′ : List ℕ) (at′ signals′ marks′ : ℕ) : Type 0 where
-  pub queues-added : Put 1024 (queue-part numbers i at) i queue queue′
-  pub wait-semaphores-added : Put 3072 (wait-semaphore-part numbers i at) (3 * i) wsem wsem′
-  pub wait-values-added : Put 3072 (wait-value-part numbers i at) (3 * i) wval wval′
-  pub signal-semaphores-added : Put 2048 (signal-semaphore-part numbers i at) signals ssem ssem′
-  pub signal-values-added : Put 2048 (signal-value-part numbers i at) signals sval sval′
-  pub signal-operations-added : Put 2048 (signal-operation-part numbers i at) signals sop sop′
-  pub marks-added : Put 4096 (mark-part numbers i at) marks mark mark′
-  pub mark-operations-added : Put 4096 (mark-operation-part numbers i at) marks mop mop′
+  pub queues-added : Put most-operations (queue-part numbers i at) i queue queue′
+  pub wait-semaphores-added : Put wait-places (wait-semaphore-part numbers i at) (most-waits * i) wsem wsem′
+  pub wait-values-added : Put wait-places (wait-value-part numbers i at) (most-waits * i) wval wval′
+  pub signal-semaphores-added : Put signal-places (signal-semaphore-part numbers i at) signals ssem ssem′
+  pub signal-values-added : Put signal-places (signal-value-part numbers i at) signals sval sval′
+  pub signal-operations-added : Put signal-places (signal-operation-part numbers i at) signals sop sop′
+  pub marks-added : Put mark-places (mark-part numbers i at) marks mark mark′
+  pub mark-operations-added : Put mark-places (mark-operation-part numbers i at) marks mop mop′
   pub next : at′ ≡ next-at numbers at
   pub more-signals : signals′ ≡ signals + signal-count numbers at
   pub more-marks : marks′ ≡ marks + mark-count numbers at

@@ -2,20 +2,21 @@
 use Prim.Native.Nat.{ℕ, _≤_, _<_}
 use mathlib.Core.List.{List}
 use lib.ListN.{length}
+use Rattle.plan_format.specs.Sizes.{most-queues, most-semaphores, most-buffers, most-operations, most-waits, most-signals, most-marks}
 use Rattle.plan_format.specs.Plan.{Plan, count, op, queues}
 use Rattle.plan_format.specs.Sound.{In-range}
 use Rattle.plan_columns.specs.Columns.{Queue-column, Wait-columns, Signal-columns, Mark-columns}
 
 -- the limits of a read plan
 pub record Limits (p : Plan) : Type 0 where
-  pub few-queues : queues p ≤ 16
-  pub few-semaphores : length (p .owners) ≤ 64
-  pub few-buffers : length (p .sizes) ≤ 256
-  pub few-operations : count p ≤ 1024
+  pub few-queues : queues p ≤ most-queues
+  pub few-semaphores : length (p .owners) ≤ most-semaphores
+  pub few-buffers : length (p .sizes) ≤ most-buffers
+  pub few-operations : count p ≤ most-operations
   pub in-range : (i : ℕ) → i < count p → In-range p (op p i)
-  pub few-waits : (i : ℕ) → i < count p → length (op p i .waits) ≤ 3
-  pub few-signals : (i : ℕ) → i < count p → length (op p i .signals) ≤ 2
-  pub few-marks : (i : ℕ) → i < count p → length (op p i .marks) ≤ 4
+  pub few-waits : (i : ℕ) → i < count p → length (op p i .waits) ≤ most-waits
+  pub few-signals : (i : ℕ) → i < count p → length (op p i .signals) ≤ most-signals
+  pub few-marks : (i : ℕ) → i < count p → length (op p i .marks) ≤ most-marks
 
 -- columns that show a plan, and how many signals and marks it has
 pub record Shown (p : Plan) (signals marks : ℕ) (queue wsem wval ssem sval sop mark mop : List ℕ) : Type 0 where

@@ -1,13 +1,48 @@
 // Columns of a plan: flat arrays that the passes of the check read, filled from the numbers of each operation.
+use plan_format::limits::MARK_PLACES;
+use plan_format::limits::MOST_BUFFERS;
+use plan_format::limits::MOST_OPERATIONS;
+use plan_format::limits::MOST_SEMAPHORES;
+use plan_format::limits::PLAN_NUMBERS;
+use plan_format::limits::ROW_PLACES;
+use plan_format::limits::SIGNAL_PLACES;
+use plan_format::limits::WAIT_PLACES;
+use plan_format::limits::Window;
 ghost use mathlib.Core.Path.{_≡_};
 ghost use mathlib.Core.Bool.{cond};
 ghost use Prim.Native.Nat.{ℕ, _*_, _%_, _<_, _≤_, min};
 ghost use lib.Dec.{ltb};
 ghost use lib.ListN.{length, getD, take, drop};
 ghost use lib.Seq.{sets};
+ghost use Rattle.plan_format.specs.Sizes.{most-queues, most-semaphores, most-operations, wait-places, plan-numbers};
 ghost use Rattle.plan_format.specs.Plan.{Plan, queues};
 ghost use Rattle.plan_columns.specs.Columns.{Owner-column};
 ghost use Rattle.plan_columns.specs.Filling.{owner-numbers, wait-semaphores, wait-values, signal-semaphores, signal-values, mark-codes, repeated, next-at, Added};
+
+// The columns of a plan: an owner for each semaphore, a queue for each operation; for each place of a wait a semaphore or the operation that
+// the wait rests on, and a value; for each signal a semaphore or its operation, and a value; for each mark its code or its operation.
+pub type OwnerColumn = [u16; MOST_SEMAPHORES];
+
+pub type QueueColumn = [u16; MOST_OPERATIONS];
+
+pub type WaitColumn = [u16; WAIT_PLACES];
+
+pub type WaitValues = [u64; WAIT_PLACES];
+
+pub type SignalColumn = [u16; SIGNAL_PLACES];
+
+pub type SignalValues = [u64; SIGNAL_PLACES];
+
+pub type MarkColumn = [u16; MARK_PLACES];
+
+// The last value of each semaphore.
+pub type LastValues = [u64; MOST_SEMAPHORES];
+
+// The rows of the operations, one after the other.
+pub type Rows = [u16; ROW_PLACES];
+
+// A mark's code is twice its buffer, and one more for a free.
+pub const MARK_CODES: usize = 2 * MOST_BUFFERS;
 
 // How many signals and marks a plan has.
 pub struct Filled {
@@ -16,16 +51,21 @@ pub struct Filled {
 }
 
 // Fills the column of owners: `many` numbers from `first` on, cut to sixteen bits. It takes 64 at most, and a plan's owners begin at 22,868 at most.
-pub fn owners(numbers: &[u64], first: usize, many: usize, owner: &mut [u16; 64])
-    ensures { λ _. ⌜ now (owner .exit) ≡ sets (now (owner .entry)) 0 (owner-numbers (now (numbers .entry)) (min many 64) (min first 22868)) ⌝ }
-    ensures { λ _. ⌜ ((p : Plan) → p .owners ≡ take many (drop first (now (numbers .entry))) → first ≤ 22868 → many ≤ 64 → queues p ≤ 16 → ((s : ℕ) → s < length (p .owners) → getD (p .owners) s 0 < queues p) → Owner-column p (now (owner .exit))) ⌝ }
+pub fn owners(numbers: &[u64], first: usize, many: usize, owner: &mut OwnerColumn)
+    ensures { λ _. ⌜ now (owner .exit) ≡ sets (now (owner .entry)) 0 (owner-numbers (now (numbers .entry)) (min many most-semaphores) (min first plan-numbers)) ⌝ }
+    ensures { λ _. ⌜ ((p : Plan) → p .owners ≡ take many (drop first (now (numbers .entry))) → first ≤ plan-numbers → many ≤ most-semaphores → queues p ≤ most-queues → ((s : ℕ) → s < length (p .owners) → getD (p .owners) s 0 < queues p) → Owner-column p (now (owner .exit))) ⌝ }
 {
-    owned(numbers, lower(first, 22868), lower(many, 64), owner);
+    owned(
+        numbers,
+        lower(first, PLAN_NUMBERS),
+        lower(many, MOST_SEMAPHORES),
+        owner,
+    );
 }
 
 // Stores numbers from a place on.
 fn owned(numbers: &[u64], at: usize, many: usize, owner: &mut [u16])
-    requires { ⌜ (at ≤ 22868) × (many ≤ 64) ⌝ }
+    requires { ⌜ (at ≤ plan-numbers) × (many ≤ most-semaphores) ⌝ }
     ensures { λ _. ⌜ now (owner .exit) ≡ sets (now (owner .entry)) 0 (owner-numbers (now (numbers .entry)) many at) ⌝ }
 {
     let mut j = 0;
@@ -38,26 +78,26 @@ fn owned(numbers: &[u64], at: usize, many: usize, owner: &mut [u16])
 // Stores operation i, read into a window, behind the signals and marks of those before it; gives how many there are with its own. There are
 // places for 1,024 operations: one past them is not stored. With its counts cut to their bits no operation reaches past a window of 32.
 pub fn add(
-    window: &[u64; 32],
+    window: &Window,
     i: u16,
     signals: u16,
     marks: u16,
-    queue: &mut [u16; 1024],
-    wsem: &mut [u16; 3072],
-    wval: &mut [u64; 3072],
-    ssem: &mut [u16; 2048],
-    sval: &mut [u64; 2048],
-    sop: &mut [u16; 2048],
-    mark: &mut [u16; 4096],
-    mop: &mut [u16; 4096],
+    queue: &mut QueueColumn,
+    wsem: &mut WaitColumn,
+    wval: &mut WaitValues,
+    ssem: &mut SignalColumn,
+    sval: &mut SignalValues,
+    sop: &mut SignalColumn,
+    mark: &mut MarkColumn,
+    mop: &mut MarkColumn,
 ) -> Filled
-    ensures { λ r. ⌜ (i < 1024 → Added (now (window .entry)) i 0 signals marks (now (queue .entry)) (now (wsem .entry)) (now (wval .entry)) (now (ssem .entry)) (now (sval .entry)) (now (sop .entry)) (now (mark .entry)) (now (mop .entry)) (now (queue .exit)) (now (wsem .exit)) (now (wval .exit)) (now (ssem .exit)) (now (sval .exit)) (now (sop .exit)) (now (mark .exit)) (now (mop .exit)) (next-at (now (window .entry)) 0) (r .signals) (r .marks)) ⌝ }
-    ensures { λ r. ⌜ (1024 ≤ i → (r .signals ≡ signals) × (r .marks ≡ marks) × (now (queue .exit) ≡ now (queue .entry)) × (now (wsem .exit) ≡ now (wsem .entry)) × (now (wval .exit) ≡ now (wval .entry)) × (now (ssem .exit) ≡ now (ssem .entry)) × (now (sval .exit) ≡ now (sval .entry)) × (now (sop .exit) ≡ now (sop .entry)) × (now (mark .exit) ≡ now (mark .entry)) × (now (mop .exit) ≡ now (mop .entry))) ⌝ }
+    ensures { λ r. ⌜ (i < most-operations → Added (now (window .entry)) i 0 signals marks (now (queue .entry)) (now (wsem .entry)) (now (wval .entry)) (now (ssem .entry)) (now (sval .entry)) (now (sop .entry)) (now (mark .entry)) (now (mop .entry)) (now (queue .exit)) (now (wsem .exit)) (now (wval .exit)) (now (ssem .exit)) (now (sval .exit)) (now (sop .exit)) (now (mark .exit)) (now (mop .exit)) (next-at (now (window .entry)) 0) (r .signals) (r .marks)) ⌝ }
+    ensures { λ r. ⌜ (most-operations ≤ i → (r .signals ≡ signals) × (r .marks ≡ marks) × (now (queue .exit) ≡ now (queue .entry)) × (now (wsem .exit) ≡ now (wsem .entry)) × (now (wval .exit) ≡ now (wval .entry)) × (now (ssem .exit) ≡ now (ssem .entry)) × (now (sval .exit) ≡ now (sval .entry)) × (now (sop .exit) ≡ now (sop .entry)) × (now (mark .exit) ≡ now (mark .entry)) × (now (mop .exit) ≡ now (mop .entry))) ⌝ }
 {
     let operation = i as usize;
     let signals_before = signals as usize;
     let marks_before = marks as usize;
-    if 1024 <= operation {
+    if MOST_OPERATIONS <= operation {
         return Filled {
             signals: signals_before,
             marks: marks_before,
@@ -84,8 +124,8 @@ pub fn add(
 }
 
 // Stores the three waits of operation i, a wait for 0 in place of each that it lacks; gives how many it has.
-fn put_waits(window: &[u64; 32], i: usize, semaphore: &mut [u16], value: &mut [u64]) -> usize
-    requires { ⌜ (i < 1024) × (3072 ≤ length (now semaphore)) × (3072 ≤ length (now value)) ⌝ }
+fn put_waits(window: &Window, i: usize, semaphore: &mut [u16], value: &mut [u64]) -> usize
+    requires { ⌜ (i < most-operations) × (wait-places ≤ length (now semaphore)) × (wait-places ≤ length (now value)) ⌝ }
     ensures { λ r. ⌜ r ≡ getD (now (window .entry)) 1 0 % 4 ⌝ }
     ensures { λ r. ⌜ now (semaphore .exit) ≡ sets (now (semaphore .entry)) (3 * i) (wait-semaphores (now (window .entry)) r 1) ⌝ }
     ensures { λ r. ⌜ now (value .exit) ≡ sets (now (value .entry)) (3 * i) (wait-values (now (window .entry)) r 1) ⌝ }
@@ -107,7 +147,7 @@ fn waited(x: u64, j: usize, many: usize) -> u64
 
 // Stores the signals of operation i; gives how many it has.
 fn put_signals(
-    window: &[u64; 32],
+    window: &Window,
     at: usize,
     i: usize,
     had: usize,
@@ -115,7 +155,7 @@ fn put_signals(
     value: &mut [u64],
     operation: &mut [u16],
 ) -> usize
-    requires { ⌜ (at ≤ 8) × (i < 1024) × (had < 65536) ⌝ }
+    requires { ⌜ (at ≤ 8) × (i < most-operations) × (had < 65536) ⌝ }
     ensures { λ r. ⌜ r ≡ getD (now (window .entry)) at 0 % 4 ⌝ }
     ensures { λ r. ⌜ now (semaphore .exit) ≡ sets (now (semaphore .entry)) had (signal-semaphores (now (window .entry)) r at) ⌝ }
     ensures { λ r. ⌜ now (value .exit) ≡ sets (now (value .entry)) had (signal-values (now (window .entry)) r at) ⌝ }
@@ -134,14 +174,14 @@ fn put_signals(
 
 // Stores the marks of operation i; gives how many it has.
 fn put_marks(
-    window: &[u64; 32],
+    window: &Window,
     at: usize,
     i: usize,
     had: usize,
     mark: &mut [u16],
     operation: &mut [u16],
 ) -> usize
-    requires { ⌜ (at ≤ 15) × (i < 1024) × (had < 65536) ⌝ }
+    requires { ⌜ (at ≤ 15) × (i < most-operations) × (had < 65536) ⌝ }
     ensures { λ r. ⌜ r ≡ getD (now (window .entry)) at 0 % 8 ⌝ }
     ensures { λ r. ⌜ now (mark .exit) ≡ sets (now (mark .entry)) had (mark-codes (now (window .entry)) r at) ⌝ }
     ensures { λ r. ⌜ now (operation .exit) ≡ sets (now (operation .entry)) had (repeated r i) ⌝ }
@@ -149,7 +189,7 @@ fn put_marks(
     let many = wide(window[at]) % 8;
     let mut j = 0;
     while j < many {
-        let b = wide(window[at + 1 + 2 * j]) % 256;
+        let b = wide(window[at + 1 + 2 * j]) % MOST_BUFFERS;
         let f = wide(window[at + 2 + 2 * j]) % 2;
         cells::put16(mark, had + j, 2 * b + f);
         cells::put16(operation, had + j, i);

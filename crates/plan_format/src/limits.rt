@@ -46,7 +46,7 @@ pub const NO_OPERATION: usize = MOST_OPERATIONS;
 pub const NO_OPERATION_STORED: u16 = NO_OPERATION as u16;
 
 // The numbers before the operations, those of one operation, those of a plan, and its bytes.
-pub type Head = [u64; HEAD_NUMBERS];
+pub type HeadNumbers = [u64; HEAD_NUMBERS];
 
 pub type Window = [u64; WINDOW];
 

@@ -7,6 +7,7 @@ use Prim.Native.Nat.{ℕ, _*_, _≤_}
 use lib.Dec.{ltb}
 use lib.ListN.{length, take, replicate}
 use Rattle.basics.specs.Lists.{in-front}
+use Rattle.plan_format.specs.Sizes.{most-operations, row-width}
 use Rattle.plan_format.specs.Refusal.{Refusal, refusal, none-given, given, or-else}
 use Rattle.plan_format.specs.Stored.{Tells}
 use Rattle.plan_format.specs.declared.Told.{Told}
@@ -34,13 +35,13 @@ pub record Run-judged (n marks : ℕ) (queue mark mop : List ℕ) (r : Told) (ta
   pub rows : List ℕ
   pub run : List ℕ
   pub few : ran ≤ n
-  pub rows-long : r .number ≡ 0 → 16 * n ≤ length rows
+  pub rows-long : r .number ≡ 0 → row-width * n ≤ length rows
   pub run-long : length run ≡ 2 * n
   pub tells : Tells (order-by n ran marks queue mark mop rows) 0 r
-  pub table-holds : table-now ≡ in-front (cond (given (order-by n ran marks queue mark mop rows)) (replicate (16 * n) 0) (take (16 * n) rows)) table
+  pub table-holds : table-now ≡ in-front (cond (given (order-by n ran marks queue mark mop rows)) (replicate (row-width * n) 0) (take (row-width * n) rows)) table
   pub list-holds : list-now ≡ in-front (cond (given (order-by n ran marks queue mark mop rows)) (replicate (2 * n) 0) run) list
 
 -- a refusal that is given first, and what has more operations than the columns have places for, leave table and list; else there is a run
 pub record Answers-by (first : Refusal) (n marks : ℕ) (queue mark mop : List ℕ) (r : Told) (table table-now list list-now : List ℕ) : Type 0 where
-  pub stopped : (given first || ltb 1024 n) ≡ true → Tells first 0 r × (table-now ≡ table) × (list-now ≡ list)
-  pub judged : (given first || ltb 1024 n) ≡ false → Run-judged n marks queue mark mop r table table-now list list-now
+  pub stopped : (given first || ltb most-operations n) ≡ true → Tells first 0 r × (table-now ≡ table) × (list-now ≡ list)
+  pub judged : (given first || ltb most-operations n) ≡ false → Run-judged n marks queue mark mop r table table-now list list-now

@@ -3,6 +3,7 @@ use mathlib.Core.Path.{_≡_}
 use mathlib.Core.List.{List}
 use Prim.Native.Nat.{ℕ, _≤_}
 use lib.ListN.{length}
+use Rattle.plan_format.specs.Sizes.{most-buffers}
 use Rattle.plan_format.specs.Plan.{Plan, count}
 use Rattle.plan_format.specs.Sound.{Sound, rules-refusal}
 use Rattle.plan_format.specs.Stored.{scanned, plan-in, plan-refusal, Tells}
@@ -45,7 +46,7 @@ pub record Resolved (bytes : List ℕ) (n marks : ℕ) (queue source mark mop : 
 pub record Run-shown (p : Plan) (n ran marks : ℕ) (queue mark mop rows : List ℕ) : Type 0 where
   pub sound : Sound p
   pub many : count p ≡ n
-  pub few-buffers : length (p .sizes) ≤ 256
+  pub few-buffers : length (p .sizes) ≤ most-buffers
   pub queues-shown : Queue-column p queue
   pub marks-shown : Mark-columns p marks mark mop
   pub long : ran ≡ length (standard p)

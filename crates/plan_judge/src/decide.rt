@@ -1,5 +1,12 @@
 // A plan with none of refusals 1 to 8: the room, its standard run with the rows, and refusals 9 to 11.
+use plan_columns::MarkColumn;
+use plan_columns::QueueColumn;
+use plan_columns::Rows;
+use plan_columns::WaitColumn;
 use plan_format::Told;
+use plan_format::limits::MOST_OPERATIONS;
+use plan_format::limits::ROW_PLACES;
+use plan_format::limits::ROW_WIDTH;
 ghost use mathlib.Core.List.{List};
 ghost use Prim.Native.Nat.{ℕ};
 ghost use lib.ListN.{length};
@@ -9,14 +16,16 @@ ghost use Rattle.plan_order.specs.Check.{room-refusal, order-refusal, Check-say
 ghost use Rattle.plan_judge.specs.Answering.{order-by, Answers-by};
 ghost use Rattle.plan_judge.specs.Passing.{Resolved, Run-shown};
 
+const MOST: u16 = MOST_OPERATIONS as u16;
+
 // The check of a plan with none of refusals 1 to 8, whose waits are resolved: 9, else the run and what it shows.
 pub fn check_order(
     n: u16,
     marks: usize,
-    queue: &[u16; 1024],
-    source: &[u16; 3072],
-    mark: &[u16; 4096],
-    mop: &[u16; 4096],
+    queue: &QueueColumn,
+    source: &WaitColumn,
+    mark: &MarkColumn,
+    mop: &MarkColumn,
     table: &mut [u32],
     list: &mut [u32],
 ) -> Told
@@ -26,13 +35,13 @@ pub fn check_order(
 {
     let lent = room(n, table.len(), list.len());
     // no plan has more than 1,024 operations
-    if 1024 < n {
+    if MOST < n {
         return lent;
     }
     if lent.number != 0 {
         return lent;
     }
-    let mut rows = [0u16; 16416];
+    let mut rows = [0u16; ROW_PLACES];
     let ran = plan_run::run(n, queue, source, &mut rows, list);
     let told = judge(n, ran, marks, queue, mark, mop, &rows);
     crate::leave::results(told.number, n, &rows, table, list);
@@ -44,8 +53,8 @@ fn room(n: u16, table: usize, list: usize) -> Told
     ensures { λ r. ⌜ Tells (room-refusal n table list) 0 r ⌝ }
 {
     let many = n as usize;
-    if table < 16 * many {
-        return plan_format::refused(9, 16 * many);
+    if table < ROW_WIDTH * many {
+        return plan_format::refused(9, ROW_WIDTH * many);
     }
     if list < 2 * many {
         return plan_format::refused(9, 2 * many);
@@ -62,10 +71,10 @@ fn judge(
     n: u16,
     ran: usize,
     marks: usize,
-    queue: &[u16; 1024],
-    mark: &[u16; 4096],
-    mop: &[u16; 4096],
-    rows: &[u16; 16416],
+    queue: &QueueColumn,
+    mark: &MarkColumn,
+    mop: &MarkColumn,
+    rows: &Rows,
 ) -> Told
     ensures { λ r. ⌜ Tells (order-by n ran marks (now (queue .entry)) (now (mark .entry)) (now (mop .entry)) (now (rows .entry))) 0 r ⌝ }
     ensures { λ r. ⌜ ((p : Plan) → Run-shown p n ran marks (now (queue .entry)) (now (mark .entry)) (now (mop .entry)) (now (rows .entry)) → Tells (order-refusal p) 0 r) ⌝ }

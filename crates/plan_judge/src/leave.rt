@@ -1,4 +1,6 @@
 // What the check leaves in the lent table and list.
+use plan_columns::Rows;
+use plan_format::limits::ROW_WIDTH;
 ghost use mathlib.Core.Path.{_≡_};
 ghost use Prim.Native.Nat.{_≤_};
 ghost use lib.ListN.{length, take, replicate};
@@ -6,16 +8,16 @@ ghost use Rattle.basics.specs.Lists.{in-front};
 ghost use Rattle.plan_judge.specs.Leaving.{Room, Left};
 
 // Zeros over both on a refusal; else the rows in the table, the run being in the list already.
-pub fn results(number: u32, n: u16, from: &[u16; 16416], table: &mut [u32], list: &mut [u32])
+pub fn results(number: u32, n: u16, from: &Rows, table: &mut [u32], list: &mut [u32])
     requires { ⌜ Room n (now table) (now list) ⌝ }
     ensures { λ _. ⌜ Left number n (now (from .entry)) (now (table .entry)) (now (table .exit)) (now (list .entry)) (now (list .exit)) ⌝ }
 {
     let many = n as usize;
     if number == 0 {
-        rows(from, table, 16 * many);
+        rows(from, table, ROW_WIDTH * many);
         return;
     }
-    zeros(table, 16 * many);
+    zeros(table, ROW_WIDTH * many);
     zeros(list, 2 * many);
 }
 

@@ -2,6 +2,13 @@
 mod decide;
 mod leave;
 
+use plan_columns::MarkColumn;
+use plan_columns::OwnerColumn;
+use plan_columns::QueueColumn;
+use plan_columns::SignalColumn;
+use plan_columns::SignalValues;
+use plan_columns::WaitColumn;
+use plan_columns::WaitValues;
 use plan_format::Told;
 ghost use mathlib.Core.List.{List};
 ghost use Prim.Native.Nat.{ℕ};
@@ -19,15 +26,15 @@ pub fn check_columns(
     n: u16,
     signals: usize,
     marks: usize,
-    owner: &[u16; 64],
-    queue: &[u16; 1024],
-    wsem: &mut [u16; 3072],
-    wval: &[u64; 3072],
-    ssem: &mut [u16; 2048],
-    sval: &[u64; 2048],
-    sop: &[u16; 2048],
-    mark: &[u16; 4096],
-    mop: &[u16; 4096],
+    owner: &OwnerColumn,
+    queue: &QueueColumn,
+    wsem: &mut WaitColumn,
+    wval: &WaitValues,
+    ssem: &mut SignalColumn,
+    sval: &SignalValues,
+    sop: &SignalColumn,
+    mark: &MarkColumn,
+    mop: &MarkColumn,
     table: &mut [u32],
     list: &mut [u32],
 ) -> Told
@@ -46,13 +53,13 @@ pub fn check_columns(
 fn rules(
     n: u16,
     signals: usize,
-    owner: &[u16; 64],
-    queue: &[u16; 1024],
-    wsem: &mut [u16; 3072],
-    wval: &[u64; 3072],
-    ssem: &mut [u16; 2048],
-    sval: &[u64; 2048],
-    sop: &[u16; 2048],
+    owner: &OwnerColumn,
+    queue: &QueueColumn,
+    wsem: &mut WaitColumn,
+    wval: &WaitValues,
+    ssem: &mut SignalColumn,
+    sval: &SignalValues,
+    sop: &SignalColumn,
 ) -> Told
     ensures { λ r. ⌜ Tells (rules-by n signals (now (owner .entry)) (now (queue .entry)) (now (wsem .entry)) (now (wval .entry)) (now (ssem .entry)) (now (sval .entry)) (now (sop .entry))) 0 r ⌝ }
     ensures { λ r. ⌜ ((p : Plan) → Rules-shown p n signals (now (owner .entry)) (now (queue .entry)) (now (wsem .entry)) (now (wval .entry)) (now (ssem .entry)) (now (sval .entry)) (now (sop .entry)) → Ruled p r (now (wsem .exit))) ⌝ }

@@ -1,9 +1,19 @@
 // A stored plan read straight into its columns: each operation into a window of numbers, and from there behind the operations before it.
+use plan_columns::MarkColumn;
+use plan_columns::OwnerColumn;
+use plan_columns::QueueColumn;
+use plan_columns::SignalColumn;
+use plan_columns::SignalValues;
+use plan_columns::WaitColumn;
+use plan_columns::WaitValues;
+use plan_format::limits::HeadNumbers;
+use plan_format::limits::WINDOW;
 use plan_numbers::Head;
 ghost use mathlib.Core.Path.{_≡_};
 ghost use mathlib.Core.List.{List};
 ghost use Prim.Native.Nat.{ℕ, _+_, _≤_};
 ghost use lib.ListN.{take, drop};
+ghost use Rattle.plan_format.specs.Sizes.{most-operations};
 ghost use Rattle.plan_format.specs.Stored.{plan-in};
 ghost use Rattle.plan_columns.specs.Columns.{Owner-column};
 ghost use Rattle.plan_numbers.specs.Reading.{Head-read};
@@ -25,16 +35,16 @@ pub struct Loaded {
 // each column, and on a refusal, what is lent is free.
 pub fn load(
     plan: &[u8],
-    head: &mut [u64; 340],
-    owner: &mut [u16; 64],
-    queue: &mut [u16; 1024],
-    wsem: &mut [u16; 3072],
-    wval: &mut [u64; 3072],
-    ssem: &mut [u16; 2048],
-    sval: &mut [u64; 2048],
-    sop: &mut [u16; 2048],
-    mark: &mut [u16; 4096],
-    mop: &mut [u16; 4096],
+    head: &mut HeadNumbers,
+    owner: &mut OwnerColumn,
+    queue: &mut QueueColumn,
+    wsem: &mut WaitColumn,
+    wval: &mut WaitValues,
+    ssem: &mut SignalColumn,
+    sval: &mut SignalValues,
+    sop: &mut SignalColumn,
+    mark: &mut MarkColumn,
+    mop: &mut MarkColumn,
 ) -> Loaded
     ensures { λ r. ⌜ Loads (now (plan .entry)) r (now (head .exit)) (now (queue .exit)) (now (wsem .exit)) (now (wval .exit)) (now (ssem .exit)) (now (sval .exit)) (now (sop .exit)) (now (mark .exit)) (now (mop .exit)) ⌝ }
     ensures { λ r. ⌜ (r .number ≡ 0 → Owner-column (plan-in (now (plan .entry))) (now (owner .exit))) ⌝ }
@@ -95,16 +105,16 @@ fn whole(h: Head, operations: u16, signals: u16, marks: u16) -> Loaded
 fn columns(
     plan: &[u8],
     h: Head,
-    head: &[u64; 340],
-    owner: &mut [u16; 64],
-    queue: &mut [u16; 1024],
-    wsem: &mut [u16; 3072],
-    wval: &mut [u64; 3072],
-    ssem: &mut [u16; 2048],
-    sval: &mut [u64; 2048],
-    sop: &mut [u16; 2048],
-    mark: &mut [u16; 4096],
-    mop: &mut [u16; 4096],
+    head: &HeadNumbers,
+    owner: &mut OwnerColumn,
+    queue: &mut QueueColumn,
+    wsem: &mut WaitColumn,
+    wval: &mut WaitValues,
+    ssem: &mut SignalColumn,
+    sval: &mut SignalValues,
+    sop: &mut SignalColumn,
+    mark: &mut MarkColumn,
+    mop: &mut MarkColumn,
 ) -> Loaded
     requires { ⌜ Head-read (now plan) h (now head) × (h .number ≡ 0) ⌝ }
     ensures { λ r. ⌜ Loads (now (plan .entry)) r (now (head .exit)) (now (queue .exit)) (now (wsem .exit)) (now (wval .exit)) (now (ssem .exit)) (now (sval .exit)) (now (sop .exit)) (now (mark .exit)) (now (mop .exit)) ⌝ }
@@ -118,21 +128,21 @@ fn columns(
 fn operations(
     plan: &[u8],
     h: Head,
-    queue: &mut [u16; 1024],
-    wsem: &mut [u16; 3072],
-    wval: &mut [u64; 3072],
-    ssem: &mut [u16; 2048],
-    sval: &mut [u64; 2048],
-    sop: &mut [u16; 2048],
-    mark: &mut [u16; 4096],
-    mop: &mut [u16; 4096],
+    queue: &mut QueueColumn,
+    wsem: &mut WaitColumn,
+    wval: &mut WaitValues,
+    ssem: &mut SignalColumn,
+    sval: &mut SignalValues,
+    sop: &mut SignalColumn,
+    mark: &mut MarkColumn,
+    mop: &mut MarkColumn,
 ) -> Loaded
-    requires { ⌜ h .operations ≤ 1024 ⌝ }
+    requires { ⌜ h .operations ≤ most-operations ⌝ }
     ensures { λ r. ⌜ ((nums : List ℕ) → Head-read (now (plan .entry)) h nums → h .number ≡ 0 →
         Loads (now (plan .entry)) r nums (now (queue .exit)) (now (wsem .exit)) (now (wval .exit)) (now (ssem .exit)) (now (sval .exit)) (now (sop .exit)) (now (mark .exit)) (now (mop .exit)) × (r .number ≡ 0 → plan-in (now (plan .entry)) .owners ≡ take (h .semaphores) (drop (2 + h .queues) nums))) ⌝ }
 {
     let many = h.operations as u16;
-    let mut window = [0u64; 32];
+    let mut window = [0u64; WINDOW];
     let mut at = h.at;
     let mut signals: u16 = 0;
     let mut marks: u16 = 0;

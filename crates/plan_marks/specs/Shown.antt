@@ -4,6 +4,7 @@ use mathlib.Core.Bool.{true}
 use mathlib.Core.List.{List}
 use Prim.Native.Nat.{ℕ, _≤_, _<_}
 use lib.ListN.{length}
+use Rattle.plan_format.specs.Sizes.{most-buffers}
 use Rattle.plan_format.specs.Plan.{Plan, count}
 use Rattle.plan_format.specs.Sound.{Sound}
 use Rattle.plan_order.specs.Runs.{is-full}
@@ -13,7 +14,7 @@ use Rattle.plan_columns.specs.Columns.{Queue-column, Mark-columns, Row-columns}
 pub record Shown (p : Plan) (n marks : ℕ) (queue mark operation rows : List ℕ) : Type 0 where
   pub sound : Sound p
   pub many : count p ≡ n
-  pub few-buffers : length (p .sizes) ≤ 256
+  pub few-buffers : length (p .sizes) ≤ most-buffers
   pub queues-shown : Queue-column p queue
   pub marks-shown : Mark-columns p marks mark operation
   pub rows-shown : Row-columns p (λ j. j < count p) rows

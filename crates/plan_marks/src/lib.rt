@@ -1,29 +1,39 @@
 // Broken marks, refusal 11: marks of which keeping asks what "before" does not force. Two passes over the marks: a use against the next free
 // of its buffer, a mark against the last free before it. Each has a table by mark, 2 * buffer for a use and one more for a free: the operation
 // that had the mark last, and 1,024 for none. What is done for a mark does not branch on it.
+use plan_columns::MARK_CODES;
+use plan_columns::MarkColumn;
+use plan_columns::QueueColumn;
+use plan_columns::Rows;
+use plan_format::limits::MARK_PLACES;
+use plan_format::limits::MOST_OPERATIONS;
+use plan_format::limits::NO_OPERATION;
+use plan_format::limits::NO_OPERATION_STORED;
+use plan_format::limits::ROW_WIDTH;
 ghost use mathlib.Core.Path.{_≡_};
 ghost use mathlib.Core.Bool.{cond};
 ghost use Prim.Native.Nat.{_/_, _<_, _≤_, min};
+ghost use Rattle.plan_format.specs.Sizes.{most-operations, mark-places, no-operation};
 ghost use Rattle.plan_format.specs.Plan.{Plan};
 ghost use Rattle.plan_order.specs.Holdings.{broken as broken-mark};
 ghost use Rattle.basics.specs.Lists.{place-or};
 ghost use Rattle.plan_marks.specs.Shown.{Shown};
-ghost use Rattle.plan_marks.specs.Passes.{mark-of, shown-from, none-noted, noted, free-in, ordered as is-ordered, late as is-late, early as is-early, first-late, first-early, first-broken};
+ghost use Rattle.plan_marks.specs.Passes.{mark-codes, mark-of, shown-from, none-noted, noted, free-in, ordered as is-ordered, late as is-late, early as is-early, first-late, first-early, first-broken};
 
 // The lower of what the two passes find; n where they find nothing. By the columns of a plan it is the lowest operation with a broken mark.
 pub fn broken(
     n: u16,
     marks: usize,
-    queue: &[u16; 1024],
-    mark: &[u16; 4096],
-    mop: &[u16; 4096],
-    rows: &[u16; 16416],
+    queue: &QueueColumn,
+    mark: &MarkColumn,
+    mop: &MarkColumn,
+    rows: &Rows,
 ) -> usize
     ensures { λ r. ⌜ r ≡ first-broken (now (queue .entry)) (now (rows .entry)) n marks (now (mark .entry)) (now (mop .entry)) ⌝ }
     ensures { λ r. ⌜ ((p : Plan) → Shown p n marks (now (queue .entry)) (now (mark .entry)) (now (mop .entry)) (now (rows .entry)) → r ≡ place-or n (broken-mark p)) ⌝ }
 {
     let none = n as usize;
-    let many = lower(marks, 4096);
+    let many = lower(marks, MARK_PLACES);
     let a = uses(none, many, queue, mark, mop, rows);
     let b = reuses(none, many, queue, mark, mop, rows);
     lower(a, b)
@@ -40,21 +50,21 @@ fn lower(a: usize, b: usize) -> usize
 fn uses(
     n: usize,
     marks: usize,
-    queue: &[u16; 1024],
-    mark: &[u16; 4096],
-    mop: &[u16; 4096],
-    rows: &[u16; 16416],
+    queue: &QueueColumn,
+    mark: &MarkColumn,
+    mop: &MarkColumn,
+    rows: &Rows,
 ) -> usize
-    requires { ⌜ marks ≤ 4096 ⌝ }
+    requires { ⌜ marks ≤ mark-places ⌝ }
     ensures { λ r. ⌜ r ≡ first-late (now (queue .entry)) (now (rows .entry)) n (shown-from (now (mark .entry)) (now (mop .entry)) marks 0) ⌝ }
 {
-    let mut last = [1024u16; 512];
+    let mut last = [NO_OPERATION_STORED; MARK_CODES];
     let mut lowest = n;
     let mut k = marks;
     while 0 < k {
         k -= 1;
-        let m = wide(mark[k]) % 512;
-        let i = wide(mop[k]) % 1024;
+        let m = wide(mark[k]) % MARK_CODES;
+        let i = wide(mop[k]) % MOST_OPERATIONS;
         let free = freed(&last, m);
         lowest = pick((m % 2 == 0) & late(queue, rows, i, free), i, lowest);
         note(&mut last, m, i);
@@ -66,19 +76,19 @@ fn uses(
 fn reuses(
     n: usize,
     marks: usize,
-    queue: &[u16; 1024],
-    mark: &[u16; 4096],
-    mop: &[u16; 4096],
-    rows: &[u16; 16416],
+    queue: &QueueColumn,
+    mark: &MarkColumn,
+    mop: &MarkColumn,
+    rows: &Rows,
 ) -> usize
-    requires { ⌜ marks ≤ 4096 ⌝ }
+    requires { ⌜ marks ≤ mark-places ⌝ }
     ensures { λ r. ⌜ r ≡ first-early (now (queue .entry)) (now (rows .entry)) n none-noted (shown-from (now (mark .entry)) (now (mop .entry)) marks 0) ⌝ }
 {
-    let mut last = [1024u16; 512];
+    let mut last = [NO_OPERATION_STORED; MARK_CODES];
     let mut k = 0;
     while k < marks {
-        let m = wide(mark[k]) % 512;
-        let i = wide(mop[k]) % 1024;
+        let m = wide(mark[k]) % MARK_CODES;
+        let i = wide(mop[k]) % MOST_OPERATIONS;
         let free = freed(&last, m);
         if early(queue, rows, free, i) {
             return i;
@@ -90,44 +100,44 @@ fn reuses(
 }
 
 // Whether a use by i isn't forced to come no later than a free.
-fn late(queue: &[u16; 1024], rows: &[u16; 16416], i: usize, free: usize) -> bool
-    requires { ⌜ (i < 1024) × (free ≤ 1024) ⌝ }
+fn late(queue: &QueueColumn, rows: &Rows, i: usize, free: usize) -> bool
+    requires { ⌜ (i < most-operations) × (free ≤ no-operation) ⌝ }
     ensures { λ r. ⌜ r ≡ is-late (now (queue .entry)) (now (rows .entry)) i free ⌝ }
 {
-    (free < 1024) & !ordered(queue, rows, i, free)
+    (free < NO_OPERATION) & !ordered(queue, rows, i, free)
 }
 
 // Whether a mark by i isn't forced to come after a free. Neither side of the `|` is true of a mark that isn't broken, so that a jump on either
 // is easy to foretell.
-fn early(queue: &[u16; 1024], rows: &[u16; 16416], free: usize, i: usize) -> bool
-    requires { ⌜ (free ≤ 1024) × (i < 1024) ⌝ }
+fn early(queue: &QueueColumn, rows: &Rows, free: usize, i: usize) -> bool
+    requires { ⌜ (free ≤ no-operation) × (i < most-operations) ⌝ }
     ensures { λ r. ⌜ r ≡ is-early (now (queue .entry)) (now (rows .entry)) free i ⌝ }
 {
-    (free == i) | ((free < 1024) & !ordered(queue, rows, free, i))
+    (free == i) | ((free < NO_OPERATION) & !ordered(queue, rows, free, i))
 }
 
 // Whether i is j or before j, by the column of i's queue in their rows. Where i is 1,024 the answer is free.
-fn ordered(queue: &[u16; 1024], rows: &[u16; 16416], i: usize, j: usize) -> bool
-    requires { ⌜ (i ≤ 1024) × (j ≤ 1024) ⌝ }
-    ensures { λ r. ⌜ (i < 1024 → r ≡ is-ordered (now (queue .entry)) (now (rows .entry)) i j) ⌝ }
+fn ordered(queue: &QueueColumn, rows: &Rows, i: usize, j: usize) -> bool
+    requires { ⌜ (i ≤ no-operation) × (j ≤ no-operation) ⌝ }
+    ensures { λ r. ⌜ (i < most-operations → r ≡ is-ordered (now (queue .entry)) (now (rows .entry)) i j) ⌝ }
 {
-    let q = wide(queue[i % 1024]) % 16;
-    let own = wide(rows[16 * i + q]);
-    let other = wide(rows[16 * j + q]);
+    let q = wide(queue[i % MOST_OPERATIONS]) % ROW_WIDTH;
+    let own = wide(rows[ROW_WIDTH * i + q]);
+    let other = wide(rows[ROW_WIDTH * j + q]);
     own <= other
 }
 
 // The free of a mark's buffer.
-fn freed(last: &[u16; 512], m: usize) -> usize
-    requires { ⌜ m < 512 ⌝ }
+fn freed(last: &[u16; MARK_CODES], m: usize) -> usize
+    requires { ⌜ m < mark-codes ⌝ }
     ensures { λ r. ⌜ r ≡ free-in (now (last .entry)) (m / 2) ⌝ }
 {
     wide(last[m / 2 * 2 + 1])
 }
 
 // Notes that i has a mark.
-fn note(last: &mut [u16; 512], m: usize, i: usize)
-    requires { ⌜ (m < 512) × (i < 1024) ⌝ }
+fn note(last: &mut [u16; MARK_CODES], m: usize, i: usize)
+    requires { ⌜ (m < mark-codes) × (i < most-operations) ⌝ }
     ensures { λ _. ⌜ now (last .exit) ≡ noted (mark-of m i) (now (last .entry)) ⌝ }
 {
     last[m] = i as u16;

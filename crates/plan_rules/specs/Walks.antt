@@ -5,6 +5,7 @@ use mathlib.Core.List.{List, []}
 use Prim.Native.Nat.{ℕ, zero, suc, _≤_, _<_}
 use lib.Dec.{leb, eqb}
 use lib.ListN.{length, getD, set, replicate}
+use Rattle.plan_format.specs.Sizes.{most-semaphores}
 use Rattle.plan_format.specs.Refusal.{Refusal, refusal, none-given}
 use Rattle.plan_format.specs.Plan.{Plan, count, op}
 use Rattle.plan_format.specs.Sound.{highest, signals-refusal, In-range}
@@ -13,7 +14,7 @@ use Rattle.plan_rules.specs.declared.Signalled.{Signalled}
 
 -- the columns show a plan whose operations name only what it has
 pub record Shown (p : Plan) (signals : ℕ) (owner queue ssem sval sop : List ℕ) : Type 0 where
-  pub few-owners : length (p .owners) ≤ 64
+  pub few-owners : length (p .owners) ≤ most-semaphores
   pub in-range : (i : ℕ) → i < count p → In-range p (op p i)
   pub owners-shown : Owner-column p owner
   pub queues-shown : Queue-column p queue
@@ -49,4 +50,4 @@ module _ (owner queue ssem sval sop : List ℕ) where
 
 -- nothing is signalled on any of the 64 semaphores
 abbrev pub zeros : List ℕ
-zeros = replicate 64 0
+zeros = replicate most-semaphores 0

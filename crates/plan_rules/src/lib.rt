@@ -1,4 +1,10 @@
 // Refusals 6 and 7 of a plan: each signal is its owner's, and above the last of its semaphore.
+use plan_columns::LastValues;
+use plan_columns::OwnerColumn;
+use plan_columns::QueueColumn;
+use plan_columns::SignalColumn;
+use plan_columns::SignalValues;
+use plan_format::limits::MOST_SEMAPHORES;
 ghost use mathlib.Core.Path.{_≡_};
 ghost use Rattle.plan_format.specs.Refusal.{refusal};
 ghost use Rattle.plan_format.specs.Plan.{Plan};
@@ -8,24 +14,24 @@ ghost use Rattle.plan_rules.specs.Walks.{Shown, Judged, signals-walk, la
 pub struct Signalled {
     pub number: u32,
     pub place: u64,
-    pub last: [u64; 64],
+    pub last: LastValues,
 }
 
 // 6 or 7 at the first signal that breaks a rule, or none; and the last values of the signals before it. By the columns of a plan the refusal
 // is the plan's, and where there is none the last values of its semaphores are the highest.
 pub fn judge(
     signals: usize,
-    owner: &[u16; 64],
-    queue: &[u16; 1024],
-    ssem: &[u16; 2048],
-    sval: &[u64; 2048],
-    sop: &[u16; 2048],
+    owner: &OwnerColumn,
+    queue: &QueueColumn,
+    ssem: &SignalColumn,
+    sval: &SignalValues,
+    sop: &SignalColumn,
 ) -> Signalled
     ensures { λ r. ⌜ refusal (r .number) (r .place) ≡ signals-walk (now (owner .entry)) (now (queue .entry)) (now (ssem .entry)) (now (sval .entry)) (now (sop .entry)) signals 0 zeros ⌝ }
     ensures { λ r. ⌜ r .last ≡ lasts-walk (now (owner .entry)) (now (queue .entry)) (now (ssem .entry)) (now (sval .entry)) (now (sop .entry)) signals 0 zeros ⌝ }
     ensures { λ r. ⌜ ((p : Plan) → Shown p signals (now (owner .entry)) (now (queue .entry)) (now (ssem .entry)) (now (sval .entry)) (now (sop .entry)) → Judged p r) ⌝ }
 {
-    let mut last = [0u64; 64];
+    let mut last = [0u64; MOST_SEMAPHORES];
     let mut k = 0;
     while k < signals {
         let s = cells::get16(ssem, k);

@@ -3,10 +3,11 @@ use mathlib.Core.Path.{_≡_}
 use mathlib.Core.List.{List}
 use Prim.Native.Nat.{ℕ, _+_, _-_, _*_, _%_, _<_, max}
 use lib.ListN.{length, getD}
+use Rattle.plan_format.specs.Sizes.{row-width}
 
 -- column k of the row of operation j
 unfoldable pub cell : (rows : List ℕ) → (j k : ℕ) → ℕ
-cell rows j k = getD rows (16 * j + k) 0
+cell rows j k = getD rows (row-width * j + k) 0
 
 unfoldable pub largest : (rows : List ℕ) → (a b c d k : ℕ) → ℕ
 largest rows a b c d k = max (max (cell rows a k) (cell rows b k)) (max (cell rows c k) (cell rows d k))
@@ -14,11 +15,11 @@ largest rows a b c d k = max (max (cell rows a k) (cell rows b k)) (max (cell ro
 -- the first columns of a row written at an operation, and nothing else
 pub record Laid (rows : List ℕ) (j : ℕ) (row : List ℕ) (many : ℕ) (rows-now : List ℕ) : Type 0 where
   pub there : (k : ℕ) → k < many → cell rows-now j k ≡ getD row k 0
-  pub elsewhere : (i k : ℕ) → k < 16 → (i ≡ j → ⊥) → cell rows-now i k ≡ cell rows i k
+  pub elsewhere : (i k : ℕ) → k < row-width → (i ≡ j → ⊥) → cell rows-now i k ≡ cell rows i k
   pub long : length rows-now ≡ length rows
 
 -- the row of operation j of queue q merged from four rows, and nothing else
 pub record Merged (rows unit : List ℕ) (j q a b c d : ℕ) (rows-now : List ℕ) : Type 0 where
-  pub there : (k : ℕ) → k < 16 → cell rows-now j k ≡ (largest rows a b c d k + getD unit (16 - q + k) 0) % 65536
-  pub elsewhere : (i k : ℕ) → k < 16 → (i ≡ j → ⊥) → cell rows-now i k ≡ cell rows i k
+  pub there : (k : ℕ) → k < row-width → cell rows-now j k ≡ (largest rows a b c d k + getD unit (row-width - q + k) 0) % 65536
+  pub elsewhere : (i k : ℕ) → k < row-width → (i ≡ j → ⊥) → cell rows-now i k ≡ cell rows i k
   pub long : length rows-now ≡ length rows

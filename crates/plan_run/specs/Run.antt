@@ -5,6 +5,7 @@ use mathlib.Core.List.{List}
 use Prim.Native.Nat.{ℕ, _+_, _*_, _≤_, _<_}
 use lib.ListN.{length, getD, take, drop}
 use Rattle.basics.specs.Lists.{member, in-front}
+use Rattle.plan_format.specs.Sizes.{most-operations, most-waits, row-width, row-places}
 use Rattle.plan_format.specs.Plan.{Plan, count, op}
 use Rattle.plan_format.specs.Sound.{Sound}
 use Rattle.plan_order.specs.Runs.{number-ready, standard, run-list}
@@ -14,19 +15,19 @@ use Rattle.plan_columns.specs.Columns.{Queue-column, Source-column, Row-columns
 pub record Shown (p : Plan) (n : ℕ) (queue source : List ℕ) : Type 0 where
   pub sound : Sound p
   pub many : count p ≡ n
-  pub few-waits : (i : ℕ) → i < count p → length (op p i .waits) ≤ 3
+  pub few-waits : (i : ℕ) → i < count p → length (op p i .waits) ≤ most-waits
   pub queues : Queue-column p queue
   pub sources : Source-column p source
 
 -- a table of 1,026 rows, all zero
 pub record Cleared (rows : List ℕ) : Type 0 where
-  pub long : length rows ≡ 16416
+  pub long : length rows ≡ row-places
   pub zeros : (k : ℕ) → getD rows k 0 ≡ 0
 
 -- the rows of the operations that have run; every other row of the 1,026 is zero
 pub record Rows-of (p : Plan) (run rows : List ℕ) : Type 0 where
   pub ran : Row-columns p (λ j. member j run ≡ true) rows
-  pub others : (j q : ℕ) → j < 1026 → member j run ≡ false → q < 16 → getD rows (16 * j + q) 0 ≡ 0
+  pub others : (j q : ℕ) → j < most-operations + 2 → member j run ≡ false → q < row-width → getD rows (row-width * j + q) 0 ≡ 0
 
 -- the run in the front of the list, the number ready before each step from place n on, and nothing past 2 n
 pub record Listed (p : Plan) (n : ℕ) (run list list-now : List ℕ) : Type 0 where
@@ -41,7 +42,7 @@ pub record Bounded (n answer : ℕ) (rows rows-now list list-now : List ℕ) : T
   pub few : answer ≤ n
   pub long : length list-now ≡ length list
   pub past : drop (2 * n) list-now ≡ drop (2 * n) list
-  pub over : 1024 < n → (answer ≡ 0) × (rows-now ≡ rows) × (list-now ≡ list)
+  pub over : most-operations < n → (answer ≡ 0) × (rows-now ≡ rows) × (list-now ≡ list)
 
 -- the whole pass
 pub record Ran (p : Plan) (n answer : ℕ) (rows list list-now : List ℕ) : Type 0 where

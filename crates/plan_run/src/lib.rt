@@ -3,19 +3,33 @@ mod merge;
 mod queues;
 mod steps;
 
+use plan_columns::QueueColumn;
+use plan_columns::Rows;
+use plan_columns::WaitColumn;
+use plan_format::limits::MOST_OPERATIONS;
+use plan_format::limits::MOST_QUEUES;
+use plan_format::limits::NO_OPERATION;
+use plan_format::limits::NO_OPERATION_STORED;
+use plan_format::limits::ROW_WIDTH;
 ghost use Prim.Native.Nat.{_*_, _≤_};
 ghost use lib.ListN.{length};
 ghost use Rattle.plan_format.specs.Plan.{Plan};
 ghost use Rattle.plan_run.specs.Run.{Shown, Cleared, Bounded, Ran};
+
+// A place for each operation, and one for none.
+const SLOTS: usize = NO_OPERATION + 1;
+
+// A row with a one in the middle: the part of it that begins at width - q has the one in column q.
+const UNIT: usize = 2 * ROW_WIDTH;
 
 // The standard run into `list`, with the number ready before each step from place n on, and the row of each operation that ran into `rows`,
 // which are all zero before; how many operations ran. Where the columns show no plan, the rows, the first 2 n of the list and an answer up to n are
 // free; where n is above 1,024 nothing is done.
 pub fn run(
     n: u16,
-    queue: &[u16; 1024],
-    source: &[u16; 3072],
-    rows: &mut [u16; 16416],
+    queue: &QueueColumn,
+    source: &WaitColumn,
+    rows: &mut Rows,
     list: &mut [u32],
 ) -> usize
     ensures { λ r. ⌜ Bounded n r (now (rows .entry)) (now (rows .exit)) (now (list .entry)) (now (list .exit)) ⌝ }
@@ -23,14 +37,14 @@ pub fn run(
         Ran p n r (now (rows .exit)) (now (list .entry)) (now (list .exit))) ⌝ }
 {
     let many = n as usize;
-    if 1024 < many {
+    if MOST_OPERATIONS < many {
         return 0;
     }
-    let mut head = [1024u16; 16];
-    let mut next = [1024u16; 1024];
-    let mut ran = [0u16; 1025];
-    let mut waiter = [0u16; 1025];
-    ran[1024] = 1;
+    let mut head = [NO_OPERATION_STORED; MOST_QUEUES];
+    let mut next = [NO_OPERATION_STORED; MOST_OPERATIONS];
+    let mut ran = [0u16; SLOTS];
+    let mut waiter = [0u16; SLOTS];
+    ran[NO_OPERATION] = 1;
     queues::chain(many, queue, &mut head, &mut next);
     let ready = queues::wake(65535, 0, &head, source, &ran, &mut waiter);
     steps::all(

@@ -1,7 +1,11 @@
 // Rows merged: the largest of four rows in each column, one more in the own column.
+use crate::UNIT;
+use plan_columns::Rows;
+use plan_format::limits::ROW_WIDTH;
 ghost use mathlib.Core.Path.{_≡_};
 ghost use Prim.Native.Nat.{ℕ, _+_, _-_, _*_, _%_, _≤_, _<_, max};
 ghost use lib.ListN.{length, getD};
+ghost use Rattle.plan_format.specs.Sizes.{row-width, row-places, no-operation};
 ghost use Rattle.plan_run.specs.Merge.{largest, Laid};
 
 fn larger(a: u16, b: u16) -> u16
@@ -24,29 +28,29 @@ fn sum(a: u16, b: u16) -> u16
 }
 
 // The larger of two rows in a column.
-fn higher(rows: &[u16; 16416], a: usize, b: usize, k: usize) -> u16
-    requires { ⌜ (a ≤ 1024) × (b ≤ 1024) × (k < 16) ⌝ }
-    ensures { λ r. ⌜ r ≡ max (getD (now (rows .entry)) (16 * a + k) 0) (getD (now (rows .entry)) (16 * b + k) 0) ⌝ }
+fn higher(rows: &Rows, a: usize, b: usize, k: usize) -> u16
+    requires { ⌜ (a ≤ no-operation) × (b ≤ no-operation) × (k < row-width) ⌝ }
+    ensures { λ r. ⌜ r ≡ max (getD (now (rows .entry)) (row-width * a + k) 0) (getD (now (rows .entry)) (row-width * b + k) 0) ⌝ }
 {
-    larger(rows[16 * a + k], rows[16 * b + k])
+    larger(rows[ROW_WIDTH * a + k], rows[ROW_WIDTH * b + k])
 }
 
 // The largest of four rows in each column, and what `unit` has for it, shifted to column q.
 pub fn merge(
-    rows: &[u16; 16416],
-    unit: &[u16; 32],
+    rows: &Rows,
+    unit: &[u16; UNIT],
     q: usize,
     a: usize,
     b: usize,
     c: usize,
     d: usize,
-) -> [u16; 16]
-    requires { ⌜ (q < 16) × (a ≤ 1024) × (b ≤ 1024) × (c ≤ 1024) × (d ≤ 1024) ⌝ }
-    ensures { λ r. ⌜ ((k : ℕ) → k < 16 → getD r k 0 ≡ (largest (now (rows .entry)) a b c d k + getD (now (unit .entry)) (16 - q + k) 0) % 65536) ⌝ }
+) -> [u16; ROW_WIDTH]
+    requires { ⌜ (q < row-width) × (a ≤ no-operation) × (b ≤ no-operation) × (c ≤ no-operation) × (d ≤ no-operation) ⌝ }
+    ensures { λ r. ⌜ ((k : ℕ) → k < row-width → getD r k 0 ≡ (largest (now (rows .entry)) a b c d k + getD (now (unit .entry)) (row-width - q + k) 0) % 65536) ⌝ }
 {
-    let mut row = [0u16; 16];
-    let from = 16 - q;
-    for k in 0..16 {
+    let mut row = [0u16; ROW_WIDTH];
+    let from = ROW_WIDTH - q;
+    for k in 0..ROW_WIDTH {
         let ab = higher(rows, a, b, k);
         let cd = higher(rows, c, d, k);
         row[k] = sum(larger(ab, cd), unit[from + k]);
@@ -55,11 +59,11 @@ pub fn merge(
 }
 
 // A row written at operation j.
-pub fn lay(rows: &mut [u16; 16416], j: usize, row: [u16; 16])
-    requires { ⌜ j ≤ 1024 ⌝ }
-    ensures { λ _. ⌜ (length (now (rows .entry)) ≡ 16416 → Laid (now (rows .entry)) j row 16 (now (rows .exit))) ⌝ }
+pub fn lay(rows: &mut Rows, j: usize, row: [u16; ROW_WIDTH])
+    requires { ⌜ j ≤ no-operation ⌝ }
+    ensures { λ _. ⌜ (length (now (rows .entry)) ≡ row-places → Laid (now (rows .entry)) j row row-width (now (rows .exit))) ⌝ }
 {
-    for k in 0..16 {
-        rows[16 * j + k] = row[k];
+    for k in 0..ROW_WIDTH {
+        rows[ROW_WIDTH * j + k] = row[k];
     }
 }

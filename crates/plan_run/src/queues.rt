@@ -1,13 +1,19 @@
 // The queues during a run: which operation is next on each, what holds it, and which queues are ready.
+use crate::SLOTS;
+use plan_columns::QueueColumn;
+use plan_columns::WaitColumn;
+use plan_format::limits::MOST_QUEUES;
+use plan_format::limits::NO_OPERATION;
 ghost use mathlib.Core.Path.{_≡_};
 ghost use Prim.Native.Nat.{_<_, _≤_, _^_};
 ghost use lib.ListN.{length, replicate};
+ghost use Rattle.plan_format.specs.Sizes.{most-queues, most-operations, no-operation};
 ghost use Rattle.plan_run.specs.Words.{Lowest-bit};
 ghost use Rattle.plan_run.specs.Queues.{Chained, blocker-of, Looked};
 
 // For each operation the next of its queue; the first of each queue in `head`.
-pub fn chain(n: usize, queue: &[u16; 1024], head: &mut [u16; 16], next: &mut [u16; 1024])
-    requires { ⌜ (n ≤ 1024) × (now head ≡ replicate 16 1024) × (length (now next) ≡ 1024) ⌝ }
+pub fn chain(n: usize, queue: &QueueColumn, head: &mut [u16; MOST_QUEUES], next: &mut QueueColumn)
+    requires { ⌜ (n ≤ most-operations) × (now head ≡ replicate most-queues no-operation) × (length (now next) ≡ most-operations) ⌝ }
     ensures { λ _. ⌜ Chained (now (queue .entry)) 0 n (now (head .exit)) (now (next .exit)) ⌝ }
 {
     let mut i = n;
@@ -21,7 +27,7 @@ pub fn chain(n: usize, queue: &[u16; 1024], head: &mut [u16; 16], next: &mut [u1
 }
 
 // The first source of operation j that has not run; 1,024 if each has.
-fn blocker(j: usize, source: &[u16; 3072], ran: &[u16; 1025]) -> usize
+fn blocker(j: usize, source: &WaitColumn, ran: &[u16; SLOTS]) -> usize
     requires { ⌜ j < 65536 ⌝ }
     ensures { λ r. ⌜ r ≡ blocker-of (now (source .entry)) (now (ran .entry)) j ⌝ }
 {
@@ -37,13 +43,13 @@ fn blocker(j: usize, source: &[u16; 3072], ran: &[u16; 1025]) -> usize
     if cells::get16(ran, c) == 0 {
         return c;
     }
-    1024
+    NO_OPERATION
 }
 
 // The lowest queue of a word.
 pub fn lowest(word: u32) -> usize
     requires { ⌜ (0 < word) × (word < 65536) ⌝ }
-    ensures { λ r. ⌜ (r < 16) × Lowest-bit word r ⌝ }
+    ensures { λ r. ⌜ (r < most-queues) × Lowest-bit word r ⌝ }
 {
     u32::trailing_zeros(word) as usize
 }
@@ -52,20 +58,20 @@ pub fn lowest(word: u32) -> usize
 fn look(
     q: usize,
     ready: u32,
-    head: &[u16; 16],
-    source: &[u16; 3072],
-    ran: &[u16; 1025],
-    waiter: &mut [u16; 1025],
+    head: &[u16; MOST_QUEUES],
+    source: &WaitColumn,
+    ran: &[u16; SLOTS],
+    waiter: &mut [u16; SLOTS],
 ) -> u32
-    requires { ⌜ (q < 16) × (ready < 65536) ⌝ }
+    requires { ⌜ (q < most-queues) × (ready < 65536) ⌝ }
     ensures { λ r. ⌜ (r < 65536) × Looked (2 ^ q) ready (now (head .entry)) (now (source .entry)) (now (ran .entry)) (now (waiter .entry)) r (now (waiter .exit)) ⌝ }
 {
     let j = cells::get16(head, q);
-    if 1024 <= j {
+    if NO_OPERATION <= j {
         return ready;
     }
     let b = blocker(j, source, ran);
-    if b == 1024 {
+    if b == NO_OPERATION {
         return ready | (1u32 << q);
     }
     let w = cells::get16(waiter, b);
@@ -77,10 +83,10 @@ fn look(
 pub fn wake(
     mask: u32,
     ready: u32,
-    head: &[u16; 16],
-    source: &[u16; 3072],
-    ran: &[u16; 1025],
-    waiter: &mut [u16; 1025],
+    head: &[u16; MOST_QUEUES],
+    source: &WaitColumn,
+    ran: &[u16; SLOTS],
+    waiter: &mut [u16; SLOTS],
 ) -> u32
     requires { ⌜ (mask < 65536) × (ready < 65536) ⌝ }
     ensures { λ r. ⌜ (r < 65536) × Looked mask ready (now (head .entry)) (now (source .entry)) (now (ran .entry)) (now (waiter .entry)) r (now (waiter .exit)) ⌝ }

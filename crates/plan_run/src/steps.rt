@@ -1,10 +1,20 @@
 // Steps of the standard run: the next operation of the lowest ready queue runs, and its row is merged.
+use crate::SLOTS;
+use crate::UNIT;
 use crate::merge;
 use crate::queues;
+use plan_columns::QueueColumn;
+use plan_columns::Rows;
+use plan_columns::WaitColumn;
+use plan_format::limits::MOST_QUEUES;
+use plan_format::limits::NO_OPERATION;
+use plan_format::limits::NO_OPERATION_STORED;
+use plan_format::limits::ROW_WIDTH;
 ghost use mathlib.Core.Path.{_≡_};
 ghost use mathlib.Core.List.{List};
 ghost use Prim.Native.Nat.{ℕ, _+_, _*_, _<_, _≤_};
 ghost use lib.ListN.{length, getD, drop};
+ghost use Rattle.plan_format.specs.Sizes.{most-queues, most-operations, row-places, no-operation};
 ghost use Rattle.plan_format.specs.Plan.{Plan};
 ghost use Rattle.plan_run.specs.Merge.{Merged};
 ghost use Rattle.plan_run.specs.Run.{Shown, Cleared, Ran};
@@ -15,20 +25,20 @@ fn slot(a: &[u16], i: usize) -> usize
     ensures { λ r. ⌜ r ≡ slot-of (getD (now (a .entry)) i 0) ⌝ }
 {
     let x = cells::get16(a, i);
-    if x < 1024 { x } else { 1024 }
+    if x < NO_OPERATION { x } else { NO_OPERATION }
 }
 
 // The row of operation j of queue q, from those of the queue's last operation and of its sources.
 fn fill(
     j: usize,
     q: usize,
-    source: &[u16; 3072],
-    prev: &[u16; 16],
-    unit: &[u16; 32],
-    rows: &mut [u16; 16416],
+    source: &WaitColumn,
+    prev: &[u16; MOST_QUEUES],
+    unit: &[u16; UNIT],
+    rows: &mut Rows,
 )
-    requires { ⌜ (j ≤ 1024) × (q < 16) ⌝ }
-    ensures { λ _. ⌜ (length (now (rows .entry)) ≡ 16416 →
+    requires { ⌜ (j ≤ no-operation) × (q < most-queues) ⌝ }
+    ensures { λ _. ⌜ (length (now (rows .entry)) ≡ row-places →
         Merged (now (rows .entry)) (now (unit .entry)) j q (slot-of (getD (now (prev .entry)) q 0)) (slot-of (getD (now (source .entry)) (3 * j) 0))
         (slot-of (getD (now (source .entry)) (3 * j + 1) 0)) (slot-of (getD (now (source .entry)) (3 * j + 2) 0)) (now (rows .exit))) ⌝ }
 {
@@ -44,15 +54,15 @@ fn fill(
 fn step(
     j: usize,
     q: usize,
-    source: &[u16; 3072],
-    next: &[u16; 1024],
-    unit: &[u16; 32],
-    head: &mut [u16; 16],
-    prev: &mut [u16; 16],
-    ran: &mut [u16; 1025],
-    rows: &mut [u16; 16416],
+    source: &WaitColumn,
+    next: &QueueColumn,
+    unit: &[u16; UNIT],
+    head: &mut [u16; MOST_QUEUES],
+    prev: &mut [u16; MOST_QUEUES],
+    ran: &mut [u16; SLOTS],
+    rows: &mut Rows,
 )
-    requires { ⌜ (j ≤ 1024) × (q < 16) ⌝ }
+    requires { ⌜ (j ≤ no-operation) × (q < most-queues) ⌝ }
     ensures { λ _. ⌜ Stepped j q (now (source .entry)) (now (next .entry)) (now (unit .entry)) (now (head .entry)) (now (prev .entry)) (now (ran .entry))
         (now (rows .entry)) (now (head .exit)) (now (prev .exit)) (now (ran .exit)) (now (rows .exit)) ⌝ }
 {
@@ -68,17 +78,17 @@ pub fn turn(
     i: usize,
     n: usize,
     ready: u32,
-    source: &[u16; 3072],
-    next: &[u16; 1024],
-    unit: &[u16; 32],
-    head: &mut [u16; 16],
-    prev: &mut [u16; 16],
-    ran: &mut [u16; 1025],
-    waiter: &mut [u16; 1025],
-    rows: &mut [u16; 16416],
+    source: &WaitColumn,
+    next: &QueueColumn,
+    unit: &[u16; UNIT],
+    head: &mut [u16; MOST_QUEUES],
+    prev: &mut [u16; MOST_QUEUES],
+    ran: &mut [u16; SLOTS],
+    waiter: &mut [u16; SLOTS],
+    rows: &mut Rows,
     list: &mut [u32],
 ) -> u32
-    requires { ⌜ (0 < ready) × (ready < 65536) × (i < n) × (n ≤ 1024) ⌝ }
+    requires { ⌜ (0 < ready) × (ready < 65536) × (i < n) × (n ≤ most-operations) ⌝ }
     ensures { λ r. ⌜ (r < 65536) × (drop (2 * n) (now (list .exit)) ≡ drop (2 * n) (now (list .entry))) × ((p : Plan) (queue first : List ℕ) → Shown p n queue (now (source .entry)) → Tables queue n (now (next .entry)) (now (unit .entry)) →
         2 * n ≤ length first →
         Going p n i (now (source .entry)) (now (head .entry)) (now (prev .entry)) (now (ran .entry)) (now (waiter .entry)) ready (now (rows .entry)) first (now (list .entry)) →
@@ -97,23 +107,23 @@ pub fn turn(
 pub fn all(
     n: usize,
     ready: u32,
-    source: &[u16; 3072],
-    next: &[u16; 1024],
-    head: &mut [u16; 16],
-    ran: &mut [u16; 1025],
-    waiter: &mut [u16; 1025],
-    rows: &mut [u16; 16416],
+    source: &WaitColumn,
+    next: &QueueColumn,
+    head: &mut [u16; MOST_QUEUES],
+    ran: &mut [u16; SLOTS],
+    waiter: &mut [u16; SLOTS],
+    rows: &mut Rows,
     list: &mut [u32],
 ) -> usize
-    requires { ⌜ (ready < 65536) × (n ≤ 1024) ⌝ }
+    requires { ⌜ (ready < 65536) × (n ≤ most-operations) ⌝ }
     ensures { λ r. ⌜ (r ≤ n) × (length (now (list .exit)) ≡ length (now (list .entry))) × (drop (2 * n) (now (list .exit)) ≡ drop (2 * n) (now (list .entry))) ⌝ }
     ensures { λ r. ⌜ ((p : Plan) (queue : List ℕ) → Shown p n queue (now (source .entry)) → Cleared (now (rows .entry)) → 2 * n ≤ length (now (list .entry)) →
         Prepared queue n (now (source .entry)) (now (head .entry)) (now (next .entry)) (now (ran .entry)) (now (waiter .entry)) ready →
         Ran p n r (now (rows .exit)) (now (list .entry)) (now (list .exit))) ⌝ }
 {
-    let mut prev = [1024u16; 16];
-    let mut unit = [0u16; 32];
-    unit[16] = 1;
+    let mut prev = [NO_OPERATION_STORED; MOST_QUEUES];
+    let mut unit = [0u16; UNIT];
+    unit[ROW_WIDTH] = 1;
     let mut word = ready;
     let mut i: usize = 0;
     while i < n {

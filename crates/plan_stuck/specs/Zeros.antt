@@ -6,10 +6,11 @@ use Prim.Native.Nat.{ℕ, _+_, _*_, _%_}
 use lib.Dec.{eqb}
 use lib.ListN.{getD}
 use Rattle.basics.specs.Lists.{lowest-below, place-or}
+use Rattle.plan_format.specs.Sizes.{row-width}
 
 -- the row of operation i is zero at its own queue; the queue is cut to its bits, which changes none in range
 unfoldable pub own-zero : (queue rows : List ℕ) → (i : ℕ) → Bool
-own-zero queue rows i = eqb (getD rows (16 * i + getD queue i 0 % 16) 0) 0
+own-zero queue rows i = eqb (getD rows (row-width * i + getD queue i 0 % row-width) 0) 0
 
 -- the lowest such operation of n; n where there is none
 abbrev pub first-zero : (n : ℕ) → (queue rows : List ℕ) → ℕ

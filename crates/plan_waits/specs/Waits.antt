@@ -6,6 +6,7 @@ use mathlib.Core.List.{List, []}
 use Prim.Native.Nat.{ℕ, zero, suc, _*_, _/_, _%_, _≤_, _<_}
 use lib.Dec.{ltb, leb}
 use lib.ListN.{length, getD}
+use Rattle.plan_format.specs.Sizes.{most-semaphores, most-operations, most-waits, signal-places, no-operation}
 use Rattle.plan_format.specs.Refusal.{Refusal, refusal, none-given}
 use Rattle.plan_format.specs.Plan.{Plan, count, op}
 use Rattle.plan_format.specs.Sound.{signals-refusal, waits-refusal, In-range}
@@ -17,8 +18,8 @@ use Rattle.plan_waits.specs.declared.Ruled.{Ruled}
 -- the columns show a plan with neither refusal 6 nor 7, and the highest value of each semaphore
 pub record Shown (p : Plan) (n signals : ℕ) (ssem sval sop wsem wval last : List ℕ) : Type 0 where
   pub operations : count p ≡ n
-  pub few : n ≤ 1024
-  pub few-owners : length (p .owners) ≤ 64
+  pub few : n ≤ most-operations
+  pub few-owners : length (p .owners) ≤ most-semaphores
   pub in-range : (i : ℕ) → i < count p → In-range p (op p i)
   pub rules : signals-refusal 0 p [] (p .operations) .number ≡ 0
   pub signals-shown : Signal-columns p signals ssem sval sop
@@ -35,15 +36,15 @@ pub record Resolved (p : Plan) (r : Ruled) (source : List ℕ) : Type 0 where
 unfoldable pub waits-walk : (wsem wval last : List ℕ) → (left k : ℕ) → Refusal
 waits-walk wsem wval last zero k = none-given
 waits-walk wsem wval last (suc left) k =
-    cond (ltb (getD last (getD wsem k 0 % 64) 0) (getD wval k 0)) (refusal 8 (k / 3)) (waits-walk wsem wval last left (suc k))
+    cond (ltb (getD last (getD wsem k 0 % most-semaphores) 0) (getD wval k 0)) (refusal 8 (k / most-waits)) (waits-walk wsem wval last left (suc k))
 
 -- the columns have places for so many operations and signals
 unfoldable pub has-places : (n signals : ℕ) → Bool
-has-places n signals = leb n 1024 && leb signals 2048
+has-places n signals = leb n most-operations && leb signals signal-places
 
 -- 8 by the wait places of n operations; none where the columns have no places for them or for the signals
 unfoldable pub waits-found : (n signals : ℕ) → (wsem wval last : List ℕ) → Refusal
-waits-found n signals wsem wval last = cond (has-places n signals) (waits-walk wsem wval last (3 * n) 0) none-given
+waits-found n signals wsem wval last = cond (has-places n signals) (waits-walk wsem wval last (most-waits * n) 0) none-given
 
 -- signal j is of semaphore s and reaches v, above 0: none before it does, and all from it on do
 pub record Rests (ssem sval : List ℕ) (signals s v j : ℕ) : Type 0 where
@@ -58,7 +59,7 @@ pub record Rests (ssem sval : List ℕ) (signals s v j : ℕ) : Type 0 where
 -- of 64 semaphores, on the first signal that reaches it, if those after it do
 pub record Sources (n signals number : ℕ) (ssem sval sop wsem wval source : List ℕ) : Type 0 where
   pub long : length source ≡ length wsem
-  pub past : (k : ℕ) → 3 * n ≤ k → getD source k 0 ≡ getD wsem k 0
+  pub past : (k : ℕ) → most-waits * n ≤ k → getD source k 0 ≡ getD wsem k 0
   pub no-places : has-places n signals ≡ false → source ≡ wsem
-  pub free : has-places n signals ≡ true → number ≡ 0 → (k : ℕ) → k < 3 * n → getD wval k 0 ≡ 0 → getD source k 0 ≡ 1024
-  pub found : has-places n signals ≡ true → number ≡ 0 → Low ssem signals → (k j : ℕ) → k < 3 * n → Rests ssem sval signals (getD wsem k 0 % 64) (getD wval k 0) j → getD source k 0 ≡ getD sop j 0
+  pub free : has-places n signals ≡ true → number ≡ 0 → (k : ℕ) → k < most-waits * n → getD wval k 0 ≡ 0 → getD source k 0 ≡ no-operation
+  pub found : has-places n signals ≡ true → number ≡ 0 → Low ssem signals → (k j : ℕ) → k < most-waits * n → Rests ssem sval signals (getD wsem k 0 % most-semaphores) (getD wval k 0) j → getD source k 0 ≡ getD sop j 0

@@ -6,6 +6,7 @@ use Prim.Native.Nat.{ℕ, _≤_, _<_}
 use lib.Dec.{ltb, eqb}
 use lib.ListN.{length, getD}
 use Rattle.basics.specs.Lists.{highest-below, place-or}
+use Rattle.plan_format.specs.Sizes.{most-buffers, no-operation}
 use Rattle.plan_format.specs.Plan.{Plan, count, queues}
 use Rattle.plan_format.specs.Sound.{Sound}
 use Rattle.plan_order.specs.declared.Verdict.{Verdict}
@@ -18,7 +19,7 @@ use Rattle.checker.specs.declared.Counted.{Counted}
 pub record Shown (p : Plan) (n marks : ℕ) (queue mark operation rows : List ℕ) : Type 0 where
   pub sound : Sound p
   pub many : count p ≡ n
-  pub few-buffers : length (p .sizes) ≤ 256
+  pub few-buffers : length (p .sizes) ≤ most-buffers
   pub queues-shown : Queue-column p queue
   pub marks-shown : Mark-columns p marks mark operation
   pub rows-shown : Row-columns p (λ j. j < count p) rows
@@ -31,11 +32,11 @@ pub record Opened (p : Plan) (c : Counted) (marks : ℕ) (queue mark operation r
 
 -- 01: "the queue's last operation", of n; 1,024 where there is none
 unfoldable pub last-shown : (queue : List ℕ) → (q n : ℕ) → ℕ
-last-shown queue q n = place-or 1024 (highest-below n (λ i. eqb (getD queue i 0) q))
+last-shown queue q n = place-or no-operation (highest-below n (λ i. eqb (getD queue i 0) q))
 
 -- 01: i "is the queue's last operation or before it"; not "for a queue with no operations"
 unfoldable pub seen : (queue rows : List ℕ) → (last i : ℕ) → Bool
-seen queue rows last i = ltb last 1024 && ordered queue rows i last
+seen queue rows last i = ltb last no-operation && ordered queue rows i last
 
 -- 01: "held: its last mark is a use. reusable: the last mark is a free, and every operation with a mark on it is" seen. "stray use: the last
 -- mark is a free that is so placed, but another marked operation isn't. not ordered: otherwise"

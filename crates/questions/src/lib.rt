@@ -1,10 +1,19 @@
 // The reuse question: the verdict by the columns of a plan and the rows that its check leaves in the table.
 use checker::Counted;
+use plan_columns::MARK_CODES;
+use plan_columns::MarkColumn;
+use plan_columns::QueueColumn;
 use plan_format::Told;
+use plan_format::limits::HEAD_NUMBERS;
+use plan_format::limits::MARK_PLACES;
+use plan_format::limits::MOST_OPERATIONS;
+use plan_format::limits::NO_OPERATION;
+use plan_format::limits::ROW_WIDTH;
 use plan_order::Verdict;
 ghost use mathlib.Core.Path.{_≡_};
 ghost use mathlib.Core.Bool.{true};
 ghost use Prim.Native.Nat.{_<_};
+ghost use Rattle.plan_format.specs.Sizes.{most-operations};
 ghost use Rattle.plan_format.specs.Plan.{Plan};
 ghost use Rattle.plan_format.specs.Stored.{Tells};
 ghost use Rattle.plan_order.specs.Reuse.{verdict as verdict-of, number-of, question-refusal};
@@ -23,10 +32,10 @@ pub fn reuse_question(
 ) -> Told
     ensures { λ r. ⌜ Asked (now (plan .entry)) queue buffer r (now (table .entry)) (now (table .exit)) (now (list .entry)) (now (list .exit)) ⌝ }
 {
-    let mut head = [0u64; 340];
-    let mut queues = [0u16; 1024];
-    let mut mark = [0u16; 4096];
-    let mut mop = [0u16; 4096];
+    let mut head = [0u64; HEAD_NUMBERS];
+    let mut queues = [0u16; MOST_OPERATIONS];
+    let mut mark = [0u16; MARK_PLACES];
+    let mut mop = [0u16; MARK_PLACES];
     let k = checker::check_known(
         plan,
         &mut head,
@@ -61,9 +70,9 @@ fn answer(
     marks: usize,
     q: usize,
     b: usize,
-    queue: &[u16; 1024],
-    mark: &[u16; 4096],
-    mop: &[u16; 4096],
+    queue: &QueueColumn,
+    mark: &MarkColumn,
+    mop: &MarkColumn,
     table: &[u32],
 ) -> Told
     ensures { λ r. ⌜ ((p : Plan) → Opened p c marks (now (queue .entry)) (now (mark .entry)) (now (mop .entry)) (now (table .entry)) → Tells (question-refusal p q b) (number-of (verdict-of p q b)) r) ⌝ }
@@ -88,9 +97,9 @@ fn verdict(
     b: usize,
     n: usize,
     marks: usize,
-    queue: &[u16; 1024],
-    mark: &[u16; 4096],
-    mop: &[u16; 4096],
+    queue: &QueueColumn,
+    mark: &MarkColumn,
+    mop: &MarkColumn,
     table: &[u32],
 ) -> Verdict
     ensures { λ r. ⌜ ((p : Plan) → Shown p n marks (now (queue .entry)) (now (mark .entry)) (now (mop .entry)) (now (table .entry)) → r ≡ verdict-of p q b) ⌝ }
@@ -110,7 +119,7 @@ fn last_on(n: usize, queue: &[u16], q: usize) -> usize
             return i;
         }
     }
-    1024
+    NO_OPERATION
 }
 
 // The verdict by the marks on a buffer in plan order, each taken for the last one until another comes.
@@ -129,8 +138,8 @@ fn judged(
     let mut all = true;
     let mut k = 0;
     while k < marks {
-        let m = cells::get16(mark, k) % 512;
-        let i = cells::get16(mop, k) % 1024;
+        let m = cells::get16(mark, k) % MARK_CODES;
+        let i = cells::get16(mop, k) % MOST_OPERATIONS;
         k += 1;
         if m / 2 == b {
             let placed = seen(queue, table, last, i);
@@ -162,15 +171,15 @@ fn after(frees: bool, placed: bool, all: bool) -> Verdict
 
 // Whether i is the queue's last operation or before it, by the column of i's queue in their rows.
 fn seen(queue: &[u16], table: &[u32], last: usize, i: usize) -> bool
-    requires { ⌜ i < 1024 ⌝ }
+    requires { ⌜ i < most-operations ⌝ }
     ensures { λ r. ⌜ r ≡ is-seen (now (queue .entry)) (now (table .entry)) last i ⌝ }
 {
-    if 1024 <= last {
+    if NO_OPERATION <= last {
         return false;
     }
-    let q = cells::get16(queue, i) % 16;
-    let own = cells::get32(table, 16 * i + q);
-    let other = cells::get32(table, 16 * last + q);
+    let q = cells::get16(queue, i) % ROW_WIDTH;
+    let own = cells::get32(table, ROW_WIDTH * i + q);
+    let other = cells::get32(table, ROW_WIDTH * last + q);
     own <= other
 }
 
