@@ -9,6 +9,8 @@ use lib.Seq.{sets, length-sets}
 use Rattle.basics.specs.Lists.{tabulate-from}
 use Rattle.basics.proofs.Stores.{sets-append}
 use Rattle.basics.proofs.Tables.{tabulate-length}
+use Rattle.plan_format.specs.Sizes.{most-operations, wait-places, signal-places, mark-places}
+use Rattle.plan_columns.specs.Columns.{Columns}
 use Rattle.plan_columns.specs.Filling.{repeated, Part, wait-semaphores, wait-values, signal-semaphores, signal-values, mark-codes, wait-count, signals-at, signal-count, marks-at, mark-count, next-at, queue-part, wait-semaphore-part, wait-value-part, signal-semaphore-part, signal-value-part, signal-operation-part, mark-part, mark-operation-part, parts, Put, Added}
 
 -- ---- one operation
@@ -105,19 +107,19 @@ module _ {X : List ℕ} {f : Part} {room n first : ℕ} {before : List ℕ} wher
       omega arith
 
 -- ---- all columns
-pub record Filling (X : List ℕ) (n first : ℕ) (queue₀ wsem₀ wval₀ ssem₀ sval₀ sop₀ mark₀ mop₀ queue wsem wval ssem sval sop mark mop : List ℕ)
+pub record Filling (X : List ℕ) (n first : ℕ) (cs₀ cs : Columns)
     (i at signals marks : ℕ) : Type 0 where
   pub near : at ≤ first + 30 * i
   pub few-signals : signals ≤ 3 * i
   pub few-marks : marks ≤ 7 * i
-  pub queues : Column X (queue-part X) 1024 n first queue₀ queue i at i
-  pub wait-semaphores : Column X (wait-semaphore-part X) 3072 n first wsem₀ wsem i at (3 * i)
-  pub wait-values : Column X (wait-value-part X) 3072 n first wval₀ wval i at (3 * i)
-  pub signal-semaphores : Column X (signal-semaphore-part X) 2048 n first ssem₀ ssem i at signals
-  pub signal-values : Column X (signal-value-part X) 2048 n first sval₀ sval i at signals
-  pub signal-operations : Column X (signal-operation-part X) 2048 n first sop₀ sop i at signals
-  pub mark-codes : Column X (mark-part X) 4096 n first mark₀ mark i at marks
-  pub mark-operations : Column X (mark-operation-part X) 4096 n first mop₀ mop i at marks
+  pub queues : Column X (queue-part X) most-operations n first (cs₀ .queue) (cs .queue) i at i
+  pub wait-semaphores : Column X (wait-semaphore-part X) wait-places n first (cs₀ .wait-semaphore) (cs .wait-semaphore) i at (3 * i)
+  pub wait-values : Column X (wait-value-part X) wait-places n first (cs₀ .wait-value) (cs .wait-value) i at (3 * i)
+  pub signal-semaphores : Column X (signal-semaphore-part X) signal-places n first (cs₀ .signal-semaphore) (cs .signal-semaphore) i at signals
+  pub signal-values : Column X (signal-value-part X) signal-places n first (cs₀ .signal-value) (cs .signal-value) i at signals
+  pub signal-operations : Column X (signal-operation-part X) signal-places n first (cs₀ .signal-operation) (cs .signal-operation) i at signals
+  pub mark-codes : Column X (mark-part X) mark-places n first (cs₀ .mark) (cs .mark) i at marks
+  pub mark-operations : Column X (mark-operation-part X) mark-places n first (cs₀ .mark-operation) (cs .mark-operation) i at marks
 
 next-near : (X : List ℕ) (at : ℕ) → next-at X at ≤ at + 30
 unfolding next-at marks-at signals-at wait-count signal-count mark-count
@@ -131,8 +133,8 @@ few-marks-more : (X : List ℕ) (at : ℕ) → mark-count X at ≤ 7
 unfolding mark-count
 few-marks-more X at = omega arith
 
-module _ {X : List ℕ} {n first : ℕ} {queue₀ wsem₀ wval₀ ssem₀ sval₀ sop₀ mark₀ mop₀ : List ℕ} where
-  pub filling-none : Filling X n first queue₀ wsem₀ wval₀ ssem₀ sval₀ sop₀ mark₀ mop₀ queue₀ wsem₀ wval₀ ssem₀ sval₀ sop₀ mark₀ mop₀ 0 first 0 0
+module _ {X : List ℕ} {n first : ℕ} {cs₀ : Columns} where
+  pub filling-none : Filling X n first cs₀ cs₀ 0 first 0 0
   filling-none = record {
     near = omega arith;
     few-signals = omega arith;
@@ -147,10 +149,10 @@ module _ {X : List ℕ} {n first : ℕ} {queue₀ wsem₀ wval₀ ssem₀ sval�
     mark-operations = column-none;
   }
 
-  pub filling-next : {queue wsem wval ssem sval sop mark mop queue′ wsem′ wval′ ssem′ sval′ sop′ mark′ mop′ : List ℕ} {i at signals marks at′ signals′ marks′ : ℕ} →
-      Filling X n first queue₀ wsem₀ wval₀ ssem₀ sval₀ sop₀ mark₀ mop₀ queue wsem wval ssem sval sop mark mop i at signals marks → i < n →
-      Added X i at signals marks queue wsem wval ssem sval sop mark mop queue′ wsem′ wval′ ssem′ sval′ sop′ mark′ mop′ at′ signals′ marks′ →
-      Filling X n first queue₀ wsem₀ wval₀ ssem₀ sval₀ sop₀ mark₀ mop₀ queue′ wsem′ wval′ ssem′ sval′ sop′ mark′ mop′ (i + 1) at′ signals′ marks′
+  pub filling-next : {cs cs′ : Columns} {i at signals marks at′ signals′ marks′ : ℕ} →
+      Filling X n first cs₀ cs i at signals marks → i < n →
+      Added X i at signals marks cs cs′ at′ signals′ marks′ →
+      Filling X n first cs₀ cs′ (i + 1) at′ signals′ marks′
   filling-next {i} {at} {signals} {marks} b l a =
       let three : (f : ℕ → ℕ) → 3 * (i + 1) ≡ 3 * i + length (tabulate-from 3 0 f) = λ f. omega (arith, tabulate-length f 3 0) in
       let more : (f : ℕ → ℕ) → _ ≡ signals + length (tabulate-from (signal-count X at) 0 f) = λ f. a .more-signals ∙ rw (tabulate-length f (signal-count X at) 0) in

@@ -10,8 +10,8 @@ use Rattle.basics.proofs.Tables.{tabulate-length, tabulate-at}
 use Rattle.plan_format.specs.Form.{first-form}
 use Rattle.plan_format.specs.Plan.{Point, Operation, Plan, empty-operation, count, op, operations-in}
 use Rattle.plan_order.specs.Precedence.{Signal, plan-signals}
-use Rattle.plan_columns.specs.Columns.{no-point, no-signal, Marked, no-mark, plan-marks, Queue-column, wait-at, Wait-columns, Signal-columns, Mark-columns}
-use Rattle.plan_columns.specs.Shown.{Limits, Shown}
+use Rattle.plan_columns.specs.Columns.{Columns, no-point, no-signal, Marked, no-mark, plan-marks, Queue-column, wait-at, Wait-columns, Signal-columns, Mark-columns}
+use Rattle.plan_columns.specs.Shown.{Limits, Columns-of}
 use Rattle.plan_columns.specs.Filling.{Part, parts, queue-part, wait-semaphore-part, wait-value-part, signal-semaphore-part, signal-value-part, signal-operation-part, mark-part, mark-operation-part}
 use Rattle.plan_columns.proofs.Operations.{Fits, here, operations-long}
 use Rattle.plan_columns.proofs.Lists.{joined, joined-few, joined-long, joined-at, parts-map, signals-long, marked-long, three-waits, its-signals, its-marks, code-of, signals-joined, marks-joined, queue-same, wait-semaphore-same, wait-value-same, signal-semaphore-same, signal-value-same, signal-operation-same, mark-same, mark-operation-same}
@@ -67,9 +67,9 @@ module _ (p : Plan) (limits : Limits p) (X : List ℕ) (n first : ℕ) (stand : 
       parts X f n 0 first ≡ map h (joined of 0 (p .operations))
   says f h of same = parts-map X f h of same n 0 first all-fit ∙ ap (λ (z : List Operation). map h (joined of 0 z)) (sym stand)
 
-  module _ {queue₀ wsem₀ wval₀ ssem₀ sval₀ sop₀ mark₀ mop₀ queue wsem wval ssem sval sop mark mop : List ℕ} {i at signals marks : ℕ} (done : n ≤ i)
-      (b : Filling X n first queue₀ wsem₀ wval₀ ssem₀ sval₀ sop₀ mark₀ mop₀ queue wsem wval ssem sval sop mark mop i at signals marks) where
-    queue-shown : Queue-column p queue
+  module _ {cs₀ cs : Columns} {i at signals marks : ℕ} (done : n ≤ i)
+      (b : Filling X n first cs₀ cs i at signals marks) where
+    queue-shown : Queue-column p (cs .queue)
     unfolding Queue-column count op
     queue-shown j l =
         let of : ℕ → Operation → List Operation = λ i o. o ∷ [] in
@@ -92,7 +92,7 @@ module _ (p : Plan) (limits : Limits p) (X : List ℕ) (n first : ℕ) (stand : 
         ∙ ap h (joined-at three-waits 3 even 0 (p .operations) j k no-point l u ∙ tabulate-at (λ j. getD (o .waits) j no-point) 3 0 k no-point u
         ∙ ap (λ (z : ℕ). getD (o .waits) z no-point) (let e : 0 + k ≡ k = omega arith in e))
 
-    waits-shown : Wait-columns p wsem wval
+    waits-shown : Wait-columns p (cs .wait-semaphore) (cs .wait-value)
     waits-shown = record {
       few = limits .few-waits;
       semaphores = wait-shown (λ x. x .semaphore) refl (says (wait-semaphore-part X) (λ x. x .semaphore) three-waits (λ i at f. wait-semaphore-same X i at f)) (b .wait-semaphores);
@@ -117,7 +117,7 @@ module _ (p : Plan) (limits : Limits p) (X : List ℕ) (n first : ℕ) (stand : 
         parts X f n 0 first ≡ map h (plan-signals p)
     signals-says f h same = says f h its-signals same ∙ ap (λ (z : List Signal). map h z) all-signals
 
-    signals-shown : Signal-columns p signals ssem sval sop
+    signals-shown : Signal-columns p signals (cs .signal-semaphore) (cs .signal-value) (cs .signal-operation)
     signals-shown =
         let s = signals-says (signal-semaphore-part X) (λ x. x .semaphore) (λ i at f. signal-semaphore-same X i at f) in
         let v = signals-says (signal-value-part X) (λ x. x .value) (λ i at f. signal-value-same X i at f) in
@@ -149,7 +149,7 @@ module _ (p : Plan) (limits : Limits p) (X : List ℕ) (n first : ℕ) (stand : 
         parts X f n 0 first ≡ map h (plan-marks p)
     marks-says f h same = says f h its-marks same ∙ ap (λ (z : List Marked). map h z) all-marks
 
-    marks-shown : Mark-columns p marks mark mop
+    marks-shown : Mark-columns p marks (cs .mark) (cs .mark-operation)
     marks-shown =
         let m = marks-says (mark-part X) code-of (λ i at f. mark-same X i at f) in
         let o = marks-says (mark-operation-part X) (λ x. x .by) (λ i at f. mark-operation-same X i at f) in
@@ -161,5 +161,5 @@ module _ (p : Plan) (limits : Limits p) (X : List ℕ) (n first : ℕ) (stand : 
           operations = λ k l. column-shows done (b .mark-operations) (λ x. x .by) no-mark (plan-marks p) o refl few-marks k (omega (arith, many));
         }
 
-    pub filling-end : Shown p signals marks queue wsem wval ssem sval sop mark mop
+    pub filling-end : Columns-of p signals marks cs
     filling-end = record { queues-shown = queue-shown; waits-shown = waits-shown; signals-shown = signals-shown; marks-shown = marks-shown }

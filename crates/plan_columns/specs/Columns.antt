@@ -9,6 +9,30 @@ use Rattle.plan_format.specs.Plan.{Point, Mark, Operation, Plan, count, op, que
 use Rattle.plan_order.specs.Precedence.{Signal, plan-signals, Resolution, free, on, never, resolve}
 use Rattle.plan_order.specs.Rows.{row}
 
+-- the columns of operations, side by side: the queue of each; the semaphore and the value of each wait, three places to an operation; the
+-- semaphore, the value and the operation of each signal; the code and the operation of each mark
+pub record Columns : Type 0 where
+  pub queue : List ℕ
+  pub wait-semaphore : List ℕ
+  pub wait-value : List ℕ
+  pub signal-semaphore : List ℕ
+  pub signal-value : List ℕ
+  pub signal-operation : List ℕ
+  pub mark : List ℕ
+  pub mark-operation : List ℕ
+
+abbrev pub columns : (queue wsem wval ssem sval sop mark mop : List ℕ) → Columns
+columns queue wsem wval ssem sval sop mark mop = record {
+  queue = queue;
+  wait-semaphore = wsem;
+  wait-value = wval;
+  signal-semaphore = ssem;
+  signal-value = sval;
+  signal-operation = sop;
+  mark = mark;
+  mark-operation = mop;
+}
+
 abbrev pub no-point : Point
 no-point = record { semaphore = 0; value = 0 }
 

@@ -9,6 +9,7 @@ use lib.ListN.{length, getD}
 use lib.Seq.{sets}
 use Rattle.basics.specs.Lists.{tabulate-from}
 use Rattle.plan_format.specs.Sizes.{most-buffers, most-operations, most-waits, wait-places, signal-places, mark-places}
+use Rattle.plan_columns.specs.Columns.{Columns}
 
 -- the number of each of three waits, 0 in place of one that is missing
 abbrev pub three : (many : ℕ) → (number : ℕ → ℕ) → (j : ℕ) → ℕ
@@ -105,16 +106,15 @@ pub record Put (room : ℕ) (part : List ℕ) (place : ℕ) (before after : List
   pub size : length before ≡ room
 
 -- operation i at a place stands in every column; `signals` and `marks` are how many stand before it
-pub record Added (numbers : List ℕ) (i at signals marks : ℕ) (queue wsem wval ssem sval sop mark mop : List ℕ)
-    (queue′ wsem′ wval′ ssem′ sval′ sop′ mark′ mop′ : List ℕ) (at′ signals′ marks′ : ℕ) : Type 0 where
-  pub queues-added : Put most-operations (queue-part numbers i at) i queue queue′
-  pub wait-semaphores-added : Put wait-places (wait-semaphore-part numbers i at) (most-waits * i) wsem wsem′
-  pub wait-values-added : Put wait-places (wait-value-part numbers i at) (most-waits * i) wval wval′
-  pub signal-semaphores-added : Put signal-places (signal-semaphore-part numbers i at) signals ssem ssem′
-  pub signal-values-added : Put signal-places (signal-value-part numbers i at) signals sval sval′
-  pub signal-operations-added : Put signal-places (signal-operation-part numbers i at) signals sop sop′
-  pub marks-added : Put mark-places (mark-part numbers i at) marks mark mark′
-  pub mark-operations-added : Put mark-places (mark-operation-part numbers i at) marks mop mop′
+pub record Added (numbers : List ℕ) (i at signals marks : ℕ) (cs cs′ : Columns) (at′ signals′ marks′ : ℕ) : Type 0 where
+  pub queues-added : Put most-operations (queue-part numbers i at) i (cs .queue) (cs′ .queue)
+  pub wait-semaphores-added : Put wait-places (wait-semaphore-part numbers i at) (most-waits * i) (cs .wait-semaphore) (cs′ .wait-semaphore)
+  pub wait-values-added : Put wait-places (wait-value-part numbers i at) (most-waits * i) (cs .wait-value) (cs′ .wait-value)
+  pub signal-semaphores-added : Put signal-places (signal-semaphore-part numbers i at) signals (cs .signal-semaphore) (cs′ .signal-semaphore)
+  pub signal-values-added : Put signal-places (signal-value-part numbers i at) signals (cs .signal-value) (cs′ .signal-value)
+  pub signal-operations-added : Put signal-places (signal-operation-part numbers i at) signals (cs .signal-operation) (cs′ .signal-operation)
+  pub marks-added : Put mark-places (mark-part numbers i at) marks (cs .mark) (cs′ .mark)
+  pub mark-operations-added : Put mark-places (mark-operation-part numbers i at) marks (cs .mark-operation) (cs′ .mark-operation)
   pub next : at′ ≡ next-at numbers at
   pub more-signals : signals′ ≡ signals + signal-count numbers at
   pub more-marks : marks′ ≡ marks + mark-count numbers at

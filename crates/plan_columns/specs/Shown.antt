@@ -1,11 +1,10 @@
 -- The limits of a read plan, and columns that show a plan. Assumes nothing: these are definitions.
 use Prim.Native.Nat.{ℕ, _≤_, _<_}
-use mathlib.Core.List.{List}
 use lib.ListN.{length}
 use Rattle.plan_format.specs.Sizes.{most-queues, most-semaphores, most-buffers, most-operations, most-waits, most-signals, most-marks}
 use Rattle.plan_format.specs.Plan.{Plan, count, op, queues}
 use Rattle.plan_format.specs.Sound.{In-range}
-use Rattle.plan_columns.specs.Columns.{Queue-column, Wait-columns, Signal-columns, Mark-columns}
+use Rattle.plan_columns.specs.Columns.{Columns, Queue-column, Wait-columns, Signal-columns, Mark-columns}
 
 -- the limits of a read plan
 pub record Limits (p : Plan) : Type 0 where
@@ -19,8 +18,8 @@ pub record Limits (p : Plan) : Type 0 where
   pub few-marks : (i : ℕ) → i < count p → length (op p i .marks) ≤ most-marks
 
 -- columns that show a plan, and how many signals and marks it has
-pub record Shown (p : Plan) (signals marks : ℕ) (queue wsem wval ssem sval sop mark mop : List ℕ) : Type 0 where
-  pub queues-shown : Queue-column p queue
-  pub waits-shown : Wait-columns p wsem wval
-  pub signals-shown : Signal-columns p signals ssem sval sop
-  pub marks-shown : Mark-columns p marks mark mop
+pub record Columns-of (p : Plan) (signals marks : ℕ) (cs : Columns) : Type 0 where
+  pub queues-shown : Queue-column p (cs .queue)
+  pub waits-shown : Wait-columns p (cs .wait-semaphore) (cs .wait-value)
+  pub signals-shown : Signal-columns p signals (cs .signal-semaphore) (cs .signal-value) (cs .signal-operation)
+  pub marks-shown : Mark-columns p marks (cs .mark) (cs .mark-operation)

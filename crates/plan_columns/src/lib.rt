@@ -16,7 +16,7 @@ ghost use lib.ListN.{length, getD, take, drop};
 ghost use lib.Seq.{sets};
 ghost use Rattle.plan_format.specs.Sizes.{most-queues, most-semaphores, most-operations, wait-places, plan-numbers};
 ghost use Rattle.plan_format.specs.Plan.{Plan, queues};
-ghost use Rattle.plan_columns.specs.Columns.{Owner-column};
+ghost use Rattle.plan_columns.specs.Columns.{columns, Owner-column};
 ghost use Rattle.plan_columns.specs.Filling.{owner-numbers, wait-semaphores, wait-values, signal-semaphores, signal-values, mark-codes, repeated, next-at, Added};
 
 // The columns of a plan: an owner for each semaphore, a queue for each operation; for each place of a wait a semaphore or the operation that
@@ -91,8 +91,13 @@ pub fn add(
     mark: &mut MarkColumn,
     mop: &mut MarkColumn,
 ) -> Filled
-    ensures { λ r. ⌜ (i < most-operations → Added (now (window .entry)) i 0 signals marks (now (queue .entry)) (now (wsem .entry)) (now (wval .entry)) (now (ssem .entry)) (now (sval .entry)) (now (sop .entry)) (now (mark .entry)) (now (mop .entry)) (now (queue .exit)) (now (wsem .exit)) (now (wval .exit)) (now (ssem .exit)) (now (sval .exit)) (now (sop .exit)) (now (mark .exit)) (now (mop .exit)) (next-at (now (window .entry)) 0) (r .signals) (r .marks)) ⌝ }
-    ensures { λ r. ⌜ (most-operations ≤ i → (r .signals ≡ signals) × (r .marks ≡ marks) × (now (queue .exit) ≡ now (queue .entry)) × (now (wsem .exit) ≡ now (wsem .entry)) × (now (wval .exit) ≡ now (wval .entry)) × (now (ssem .exit) ≡ now (ssem .entry)) × (now (sval .exit) ≡ now (sval .entry)) × (now (sop .exit) ≡ now (sop .entry)) × (now (mark .exit) ≡ now (mark .entry)) × (now (mop .exit) ≡ now (mop .entry))) ⌝ }
+    ensures added { λ r. ⌜ (i < most-operations → Added (now (window .entry)) i 0 signals marks
+        (columns (now (queue .entry)) (now (wsem .entry)) (now (wval .entry)) (now (ssem .entry)) (now (sval .entry)) (now (sop .entry)) (now (mark .entry)) (now (mop .entry)))
+        (columns (now (queue .exit)) (now (wsem .exit)) (now (wval .exit)) (now (ssem .exit)) (now (sval .exit)) (now (sop .exit)) (now (mark .exit)) (now (mop .exit)))
+        (next-at (now (window .entry)) 0) (r .signals) (r .marks)) ⌝ }
+    ensures full { λ r. ⌜ (most-operations ≤ i → (r .signals ≡ signals) × (r .marks ≡ marks)
+        × (columns (now (queue .exit)) (now (wsem .exit)) (now (wval .exit)) (now (ssem .exit)) (now (sval .exit)) (now (sop .exit)) (now (mark .exit)) (now (mop .exit))
+        ≡ columns (now (queue .entry)) (now (wsem .entry)) (now (wval .entry)) (now (ssem .entry)) (now (sval .entry)) (now (sop .entry)) (now (mark .entry)) (now (mop .entry)))) ⌝ }
 {
     let operation = i as usize;
     let signals_before = signals as usize;

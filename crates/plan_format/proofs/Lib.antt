@@ -40,3 +40,4 @@ pub mod Follows
 pub mod Counts
 pub mod Axes
 pub mod Answers
+pub mod Telling

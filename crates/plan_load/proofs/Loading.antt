@@ -11,6 +11,7 @@ use Rattle.plan_format.specs.Form.{first-form}
 use Rattle.plan_format.specs.Sections.{operation-below}
 use Rattle.plan_format.proofs.Blocks.{Block}
 use Rattle.plan_format.proofs.Repeats.{times-last}
+use Rattle.plan_columns.specs.Columns.{Columns}
 use Rattle.plan_columns.specs.Filling.{next-at, signal-count, mark-count, Added}
 use Rattle.plan_columns.proofs.Parts.{Filling, filling-none, filling-next}
 use Rattle.plan_numbers.specs.declared.Head.{Head}
@@ -25,14 +26,14 @@ abbrev pub step : Head → Scan → Scan
 step h s = read-by bytes (operation-below (h .queues) (h .semaphores) (h .buffers)) s
 
 -- i operations behind a head's numbers are read, up to a place of the bytes, and stand in the columns
-pub record Load (bs : List ℕ) (h : Head) (nums : List ℕ) (queue₀ wsem₀ wval₀ ssem₀ sval₀ sop₀ mark₀ mop₀ queue wsem wval ssem sval sop mark mop : List ℕ)
+pub record Load (bs : List ℕ) (h : Head) (nums : List ℕ) (cs₀ cs : Columns)
     (i at signals marks : ℕ) : Type 0 where
   pub blocks : List ℕ
   pub read : times i (step h) (here bs (head-cursor h) nums) ≡ scan (drop at bs) at (take (h .got) nums ++ blocks) none-given
   pub inside : at ≤ length bs
   pub few : length blocks ≤ 22 * i
   pub filled : Small (h .queues) (h .semaphores) (h .buffers) → (more : List ℕ) →
-      Filling ((take (h .got) nums ++ blocks) ++ more) (h .operations) (length (take (h .got) nums)) queue₀ wsem₀ wval₀ ssem₀ sval₀ sop₀ mark₀ mop₀ queue wsem wval ssem sval sop mark mop i (length (take (h .got) nums ++ blocks)) signals marks
+      Filling ((take (h .got) nums ++ blocks) ++ more) (h .operations) (length (take (h .got) nums)) cs₀ cs i (length (take (h .got) nums ++ blocks)) signals marks
 
 few-signals : (window : List ℕ) → signal-count window 0 ≤ 3
 unfolding signal-count
@@ -42,8 +43,8 @@ few-marks : (window : List ℕ) → mark-count window 0 ≤ 7
 unfolding mark-count
 few-marks window = omega arith
 
-pub few-more : {window : List ℕ} {i signals marks next signals′ marks′ : ℕ} {queue wsem wval ssem sval sop mark mop queue′ wsem′ wval′ ssem′ sval′ sop′ mark′ mop′ : List ℕ} →
-    Added window i 0 signals marks queue wsem wval ssem sval sop mark mop queue′ wsem′ wval′ ssem′ sval′ sop′ mark′ mop′ next signals′ marks′ →
+pub few-more : {window : List ℕ} {i signals marks next signals′ marks′ : ℕ} {cs cs′ : Columns} →
+    Added window i 0 signals marks cs cs′ next signals′ marks′ →
     (signals′ ≤ signals + 3) × (marks′ ≤ marks + 7)
 few-more {window} a = (omega (arith, a .more-signals, few-signals window), omega (arith, a .more-marks, few-marks window))
 
@@ -80,26 +81,26 @@ unfolding fault-of
 clean-fault r z = rw z
 
 -- ---- operation after operation
-module _ (bs : List ℕ) (h : Head) (nums queue₀ wsem₀ wval₀ ssem₀ sval₀ sop₀ mark₀ mop₀ : List ℕ) where
+module _ (bs : List ℕ) (h : Head) (nums : List ℕ) (cs₀ : Columns) where
   abbrev heading : List ℕ
   heading = take (h .got) nums
 
-  abbrev Filled : (all more queue wsem wval ssem sval sop mark mop : List ℕ) (i at signals marks : ℕ) → Type 0
-  Filled all more queue wsem wval ssem sval sop mark mop i at signals marks =
-      Filling (all ++ more) (h .operations) (length heading) queue₀ wsem₀ wval₀ ssem₀ sval₀ sop₀ mark₀ mop₀ queue wsem wval ssem sval sop mark mop i at signals marks
+  abbrev Filled : (all more : List ℕ) (cs : Columns) (i at signals marks : ℕ) → Type 0
+  Filled all more cs i at signals marks =
+      Filling (all ++ more) (h .operations) (length heading) cs₀ cs i at signals marks
 
-  pub load-none : h .number ≡ 0 → h .at ≤ length bs → Load bs h nums queue₀ wsem₀ wval₀ ssem₀ sval₀ sop₀ mark₀ mop₀ queue₀ wsem₀ wval₀ ssem₀ sval₀ sop₀ mark₀ mop₀ 0 (h .at) 0 0
+  pub load-none : h .number ≡ 0 → h .at ≤ length bs → Load bs h nums cs₀ cs₀ 0 (h .at) 0 0
   unfolding times head-cursor
   load-none z inside = record {
     blocks = [];
     read = here-clean bs (head-cursor h) nums z ∙ ap (λ (l : List ℕ). scan (drop (h .at) bs) (h .at) l none-given) (sym (append-nil heading));
     inside = inside;
     few = omega arith;
-    filled = λ small more. subst (λ (l : List ℕ). Filled (heading ++ []) more queue₀ wsem₀ wval₀ ssem₀ sval₀ sop₀ mark₀ mop₀ 0 (length l) 0 0) (sym (append-nil heading)) filling-none;
+    filled = λ small more. subst (λ (l : List ℕ). Filled (heading ++ []) more cs₀ 0 (length l) 0 0) (sym (append-nil heading)) filling-none;
   }
 
-  module _ {queue wsem wval ssem sval sop mark mop : List ℕ} {i at signals marks : ℕ}
-      (l : Load bs h nums queue₀ wsem₀ wval₀ ssem₀ sval₀ sop₀ mark₀ mop₀ queue wsem wval ssem sval sop mark mop i at signals marks) (on : i < h .operations)
+  module _ {cs : Columns} {i at signals marks : ℕ}
+      (l : Load bs h nums cs₀ cs i at signals marks) (on : i < h .operations)
       (w w-now : List ℕ) (r : Cursor) (o : Operation-read (h .queues) (h .semaphores) (h .buffers) bs at w r w-now) where
     -- one more is read, or refused
     pub read-next : times (i + 1) (step h) (here bs (head-cursor h) nums) ≡ scan (drop (r .at) bs) (r .at) ((heading ++ l .blocks) ++ take (r .got) w-now) (fault-of r)
@@ -110,10 +111,10 @@ module _ (bs : List ℕ) (h : Head) (nums queue₀ wsem₀ wval₀ ssem₀ sval�
         ∙ ap (step h) (l .read)
         ∙ among (h .queues) (h .semaphores) (h .buffers) bs at w w-now r o (l .inside) (heading ++ l .blocks)
 
-    pub load-next : {queue′ wsem′ wval′ ssem′ sval′ sop′ mark′ mop′ : List ℕ} {signals′ marks′ : ℕ} → r .number ≡ 0 →
-        Added w-now i 0 signals marks queue wsem wval ssem sval sop mark mop queue′ wsem′ wval′ ssem′ sval′ sop′ mark′ mop′ (next-at w-now 0) signals′ marks′ →
-        Load bs h nums queue₀ wsem₀ wval₀ ssem₀ sval₀ sop₀ mark₀ mop₀ queue′ wsem′ wval′ ssem′ sval′ sop′ mark′ mop′ (i + 1) (r .at) signals′ marks′
-    load-next {queue′} {wsem′} {wval′} {ssem′} {sval′} {sop′} {mark′} {mop′} {signals′} {marks′} z a =
+    pub load-next : {cs′ : Columns} {signals′ marks′ : ℕ} → r .number ≡ 0 →
+        Added w-now i 0 signals marks cs cs′ (next-at w-now 0) signals′ marks′ →
+        Load bs h nums cs₀ cs′ (i + 1) (r .at) signals′ marks′
+    load-next {cs′} {signals′} {marks′} z a =
         let block = take (r .got) w-now in
         let junk = drop (r .got) w-now in
         let front = heading ++ l .blocks in
@@ -125,9 +126,9 @@ module _ (bs : List ℕ) (h : Head) (nums queue₀ wsem₀ wval₀ ssem₀ sval�
           inside = goes-on (h .queues) (h .semaphores) (h .buffers) bs at w w-now r o (l .inside);
           few = omega (arith, l .few, length-append (l .blocks) block, few-numbers (h .queues) (h .semaphores) (h .buffers) bs at w w-now r o (l .inside));
           filled = λ small more.
-              let window = subst (λ (x : List ℕ). Added x i 0 signals marks queue wsem wval ssem sval sop mark mop queue′ wsem′ wval′ ssem′ sval′ sop′ mark′ mop′ (next-at x 0) signals′ marks′) (sym (take-append-drop (r .got) w-now)) a in
+              let window = subst (λ (x : List ℕ). Added x i 0 signals marks cs cs′ (next-at x 0) signals′ marks′) (sym (take-append-drop (r .got) w-now)) a in
               let behind = filling-next (l .filled small (block ++ more)) on (added-among small front block more junk k window) in
-              subst (λ (x : List ℕ). Filled x more queue′ wsem′ wval′ ssem′ sval′ sop′ mark′ mop′ (i + 1) (length x) signals′ marks′) same
-              (subst (λ (x : List ℕ). Filling x (h .operations) (length heading) queue₀ wsem₀ wval₀ ssem₀ sval₀ sop₀ mark₀ mop₀ queue′ wsem′ wval′ ssem′ sval′ sop′ mark′ mop′ (i + 1) (length (front ++ block)) signals′ marks′)
+              subst (λ (x : List ℕ). Filled x more cs′ (i + 1) (length x) signals′ marks′) same
+              (subst (λ (x : List ℕ). Filling x (h .operations) (length heading) cs₀ cs′ (i + 1) (length (front ++ block)) signals′ marks′)
               (sym (append-assoc front block more)) behind);
         }

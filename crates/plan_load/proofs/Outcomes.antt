@@ -19,7 +19,7 @@ use Rattle.plan_format.proofs.Operations.{operations-long}
 use Rattle.plan_format.proofs.Repeats.{read-repeat, repeat-stops}
 use Rattle.plan_format.proofs.Seams.{after-seam}
 use Rattle.plan_format.proofs.Sections.{plan-whole}
-use Rattle.plan_columns.specs.Columns.{Axis-column}
+use Rattle.plan_columns.specs.Columns.{Columns, Axis-column}
 use Rattle.plan_columns.proofs.Limits.{shape, few-semaphores, limits}
 use Rattle.plan_columns.proofs.Plans.{filling-end}
 use Rattle.plan_numbers.specs.declared.Head.{Head}
@@ -57,22 +57,22 @@ times-stops h s i n g l =
     ∙ repeat-stops bytes op s i n (ap (λ (z : Scan). given (z .fault)) (read-repeat bytes i op s) ∙ g) l
     ∙ read-repeat bytes i op s
 
-module _ (bs : List ℕ) (h : Head) (nums queue₀ wsem₀ wval₀ ssem₀ sval₀ sop₀ mark₀ mop₀ : List ℕ) (head : Head-read bs h nums) where
+module _ (bs : List ℕ) (h : Head) (nums : List ℕ) (cs₀ : Columns) (head : Head-read bs h nums) where
   abbrev heading : List ℕ
   heading = take (h .got) nums
 
   few-heading : length heading ≤ h .got
   few-heading = omega (arith, length-take (h .got) nums)
 
-  module _ {queue wsem wval ssem sval sop mark mop : List ℕ} {i at signals marks : ℕ}
-      (l : Load bs h nums queue₀ wsem₀ wval₀ ssem₀ sval₀ sop₀ mark₀ mop₀ queue wsem wval ssem sval sop mark mop i at signals marks) where
+  module _ {cs : Columns} {i at signals marks : ℕ}
+      (l : Load bs h nums cs₀ cs i at signals marks) where
     -- ---- an operation that is refused
     module _ (on : i < h .operations) (w w-now : List ℕ) (r : Cursor) (o : Operation-read (h .queues) (h .semaphores) (h .buffers) bs at w r w-now) (z : r .number ≡ 0 → ⊥) where
       abbrev all-read : List ℕ
       all-read = (heading ++ l .blocks) ++ take (r .got) w-now
 
       stopped : times (i + 1) (step h) (here bs (head-cursor h) nums) ≡ here bs (behind (r .number) (r .at) all-read) (padded all-read)
-      stopped = read-next bs h nums queue₀ wsem₀ wval₀ ssem₀ sval₀ sop₀ mark₀ mop₀ l on w w-now r o ∙ sym (here-behind bs r all-read)
+      stopped = read-next bs h nums cs₀ l on w w-now r o ∙ sym (here-behind bs r all-read)
 
       few-read : length all-read ≤ h .got + 22 * h .operations
       few-read =
@@ -167,7 +167,7 @@ module _ (bs : List ℕ) (h : Head) (nums queue₀ wsem₀ wval₀ ssem₀ sval�
             ∙ List·getD-append (front .axes) rest 0 q long
             ∙ ap (λ (p : Plan). getD (p .axes) q 0) (sym plan-is)
 
-        pub load-columns : Loads bs (record { number = 0; place = 0; queues = h .queues; semaphores = h .semaphores; buffers = h .buffers; operations = h .operations; signals = signals; marks = marks }) nums queue wsem wval ssem sval sop mark mop
+        pub load-columns : Loads bs (record { number = 0; place = 0; queues = h .queues; semaphores = h .semaphores; buffers = h .buffers; operations = h .operations; signals = signals; marks = marks }) nums cs
         unfolding count
         load-columns = record {
           number = numbers .told .number;
@@ -190,8 +190,8 @@ module _ (bs : List ℕ) (h : Head) (nums queue₀ wsem₀ wval₀ ssem₀ sval�
             ∙ take-at (front .owners) ((h .buffers ∷ (front .sizes ++ (h .operations ∷ []))) ++ drop (h .got) nums) (h .semaphores) (front .owners-long))
 
 -- a refusal shows nothing
-pub refused-loads : {bs head queue wsem wval ssem sval sop mark mop : List ℕ} {number place : ℕ} → (number ≡ scanned bs .fault .number) × (place ≡ scanned bs .fault .place) → (number ≡ 0 → ⊥) →
-    Loads bs (record { number = number; place = place; queues = 0; semaphores = 0; buffers = 0; operations = 0; signals = 0; marks = 0 }) head queue wsem wval ssem sval sop mark mop
+pub refused-loads : {bs head : List ℕ} {cs : Columns} {number place : ℕ} → (number ≡ scanned bs .fault .number) × (place ≡ scanned bs .fault .place) → (number ≡ 0 → ⊥) →
+    Loads bs (record { number = number; place = place; queues = 0; semaphores = 0; buffers = 0; operations = 0; signals = 0; marks = 0 }) head cs
 refused-loads {bs} (n, p) z =
     let nothing : (m : ℕ) → 0 ≡ cond (given (scanned bs .fault)) 0 m = λ m. rw (other-given (scanned bs .fault) (λ e. z (n ∙ e))) in
     record {

@@ -9,6 +9,7 @@ use Rattle.plan_format.specs.Form.{first-form}
 use Rattle.plan_format.specs.Plan.{Operation, operation-in, operation-long}
 use Rattle.plan_format.proofs.Blocks.{Block}
 use Rattle.plan_format.proofs.Operations.{operation-of, block-operation, block-long}
+use Rattle.plan_columns.specs.Columns.{Columns}
 use Rattle.plan_columns.specs.Filling.{next-at, signal-count, mark-count, Put, Added}
 use Rattle.plan_columns.proofs.Operations.{Fits, here, next-is, signals-many, marks-many}
 use Rattle.plan_columns.proofs.Lists.{three-waits, its-signals, its-marks, code-of, queue-same, wait-semaphore-same, wait-value-same, signal-semaphore-same, signal-value-same, signal-operation-same, mark-same, mark-operation-same}
@@ -53,9 +54,9 @@ module _ {q m b : ℕ} (small : Small q m b) (front block more junk : List ℕ) 
   moved : {A : Type 0} (h : A → ℕ) (of : Operation → List A) {part other : List ℕ} → part ≡ map h (of (here window 0)) → other ≡ map h (of (here all at)) → part ≡ other
   moved h of e f = e ∙ ap (λ (z : Operation). map h (of z)) same ∙ sym f
 
-  pub added-among : {i signals marks signals′ marks′ : ℕ} {queue wsem wval ssem sval sop mark mop queue′ wsem′ wval′ ssem′ sval′ sop′ mark′ mop′ : List ℕ} →
-      Added window i 0 signals marks queue wsem wval ssem sval sop mark mop queue′ wsem′ wval′ ssem′ sval′ sop′ mark′ mop′ (next-at window 0) signals′ marks′ →
-      Added all i at signals marks queue wsem wval ssem sval sop mark mop queue′ wsem′ wval′ ssem′ sval′ sop′ mark′ mop′ (length (front ++ block)) signals′ marks′
+  pub added-among : {i signals marks signals′ marks′ : ℕ} {cs cs′ : Columns} →
+      Added window i 0 signals marks cs cs′ (next-at window 0) signals′ marks′ →
+      Added all i at signals marks cs cs′ (length (front ++ block)) signals′ marks′
   added-among {i} {signals} {marks} a = record {
     queues-added = put-same (moved (λ x. x .queue) (λ z. z ∷ []) (queue-same window i 0 fits-first) (queue-same all i at fits)) (a .queues-added);
     wait-semaphores-added = put-same (moved (λ x. x .semaphore) (three-waits i) (wait-semaphore-same window i 0 fits-first) (wait-semaphore-same all i at fits)) (a .wait-semaphores-added);

@@ -7,8 +7,8 @@ use lib.ListN.{length}
 use Rattle.plan_format.specs.Plan.{count}
 use Rattle.plan_format.specs.Refusal.{given}
 use Rattle.plan_format.specs.Stored.{scanned, plan-in}
-use Rattle.plan_columns.specs.Columns.{Axis-column}
-use Rattle.plan_columns.specs.Shown.{Shown}
+use Rattle.plan_columns.specs.Columns.{Columns, Axis-column}
+use Rattle.plan_columns.specs.Shown.{Columns-of}
 use Rattle.plan_load.specs.declared.Loaded.{Loaded}
 
 -- the counts of queues, semaphores, buffers and operations, each 0 where the reader refuses the plan
@@ -20,10 +20,10 @@ pub record Sizes (bytes : List ℕ) (q s b n : ℕ) : Type 0 where
 
 -- 01: "Numbers 1 to 5 come from the first fault met in that reading order"; where there is none, the columns show the plan. On a refusal
 -- the counts are 0, and the columns are free
-pub record Loads (bytes : List ℕ) (r : Loaded) (head queue wsem wval ssem sval sop mark mop : List ℕ) : Type 0 where
+pub record Loads (bytes : List ℕ) (r : Loaded) (head : List ℕ) (cs : Columns) : Type 0 where
   pub number : r .number ≡ scanned bytes .fault .number
   pub place : r .place ≡ scanned bytes .fault .place
   pub sizes : Sizes bytes (r .queues) (r .semaphores) (r .buffers) (r .operations)
   pub none : (r .number ≡ 0 → ⊥) → (r .signals ≡ 0) × (r .marks ≡ 0)
   pub axes : r .number ≡ 0 → Axis-column (plan-in bytes) head
-  pub columns : r .number ≡ 0 → Shown (plan-in bytes) (r .signals) (r .marks) queue wsem wval ssem sval sop mark mop
+  pub columns : r .number ≡ 0 → Columns-of (plan-in bytes) (r .signals) (r .marks) cs

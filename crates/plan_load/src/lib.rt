@@ -15,7 +15,7 @@ ghost use Prim.Native.Nat.{ℕ, _+_, _≤_};
 ghost use lib.ListN.{take, drop};
 ghost use Rattle.plan_format.specs.Sizes.{most-operations};
 ghost use Rattle.plan_format.specs.Stored.{plan-in};
-ghost use Rattle.plan_columns.specs.Columns.{Owner-column};
+ghost use Rattle.plan_columns.specs.Columns.{columns, Owner-column};
 ghost use Rattle.plan_numbers.specs.Reading.{Head-read};
 ghost use Rattle.plan_load.specs.Loading.{Loads};
 
@@ -46,7 +46,7 @@ pub fn load(
     mark: &mut MarkColumn,
     mop: &mut MarkColumn,
 ) -> Loaded
-    ensures { λ r. ⌜ Loads (now (plan .entry)) r (now (head .exit)) (now (queue .exit)) (now (wsem .exit)) (now (wval .exit)) (now (ssem .exit)) (now (sval .exit)) (now (sop .exit)) (now (mark .exit)) (now (mop .exit)) ⌝ }
+    ensures { λ r. ⌜ Loads (now (plan .entry)) r (now (head .exit)) (columns (now (queue .exit)) (now (wsem .exit)) (now (wval .exit)) (now (ssem .exit)) (now (sval .exit)) (now (sop .exit)) (now (mark .exit)) (now (mop .exit))) ⌝ }
     ensures { λ r. ⌜ (r .number ≡ 0 → Owner-column (plan-in (now (plan .entry))) (now (owner .exit))) ⌝ }
 {
     let h = plan_numbers::read_head(plan, head);
@@ -117,7 +117,7 @@ fn columns(
     mop: &mut MarkColumn,
 ) -> Loaded
     requires { ⌜ Head-read (now plan) h (now head) × (h .number ≡ 0) ⌝ }
-    ensures { λ r. ⌜ Loads (now (plan .entry)) r (now (head .exit)) (now (queue .exit)) (now (wsem .exit)) (now (wval .exit)) (now (ssem .exit)) (now (sval .exit)) (now (sop .exit)) (now (mark .exit)) (now (mop .exit)) ⌝ }
+    ensures { λ r. ⌜ Loads (now (plan .entry)) r (now (head .exit)) (columns (now (queue .exit)) (now (wsem .exit)) (now (wval .exit)) (now (ssem .exit)) (now (sval .exit)) (now (sop .exit)) (now (mark .exit)) (now (mop .exit))) ⌝ }
     ensures { λ r. ⌜ (r .number ≡ 0 → Owner-column (plan-in (now (plan .entry))) (now (owner .exit))) ⌝ }
 {
     plan_columns::owners(head, 2 + h.queues as usize, h.semaphores as usize, owner);
@@ -139,7 +139,7 @@ fn operations(
 ) -> Loaded
     requires { ⌜ h .operations ≤ most-operations ⌝ }
     ensures { λ r. ⌜ ((nums : List ℕ) → Head-read (now (plan .entry)) h nums → h .number ≡ 0 →
-        Loads (now (plan .entry)) r nums (now (queue .exit)) (now (wsem .exit)) (now (wval .exit)) (now (ssem .exit)) (now (sval .exit)) (now (sop .exit)) (now (mark .exit)) (now (mop .exit)) × (r .number ≡ 0 → plan-in (now (plan .entry)) .owners ≡ take (h .semaphores) (drop (2 + h .queues) nums))) ⌝ }
+        Loads (now (plan .entry)) r nums (columns (now (queue .exit)) (now (wsem .exit)) (now (wval .exit)) (now (ssem .exit)) (now (sval .exit)) (now (sop .exit)) (now (mark .exit)) (now (mop .exit))) × (r .number ≡ 0 → plan-in (now (plan .entry)) .owners ≡ take (h .semaphores) (drop (2 + h .queues) nums))) ⌝ }
 {
     let many = h.operations as u16;
     let mut window = [0u64; WINDOW];

@@ -1,6 +1,6 @@
 pub mod Halving
 pub mod Grouping
-pub mod Answers
+pub mod Sourcing
 pub mod Reached
 pub mod Rising
 pub mod Placed

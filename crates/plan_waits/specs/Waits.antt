@@ -2,6 +2,7 @@
 -- definitions.
 use mathlib.Core.Path.{_≡_}
 use mathlib.Core.Bool.{Bool, true, false, _&&_, cond}
+use mathlib.Core.Logic.{_⊎_}
 use mathlib.Core.List.{List, []}
 use Prim.Native.Nat.{ℕ, zero, suc, _*_, _/_, _%_, _≤_, _<_}
 use lib.Dec.{ltb, leb}
@@ -10,13 +11,13 @@ use Rattle.plan_format.specs.Sizes.{most-semaphores, most-operations, most-wait
 use Rattle.plan_format.specs.Refusal.{Refusal, refusal, none-given}
 use Rattle.plan_format.specs.Plan.{Plan, count, op}
 use Rattle.plan_format.specs.Sound.{signals-refusal, waits-refusal, In-range}
+use Rattle.plan_format.specs.declared.Told.{Told}
 use Rattle.plan_columns.specs.Columns.{Wait-columns, Signal-columns, Source-column}
 use Rattle.plan_rules.specs.Walks.{Highest-column}
 use Rattle.plan_waits.specs.Groups.{Low}
-use Rattle.plan_waits.specs.declared.Ruled.{Ruled}
 
 -- the columns show a plan with neither refusal 6 nor 7, and the highest value of each semaphore
-pub record Shown (p : Plan) (n signals : ℕ) (ssem sval sop wsem wval last : List ℕ) : Type 0 where
+pub record Waits-given (p : Plan) (n signals : ℕ) (ssem sval sop wsem wval last : List ℕ) : Type 0 where
   pub operations : count p ≡ n
   pub few : n ≤ most-operations
   pub few-owners : length (p .owners) ≤ most-semaphores
@@ -27,7 +28,7 @@ pub record Shown (p : Plan) (n signals : ℕ) (ssem sval sop wsem wval last : Li
   pub highest-shown : Highest-column p last
 
 -- 8 as the rules give it; where it is not given the column shows what the waits rest on
-pub record Resolved (p : Plan) (r : Ruled) (source : List ℕ) : Type 0 where
+pub record Resolved (p : Plan) (r : Told) (source : List ℕ) : Type 0 where
   pub number : r .number ≡ waits-refusal 0 p (p .operations) .number
   pub place : r .place ≡ waits-refusal 0 p (p .operations) .place
   pub sources-shown : r .number ≡ 0 → Source-column p source
@@ -54,12 +55,21 @@ pub record Rests (ssem sval : List ℕ) (signals s v j : ℕ) : Type 0 where
   pub earlier : (i : ℕ) → i < j → getD ssem i 0 ≡ s → getD sval i 0 < v
   pub later : (i : ℕ) → j ≤ i → i < signals → getD ssem i 0 ≡ s → v ≤ getD sval i 0
 
--- the column of the waits' semaphores afterwards, whatever is shown: as long as before; past the places of n operations as before, and all of it
--- where the columns have no places for the plan; and where nothing is refused a wait for 0 rests on nothing, and another, where each signal is of one
--- of 64 semaphores, on the first signal that reaches it, if those after it do
-pub record Sources (n signals number : ℕ) (ssem sval sop wsem wval source : List ℕ) : Type 0 where
-  pub long : length source ≡ length wsem
-  pub past : (k : ℕ) → most-waits * n ≤ k → getD source k 0 ≡ getD wsem k 0
-  pub no-places : has-places n signals ≡ false → source ≡ wsem
-  pub free : has-places n signals ≡ true → number ≡ 0 → (k : ℕ) → k < most-waits * n → getD wval k 0 ≡ 0 → getD source k 0 ≡ no-operation
-  pub found : has-places n signals ≡ true → number ≡ 0 → Low ssem signals → (k j : ℕ) → k < most-waits * n → Rests ssem sval signals (getD wsem k 0 % most-semaphores) (getD wval k 0) j → getD source k 0 ≡ getD sop j 0
+-- what a wait rests on is none or a signal's operation
+abbrev pub Rests-within : (signals : ℕ) → (sop : List ℕ) → (r : ℕ) → Type 0
+Rests-within signals sop r = (r ≡ no-operation) ⊎ ((j : ℕ) × (j < signals) × (r ≡ getD sop j 0))
+
+-- the column of sources afterwards, whatever the columns show: as long as before; past the places of n operations as before, and all of it where
+-- the columns have no places for the plan. Where nothing is refused a wait for 0 rests on nothing, and so does one of a semaphore that has no signal;
+-- any other, where each signal is of one of the semaphores, on an operation of a signal, and on the first signal that reaches it if those after it do
+pub record Sources (n signals number : ℕ) (ssem sval sop wsem wval source source-now : List ℕ) : Type 0 where
+  pub long : length source-now ≡ length source
+  pub past : (k : ℕ) → most-waits * n ≤ k → getD source-now k 0 ≡ getD source k 0
+  pub no-places : has-places n signals ≡ false → source-now ≡ source
+  pub zero : has-places n signals ≡ true → number ≡ 0 → (k : ℕ) → k < most-waits * n → getD wval k 0 ≡ 0 → getD source-now k 0 ≡ no-operation
+  pub unsignalled : has-places n signals ≡ true → number ≡ 0 → (k : ℕ) → k < most-waits * n →
+      ((j : ℕ) → j < signals → getD ssem j 0 ≡ getD wsem k 0 % most-semaphores → ⊥) → getD source-now k 0 ≡ no-operation
+  pub within : has-places n signals ≡ true → number ≡ 0 → Low most-semaphores ssem signals → (k : ℕ) → k < most-waits * n →
+      Rests-within signals sop (getD source-now k 0)
+  pub found : has-places n signals ≡ true → number ≡ 0 → Low most-semaphores ssem signals → (k j : ℕ) → k < most-waits * n →
+      Rests ssem sval signals (getD wsem k 0 % most-semaphores) (getD wval k 0) j → getD source-now k 0 ≡ getD sop j 0

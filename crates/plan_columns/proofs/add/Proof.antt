@@ -9,7 +9,7 @@ use Rattle.plan_columns.proofs.add.Statement.{statement}
 use Rattle.plan_columns.proofs.add.Tie as tie
 
 returns : tie.Need-returns
-returns c = (λ l. absurd (omega (arith, c .if1 .taken)), λ _. (refl, refl, refl, refl, refl, refl, refl, refl, refl, refl))
+returns c = (λ l. absurd (omega (arith, c .if1 .taken)), λ _. (refl, refl, refl))
 
 element-copy-out-wide : tie.Need-element-copy-out-wide
 element-copy-out-wide c = search needs
