@@ -4,6 +4,8 @@ use mathlib.Core.List.{List}
 use Prim.Native.Nat.{ℕ, _≤_}
 use lib.ListN.{length}
 use Rattle.plan_format.specs.Form.{first-form}
+use Rattle.plan_format.specs.Plan.{Plan}
+use Rattle.plan_format.specs.Sound.{Sound, rules-refusal}
 use Rattle.plan_format.specs.Stored.{scanned, plan-in}
 use Rattle.plan_format.proofs.Plans.{scanned-shape}
 use Rattle.plan_format.proofs.Shape.{Shaped}
@@ -23,8 +25,19 @@ module _ (bs : List ℕ) (clean : scanned bs .fault .number ≡ 0) where
     few-semaphores = few-semaphores;
     few-buffers = shape .few-buffers;
     few-operations = shape .few-operations;
+    axes-distinct = shape .axes-distinct;
     in-range = shape .in-range;
     few-waits = λ i l. shape .few i l .waits;
     few-signals = λ i l. shape .few i l .signals;
     few-marks = λ i l. shape .few i l .marks;
   }
+
+-- a plan within the limits with none of refusals 6 to 8
+pub limits-sound : {p : Plan} → Limits p → rules-refusal p .number ≡ 0 → Sound p
+limits-sound l rules = record {
+  few-queues = l .few-queues;
+  few-operations = l .few-operations;
+  axes-distinct = l .axes-distinct;
+  in-range = l .in-range;
+  rules = rules;
+}

@@ -1,6 +1,7 @@
 -- The limits of a read plan, and columns that show a plan. Assumes nothing: these are definitions.
 use Prim.Native.Nat.{ℕ, _≤_, _<_}
-use lib.ListN.{length}
+use mathlib.Core.Path.{_≡_}
+use lib.ListN.{length, getD}
 use Rattle.plan_format.specs.Sizes.{most-queues, most-semaphores, most-buffers, most-operations, most-waits, most-signals, most-marks}
 use Rattle.plan_format.specs.Plan.{Plan, count, op, queues}
 use Rattle.plan_format.specs.Sound.{In-range}
@@ -12,6 +13,7 @@ pub record Limits (p : Plan) : Type 0 where
   pub few-semaphores : length (p .owners) ≤ most-semaphores
   pub few-buffers : length (p .sizes) ≤ most-buffers
   pub few-operations : count p ≤ most-operations
+  pub axes-distinct : (i k : ℕ) → i < k → k < queues p → getD (p .axes) i 0 ≡ getD (p .axes) k 0 → ⊥
   pub in-range : (i : ℕ) → i < count p → In-range p (op p i)
   pub few-waits : (i : ℕ) → i < count p → length (op p i .waits) ≤ most-waits
   pub few-signals : (i : ℕ) → i < count p → length (op p i .signals) ≤ most-signals

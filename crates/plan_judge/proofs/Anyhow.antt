@@ -10,18 +10,19 @@ use lib.Seq.{length-take-le}
 use borrow.Author.Tests.{lt-ltb, le-ltb}
 use Rattle.basics.specs.Lists.{in-front}
 use Rattle.basics.proofs.Tests.{by-cases, clash, or-left, or-right}
+use Rattle.plan_format.specs.Sizes.{row-width, most-operations}
 use Rattle.plan_format.specs.Refusal.{Refusal, refusal, none-given, given, or-else}
 use Rattle.plan_format.specs.Stored.{Tells}
 use Rattle.plan_format.specs.declared.Told.{Told}
+use Rattle.plan_format.proofs.Telling.{told, tells}
 use Rattle.plan_format.proofs.Judged.{zero-not-given, other-given, not-given-zero, or-else-first, or-else-second, refusal-given}
 use Rattle.plan_rules.specs.Walks.{signals-walk, lasts-walk, zeros}
-use Rattle.plan_waits.specs.Waits.{waits-found}
+use Rattle.plan_waits.specs.Waits.{waits-found, Sources}
 use Rattle.plan_run.specs.Run.{Bounded}
 use Rattle.plan_stuck.specs.Zeros.{first-zero}
 use Rattle.plan_marks.specs.Passes.{first-broken}
-use Rattle.plan_judge.specs.Answering.{rules-by, order-by, Run-judged, Answers-by}
+use Rattle.plan_judge.specs.Answering.{rules-by, Sources-by, order-by, Run-judged, Answers-by}
 use Rattle.plan_judge.specs.Leaving.{Room, Left}
-use Rattle.plan_judge.proofs.Answers.{told, tells}
 
 -- ---- 6 to 8
 module _ (n signals : ℕ) (owner queue wsem wval ssem sval sop : List ℕ) where
@@ -29,11 +30,30 @@ module _ (n signals : ℕ) (owner queue wsem wval ssem sval sop : List ℕ) wher
   unfolding rules-by
   rules-first m i e z = tells (or-else-first _ _ (ap given (sym e) ∙ refusal-given m i z) ∙ sym e)
 
-  pub rules-second : (m i k j : ℕ) {last : List ℕ} → refusal m i ≡ signals-walk owner queue ssem sval sop signals 0 zeros → m ≡ 0 →
-      last ≡ lasts-walk owner queue ssem sval sop signals 0 zeros → refusal k j ≡ waits-found n signals wsem wval last → Tells (rules-by n signals owner queue wsem wval ssem sval sop) 0 (told k j)
+  pub rules-second : (m i : ℕ) {last : List ℕ} {r : Told} → refusal m i ≡ signals-walk owner queue ssem sval sop signals 0 zeros → m ≡ 0 →
+      last ≡ lasts-walk owner queue ssem sval sop signals 0 zeros → Tells (waits-found n signals wsem wval last) 0 r → Tells (rules-by n signals owner queue wsem wval ssem sval sop) 0 r
   unfolding rules-by refusal
-  rules-second m i k j e z l f =
-      tells (or-else-second _ _ (ap (λ (x : Refusal). x .number) (sym e) ∙ z) ∙ sym (f ∙ ap (λ (x : List ℕ). waits-found n signals wsem wval x) l))
+  rules-second m i {last} {r} e z l h =
+      subst (λ (f : Refusal). Tells f 0 r)
+      (sym (or-else-second _ _ (ap (λ (x : Refusal). x .number) (sym e) ∙ z) ∙ ap (λ (x : List ℕ). waits-found n signals wsem wval x) (sym l))) h
+
+  pub sources-refused : (m i : ℕ) {source : List ℕ} → refusal m i ≡ signals-walk owner queue ssem sval sop signals 0 zeros → (m ≡ 0 → ⊥) →
+      Sources-by n signals owner queue wsem wval ssem sval sop source source
+  sources-refused m i e z = record {
+    refused = λ g. refl;
+    resolved = λ f. clash (given (signals-walk owner queue ssem sval sop signals 0 zeros)) (ap given (sym e) ∙ refusal-given m i z) f;
+  }
+
+  pub sources-resolved : (m i : ℕ) {source source′ last : List ℕ} {r : Told} → refusal m i ≡ signals-walk owner queue ssem sval sop signals 0 zeros → m ≡ 0 →
+      last ≡ lasts-walk owner queue ssem sval sop signals 0 zeros → Tells (waits-found n signals wsem wval last) 0 r →
+      Sources n signals (r .number) ssem sval sop wsem wval source source′ → Sources-by n signals owner queue wsem wval ssem sval sop source source′
+  unfolding refusal
+  sources-resolved m i {source} {source′} {last} {r} e z l h left = record {
+    refused = λ g. clash (given (signals-walk owner queue ssem sval sop signals 0 zeros)) g
+        (zero-not-given (signals-walk owner queue ssem sval sop signals 0 zeros) (ap (λ (x : Refusal). x .number) (sym e) ∙ z));
+    resolved = λ f. subst (λ (k : ℕ). Sources n signals k ssem sval sop wsem wval source source′)
+        (h .number ∙ ap (λ (x : List ℕ). waits-found n signals wsem wval x .number) l) left;
+  }
 
 -- ---- 10 and 11
 module _ (n ran marks i : ℕ) (queue mark mop rows : List ℕ) where
@@ -70,8 +90,8 @@ module _ (n ran marks : ℕ) (queue mark mop rows : List ℕ) {rows₀ t t′ l 
     run-long = length-take-le (2 * n) l₁ (omega (arith, bounded .long, room .in-list));
     tells = told-is;
     table-holds = by-cases (given (order-by n ran marks queue mark mop rows))
-        (λ g. left .refused-table (not-none g) ∙ sym (ap (λ (b : Bool). in-front (cond b (replicate (16 * n) 0) (take (16 * n) rows)) t) g))
-        (λ f. left .passed-table (is-none f) ∙ sym (ap (λ (b : Bool). in-front (cond b (replicate (16 * n) 0) (take (16 * n) rows)) t) f));
+        (λ g. left .refused-table (not-none g) ∙ sym (ap (λ (b : Bool). in-front (cond b (replicate (row-width * n) 0) (take (row-width * n) rows)) t) g))
+        (λ f. left .passed-table (is-none f) ∙ sym (ap (λ (b : Bool). in-front (cond b (replicate (row-width * n) 0) (take (row-width * n) rows)) t) f));
     list-holds = by-cases (given (order-by n ran marks queue mark mop rows))
         (λ g. left .refused-list (not-none g) ∙ front-past (replicate (2 * n) 0) l₁ l (rw length-replicate (bounded .past))
         ∙ sym (ap (λ (b : Bool). in-front (cond b (replicate (2 * n) 0) (take (2 * n) l₁)) l) g))
@@ -88,21 +108,21 @@ module _ (n ran marks : ℕ) (queue mark mop rows : List ℕ) {rows₀ t t′ l 
   -- a run
   pub answers-run : {first : Refusal} {lent : Told} → Tells first 0 lent → lent .number ≡ 0 → Answers-by first n marks queue mark mop r t t′ l l′
   answers-run {first} h z =
-      let none : (given first || ltb 1024 n) ≡ false = rw (zero-not-given first (sym (h .number) ∙ z)) (le-ltb 1024 n (room .few)) in
-      record { stopped = λ e. clash (given first || ltb 1024 n) e none; judged = λ e. run-judged }
+      let none : (given first || ltb most-operations n) ≡ false = rw (zero-not-given first (sym (h .number) ∙ z)) (le-ltb most-operations n (room .few)) in
+      record { stopped = λ e. clash (given first || ltb most-operations n) e none; judged = λ e. run-judged }
 
 -- ---- no run
 module _ {first : Refusal} {n marks : ℕ} {queue mark mop t l : List ℕ} {r : Told} (h : Tells first 0 r) where
-  pub answers-over : 1024 < n → Answers-by first n marks queue mark mop r t t l l
+  pub answers-over : most-operations < n → Answers-by first n marks queue mark mop r t t l l
   answers-over b = record {
     stopped = λ e. (h, refl, refl);
-    judged = λ f. clash (given first || ltb 1024 n) (or-right (given first) (ltb 1024 n) (lt-ltb 1024 n b)) f;
+    judged = λ f. clash (given first || ltb most-operations n) (or-right (given first) (ltb most-operations n) (lt-ltb most-operations n b)) f;
   }
 
   pub answers-first : (r .number ≡ 0 → ⊥) → Answers-by first n marks queue mark mop r t t l l
   answers-first z = record {
     stopped = λ e. (h, refl, refl);
-    judged = λ f. clash (given first || ltb 1024 n) (or-left (given first) (ltb 1024 n) (other-given first (λ e. z (h .number ∙ e)))) f;
+    judged = λ f. clash (given first || ltb most-operations n) (or-left (given first) (ltb most-operations n) (other-given first (λ e. z (h .number ∙ e)))) f;
   }
 
 -- the first of two that is given

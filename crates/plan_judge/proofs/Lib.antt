@@ -1,4 +1,4 @@
 pub mod Columns
-pub mod Answers
+pub mod Untouched
 pub mod Orders
 pub mod Anyhow

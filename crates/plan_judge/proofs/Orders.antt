@@ -11,14 +11,15 @@ use lib.Seq.{ext-getD, getD-take, length-take-le}
 use Rattle.basics.specs.Lists.{member, in-front, place-or}
 use Rattle.basics.proofs.Tests.{by-cases, by-option, clash}
 use Rattle.basics.proofs.Searches.{lowest-some}
+use Rattle.plan_format.specs.Sizes.{row-width}
 use Rattle.plan_format.specs.Refusal.{Refusal, refusal, none-given, given}
 use Rattle.plan_format.specs.Plan.{Plan, count, op, queues}
-use Rattle.plan_format.specs.Sound.{Sound}
-use Rattle.plan_format.specs.Stored.{plan-in, plan-refusal, Tells}
+use Rattle.plan_format.specs.Sound.{Sound, rules-refusal}
+use Rattle.plan_format.specs.Stored.{Tells}
 use Rattle.plan_format.specs.declared.Told.{Told}
+use Rattle.plan_format.proofs.Telling.{told, tells}
 use Rattle.plan_format.proofs.Judged.{zero-not-given, not-given-zero}
-use Rattle.plan_format.proofs.Plans.{sound-in}
-use Rattle.plan_order.specs.Check.{room-refusal, refused-at, order-refusal, zeros, rows-and-run, Outcome, outcome, or-then, check-outcome, table-left, list-left, left-in, Says, Check-says}
+use Rattle.plan_order.specs.Check.{room-refusal, refused-at, order-refusal, zeros, rows-and-run, Outcome, outcome, or-then, plan-outcome, table-left, list-left, left-in, Says, Plan-check-says}
 use Rattle.plan_order.specs.Holdings.{broken}
 use Rattle.plan_order.specs.Rows.{rows}
 use Rattle.plan_order.specs.Runs.{standard, missing}
@@ -26,10 +27,10 @@ use Rattle.plan_order.proofs.Rows.{row-at, rows-at, rows-length}
 use Rattle.plan_order.proofs.Standard.{standard-full, missing-some, missing-none, full-run, full-has}
 use Rattle.plan_columns.specs.Columns.{Row-columns}
 use Rattle.plan_run.specs.Run.{Rows-of, Ran}
-use Rattle.plan_marks.specs.Shown.{Shown}
+use Rattle.plan_marks.specs.Given.{Marks-given}
 use Rattle.plan_judge.specs.Leaving.{Room, Left}
-use Rattle.plan_judge.specs.Passing.{Run-shown}
-use Rattle.plan_judge.proofs.Answers.{told, tells, room-enough}
+use Rattle.plan_judge.specs.Given.{Judge-given}
+use Rattle.plan_judge.proofs.Untouched.{room-enough}
 
 -- ---- the standard run of a sound plan is full, or an operation is missing
 module _ (p : Plan) (sound : Sound p) where
@@ -55,7 +56,7 @@ nothing-found : (n i : ℕ) (o : Option ℕ) → ((j : ℕ) → o ≡ some j →
 unfolding place-or
 nothing-found n i o small e l = by-option o (λ z. z) (λ j z. absurd (let h : i ≡ j = rw z at e in omega (arith, small j z)))
 
-module _ {p : Plan} {n ran marks : ℕ} {queue mark mop rows-now : List ℕ} (shown : Run-shown p n ran marks queue mark mop rows-now) where
+module _ {p : Plan} {n ran marks : ℕ} {queue mark mop rows-now : List ℕ} (shown : Judge-given p n ran marks queue mark mop rows-now) where
   pub stuck-told : {i : ℕ} → ran < n → i ≡ place-or n (missing p) → Tells (order-refusal p) 0 (told 10 i)
   unfolding order-refusal refused-at place-or
   stuck-told {i} l e =
@@ -66,7 +67,7 @@ module _ {p : Plan} {n ran marks : ℕ} {queue mark mop rows-now : List ℕ} (sh
   whole : n ≤ ran → count p ≤ length (standard p)
   whole l = omega (arith, shown .long, shown .many)
 
-  pub marks-given : n ≤ ran → Shown p n marks queue mark mop rows-now
+  pub marks-given : n ≤ ran → Marks-given p n marks queue mark mop rows-now
   marks-given l = record {
     sound = shown .sound;
     many = shown .many;
@@ -104,60 +105,59 @@ front-past : (new a b : List ℕ) → drop (length new) a ≡ drop (length new) 
 unfolding in-front
 front-past new a b e = ap (λ (z : List ℕ). new ++ z) e
 
-rows-taken : (p : Plan) (rows-now : List ℕ) → 16 * count p ≤ length rows-now → Row-columns p (λ j. j < count p) rows-now → take (16 * count p) rows-now ≡ rows p
+rows-taken : (p : Plan) (rows-now : List ℕ) → row-width * count p ≤ length rows-now → Row-columns p (λ j. j < count p) rows-now → take (row-width * count p) rows-now ≡ rows p
 unfolding Row-columns
 rows-taken p rows-now room shows =
-    let long = length-take-le (16 * count p) rows-now room in
-    ext-getD 0 (take (16 * count p) rows-now) (rows p) (long ∙ sym (rows-length p))
-    (λ k l. let inside : k < 16 * count p = omega (arith, long) in
-    let place : 16 * (k / 16) + k % 16 ≡ k = div-add-mod k 16 in
-    let j-inside : k / 16 < count p = omega arith in
-    let q-inside : k % 16 < 16 = omega arith in
-    getD-take (16 * count p) rows-now k 0 inside
+    let long = length-take-le (row-width * count p) rows-now room in
+    ext-getD 0 (take (row-width * count p) rows-now) (rows p) (long ∙ sym (rows-length p))
+    (λ k l. let inside : k < row-width * count p = omega (arith, long) in
+    let place : row-width * (k / row-width) + k % row-width ≡ k = div-add-mod k row-width in
+    let j-inside : k / row-width < count p = omega arith in
+    let q-inside : k % row-width < row-width = omega arith in
+    getD-take (row-width * count p) rows-now k 0 inside
     ∙ ap (λ (x : ℕ). getD rows-now x 0) (sym place)
-    ∙ shows (k / 16) (k % 16) j-inside q-inside
-    ∙ row-at p (k / 16) (k % 16) q-inside
-    ∙ sym (rows-at p (k / 16) (k % 16) j-inside q-inside)
+    ∙ shows (k / row-width) (k % row-width) j-inside q-inside
+    ∙ row-at p (k / row-width) (k % row-width) q-inside
+    ∙ sym (rows-at p (k / row-width) (k % row-width) j-inside q-inside)
     ∙ ap (λ (x : ℕ). getD (rows p) x 0) place)
 
-module _ (bs : List ℕ) {n ran : ℕ} {rows-now : List ℕ} {r : Told} {t t′ l l₁ l′ : List ℕ} (good : plan-refusal bs .number ≡ 0) (many : count (plan-in bs) ≡ n) (room : Room n t l)
-    (run : Ran (plan-in bs) n ran rows-now l l₁) (told-is : Tells (order-refusal (plan-in bs)) 0 r) (left : Left (r .number) n rows-now t t′ l₁ l′) where
-  ordered : check-outcome bs (length t) (length l) ≡ or-then (outcome (order-refusal (plan-in bs)) zeros) (outcome none-given rows-and-run)
-  unfolding check-outcome or-then outcome refusal
+module _ (p : Plan) {n ran : ℕ} {rows-now : List ℕ} {r : Told} {t t′ l l₁ l′ : List ℕ} (sound : Sound p) (many : count p ≡ n) (room : Room n t l)
+    (run : Ran p n ran rows-now l l₁) (told-is : Tells (order-refusal p) 0 r) (left : Left (r .number) n rows-now t t′ l₁ l′) where
+  ordered : plan-outcome p (length t) (length l) ≡ or-then (outcome (order-refusal p) zeros) (outcome none-given rows-and-run)
+  unfolding plan-outcome or-then outcome refusal
   ordered =
-      let enough : room-refusal (count (plan-in bs)) (length t) (length l) .number ≡ 0 =
+      let enough : room-refusal (count p) (length t) (length l) .number ≡ 0 =
       ap (λ (k : ℕ). room-refusal k (length t) (length l) .number) many ∙ ap (λ (f : Refusal). f .number) (room-enough n (length t) (length l) (room .in-table) (room .in-list)) in
-      rw (zero-not-given (plan-refusal bs) good, zero-not-given (room-refusal (count (plan-in bs)) (length t) (length l)) enough)
+      rw (zero-not-given (rules-refusal p) (sound .rules), zero-not-given (room-refusal (count p) (length t) (length l)) enough)
 
-  refused-says : given (order-refusal (plan-in bs)) ≡ true → Check-says bs r t t′ l l′
-  unfolding Check-says or-then outcome table-left list-left left-in
+  refused-says : given (order-refusal p) ≡ true → Plan-check-says p r t t′ l l′
+  unfolding Plan-check-says or-then outcome table-left list-left left-in
   refused-says g =
-      let z : r .number ≡ 0 → ⊥ = λ e. clash (given (order-refusal (plan-in bs))) g (zero-not-given (order-refusal (plan-in bs)) (sym (told-is .number) ∙ e)) in
-      let same : check-outcome bs (length t) (length l) ≡ outcome (order-refusal (plan-in bs)) zeros = ordered ∙ rw g in
-      subst (λ (o : Outcome). Says o 0 (plan-in bs) r t t′ l l′) (sym same)
+      let z : r .number ≡ 0 → ⊥ = λ e. clash (given (order-refusal p)) g (zero-not-given (order-refusal p) (sym (told-is .number) ∙ e)) in
+      let same : plan-outcome p (length t) (length l) ≡ outcome (order-refusal p) zeros = ordered ∙ rw g in
+      subst (λ (o : Outcome). Says o 0 p r t t′ l l′) (sym same)
       (record {
         tells = told-is;
-        table-holds = left .refused-table z ∙ ap (λ (k : ℕ). in-front (replicate (16 * k) 0) t) (sym many);
+        table-holds = left .refused-table z ∙ ap (λ (k : ℕ). in-front (replicate (row-width * k) 0) t) (sym many);
         list-holds = left .refused-list z ∙ front-past (replicate (2 * n) 0) l₁ l (rw length-replicate (run .listed .past))
             ∙ ap (λ (k : ℕ). in-front (replicate (2 * k) 0) l) (sym many);
       })
 
-  passed-says : order-refusal (plan-in bs) .number ≡ 0 → Check-says bs r t t′ l l′
-  unfolding Check-says or-then outcome table-left list-left left-in
+  passed-says : order-refusal p .number ≡ 0 → Plan-check-says p r t t′ l l′
+  unfolding Plan-check-says or-then outcome table-left list-left left-in
   passed-says e =
       let z = told-is .number ∙ e in
-      let sound = sound-in bs good in
-      let some-run = missing-none (plan-in bs) (known (plan-in bs) sound) (passed-means (plan-in bs) e .0) in
-      let full = full-run (plan-in bs) (standard (plan-in bs)) (standard-full (plan-in bs) (known (plan-in bs) sound) some-run) .1 in
-      let taken = rows-taken (plan-in bs) rows-now (rw many (left .long z)) (all-rows (plan-in bs) sound rows-now some-run (run .filled)) in
-      let same : check-outcome bs (length t) (length l) ≡ outcome none-given rows-and-run = ordered ∙ rw (zero-not-given (order-refusal (plan-in bs)) e) in
-      subst (λ (o : Outcome). Says o 0 (plan-in bs) r t t′ l l′) (sym same)
+      let some-run = missing-none p (known p sound) (passed-means p e .0) in
+      let full = full-run p (standard p) (standard-full p (known p sound) some-run) .1 in
+      let taken = rows-taken p rows-now (rw many (left .long z)) (all-rows p sound rows-now some-run (run .filled)) in
+      let same : plan-outcome p (length t) (length l) ≡ outcome none-given rows-and-run = ordered ∙ rw (zero-not-given (order-refusal p) e) in
+      subst (λ (o : Outcome). Says o 0 p r t t′ l l′) (sym same)
       (record {
-        tells = subst (λ (f : Refusal). Tells f 0 r) (passed-means (plan-in bs) e .1) told-is;
-        table-holds = left .passed-table z ∙ ap (λ (x : List ℕ). in-front x t) (ap (λ (k : ℕ). take (16 * k) rows-now) (sym many) ∙ taken);
+        tells = subst (λ (f : Refusal). Tells f 0 r) (passed-means p e .1) told-is;
+        table-holds = left .passed-table z ∙ ap (λ (x : List ℕ). in-front x t) (ap (λ (k : ℕ). take (row-width * k) rows-now) (sym many) ∙ taken);
         list-holds = left .passed-list z ∙ run .whole (run .many ∙ full ∙ many);
       })
 
-  pub order-says : Check-says bs r t t′ l l′
+  pub order-says : Plan-check-says p r t t′ l l′
   order-says =
-      by-cases (given (order-refusal (plan-in bs))) refused-says (λ f. passed-says (not-given-zero (order-refusal (plan-in bs)) f))
+      by-cases (given (order-refusal p)) refused-says (λ f. passed-says (not-given-zero (order-refusal p) f))

@@ -12,7 +12,7 @@ use Rattle.plan_format.specs.Refusal.{Refusal, refusal, none-given, given, or-e
 use Rattle.plan_format.specs.Stored.{Tells}
 use Rattle.plan_format.specs.declared.Told.{Told}
 use Rattle.plan_rules.specs.Walks.{signals-walk, lasts-walk, zeros}
-use Rattle.plan_waits.specs.Waits.{waits-found}
+use Rattle.plan_waits.specs.Waits.{waits-found, Sources}
 use Rattle.plan_stuck.specs.Zeros.{first-zero}
 use Rattle.plan_marks.specs.Passes.{first-broken}
 
@@ -21,6 +21,12 @@ unfoldable pub rules-by : (n signals : ℕ) → (owner queue wsem wval ssem sval
 rules-by n signals owner queue wsem wval ssem sval sop =
     or-else (signals-walk owner queue ssem sval sop signals 0 zeros)
     (waits-found n signals wsem wval (lasts-walk owner queue ssem sval sop signals 0 zeros))
+
+-- the column of sources afterwards: as it was where 6 or 7 is given, else as the resolution leaves it
+pub record Sources-by (n signals : ℕ) (owner queue wsem wval ssem sval sop source source-now : List ℕ) : Type 0 where
+  pub refused : given (signals-walk owner queue ssem sval sop signals 0 zeros) ≡ true → source-now ≡ source
+  pub resolved : given (signals-walk owner queue ssem sval sop signals 0 zeros) ≡ false →
+      Sources n signals (waits-found n signals wsem wval (lasts-walk owner queue ssem sval sop signals 0 zeros) .number) ssem sval sop wsem wval source source-now
 
 -- 10 after fewer than n steps, else 11, by the rows
 unfoldable pub order-by : (n ran marks : ℕ) → (queue mark mop rows : List ℕ) → Refusal

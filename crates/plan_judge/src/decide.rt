@@ -7,14 +7,12 @@ use plan_format::Told;
 use plan_format::limits::MOST_OPERATIONS;
 use plan_format::limits::ROW_PLACES;
 use plan_format::limits::ROW_WIDTH;
-ghost use mathlib.Core.List.{List};
-ghost use Prim.Native.Nat.{ℕ};
 ghost use lib.ListN.{length};
 ghost use Rattle.plan_format.specs.Plan.{Plan};
 ghost use Rattle.plan_format.specs.Stored.{Tells};
-ghost use Rattle.plan_order.specs.Check.{room-refusal, order-refusal, Check-says};
+ghost use Rattle.plan_order.specs.Check.{room-refusal, order-refusal, Plan-check-says};
 ghost use Rattle.plan_judge.specs.Answering.{order-by, Answers-by};
-ghost use Rattle.plan_judge.specs.Passing.{Resolved, Run-shown};
+ghost use Rattle.plan_judge.specs.Given.{Order-given, Judge-given};
 
 const MOST: u16 = MOST_OPERATIONS as u16;
 
@@ -29,9 +27,9 @@ pub fn check_order(
     table: &mut [u32],
     list: &mut [u32],
 ) -> Told
-    ensures { λ r. ⌜ Answers-by (room-refusal n (length (now (table .entry))) (length (now (list .entry)))) n marks (now (queue .entry)) (now (mark .entry)) (now (mop .entry)) r (now (table .entry)) (now (table .exit)) (now (list .entry)) (now (list .exit)) ⌝ }
-    ensures { λ r. ⌜ ((bs : List ℕ) → Resolved bs n marks (now (queue .entry)) (now (source .entry)) (now (mark .entry)) (now (mop .entry)) →
-        Check-says bs r (now (table .entry)) (now (table .exit)) (now (list .entry)) (now (list .exit))) ⌝ }
+    ensures answers { λ r. ⌜ Answers-by (room-refusal n (length (now (table .entry))) (length (now (list .entry)))) n marks (now (queue .entry)) (now (mark .entry)) (now (mop .entry)) r (now (table .entry)) (now (table .exit)) (now (list .entry)) (now (list .exit)) ⌝ }
+    ensures of_plans { λ r. ⌜ ((p : Plan) → Order-given p n marks (now (queue .entry)) (now (source .entry)) (now (mark .entry)) (now (mop .entry)) →
+        Plan-check-says p r (now (table .entry)) (now (table .exit)) (now (list .entry)) (now (list .exit))) ⌝ }
 {
     let lent = room(n, table.len(), list.len());
     // no plan has more than 1,024 operations
@@ -59,11 +57,7 @@ fn room(n: u16, table: usize, list: usize) -> Told
     if list < 2 * many {
         return plan_format::refused(9, 2 * many);
     }
-    Told {
-        number: 0,
-        place: 0,
-        answer: 0,
-    }
+    plan_format::answered(0)
 }
 
 // 10 at the lowest operation that is in no run, 11 at the lowest with a broken mark, or none.
@@ -77,7 +71,7 @@ fn judge(
     rows: &Rows,
 ) -> Told
     ensures { λ r. ⌜ Tells (order-by n ran marks (now (queue .entry)) (now (mark .entry)) (now (mop .entry)) (now (rows .entry))) 0 r ⌝ }
-    ensures { λ r. ⌜ ((p : Plan) → Run-shown p n ran marks (now (queue .entry)) (now (mark .entry)) (now (mop .entry)) (now (rows .entry)) → Tells (order-refusal p) 0 r) ⌝ }
+    ensures { λ r. ⌜ ((p : Plan) → Judge-given p n ran marks (now (queue .entry)) (now (mark .entry)) (now (mop .entry)) (now (rows .entry)) → Tells (order-refusal p) 0 r) ⌝ }
 {
     let many = n as usize;
     if ran < many {
@@ -88,9 +82,5 @@ fn judge(
     if i < many {
         return plan_format::refused(11, i);
     }
-    Told {
-        number: 0,
-        place: 0,
-        answer: 0,
-    }
+    plan_format::answered(0)
 }

@@ -10,59 +10,83 @@ use plan_columns::SignalValues;
 use plan_columns::WaitColumn;
 use plan_columns::WaitValues;
 use plan_format::Told;
-ghost use mathlib.Core.List.{List};
-ghost use Prim.Native.Nat.{ℕ};
+ghost use mathlib.Core.Path.{_≡_};
 ghost use lib.ListN.{length};
 ghost use Rattle.plan_format.specs.Plan.{Plan};
 ghost use Rattle.plan_format.specs.Refusal.{or-else};
+ghost use Rattle.plan_format.specs.Sound.{rules-refusal};
 ghost use Rattle.plan_format.specs.Stored.{Tells};
-ghost use Rattle.plan_order.specs.Check.{room-refusal, Check-says};
-ghost use Rattle.plan_judge.specs.Answering.{rules-by, Answers-by};
-ghost use Rattle.plan_judge.specs.Passing.{Read, Rules-shown, Ruled};
+ghost use Rattle.plan_order.specs.Check.{room-refusal, Plan-check-says};
+ghost use Rattle.plan_columns.specs.Columns.{columns, Source-column};
+ghost use Rattle.plan_judge.specs.Answering.{rules-by, Sources-by, Answers-by};
+ghost use Rattle.plan_judge.specs.Given.{Check-given, Rules-given, Ruled};
 
-// Refusals 6 and 7, then 8, then 9, then the order: the answer, and what is left in table and list. Where the columns show no plan that the
-// reader takes, what the run gives is free: how many ran, the rows, and the front of the list. The columns of semaphores are free afterwards.
+// Refusals 6 and 7, then 8, then 9, then the order: the answer, what is left in table and list, and the operation that each wait rests on in
+// the column of sources. Where the columns show no plan within the limits, what the run gives is unspecified: how many ran, the rows, and the
+// front of the list.
 pub fn check_columns(
     n: u16,
     signals: usize,
     marks: usize,
     owner: &OwnerColumn,
     queue: &QueueColumn,
-    wsem: &mut WaitColumn,
+    wsem: &WaitColumn,
     wval: &WaitValues,
-    ssem: &mut SignalColumn,
+    ssem: &SignalColumn,
     sval: &SignalValues,
     sop: &SignalColumn,
     mark: &MarkColumn,
     mop: &MarkColumn,
+    source: &mut WaitColumn,
     table: &mut [u32],
     list: &mut [u32],
 ) -> Told
-    ensures { λ r. ⌜ Answers-by (or-else (rules-by n signals (now (owner .entry)) (now (queue .entry)) (now (wsem .entry)) (now (wval .entry)) (now (ssem .entry)) (now (sval .entry)) (now (sop .entry))) (room-refusal n (length (now (table .entry))) (length (now (list .entry))))) n marks (now (queue .entry)) (now (mark .entry)) (now (mop .entry)) r (now (table .entry)) (now (table .exit)) (now (list .entry)) (now (list .exit)) ⌝ }
-    ensures { λ r. ⌜ ((bs : List ℕ) → Read bs n signals marks (now (owner .entry)) (now (queue .entry)) (now (wsem .entry)) (now (wval .entry)) (now (ssem .entry)) (now (sval .entry)) (now (sop .entry)) (now (mark .entry)) (now (mop .entry)) →
-        Check-says bs r (now (table .entry)) (now (table .exit)) (now (list .entry)) (now (list .exit))) ⌝ }
+    ensures answers { λ r. ⌜ Answers-by (or-else
+        (rules-by n signals (now (owner .entry)) (now (queue .entry)) (now (wsem .entry)) (now (wval .entry)) (now (ssem .entry)) (now (sval .entry)) (now (sop .entry)))
+        (room-refusal n (length (now (table .entry))) (length (now (list .entry)))))
+        n marks (now (queue .entry)) (now (mark .entry)) (now (mop .entry)) r (now (table .entry)) (now (table .exit)) (now (list .entry)) (now (list .exit)) ⌝ }
+    ensures sources { λ _. ⌜ Sources-by n signals (now (owner .entry)) (now (queue .entry)) (now (wsem .entry)) (now (wval .entry)) (now (ssem .entry)) (now (sval .entry)) (now (sop .entry))
+        (now (source .entry)) (now (source .exit)) ⌝ }
+    ensures of_plans { λ r. ⌜ ((p : Plan) → Check-given p n signals marks (now (owner .entry))
+        (columns (now (queue .entry)) (now (wsem .entry)) (now (wval .entry)) (now (ssem .entry)) (now (sval .entry)) (now (sop .entry)) (now (mark .entry)) (now (mop .entry))) →
+        Plan-check-says p r (now (table .entry)) (now (table .exit)) (now (list .entry)) (now (list .exit)) × (rules-refusal p .number ≡ 0 → Source-column p (now (source .exit)))) ⌝ }
 {
-    let ruled = rules(n, signals, owner, queue, wsem, wval, ssem, sval, sop);
+    let ruled = rules(
+        n,
+        signals,
+        owner,
+        queue,
+        wsem,
+        wval,
+        ssem,
+        sval,
+        sop,
+        source,
+    );
     if ruled.number != 0 {
         return ruled;
     }
-    decide::check_order(n, marks, queue, wsem, mark, mop, table, list)
+    decide::check_order(n, marks, queue, source, mark, mop, table, list)
 }
 
-// 6 or 7, else 8, else none and, in place of the semaphore of each wait, the operation that it rests on.
+// 6 or 7, else 8, else none and in the column of sources the operation that each wait rests on.
 fn rules(
     n: u16,
     signals: usize,
     owner: &OwnerColumn,
     queue: &QueueColumn,
-    wsem: &mut WaitColumn,
+    wsem: &WaitColumn,
     wval: &WaitValues,
-    ssem: &mut SignalColumn,
+    ssem: &SignalColumn,
     sval: &SignalValues,
     sop: &SignalColumn,
+    source: &mut WaitColumn,
 ) -> Told
-    ensures { λ r. ⌜ Tells (rules-by n signals (now (owner .entry)) (now (queue .entry)) (now (wsem .entry)) (now (wval .entry)) (now (ssem .entry)) (now (sval .entry)) (now (sop .entry))) 0 r ⌝ }
-    ensures { λ r. ⌜ ((p : Plan) → Rules-shown p n signals (now (owner .entry)) (now (queue .entry)) (now (wsem .entry)) (now (wval .entry)) (now (ssem .entry)) (now (sval .entry)) (now (sop .entry)) → Ruled p r (now (wsem .exit))) ⌝ }
+    ensures told { λ r. ⌜ Tells (rules-by n signals (now (owner .entry)) (now (queue .entry)) (now (wsem .entry)) (now (wval .entry)) (now (ssem .entry)) (now (sval .entry)) (now (sop .entry))) 0 r ⌝ }
+    ensures sources { λ _. ⌜ Sources-by n signals (now (owner .entry)) (now (queue .entry)) (now (wsem .entry)) (now (wval .entry)) (now (ssem .entry)) (now (sval .entry)) (now (sop .entry))
+        (now (source .entry)) (now (source .exit)) ⌝ }
+    ensures of_plans { λ r. ⌜ ((p : Plan) → Rules-given p n signals (now (owner .entry)) (now (queue .entry)) (now (wsem .entry)) (now (wval .entry)) (now (ssem .entry)) (now (sval .entry)) (now (sop .entry)) →
+        Ruled p r (now (source .exit))) ⌝ }
 {
     let signalled = plan_rules::judge(signals, owner, queue, ssem, sval, sop);
     if signalled.number != 0 {
@@ -72,10 +96,15 @@ fn rules(
             answer: 0,
         };
     }
-    let waited = plan_waits::resolve(n, signals, ssem, sval, sop, wsem, wval, &signalled.last);
-    Told {
-        number: waited.number,
-        place: waited.place,
-        answer: 0,
-    }
+    plan_waits::resolve(
+        n,
+        signals,
+        ssem,
+        sval,
+        sop,
+        wsem,
+        wval,
+        &signalled.last,
+        source,
+    )
 }

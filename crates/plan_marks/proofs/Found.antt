@@ -19,7 +19,7 @@ use Rattle.plan_order.specs.Runs.{is-full}
 use Rattle.plan_order.specs.Holdings.{is-free, freed-by, free-after, Ask, use-asks, later-asks, asked-of, met, all-asks, broken}
 use Rattle.plan_order.proofs.Keeping.{asked-marks, all-asks-has, broken-some, broken-none}
 use Rattle.plan_columns.specs.Columns.{Queue-column, Marked, plan-marks, Row-columns}
-use Rattle.plan_marks.specs.Shown.{Shown}
+use Rattle.plan_marks.specs.Given.{Marks-given}
 use Rattle.plan_marks.specs.Passes.{shown-from, none-noted, noted, free-in, noted-back, late, early, first-late, first-early, first-broken}
 use Rattle.plan_marks.proofs.Marks.{Each, Known, marks-known, Rising, marks-rising, marks-shown}
 use Rattle.plan_marks.proofs.Order.{late-right, late-nothing, early-nothing, early-right}
@@ -222,7 +222,7 @@ pub lower-found : (n many cut a b r : ℕ) (queue mark operation rows : List ℕ
 unfolding first-broken
 lower-found n many cut a b r queue mark operation rows c ea eb er = rw (er, ea, eb, c)
 
-pub broken-found : (p : Plan) (n many : ℕ) (queue mark operation rows : List ℕ) → Shown p n many queue mark operation rows →
+pub broken-found : (p : Plan) (n many : ℕ) (queue mark operation rows : List ℕ) → Marks-given p n many queue mark operation rows →
     first-broken queue rows n many mark operation ≡ place-or n (broken p)
 unfolding first-broken
 broken-found p n many queue mark operation rows c =

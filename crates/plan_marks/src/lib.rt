@@ -17,7 +17,7 @@ ghost use Rattle.plan_format.specs.Sizes.{most-operations, mark-places, no-oper
 ghost use Rattle.plan_format.specs.Plan.{Plan};
 ghost use Rattle.plan_order.specs.Holdings.{broken as broken-mark};
 ghost use Rattle.basics.specs.Lists.{place-or};
-ghost use Rattle.plan_marks.specs.Shown.{Shown};
+ghost use Rattle.plan_marks.specs.Given.{Marks-given};
 ghost use Rattle.plan_marks.specs.Passes.{mark-codes, mark-of, shown-from, none-noted, noted, free-in, ordered as is-ordered, late as is-late, early as is-early, first-late, first-early, first-broken};
 
 // The lower of what the two passes find; n where they find nothing. By the columns of a plan it is the lowest operation with a broken mark.
@@ -30,7 +30,7 @@ pub fn broken(
     rows: &Rows,
 ) -> usize
     ensures { λ r. ⌜ r ≡ first-broken (now (queue .entry)) (now (rows .entry)) n marks (now (mark .entry)) (now (mop .entry)) ⌝ }
-    ensures { λ r. ⌜ ((p : Plan) → Shown p n marks (now (queue .entry)) (now (mark .entry)) (now (mop .entry)) (now (rows .entry)) → r ≡ place-or n (broken-mark p)) ⌝ }
+    ensures { λ r. ⌜ ((p : Plan) → Marks-given p n marks (now (queue .entry)) (now (mark .entry)) (now (mop .entry)) (now (rows .entry)) → r ≡ place-or n (broken-mark p)) ⌝ }
 {
     let none = n as usize;
     let many = lower(marks, MARK_PLACES);

@@ -7,9 +7,10 @@ use Prim.Native.Nat.{ℕ}
 use native.Mathlib.Omega.{arith}
 use Rattle.plan_format.specs.Plan.{count}
 use Rattle.plan_format.specs.Refusal.{refusal, none-given, given}
-use Rattle.plan_format.specs.Stored.{plan-in, plan-refusal}
-use Rattle.plan_format.proofs.Judged.{zero-not-given, refusal-given}
-use Rattle.plan_order.specs.Check.{room-refusal, refused-at, order-refusal, untouched, zeros, rows-and-run, outcome, or-then, check-outcome}
+use Rattle.plan_format.specs.Sound.{rules-refusal}
+use Rattle.plan_format.specs.Stored.{scanned, plan-in, plan-refusal}
+use Rattle.plan_format.proofs.Judged.{zero-not-given, refusal-given, or-else-second}
+use Rattle.plan_order.specs.Check.{room-refusal, refused-at, order-refusal, untouched, zeros, rows-and-run, outcome, or-then, check-outcome, plan-outcome}
 use Rattle.plan_order.specs.Holdings.{broken}
 use Rattle.plan_order.specs.Runs.{missing}
 
@@ -41,3 +42,8 @@ module _ (bs : List ℕ) (t l : ℕ) where
       unfolding check-outcome or-then outcome order-refusal refused-at given none-given
       passed-outcome n m =
           rw (zero-not-given (plan-refusal bs) plan-good, zero-not-given (room-refusal (count (plan-in bs)) t l) room-good, n, m)
+
+-- of bytes that the reader takes, the plan alone decides
+pub outcome-of-plan : (bs : List ℕ) (t l : ℕ) → scanned bs .fault .number ≡ 0 → check-outcome bs t l ≡ plan-outcome (plan-in bs) t l
+unfolding check-outcome plan-outcome plan-refusal
+outcome-of-plan bs t l clean = rw (or-else-second (scanned bs .fault) (rules-refusal (plan-in bs)) clean)

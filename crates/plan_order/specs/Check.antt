@@ -10,6 +10,7 @@ use Rattle.basics.specs.Lists.{in-front}
 use Rattle.plan_format.specs.Sizes.{row-width}
 use Rattle.plan_format.specs.Refusal.{Refusal, refusal, none-given, given, or-else}
 use Rattle.plan_format.specs.Plan.{Plan, count}
+use Rattle.plan_format.specs.Sound.{rules-refusal}
 use Rattle.plan_format.specs.Stored.{plan-in, plan-refusal, room-for, Tells}
 use Rattle.plan_format.specs.declared.Told.{Told}
 use Rattle.plan_order.specs.Rows.{rows}
@@ -54,6 +55,13 @@ check-outcome bs t l =
     (or-then (outcome (room-refusal (count p) t l) untouched)
     (or-then (outcome (order-refusal p) zeros) (outcome none-given rows-and-run)))
 
+-- the same for a plan that the reader takes, whatever its bytes
+unfoldable pub plan-outcome : Plan → (table list : ℕ) → Outcome
+plan-outcome p t l =
+    or-then (outcome (rules-refusal p) untouched)
+    (or-then (outcome (room-refusal (count p) t l) untouched)
+    (or-then (outcome (order-refusal p) zeros) (outcome none-given rows-and-run)))
+
 -- 01: "zeros in the first 16 × n numbers of the table and the first 2 × n of the list", "Numbers past those are never touched."
 unfoldable pub left-in : Leaves → (size : ℕ) → (new old : List ℕ) → List ℕ
 left-in untouched k new old = old
@@ -71,6 +79,9 @@ pub record Says (o : Outcome) (answer : ℕ) (p : Plan) (r : Told) (table table-
   pub tells : Tells (o .refusal) answer r
   pub table-holds : table-now ≡ table-left (o .leaves) p table
   pub list-holds : list-now ≡ list-left (o .leaves) p list
+
+unfoldable pub Plan-check-says : Plan → Told → (table table-now list list-now : List ℕ) → Type 0
+Plan-check-says p r t x l y = Says (plan-outcome p (length t) (length l)) 0 p r t x l y
 
 unfoldable pub Check-says : (bytes : List ℕ) → Told → (table table-now list list-now : List ℕ) → Type 0
 Check-says bs r t x l y = Says (check-outcome bs (length t) (length l)) 0 (plan-in bs) r t x l y

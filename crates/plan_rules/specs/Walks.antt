@@ -13,7 +13,7 @@ use Rattle.plan_columns.specs.Columns.{Owner-column, Queue-column, Signal-colum
 use Rattle.plan_rules.specs.declared.Signalled.{Signalled}
 
 -- the columns show a plan whose operations name only what it has
-pub record Shown (p : Plan) (signals : ℕ) (owner queue ssem sval sop : List ℕ) : Type 0 where
+pub record Signals-given (p : Plan) (signals : ℕ) (owner queue ssem sval sop : List ℕ) : Type 0 where
   pub few-owners : length (p .owners) ≤ most-semaphores
   pub in-range : (i : ℕ) → i < count p → In-range p (op p i)
   pub owners-shown : Owner-column p owner

@@ -8,7 +8,7 @@ use plan_format::limits::MOST_SEMAPHORES;
 ghost use mathlib.Core.Path.{_≡_};
 ghost use Rattle.plan_format.specs.Refusal.{refusal};
 ghost use Rattle.plan_format.specs.Plan.{Plan};
-ghost use Rattle.plan_rules.specs.Walks.{Shown, Judged, signals-walk, lasts-walk, zeros};
+ghost use Rattle.plan_rules.specs.Walks.{Signals-given, Judged, signals-walk, lasts-walk, zeros};
 
 // 6 or 7 and its place, 0 for none; and the last value of each semaphore.
 pub struct Signalled {
@@ -29,7 +29,7 @@ pub fn judge(
 ) -> Signalled
     ensures { λ r. ⌜ refusal (r .number) (r .place) ≡ signals-walk (now (owner .entry)) (now (queue .entry)) (now (ssem .entry)) (now (sval .entry)) (now (sop .entry)) signals 0 zeros ⌝ }
     ensures { λ r. ⌜ r .last ≡ lasts-walk (now (owner .entry)) (now (queue .entry)) (now (ssem .entry)) (now (sval .entry)) (now (sop .entry)) signals 0 zeros ⌝ }
-    ensures { λ r. ⌜ ((p : Plan) → Shown p signals (now (owner .entry)) (now (queue .entry)) (now (ssem .entry)) (now (sval .entry)) (now (sop .entry)) → Judged p r) ⌝ }
+    ensures { λ r. ⌜ ((p : Plan) → Signals-given p signals (now (owner .entry)) (now (queue .entry)) (now (ssem .entry)) (now (sval .entry)) (now (sop .entry)) → Judged p r) ⌝ }
 {
     let mut last = [0u64; MOST_SEMAPHORES];
     let mut k = 0;

@@ -19,7 +19,7 @@ use Rattle.plan_order.specs.Runs.{enabled, is-run, next, number-ready, ready-nu
 use Rattle.plan_columns.specs.Columns.{Queue-column, Row-columns}
 use Rattle.plan_run.specs.Words.{has}
 use Rattle.plan_run.specs.Queues.{First, found, absent, Chained, Looked}
-use Rattle.plan_run.specs.Run.{Shown, Cleared, Rows-of, Listed, Ran}
+use Rattle.plan_run.specs.Run.{Run-given, Cleared, Rows-of, Listed, Ran}
 use Rattle.plan_run.specs.State.{Head, waiting, finished, Last, unused, Places, Watch, Going, Tables, Prepared}
 use Rattle.plan_run.proofs.Words.{has-none, has-all}
 use Rattle.plan_run.proofs.Sources.{source-small}
@@ -46,7 +46,7 @@ tables-are queue n head next unit chained e = record {
 }
 
 -- ---- the beginning
-module _ (p : Plan) (n : ℕ) (queue source head next : List ℕ) (shown : Shown p n queue source) (chained : Chained queue 0 n head next) where
+module _ (p : Plan) (n : ℕ) (queue source head next : List ℕ) (shown : Run-given p n queue source) (chained : Chained queue 0 n head next) where
   first-head : (q x : ℕ) → First queue q 0 n x → Head p [] q x
   unfolding Queue-column member
   first-head q x (found _ a b e clear) =
@@ -78,7 +78,7 @@ module _ (p : Plan) (n : ℕ) (queue source head next : List ℕ) (shown : Shown
     }
 
 pub started :
-    (p : Plan) (n : ℕ) (queue source head next ran waiter : List ℕ) (ready : ℕ) (rows list prev : List ℕ) → Shown p n queue source → Cleared rows →
+    (p : Plan) (n : ℕ) (queue source head next ran waiter : List ℕ) (ready : ℕ) (rows list prev : List ℕ) → Run-given p n queue source → Cleared rows →
     Prepared queue n source head next ran waiter ready → prev ≡ replicate 16 1024 → Going p n 0 source head prev ran waiter ready rows list list
 unfolding standard member Row-columns
 started p n queue source head next ran waiter ready rows list prev shown cleared prepared prev-is =
@@ -139,7 +139,7 @@ module _ (p : Plan) where
         ∙ ap (λ (x : List ℕ). run-list p ++ x) (listed .past ∙ ap (λ (x : ℕ). drop x list) (sym whole-long))
 
 -- ---- the end
-module _ (p : Plan) (n : ℕ) (queue source : List ℕ) (shown : Shown p n queue source) (i : ℕ) (head prev ran waiter : List ℕ) (ready : ℕ)
+module _ (p : Plan) (n : ℕ) (queue source : List ℕ) (shown : Run-given p n queue source) (i : ℕ) (head prev ran waiter : List ℕ) (ready : ℕ)
     (rows list list-now : List ℕ) (room : 2 * n ≤ length list) (going : Going p n i source head prev ran waiter ready rows list list-now) where
   ended : going .run ≡ standard p → Ran p n i rows list list-now
   ended e =

@@ -28,7 +28,7 @@ use Rattle.plan_order.proofs.Readiness.{Why, by-queue, by-wait, direct-why, dir
 use Rattle.plan_order.proofs.Rows.{entry, row-at}
 use Rattle.plan_columns.specs.Columns.{Row-columns}
 use Rattle.plan_run.specs.Merge.{cell, largest, Merged}
-use Rattle.plan_run.specs.Run.{Shown, Rows-of}
+use Rattle.plan_run.specs.Run.{Run-given, Rows-of}
 use Rattle.plan_run.specs.State.{Last, latest, unused, Places, Tables, slot-of}
 use Rattle.plan_run.proofs.Sources.{Rest, on-nothing, on-operation, source-is, source-has}
 use Rattle.plan_run.proofs.Readies.{Goes, run-inside, ready-gives}
@@ -86,7 +86,7 @@ own-column most one new x a b c d e = omega arith
 other-column : (most one x : ℕ) → one ≡ 0 → x ≡ max 0 most → x ≤ 1024 → (most + one) % 65536 ≡ x
 other-column most one x a b c = omega arith
 
-module _ (p : Plan) (n : ℕ) (queue source next unit : List ℕ) (shown : Shown p n queue source) (tables : Tables queue n next unit)
+module _ (p : Plan) (n : ℕ) (queue source next unit : List ℕ) (shown : Run-given p n queue source) (tables : Tables queue n next unit)
     (r head prev ran : List ℕ) (places : Places p r head prev ran) (q j : ℕ) (inside : q < 16)
     (goes : Goes p n queue source shown r head prev ran places q j) (rows : List ℕ) (filled : Rows-of p r rows) where
   few : count p ≤ 1024

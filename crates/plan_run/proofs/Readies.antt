@@ -20,13 +20,13 @@ use Rattle.plan_order.proofs.Demand3.{rules-good}
 use Rattle.plan_order.proofs.Readiness.{Why, by-queue, by-wait, direct-why, direct-by, direct-below, enabled-gives, predecessors-run, predecessors-suffice}
 use Rattle.plan_run.specs.Words.{has, Lowest-bit}
 use Rattle.plan_run.specs.Queues.{blocker-of, can-go}
-use Rattle.plan_run.specs.Run.{Shown}
+use Rattle.plan_run.specs.Run.{Run-given}
 use Rattle.plan_run.specs.State.{Head, waiting, finished, Places}
 use Rattle.plan_run.proofs.Words.{ones-bits}
 use Rattle.plan_run.proofs.Sources.{Rest, on-nothing, on-operation, source-is, source-has, blocker-none, blocker-free}
 use Rattle.plan_run.proofs.Watches.{go-gives, go-by}
 
-module _ (p : Plan) (n : ℕ) (queue source : List ℕ) (shown : Shown p n queue source) (r head prev ran : List ℕ) (places : Places p r head prev ran) where
+module _ (p : Plan) (n : ℕ) (queue source : List ℕ) (shown : Run-given p n queue source) (r head prev ran : List ℕ) (places : Places p r head prev ran) where
   pub run-inside : (i : ℕ) → member i r ≡ true → i < count p
   unfolding is-run
   run-inside i m = run-below (count p) (enabled p) r (places .a-run) i m

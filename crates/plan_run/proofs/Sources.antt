@@ -16,7 +16,7 @@ use Rattle.plan_order.specs.Precedence.{Resolution, free, on, never, resolve, r
 use Rattle.plan_order.proofs.Resolution.{Resolved, at-signal, resolve-is}
 use Rattle.plan_columns.specs.Columns.{no-point, wait-at, source-of, Source-column}
 use Rattle.plan_run.specs.Queues.{held-by, blocker-of}
-use Rattle.plan_run.specs.Run.{Shown}
+use Rattle.plan_run.specs.Run.{Run-given}
 use Rattle.plan_run.proofs.Looks.{held-yes, held-no}
 
 -- ---- what a place of the column shows
@@ -24,7 +24,7 @@ pub data Rest (p : Plan) (j : ℕ) : ℕ → Type 0 where
   on-nothing : Rest p j 1024
   on-operation : (i : ℕ) → i < count p → (w : Point) → List·Memᴰ w (op p j .waits) → rests-on (resolve p w) i ≡ true → Rest p j i
 
-module _ (p : Plan) (n : ℕ) (queue source : List ℕ) (shown : Shown p n queue source) where
+module _ (p : Plan) (n : ℕ) (queue source : List ℕ) (shown : Run-given p n queue source) where
   source-rest : (j : ℕ) (w : Point) → List·Memᴰ w (op p j .waits) → (x : Resolution) → x ≡ resolve p w → Resolved p w x → Rest p j (source-of x)
   unfolding source-of
   source-rest j w m free e d = on-nothing

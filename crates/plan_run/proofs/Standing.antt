@@ -18,12 +18,12 @@ use Rattle.plan_order.specs.Runs.{enabled, ready, is-run}
 use Rattle.plan_order.proofs.Readiness.{queue-in}
 use Rattle.plan_columns.specs.Columns.{Queue-column}
 use Rattle.plan_run.specs.Queues.{First, found, absent}
-use Rattle.plan_run.specs.Run.{Shown}
+use Rattle.plan_run.specs.Run.{Run-given}
 use Rattle.plan_run.specs.State.{Head, waiting, finished, Last, latest, unused, Places, Tables}
 use Rattle.plan_run.proofs.Chains.{first-small}
 use Rattle.plan_run.proofs.Readies.{Goes}
 
-module _ (p : Plan) (n : ℕ) (queue source next unit : List ℕ) (shown : Shown p n queue source) (tables : Tables queue n next unit)
+module _ (p : Plan) (n : ℕ) (queue source next unit : List ℕ) (shown : Run-given p n queue source) (tables : Tables queue n next unit)
     (r head prev ran : List ℕ) (places : Places p r head prev ran) (q j : ℕ) (inside : q < 16)
     (goes : Goes p n queue source shown r head prev ran places q j) (head′ prev′ ran′ : List ℕ)
     (head-is : head′ ≡ set head q (getD next j 0 % 65536)) (prev-is : prev′ ≡ set prev q j) (ran-is : ran′ ≡ set ran j 1) where

@@ -12,7 +12,7 @@ use Rattle.plan_format.specs.Plan.{Plan, count}
 use Rattle.plan_order.specs.Runs.{standard, next as next-of}
 use Rattle.plan_run.specs.Words.{Lowest-bit}
 use Rattle.plan_run.specs.Queues.{can-go, Looked}
-use Rattle.plan_run.specs.Run.{Shown}
+use Rattle.plan_run.specs.Run.{Run-given}
 use Rattle.plan_run.specs.State.{Head, waiting, finished, Tables, slot-of, Stepped, Going}
 use Rattle.plan_run.proofs.Sources.{source-small}
 use Rattle.plan_run.proofs.Watches.{go-gives, watch-more}
@@ -25,7 +25,7 @@ pub head-inside : (p : Plan) (r : List ℕ) (q x : ℕ) → Head p r q x → x <
 head-inside p r q x (waiting _ l e f h) b = l
 head-inside p r q x (finished h) b = absurd (omega arith)
 
-module _ (p : Plan) (n : ℕ) (queue source next unit first : List ℕ) (shown : Shown p n queue source) (tables : Tables queue n next unit)
+module _ (p : Plan) (n : ℕ) (queue source next unit first : List ℕ) (shown : Run-given p n queue source) (tables : Tables queue n next unit)
     (room : 2 * n ≤ length first) where
   pub turned :
       (i ready : ℕ) (head prev ran waiter rows list : List ℕ) → Going p n i source head prev ran waiter ready rows first list →

@@ -12,7 +12,7 @@ use Rattle.plan_order.specs.Runs.{number-ready, standard, run-list}
 use Rattle.plan_columns.specs.Columns.{Queue-column, Source-column, Row-columns}
 
 -- columns that show a sound plan of n operations, each with so few waits that the source column has a place for every one
-pub record Shown (p : Plan) (n : ℕ) (queue source : List ℕ) : Type 0 where
+pub record Run-given (p : Plan) (n : ℕ) (queue source : List ℕ) : Type 0 where
   pub sound : Sound p
   pub many : count p ≡ n
   pub few-waits : (i : ℕ) → i < count p → length (op p i .waits) ≤ most-waits

@@ -14,7 +14,7 @@ use plan_format::limits::ROW_WIDTH;
 ghost use Prim.Native.Nat.{_*_, _≤_};
 ghost use lib.ListN.{length};
 ghost use Rattle.plan_format.specs.Plan.{Plan};
-ghost use Rattle.plan_run.specs.Run.{Shown, Cleared, Bounded, Ran};
+ghost use Rattle.plan_run.specs.Run.{Run-given, Cleared, Bounded, Ran};
 
 // A place for each operation, and one for none.
 const SLOTS: usize = NO_OPERATION + 1;
@@ -33,7 +33,7 @@ pub fn run(
     list: &mut [u32],
 ) -> usize
     ensures { λ r. ⌜ Bounded n r (now (rows .entry)) (now (rows .exit)) (now (list .entry)) (now (list .exit)) ⌝ }
-    ensures { λ r. ⌜ ((p : Plan) → Shown p n (now (queue .entry)) (now (source .entry)) → Cleared (now (rows .entry)) → 2 * n ≤ length (now (list .entry)) →
+    ensures { λ r. ⌜ ((p : Plan) → Run-given p n (now (queue .entry)) (now (source .entry)) → Cleared (now (rows .entry)) → 2 * n ≤ length (now (list .entry)) →
         Ran p n r (now (rows .exit)) (now (list .entry)) (now (list .exit))) ⌝ }
 {
     let many = n as usize;

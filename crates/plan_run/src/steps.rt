@@ -17,7 +17,7 @@ ghost use lib.ListN.{length, getD, drop};
 ghost use Rattle.plan_format.specs.Sizes.{most-queues, most-operations, row-places, no-operation};
 ghost use Rattle.plan_format.specs.Plan.{Plan};
 ghost use Rattle.plan_run.specs.Merge.{Merged};
-ghost use Rattle.plan_run.specs.Run.{Shown, Cleared, Ran};
+ghost use Rattle.plan_run.specs.Run.{Run-given, Cleared, Ran};
 ghost use Rattle.plan_run.specs.State.{Tables, Prepared, slot-of, Stepped, Going};
 
 // An operation number; past 1,024 it reads as 1,024, whose row is zero.
@@ -89,7 +89,7 @@ pub fn turn(
     list: &mut [u32],
 ) -> u32
     requires { ⌜ (0 < ready) × (ready < 65536) × (i < n) × (n ≤ most-operations) ⌝ }
-    ensures { λ r. ⌜ (r < 65536) × (drop (2 * n) (now (list .exit)) ≡ drop (2 * n) (now (list .entry))) × ((p : Plan) (queue first : List ℕ) → Shown p n queue (now (source .entry)) → Tables queue n (now (next .entry)) (now (unit .entry)) →
+    ensures { λ r. ⌜ (r < 65536) × (drop (2 * n) (now (list .exit)) ≡ drop (2 * n) (now (list .entry))) × ((p : Plan) (queue first : List ℕ) → Run-given p n queue (now (source .entry)) → Tables queue n (now (next .entry)) (now (unit .entry)) →
         2 * n ≤ length first →
         Going p n i (now (source .entry)) (now (head .entry)) (now (prev .entry)) (now (ran .entry)) (now (waiter .entry)) ready (now (rows .entry)) first (now (list .entry)) →
         Going p n (i + 1) (now (source .entry)) (now (head .exit)) (now (prev .exit)) (now (ran .exit)) (now (waiter .exit)) r (now (rows .exit)) first (now (list .exit))) ⌝ }
@@ -117,7 +117,7 @@ pub fn all(
 ) -> usize
     requires { ⌜ (ready < 65536) × (n ≤ most-operations) ⌝ }
     ensures { λ r. ⌜ (r ≤ n) × (length (now (list .exit)) ≡ length (now (list .entry))) × (drop (2 * n) (now (list .exit)) ≡ drop (2 * n) (now (list .entry))) ⌝ }
-    ensures { λ r. ⌜ ((p : Plan) (queue : List ℕ) → Shown p n queue (now (source .entry)) → Cleared (now (rows .entry)) → 2 * n ≤ length (now (list .entry)) →
+    ensures { λ r. ⌜ ((p : Plan) (queue : List ℕ) → Run-given p n queue (now (source .entry)) → Cleared (now (rows .entry)) → 2 * n ≤ length (now (list .entry)) →
         Prepared queue n (now (source .entry)) (now (head .entry)) (now (next .entry)) (now (ran .entry)) (now (waiter .entry)) ready →
         Ran p n r (now (rows .exit)) (now (list .entry)) (now (list .exit))) ⌝ }
 {

@@ -1,9 +1,9 @@
--- `check_columns` meets its contract: refusals 6 to 8, and the rest is `check_order`'s. Assumes nothing.
+-- `check_columns` meets its contract: refusals 6 to 8, or what the order gives. Assumes nothing.
 use borrow.Author.Needs.{needs}
-use Rattle.plan_format.specs.Stored.{plan-in}
-use Rattle.plan_judge.proofs.Answers.{not-ruled}
+use mathlib.Core.Path.{_∙_}
+use Rattle.plan_judge.proofs.Untouched.{not-ruled}
 use Rattle.plan_judge.proofs.Anyhow.{answers-first, first-then, first-only}
-use Rattle.plan_judge.proofs.Columns.{rules-given, resolved-given}
+use Rattle.plan_judge.proofs.Columns.{rules-given, order-given}
 use Rattle.plan_judge.proofs.check_columns.Statement.{statement}
 use Rattle.plan_judge.proofs.check_columns.Tie as tie
 
@@ -12,9 +12,15 @@ rules-requires c κs = search needs
 
 returns : tie.Need-returns
 returns c =
-    let ruled = c .before .before .rules .ensures in (
-      answers-first (first-only _ (ruled .0) (c .if1 .taken)) (c .if1 .taken),
-      λ bs read. not-ruled bs _ _ _ (read .read) (ruled .1 (plan-in bs) (rules-given read) .told) (c .if1 .taken),
+    let ruled = c .before .before .rules .ensures in
+    let taken = c .if1 .taken in (
+      answers-first (first-only _ (ruled .0) taken) taken,
+      (
+        ruled .1 .0,
+        λ p given.
+            let told = ruled .1 .1 p (rules-given given) .told in
+            (not-ruled p _ _ _ told taken, λ none. absurd (taken (told .number ∙ none))),
+      ),
     )
 
 check-order-requires : tie.Need-check-order-requires
@@ -28,10 +34,18 @@ same-length-2 c = c .before .list .given
 
 returns-2 : tie.Need-returns-2
 returns-2 c =
-    let ruled = c .before .before .before .before .before .before .before .before .before .before .rules .ensures in
-    let none = c .before .before .before .before .before .before .before .before .if1 .left in
-    let ordered = c .before .before .before .before .check-order .ensures in
-    (first-then _ (ruled .0) none (ordered .0), λ bs read. ordered .1 bs (resolved-given read (ruled .1 (plan-in bs) (rules-given read)) none))
+    let order = c .before .before .before .before in
+    let left = order .before .before .before .before in
+    let none = left .if1 .left in
+    let ruled = left .before .before .rules .ensures in (
+      first-then _ (ruled .0) none (order .check-order .ensures .0),
+      (
+        ruled .1 .0,
+        λ p given.
+            let held = ruled .1 .1 p (rules-given given) in
+            (order .check-order .ensures .1 p (order-given given held none), λ _. held .sources-shown none),
+      ),
+    )
 
 pub check-columns-spec : {M : Type 1} → statement M
 check-columns-spec = tie.close (tie.spec rules-requires returns check-order-requires same-length same-length-2 returns-2)

@@ -17,7 +17,7 @@ returns c =
     let stuck = c .before .stuck .ensures in
     rw (c .refused .ensures) (
       order-stuck _ _ _ _ _ _ _ _ fewer (stuck .0),
-      λ p shown. stuck-told shown fewer (stuck .1 p (shown .sound) (shown .many) (shown .queues-shown) (shown .filled)),
+      λ p given. stuck-told given fewer (stuck .1 p (given .sound) (given .many) (given .queues-shown) (given .filled)),
     )
 
 broken-requires : tie.Need-broken-requires
@@ -32,14 +32,20 @@ returns-2 c =
     let broken = c .before .before .broken .ensures in
     rw (c .refused2 .ensures) (
       order-broken _ _ _ _ _ _ _ _ whole (c .before .if2 .taken) (broken .0),
-      λ p shown. broken-told shown whole (c .before .if2 .taken) (broken .1 p (marks-given shown whole)),
+      λ p given. broken-told given whole (c .before .if2 .taken) (broken .1 p (marks-given given whole)),
     )
+
+answered-requires : tie.Need-answered-requires
+answered-requires c κs = search needs
 
 returns-3 : tie.Need-returns-3
 returns-3 c =
-    let whole = c .before .before .if1 .left in
-    let broken = c .before .broken .ensures in
-    (order-passed _ _ _ _ _ _ _ _ whole (c .if2 .left) (broken .0), λ p shown. passed-told shown whole (c .if2 .left) (broken .1 p (marks-given shown whole)))
+    let whole = c .before .before .before .if1 .left in
+    let broken = c .before .before .broken .ensures in
+    rw (c .answered .ensures) (
+      order-passed _ _ _ _ _ _ _ _ whole (c .before .if2 .left) (broken .0),
+      λ p given. passed-told given whole (c .before .if2 .left) (broken .1 p (marks-given given whole)),
+    )
 
 pub judge-spec : {M : Type 1} → statement M
-judge-spec = tie.close (tie.spec stuck-requires refused-requires returns broken-requires refused-requires-2 returns-2 returns-3)
+judge-spec = tie.close (tie.spec stuck-requires refused-requires returns broken-requires refused-requires-2 returns-2 answered-requires returns-3)

@@ -1,5 +1,6 @@
 -- `decide::room` meets its contract: a short table, a short list, or enough of both. Assumes nothing.
-use Rattle.plan_judge.proofs.Answers.{tells, short-table, short-list, room-enough}
+use Rattle.plan_format.proofs.Telling.{tells}
+use Rattle.plan_judge.proofs.Untouched.{short-table, short-list, room-enough}
 use borrow.Author.Needs.{needs}
 use Rattle.plan_judge.proofs.decide.room.Statement.{statement}
 use Rattle.plan_judge.proofs.decide.room.Tie as tie
@@ -28,8 +29,11 @@ refused-requires-2 c κs = search needs
 returns-2 : tie.Need-returns-2
 returns-2 c = rw (c .refused2 .ensures) (tells (short-list _ _ _ (c .before .before .if1 .left) (c .before .if2 .taken)))
 
+answered-requires : tie.Need-answered-requires
+answered-requires c κs = search needs
+
 returns-3 : tie.Need-returns-3
-returns-3 c = tells (room-enough _ _ _ (c .before .if1 .left) (c .if2 .left))
+returns-3 c = rw (c .answered .ensures) (tells (room-enough _ _ _ (c .before .before .if1 .left) (c .before .if2 .left)))
 
 pub room-spec : {M : Type 1} → statement M
-room-spec = tie.close (tie.spec mul-if1 mul-refused refused-requires returns mul-if2 mul-refused-2 refused-requires-2 returns-2 returns-3)
+room-spec = tie.close (tie.spec mul-if1 mul-refused refused-requires returns mul-if2 mul-refused-2 refused-requires-2 returns-2 answered-requires returns-3)

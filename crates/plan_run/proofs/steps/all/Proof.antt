@@ -9,14 +9,14 @@ use Prim.Native.Nat.{ℕ, _-_, _*_, _≤_, _<_}
 use native.Mathlib.Omega.{arith}
 use lib.ListN.{length, drop}
 use Rattle.plan_format.specs.Plan.{Plan}
-use Rattle.plan_run.specs.Run.{Shown, Cleared}
+use Rattle.plan_run.specs.Run.{Run-given, Cleared}
 use Rattle.plan_run.specs.State.{Prepared, Going}
 use Rattle.plan_run.proofs.Ends.{tables-are, started, ended-early, ended-full}
 
 abbrev Inv-loop : tie.InvT-loop
 Inv-loop n ready source next head₀ ran₀ waiter₀ rows₀ list₀ prev₀ unit word₀ i₀ head ran waiter rows list prev word i =
     (i ≤ n) × (word < 65536) × (length list ≡ length list₀) × (drop (2 * n) list ≡ drop (2 * n) list₀)
-    × ((p : Plan) (queue : List ℕ) → Shown p n queue source → Cleared rows₀ → 2 * n ≤ length list₀ → Prepared queue n source head₀ next ran₀ waiter₀ ready →
+    × ((p : Plan) (queue : List ℕ) → Run-given p n queue source → Cleared rows₀ → 2 * n ≤ length list₀ → Prepared queue n source head₀ next ran₀ waiter₀ ready →
     Going p n i source head prev ran waiter word rows list₀ list)
 
 abbrev μ-loop : tie.MeasureT-loop

@@ -11,7 +11,7 @@ use Rattle.plan_order.specs.Runs.{is-full}
 use Rattle.plan_columns.specs.Columns.{Queue-column, Mark-columns, Row-columns}
 
 -- a plan with a full run, shown by columns
-pub record Shown (p : Plan) (n marks : ℕ) (queue mark operation rows : List ℕ) : Type 0 where
+pub record Marks-given (p : Plan) (n marks : ℕ) (queue mark operation rows : List ℕ) : Type 0 where
   pub sound : Sound p
   pub many : count p ≡ n
   pub few-buffers : length (p .sizes) ≤ most-buffers
