@@ -4,30 +4,40 @@ use mathlib.Core.List.{List}
 use Prim.Native.Nat.{ℕ}
 use Rattle.plan_format.specs.Stored.{scanned, plan-in}
 use Rattle.plan_format.proofs.Judged.{zero-not-given}
-use Rattle.plan_columns.specs.Columns.{Owner-column}
+use Rattle.plan_columns.specs.Columns.{Columns, Owner-column}
+use Rattle.plan_columns.proofs.Limits.{limits}
 use Rattle.plan_load.specs.Loading.{Loads}
 use Rattle.plan_load.specs.declared.Loaded.{Loaded}
-use Rattle.plan_judge.specs.Passing.{Read}
-use Rattle.checker.specs.Counting.{Counts-told, counts-of}
-use Rattle.checker.specs.Passing.{Known-columns}
+use Rattle.plan_judge.specs.Given.{Check-given}
+use Rattle.checker.specs.Counting.{Counts-told, counts-of, opened-of}
+use Rattle.checker.specs.Opening.{Read-plan, lent}
 
-module _ {bs head queue wsem wval ssem sval sop mark mop : List ℕ} {r : Loaded} (l : Loads bs r head queue wsem wval ssem sval sop mark mop) where
+module _ {bs head : List ℕ} {cs : Columns} {r : Loaded} (l : Loads bs r head cs) where
   pub loaded-counts : Counts-told bs (counts-of r (r .number) (r .place))
   loaded-counts = record { number = l .number; place = l .place; sizes = l .sizes }
 
-  pub loaded-known : scanned bs .fault .number ≡ 0 → Known-columns (plan-in bs) (r .marks) head queue mark mop
-  loaded-known z =
+  pub loaded-none : (scanned bs .fault .number ≡ 0 → ⊥) → (r .signals ≡ 0) × (r .marks ≡ 0)
+  loaded-none z = l .none (λ e. z (sym (l .number) ∙ e))
+
+  pub loaded-read : {source : List ℕ} (n i : ℕ) → scanned bs .fault .number ≡ 0 →
+      Read-plan (plan-in bs) (opened-of r n i) (lent head (cs .queue) source (cs .signal-semaphore) (cs .signal-value) (cs .signal-operation) (cs .mark) (cs .mark-operation))
+  loaded-read n i z =
       let clean = l .number ∙ z in
-      record { axes-shown = l .axes clean; queues-shown = l .columns clean .queues-shown; marks-shown = l .columns clean .marks-shown }
+      record {
+        head-shown = l .head-shown clean;
+        queues-shown = l .columns clean .queues-shown;
+        signals-shown = l .columns clean .signals-shown;
+        marks-shown = l .columns clean .marks-shown;
+      }
 
   module _ (z : r .number ≡ 0) where
-    loaded-clean : scanned bs .fault .number ≡ 0
+    pub loaded-clean : scanned bs .fault .number ≡ 0
     loaded-clean = sym (l .number) ∙ z
 
-    pub loaded-read : (owner : List ℕ) → Owner-column (plan-in bs) owner → Read bs (r .operations) (r .signals) (r .marks) owner queue wsem wval ssem sval sop mark mop
-    loaded-read owner o = record {
-      read = loaded-clean;
+    pub loaded-given : (owner : List ℕ) → Owner-column (plan-in bs) owner → Check-given (plan-in bs) (r .operations) (r .signals) (r .marks) owner cs
+    loaded-given owner o = record {
+      limits = limits bs loaded-clean;
       many = sym (l .sizes .operations ∙ rw (zero-not-given (scanned bs .fault) loaded-clean));
       owners-shown = o;
-      columns = l .columns z;
+      shown = l .columns z;
     }

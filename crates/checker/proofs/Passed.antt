@@ -1,54 +1,68 @@
 -- What is known once the check has passed a plan: it is sound, its counts are those handed back, and its rows stand in front of the table.
 -- Assumes nothing.
 use mathlib.Core.Path.{_≡_, sym, ap, _∙_, subst}
-use mathlib.Core.Bool.{not}
-use mathlib.Core.Logic.{inl}
 use mathlib.Core.List.{List}
 use Prim.Native.Nat.{ℕ, _+_, _*_, _≤_, _<_}
 use native.Mathlib.Omega.{arith}
-use lib.ListN.{length}
-use borrow.Author.Tests.{not-true}
+use lib.ListN.{length, drop, length-append}
 use Rattle.basics.specs.Lists.{in-front}
-use Rattle.basics.proofs.Tests.{and-left}
+use Rattle.basics.proofs.Tests.{by-cases, clash}
 use Rattle.basics.proofs.Fronts.{front-at}
+use Rattle.plan_format.specs.Sizes.{most-queues, row-width}
 use Rattle.plan_format.specs.Plan.{Plan, count, queues}
-use Rattle.plan_format.specs.Refusal.{given}
+use Rattle.plan_format.specs.Refusal.{none-given, given}
 use Rattle.plan_format.specs.Sound.{Sound, rules-refusal}
 use Rattle.plan_format.specs.Stored.{scanned, plan-in, plan-refusal}
 use Rattle.plan_format.proofs.Judged.{zero-not-given, not-given-zero, or-else-none}
 use Rattle.plan_format.proofs.Plans.{sound-in}
-use Rattle.plan_order.specs.Check.{room-refusal, Leaves, rows-and-run, check-outcome, left-in, table-left, Check-says}
+use Rattle.plan_order.specs.Check.{room-refusal, order-refusal, Leaves, untouched, zeros, rows-and-run, Outcome, outcome, or-then, check-outcome, left-in, table-left, Check-says}
 use Rattle.plan_order.specs.Rows.{rows}
-use Rattle.plan_order.specs.Promise.{unrefused, Checked}
-use Rattle.plan_order.proofs.CheckMeaning.{answer-unrefused}
-use Rattle.plan_order.proofs.OutcomeMeaning.{Left-case, left-untouched, left-zeros, left-rows, check-left-case}
+use Rattle.plan_order.specs.Promise.{Checked}
 use Rattle.plan_order.proofs.Rows.{row-at, rows-at, rows-length}
-use Rattle.plan_columns.specs.Columns.{Row-columns}
+use Rattle.plan_columns.specs.Columns.{Source-column, Row-columns}
+use Rattle.plan_columns.proofs.Limits.{limits}
 use Rattle.checker.specs.Counting.{Sizes-told}
+use Rattle.checker.specs.Opening.{Lent, Read-plan, Opened-plan}
 use Rattle.checker.specs.declared.Counted.{Counted}
 
--- ---- the outcome of a passed check leaves the rows and the run
-pub passed-leaves : (bs : List ℕ) (t l : ℕ) → check-outcome bs t l .refusal .number ≡ 0 → check-outcome bs t l .leaves ≡ rows-and-run
-passed-leaves bs t l z = by-case (check-left-case bs t l)
-  where
-    by-case : Left-case (plan-in bs) (check-outcome bs t l) → check-outcome bs t l .leaves ≡ rows-and-run
-    by-case (left-untouched low high e) = absurd (omega arith)
-    by-case (left-zeros low high e) = absurd (omega arith)
-    by-case (left-rows n e w) = e
+-- ---- the outcome of a passed check
+-- nothing is refused by either of two outcomes
+or-then-none : (a b : Outcome) → or-then a b .refusal .number ≡ 0 → (a .refusal .number ≡ 0) × (or-then a b ≡ b)
+unfolding or-then
+or-then-none a b z =
+    by-cases (given (a .refusal))
+    (λ g. let same : or-then a b ≡ a = rw g in
+    clash (given (a .refusal)) g (zero-not-given (a .refusal) (sym (ap (λ (o : Outcome). o .refusal .number) same) ∙ z)))
+    (λ f. (not-given-zero (a .refusal) f, rw f))
 
--- a passed check refuses nothing of the plan
-pub passed-good : (bs : List ℕ) (t l : ℕ) → check-outcome bs t l .refusal .number ≡ 0 → plan-refusal bs .number ≡ 0
-unfolding unrefused
-passed-good bs t l z =
-    not-given-zero (plan-refusal bs) (not-true (given (plan-refusal bs))
-    (and-left (not (given (plan-refusal bs))) (not (given (room-refusal (count (plan-in bs)) t l))) (answer-unrefused bs t l (inl z))))
+pub record Passes (bs : List ℕ) (t l : ℕ) : Type 0 where
+  pub good : plan-refusal bs .number ≡ 0
+  pub room : room-refusal (count (plan-in bs)) t l .number ≡ 0
+  pub order : order-refusal (plan-in bs) .number ≡ 0
+  pub leaves : check-outcome bs t l .leaves ≡ rows-and-run
+
+pub passes : (bs : List ℕ) (t l : ℕ) → check-outcome bs t l .refusal .number ≡ 0 → Passes bs t l
+unfolding check-outcome outcome
+passes bs t l z =
+    let p = plan-in bs in
+    let last = outcome none-given rows-and-run in
+    let third = outcome (order-refusal p) zeros in
+    let second = outcome (room-refusal (count p) t l) untouched in
+    let first = outcome (plan-refusal bs) untouched in
+    let a = or-then-none first (or-then second (or-then third last)) z in
+    let b = or-then-none second (or-then third last) (sym (ap (λ (o : Outcome). o .refusal .number) (a .1)) ∙ z) in
+    let c = or-then-none third last (sym (ap (λ (o : Outcome). o .refusal .number) (a .1 ∙ b .1)) ∙ z) in
+    record { good = a .0; room = b .0; order = c .0; leaves = ap (λ (o : Outcome). o .leaves) (a .1 ∙ b .1 ∙ c .1) }
+
+pub passed-leaves : (bs : List ℕ) (t l : ℕ) → check-outcome bs t l .refusal .number ≡ 0 → check-outcome bs t l .leaves ≡ rows-and-run
+passed-leaves bs t l z = passes bs t l z .leaves
 
 -- rows in front of a table
 rows-in-front : (p : Plan) (t : List ℕ) → Row-columns p (λ j. j < count p) (in-front (rows p) t)
 unfolding Row-columns
 rows-in-front p t j q l b =
-    let inside : 16 * j + q < length (rows p) = omega (arith, rows-length p) in
-    front-at (rows p) t (16 * j + q) 0 inside ∙ rows-at p j q l b ∙ sym (row-at p j q b)
+    let inside : row-width * j + q < length (rows p) = omega (arith, rows-length p) in
+    front-at (rows p) t (row-width * j + q) 0 inside ∙ rows-at p j q l b ∙ sym (row-at p j q b)
 
 module _ {bs : List ℕ} {c : Counted} {t x l y : List ℕ} (sizes : Sizes-told bs c)
     (checked : Checked bs (record { number = c .number; place = c .place; answer = 0 }) t x l y) (passed : c .number ≡ 0) where
@@ -57,33 +71,59 @@ module _ {bs : List ℕ} {c : Counted} {t x l y : List ℕ} (sizes : Sizes-told 
   none-refused = sym (checked .says .tells .number) ∙ passed
 
   good : plan-refusal bs .number ≡ 0
-  good = passed-good bs (length t) (length l) none-refused
+  good = passes bs (length t) (length l) none-refused .good
 
-  pub sound : Sound (plan-in bs)
+  sound : Sound (plan-in bs)
   sound = sound-in bs good
 
-  pub read : scanned bs .fault .number ≡ 0
+  read : scanned bs .fault .number ≡ 0
   unfolding plan-refusal
   read = or-else-none (scanned bs .fault) (rules-refusal (plan-in bs)) good .0
 
-  pub rows-lie : x ≡ in-front (rows (plan-in bs)) t
+  rows-lie : x ≡ in-front (rows (plan-in bs)) t
   unfolding Check-says table-left left-in
   rows-lie =
       checked .says .table-holds ∙ ap (λ (v : Leaves). table-left v (plan-in bs) t) (passed-leaves bs (length t) (length l) none-refused)
 
-  pub rows-shown : Row-columns (plan-in bs) (λ j. j < count (plan-in bs)) x
+  rows-shown : Row-columns (plan-in bs) (λ j. j < count (plan-in bs)) x
   rows-shown = subst (λ (z : List ℕ). Row-columns (plan-in bs) (λ j. j < count (plan-in bs)) z) (sym rows-lie) (rows-in-front (plan-in bs) t)
 
   -- ---- the counts
-  pub queues-are : c .queues ≡ queues (plan-in bs)
+  queues-are : c .queues ≡ queues (plan-in bs)
   unfolding queues
   queues-are = sizes .queues ∙ rw (zero-not-given (scanned bs .fault) read)
 
-  pub buffers-are : c .buffers ≡ length (plan-in bs .sizes)
+  semaphores-are : c .semaphores ≡ length (plan-in bs .owners)
+  semaphores-are = sizes .semaphores ∙ rw (zero-not-given (scanned bs .fault) read)
+
+  buffers-are : c .buffers ≡ length (plan-in bs .sizes)
   buffers-are = sizes .buffers ∙ rw (zero-not-given (scanned bs .fault) read)
 
-  pub operations-are : count (plan-in bs) ≡ c .operations
-  operations-are = sym (sizes .operations ∙ rw (zero-not-given (scanned bs .fault) read))
+  operations-are : c .operations ≡ count (plan-in bs)
+  operations-are = sizes .operations ∙ rw (zero-not-given (scanned bs .fault) read)
 
-  pub few-queues : c .queues ≤ 16
+  pub few-queues : c .queues ≤ most-queues
   few-queues = omega (arith, queues-are, sound .few-queues)
+
+  pub rows-long : row-width * c .operations ≤ length x
+  unfolding in-front
+  rows-long =
+      let all = rows (plan-in bs) in
+      omega (arith, ap length rows-lie ∙ length-append all (drop (length all) t), rows-length (plan-in bs), operations-are)
+
+  -- ---- the opened plan
+  pub opened-plan : {signals marks : ℕ} {lent : Lent} → Read-plan (plan-in bs) (record { counted = c; signals = signals; marks = marks }) lent →
+      (rules-refusal (plan-in bs) .number ≡ 0 → Source-column (plan-in bs) (lent .source)) →
+      Opened-plan (plan-in bs) (record { counted = c; signals = signals; marks = marks }) lent x
+  opened-plan read-plan sources = record {
+    limits = limits bs read;
+    sound = sound;
+    passes = passes bs (length t) (length l) none-refused .order;
+    queues-are = queues-are;
+    semaphores-are = semaphores-are;
+    buffers-are = buffers-are;
+    operations-are = operations-are;
+    read = read-plan;
+    sources-shown = sources (sound .rules);
+    rows-shown = rows-shown;
+  }

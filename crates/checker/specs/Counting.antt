@@ -6,7 +6,7 @@ use Rattle.plan_format.specs.Stored.{scanned}
 use Rattle.plan_load.specs.declared.Loaded.{Loaded}
 use Rattle.plan_load.specs.Loading.{Sizes}
 use Rattle.checker.specs.declared.Counted.{Counted}
-use Rattle.checker.specs.declared.Known.{Known}
+use Rattle.checker.specs.declared.Opened.{Opened}
 
 -- the counts of queues, semaphores, buffers and operations, each 0 where the reader refuses the plan
 abbrev pub Sizes-told : (bytes : List ℕ) → Counted → Type 0
@@ -23,5 +23,5 @@ abbrev pub counts-of : Loaded → (number place : ℕ) → Counted
 counts-of l n i =
     record { number = n; place = i; queues = l .queues; semaphores = l .semaphores; buffers = l .buffers; operations = l .operations }
 
-abbrev pub known-of : Loaded → (number place : ℕ) → Known
-known-of l n i = record { counted = counts-of l n i; marks = l .marks }
+abbrev pub opened-of : Loaded → (number place : ℕ) → Opened
+opened-of l n i = record { counted = counts-of l n i; signals = l .signals; marks = l .marks }

@@ -1,6 +1,9 @@
 // The check of a stored plan: shown as columns, and judged by them; its counts, and its columns for those who ask on.
 use plan_columns::MarkColumn;
 use plan_columns::QueueColumn;
+use plan_columns::SignalColumn;
+use plan_columns::SignalValues;
+use plan_columns::WaitColumn;
 use plan_format::Told;
 use plan_format::limits::HEAD_NUMBERS;
 use plan_format::limits::HeadNumbers;
@@ -13,8 +16,8 @@ use plan_load::Loaded;
 ghost use mathlib.Core.Path.{_≡_};
 ghost use Rattle.plan_format.specs.Stored.{scanned, plan-in};
 ghost use Rattle.plan_order.specs.Promise.{Checked};
-ghost use Rattle.checker.specs.Counting.{Sizes-told, Counts-told, known-of, counts-of};
-ghost use Rattle.checker.specs.Passing.{Known-columns};
+ghost use Rattle.checker.specs.Counting.{Sizes-told, Counts-told, opened-of, counts-of};
+ghost use Rattle.checker.specs.Opening.{Read-plan, Opened-plan, lent};
 
 // How many queues, semaphores, buffers and operations a plan has; or a refusal and its place beside them. Each is 0 where the reader refuses
 // the plan.
@@ -27,9 +30,10 @@ pub struct Counted {
     pub operations: usize,
 }
 
-// The same, and how many marks the plan has.
-pub struct Known {
+// The same, and how many signals and marks the plan has.
+pub struct Opened {
     pub counted: Counted,
+    pub signals: usize,
     pub marks: usize,
 }
 
@@ -77,46 +81,60 @@ pub fn check_plan(plan: &[u8], table: &mut [u32], list: &mut [u32]) -> Told
 
 // The check with the plan's counts beside its answer.
 pub fn check_counted(plan: &[u8], table: &mut [u32], list: &mut [u32]) -> Counted
-    ensures { λ r. ⌜ Checked (now (plan .entry)) (record { number = r .number; place = r .place; answer = 0 }) (now (table .entry)) (now (table .exit)) (now (list .entry)) (now (list .exit)) ⌝ }
-    ensures { λ r. ⌜ Sizes-told (now (plan .entry)) r ⌝ }
+    ensures checked { λ r. ⌜ Checked (now (plan .entry)) (record { number = r .number; place = r .place; answer = 0 }) (now (table .entry)) (now (table .exit)) (now (list .entry)) (now (list .exit)) ⌝ }
+    ensures sizes { λ r. ⌜ Sizes-told (now (plan .entry)) r ⌝ }
 {
     let mut head = [0u64; HEAD_NUMBERS];
     let mut queue = [0u16; MOST_OPERATIONS];
+    let mut source = [0u16; WAIT_PLACES];
+    let mut ssem = [0u16; SIGNAL_PLACES];
+    let mut sval = [0u64; SIGNAL_PLACES];
+    let mut sop = [0u16; SIGNAL_PLACES];
     let mut mark = [0u16; MARK_PLACES];
     let mut mop = [0u16; MARK_PLACES];
-    let k = check_known(
+    let o = check_opened(
         plan,
         &mut head,
         &mut queue,
+        &mut source,
+        &mut ssem,
+        &mut sval,
+        &mut sop,
         &mut mark,
         &mut mop,
         table,
         list,
     );
-    k.counted
+    o.counted
 }
 
-// The check for those who ask on: with the plan's axes from the second place of the head on, its queues and its marks in lent columns. Past
-// these, and where the reader refuses the plan, what is lent is free, as is the number of marks there.
-pub fn check_known(
+// The check for those who ask further: beside the answer and the counts, the plan in lent columns. Past the plan's own places, and where the
+// reader refuses the plan, what is lent is unspecified; so is the column of sources where a refusal from 6 to 8 is given.
+pub fn check_opened(
     plan: &[u8],
     head: &mut HeadNumbers,
     queue: &mut QueueColumn,
+    source: &mut WaitColumn,
+    ssem: &mut SignalColumn,
+    sval: &mut SignalValues,
+    sop: &mut SignalColumn,
     mark: &mut MarkColumn,
     mop: &mut MarkColumn,
     table: &mut [u32],
     list: &mut [u32],
-) -> Known
-    ensures { λ r. ⌜ Checked (now (plan .entry)) (record { number = r .counted .number; place = r .counted .place; answer = 0 }) (now (table .entry)) (now (table .exit)) (now (list .entry)) (now (list .exit)) ⌝ }
-    ensures { λ r. ⌜ Sizes-told (now (plan .entry)) (r .counted) ⌝ }
-    ensures { λ r. ⌜ (scanned (now (plan .entry)) .fault .number ≡ 0 → Known-columns (plan-in (now (plan .entry))) (r .marks) (now (head .exit)) (now (queue .exit)) (now (mark .exit)) (now (mop .exit))) ⌝ }
+) -> Opened
+    ensures checked { λ r. ⌜ Checked (now (plan .entry)) (record { number = r .counted .number; place = r .counted .place; answer = 0 }) (now (table .entry)) (now (table .exit)) (now (list .entry)) (now (list .exit)) ⌝ }
+    ensures sizes { λ r. ⌜ Sizes-told (now (plan .entry)) (r .counted) ⌝ }
+    ensures refused { λ r. ⌜ ((scanned (now (plan .entry)) .fault .number ≡ 0 → ⊥) → (r .signals ≡ 0) × (r .marks ≡ 0)) ⌝ }
+    ensures read { λ r. ⌜ (scanned (now (plan .entry)) .fault .number ≡ 0 → Read-plan (plan-in (now (plan .entry))) r
+        (lent (now (head .exit)) (now (queue .exit)) (now (source .exit)) (now (ssem .exit)) (now (sval .exit)) (now (sop .exit)) (now (mark .exit)) (now (mop .exit)))) ⌝ }
+    ensures opened { λ r. ⌜ (r .counted .number ≡ 0 → Opened-plan (plan-in (now (plan .entry))) r
+        (lent (now (head .exit)) (now (queue .exit)) (now (source .exit)) (now (ssem .exit)) (now (sval .exit)) (now (sop .exit)) (now (mark .exit)) (now (mop .exit)))
+        (now (table .exit))) ⌝ }
 {
     let mut owner = [0u16; MOST_SEMAPHORES];
     let mut wsem = [0u16; WAIT_PLACES];
     let mut wval = [0u64; WAIT_PLACES];
-    let mut ssem = [0u16; SIGNAL_PLACES];
-    let mut sval = [0u64; SIGNAL_PLACES];
-    let mut sop = [0u16; SIGNAL_PLACES];
     let l = plan_load::load(
         plan,
         head,
@@ -124,14 +142,14 @@ pub fn check_known(
         queue,
         &mut wsem,
         &mut wval,
-        &mut ssem,
-        &mut sval,
-        &mut sop,
+        ssem,
+        sval,
+        sop,
         mark,
         mop,
     );
     if l.number != 0 {
-        return with_marks(l, l.number, l.place as u64);
+        return with_lists(l, l.number, l.place as u64);
     }
     let told = plan_judge::check_columns(
         l.operations,
@@ -139,17 +157,18 @@ pub fn check_known(
         l.marks as usize,
         &owner,
         queue,
-        &mut wsem,
+        &wsem,
         &wval,
-        &mut ssem,
-        &sval,
-        &sop,
+        ssem,
+        sval,
+        sop,
         mark,
         mop,
+        source,
         table,
         list,
     );
-    with_marks(l, told.number, told.place)
+    with_lists(l, told.number, told.place)
 }
 
 // The counts of a loaded plan, beside a number and its place.
@@ -166,12 +185,13 @@ fn with_counts(l: Loaded, number: u32, place: u64) -> Counted
     }
 }
 
-// The same, and the number of marks.
-fn with_marks(l: Loaded, number: u32, place: u64) -> Known
-    ensures { λ r. ⌜ r ≡ known-of l number place ⌝ }
+// The same, and the numbers of signals and marks.
+fn with_lists(l: Loaded, number: u32, place: u64) -> Opened
+    ensures { λ r. ⌜ r ≡ opened-of l number place ⌝ }
 {
-    Known {
+    Opened {
         counted: with_counts(l, number, place),
+        signals: l.signals as usize,
         marks: l.marks as usize,
     }
 }

@@ -6,6 +6,8 @@ use plan_format::limits::HeadNumbers;
 use plan_format::limits::MARK_PLACES;
 use plan_format::limits::MOST_OPERATIONS;
 use plan_format::limits::ROW_WIDTH;
+use plan_format::limits::SIGNAL_PLACES;
+use plan_format::limits::WAIT_PLACES;
 ghost use mathlib.Core.Path.{_≡_};
 ghost use mathlib.Core.Bool.{false};
 ghost use mathlib.Core.List.{[]};
@@ -37,21 +39,29 @@ pub fn frontier_of(
 {
     let mut head = [0u64; HEAD_NUMBERS];
     let mut queues = [0u16; MOST_OPERATIONS];
+    let mut source = [0u16; WAIT_PLACES];
+    let mut ssem = [0u16; SIGNAL_PLACES];
+    let mut sval = [0u64; SIGNAL_PLACES];
+    let mut sop = [0u16; SIGNAL_PLACES];
     let mut mark = [0u16; MARK_PLACES];
     let mut mop = [0u16; MARK_PLACES];
-    let k = checker::check_known(
+    let o = checker::check_opened(
         plan,
         &mut head,
         &mut queues,
+        &mut source,
+        &mut ssem,
+        &mut sval,
+        &mut sop,
         &mut mark,
         &mut mop,
         table,
         list,
     );
-    if k.counted.number != 0 {
-        return refused(k.counted.number, k.counted.place);
+    if o.counted.number != 0 {
+        return refused(o.counted.number, o.counted.place);
     }
-    answer(k.counted, &head, table, operation, capacity)
+    answer(o.counted, &head, table, operation, capacity)
 }
 
 // The question on a plan that passes, by its counts, its axes and its rows in the table.

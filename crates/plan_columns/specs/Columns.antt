@@ -39,9 +39,11 @@ no-point = record { semaphore = 0; value = 0 }
 abbrev pub no-signal : Signal
 no-signal = record { operation = 0; position = 0; semaphore = 0; value = 0 }
 
--- the axis of each queue, from the second place on
-unfoldable pub Axis-column : Plan → (head : List ℕ) → Type 0
-Axis-column p head = (q : ℕ) → q < queues p → getD head (1 + q) 0 ≡ getD (p .axes) q 0
+-- the numbers before the operations: the axis of each queue from the second place on, and the size of each buffer after three counts, the axes
+-- and the owners
+pub record Head-column (p : Plan) (head : List ℕ) : Type 0 where
+  pub axes-shown : (q : ℕ) → q < queues p → getD head (1 + q) 0 ≡ getD (p .axes) q 0
+  pub sizes-shown : (b : ℕ) → b < length (p .sizes) → getD head (3 + queues p + length (p .owners) + b) 0 ≡ getD (p .sizes) b 0
 
 -- the owner of each semaphore
 unfoldable pub Owner-column : Plan → (owner : List ℕ) → Type 0

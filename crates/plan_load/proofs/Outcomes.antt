@@ -5,7 +5,7 @@ use mathlib.Core.List.{List, [], _∷_, _++_, append-assoc, append-nil}
 use Prim.Native.Nat.{ℕ, suc, _+_, _-_, _*_, _≤_, _<_}
 use native.Mathlib.Omega.{arith}
 use lib.ListN.{length, getD, take, drop, replicate, length-append, length-take, length-drop, length-replicate, take-append-drop, List·getD-append}
-use lib.Seq.{take-append-seam, drop-append-seam, take-at}
+use lib.Seq.{take-append-seam, drop-append-seam, take-at, getD-append-add}
 use Rattle.plan_format.specs.Refusal.{none-given, given}
 use Rattle.plan_format.specs.Grammar.{bytes, Scan, scan, times}
 use Rattle.plan_format.specs.Form.{first-form}
@@ -19,7 +19,7 @@ use Rattle.plan_format.proofs.Operations.{operations-long}
 use Rattle.plan_format.proofs.Repeats.{read-repeat, repeat-stops}
 use Rattle.plan_format.proofs.Seams.{after-seam}
 use Rattle.plan_format.proofs.Sections.{plan-whole}
-use Rattle.plan_columns.specs.Columns.{Columns, Axis-column}
+use Rattle.plan_columns.specs.Columns.{Columns, Head-column}
 use Rattle.plan_columns.proofs.Limits.{shape, few-semaphores, limits}
 use Rattle.plan_columns.proofs.Plans.{filling-end}
 use Rattle.plan_numbers.specs.declared.Head.{Head}
@@ -156,16 +156,40 @@ module _ (bs : List ℕ) (h : Head) (nums : List ℕ) (cs₀ : Columns) (head : 
         not-refused : {n m : ℕ} → n ≡ m → n ≡ cond (given (scanned bs .fault)) 0 m
         not-refused e = rw (zero-not-given (scanned bs .fault) clean) e
 
-        load-axes : Axis-column (plan-in bs) nums
-        unfolding Axis-column queues
-        load-axes q l =
-            let long : q < length (front .axes) = omega (arith, ap (λ (p : Plan). length (p .axes)) plan-is) in
-            let second : 1 + q ≡ suc q = omega arith in
-            let rest = h .semaphores ∷ (front .owners ++ ((h .buffers ∷ (front .sizes ++ (h .operations ∷ []))) ++ drop (h .got) nums)) in
-            ap (λ (x : List ℕ). getD x (1 + q) 0) split
-            ∙ ap (λ (k : ℕ). getD ((h .queues ∷ front .axes) ++ rest) k 0) second
-            ∙ List·getD-append (front .axes) rest 0 q long
-            ∙ ap (λ (p : Plan). getD (p .axes) q 0) (sym plan-is)
+        -- the sizes come after the counts, the axes and the owners
+        abbrev before-sizes : List ℕ
+        before-sizes = (h .queues ∷ front .axes) ++ (h .semaphores ∷ (front .owners ++ (h .buffers ∷ [])))
+
+        abbrev after-sizes : List ℕ
+        after-sizes = (h .operations ∷ []) ++ drop (h .got) nums
+
+        split-sizes : nums ≡ before-sizes ++ (front .sizes ++ after-sizes)
+        split-sizes = split ∙ simp append-assoc
+
+        before-long : length before-sizes ≡ 3 + h .queues + h .semaphores
+        before-long = simp length-append (omega (arith, front .axes-long, front .owners-long))
+
+        load-head : Head-column (plan-in bs) nums
+        unfolding queues
+        load-head = record {
+          axes-shown = λ q l.
+              let long : q < length (front .axes) = omega (arith, ap (λ (p : Plan). length (p .axes)) plan-is) in
+              let second : 1 + q ≡ suc q = omega arith in
+              let rest = h .semaphores ∷ (front .owners ++ ((h .buffers ∷ (front .sizes ++ (h .operations ∷ []))) ++ drop (h .got) nums)) in
+              ap (λ (x : List ℕ). getD x (1 + q) 0) split
+              ∙ ap (λ (k : ℕ). getD ((h .queues ∷ front .axes) ++ rest) k 0) second
+              ∙ List·getD-append (front .axes) rest 0 q long
+              ∙ ap (λ (p : Plan). getD (p .axes) q 0) (sym plan-is);
+          sizes-shown = λ b l.
+              let inside : b < length (front .sizes) = omega (arith, ap (λ (p : Plan). length (p .sizes)) plan-is) in
+              let place : 3 + length (plan-in bs .axes) + length (plan-in bs .owners) + b ≡ length before-sizes + b =
+              omega (arith, before-long, ap (λ (p : Plan). length (p .axes)) plan-is, ap (λ (p : Plan). length (p .owners)) plan-is, front .axes-long, front .owners-long) in
+              ap (λ (k : ℕ). getD nums k 0) place
+              ∙ ap (λ (x : List ℕ). getD x (length before-sizes + b) 0) split-sizes
+              ∙ getD-append-add before-sizes (front .sizes ++ after-sizes) b 0
+              ∙ List·getD-append (front .sizes) after-sizes 0 b inside
+              ∙ ap (λ (p : Plan). getD (p .sizes) b 0) (sym plan-is);
+        }
 
         pub load-columns : Loads bs (record { number = 0; place = 0; queues = h .queues; semaphores = h .semaphores; buffers = h .buffers; operations = h .operations; signals = signals; marks = marks }) nums cs
         unfolding count
@@ -179,7 +203,7 @@ module _ (bs : List ℕ) (h : Head) (nums : List ℕ) (cs₀ : Columns) (head : 
             operations = not-refused (sym (ap (λ (p : Plan). length (p .operations)) plan-is ∙ operations-long first-form (h .operations) (l .blocks)));
           };
           none = λ z. absurd (z refl);
-          axes = λ _. load-axes;
+          head-shown = λ _. load-head;
           columns = λ _. filling-end (plan-in bs) (limits bs clean) (all ++ []) (h .operations) (length heading) operations-are done (l .filled small []);
         }
 
@@ -199,7 +223,7 @@ refused-loads {bs} (n, p) z =
       place = p;
       sizes = record { queues = nothing _; semaphores = nothing _; buffers = nothing _; operations = nothing _ };
       none = λ _. (refl, refl);
-      axes = λ e. absurd (z e);
+      head-shown = λ e. absurd (z e);
       columns = λ e. absurd (z e);
     }
 

@@ -7,7 +7,7 @@ use lib.ListN.{length}
 use Rattle.plan_format.specs.Plan.{count}
 use Rattle.plan_format.specs.Refusal.{given}
 use Rattle.plan_format.specs.Stored.{scanned, plan-in}
-use Rattle.plan_columns.specs.Columns.{Columns, Axis-column}
+use Rattle.plan_columns.specs.Columns.{Columns, Head-column}
 use Rattle.plan_columns.specs.Shown.{Columns-of}
 use Rattle.plan_load.specs.declared.Loaded.{Loaded}
 
@@ -25,5 +25,5 @@ pub record Loads (bytes : List ℕ) (r : Loaded) (head : List ℕ) (cs : Columns
   pub place : r .place ≡ scanned bytes .fault .place
   pub sizes : Sizes bytes (r .queues) (r .semaphores) (r .buffers) (r .operations)
   pub none : (r .number ≡ 0 → ⊥) → (r .signals ≡ 0) × (r .marks ≡ 0)
-  pub axes : r .number ≡ 0 → Axis-column (plan-in bytes) head
+  pub head-shown : r .number ≡ 0 → Head-column (plan-in bytes) head
   pub columns : r .number ≡ 0 → Columns-of (plan-in bytes) (r .signals) (r .marks) cs

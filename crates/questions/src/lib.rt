@@ -9,6 +9,8 @@ use plan_format::limits::MARK_PLACES;
 use plan_format::limits::MOST_OPERATIONS;
 use plan_format::limits::NO_OPERATION;
 use plan_format::limits::ROW_WIDTH;
+use plan_format::limits::SIGNAL_PLACES;
+use plan_format::limits::WAIT_PLACES;
 use plan_order::Verdict;
 ghost use mathlib.Core.Path.{_≡_};
 ghost use mathlib.Core.Bool.{true};
@@ -34,27 +36,35 @@ pub fn reuse_question(
 {
     let mut head = [0u64; HEAD_NUMBERS];
     let mut queues = [0u16; MOST_OPERATIONS];
+    let mut source = [0u16; WAIT_PLACES];
+    let mut ssem = [0u16; SIGNAL_PLACES];
+    let mut sval = [0u64; SIGNAL_PLACES];
+    let mut sop = [0u16; SIGNAL_PLACES];
     let mut mark = [0u16; MARK_PLACES];
     let mut mop = [0u16; MARK_PLACES];
-    let k = checker::check_known(
+    let o = checker::check_opened(
         plan,
         &mut head,
         &mut queues,
+        &mut source,
+        &mut ssem,
+        &mut sval,
+        &mut sop,
         &mut mark,
         &mut mop,
         table,
         list,
     );
-    if k.counted.number != 0 {
+    if o.counted.number != 0 {
         return Told {
-            number: k.counted.number,
-            place: k.counted.place,
+            number: o.counted.number,
+            place: o.counted.place,
             answer: 0,
         };
     }
     answer(
-        k.counted,
-        k.marks,
+        o.counted,
+        o.marks,
         queue as usize,
         buffer as usize,
         &queues,

@@ -1,0 +1,60 @@
+-- `check_opened` meets its contract: the reader's refusal, or what `plan_judge` says of the columns that are loaded. Assumes nothing.
+use borrow.Author.Needs.{needs}
+use Rattle.plan_format.proofs.Telling.{tells-as}
+use Rattle.plan_order.proofs.Checks.{checked}
+use Rattle.checker.proofs.Told.{not-read, read-says}
+use Rattle.checker.proofs.Columns.{loaded-none, loaded-read, loaded-clean, loaded-given}
+use Rattle.checker.proofs.Passed.{opened-plan}
+use Rattle.checker.proofs.check_opened.Statement.{statement}
+use Rattle.checker.proofs.check_opened.Tie as tie
+
+load-requires : tie.Need-load-requires
+load-requires c κs = search needs
+
+with-lists-requires : tie.Need-with-lists-requires
+with-lists-requires c κs = search needs
+
+returns : tie.Need-returns
+returns c =
+    let taken = c .before .if1 .taken in
+    let l = c .before .before .before .load .ensures .0 in
+    rw (c .with-lists .ensures) (
+      checked _ _ _ _ _ _ (not-read _ _ _ _ (tells-as (l .number) (l .place)) taken),
+      (l .sizes, (loaded-none l, (loaded-read l _ _, λ z. absurd (taken z)))),
+    )
+
+cast-check-columns : tie.Need-cast-check-columns
+cast-check-columns c = search needs
+
+cast-check-columns-2 : tie.Need-cast-check-columns-2
+cast-check-columns-2 c = search needs
+
+check-columns-requires : tie.Need-check-columns-requires
+check-columns-requires c κs = search needs
+
+with-lists-requires-2 : tie.Need-with-lists-requires-2
+with-lists-requires-2 c κs = search needs
+
+same-length : tie.Need-same-length
+same-length c = c .before .before .before .before .table .given
+
+same-length-2 : tie.Need-same-length-2
+same-length-2 c = c .before .before .list .given
+
+returns-2 : tie.Need-returns-2
+returns-2 c =
+    let judged = c .before .before .before .before .before in
+    let test = judged .before .before .before .before .before .before .before .before .before .before .before .before .before .before .before in
+    let l = test .before .before .load .ensures in
+    let none = test .if1 .left in
+    let of-plan = judged .check-columns .ensures .1 .1 _ (loaded-given (l .0) none _ (l .1 none)) in
+    let whole = checked _ _ _ _ _ _ (read-says _ _ _ _ _ _ (loaded-clean (l .0) none) (of-plan .0)) in
+    rw (c .with-lists2 .ensures) (
+      whole,
+      (l .0 .sizes, (loaded-none (l .0), (loaded-read (l .0) _ _, λ z. opened-plan (l .0 .sizes) whole z (loaded-read (l .0) _ _ (loaded-clean (l .0) none)) (of-plan .1)))),
+    )
+
+pub check-opened-spec : {M : Type 1} → statement M
+check-opened-spec =
+    tie.close
+    (tie.spec load-requires with-lists-requires returns cast-check-columns cast-check-columns-2 check-columns-requires with-lists-requires-2 same-length same-length-2 returns-2)

@@ -1,0 +1,56 @@
+-- The opened plan: what the check hands on to those who ask further. Assumes nothing: these are definitions.
+use mathlib.Core.Path.{_≡_}
+use mathlib.Core.List.{List}
+use Prim.Native.Nat.{ℕ, _<_}
+use lib.ListN.{length}
+use Rattle.plan_format.specs.Plan.{Plan, count, queues}
+use Rattle.plan_format.specs.Sound.{Sound}
+use Rattle.plan_order.specs.Check.{order-refusal}
+use Rattle.plan_columns.specs.Columns.{Head-column, Queue-column, Signal-columns, Mark-columns, Source-column, Row-columns}
+use Rattle.plan_columns.specs.Shown.{Limits}
+use Rattle.checker.specs.declared.Counted.{Counted}
+use Rattle.checker.specs.declared.Opened.{Opened}
+
+-- what is lent to the check for those who ask further: the numbers before the operations, the queue of each operation, the operation that each
+-- wait rests on, the semaphore, the value and the operation of each signal, the code and the operation of each mark
+pub record Lent : Type 0 where
+  pub head : List ℕ
+  pub queue : List ℕ
+  pub source : List ℕ
+  pub signal-semaphore : List ℕ
+  pub signal-value : List ℕ
+  pub signal-operation : List ℕ
+  pub mark : List ℕ
+  pub mark-operation : List ℕ
+
+abbrev pub lent : (head queue source ssem sval sop mark mop : List ℕ) → Lent
+lent head queue source ssem sval sop mark mop = record {
+  head = head;
+  queue = queue;
+  source = source;
+  signal-semaphore = ssem;
+  signal-value = sval;
+  signal-operation = sop;
+  mark = mark;
+  mark-operation = mop;
+}
+
+-- of a plan that the reader takes: all of it but what the waits rest on
+pub record Read-plan (p : Plan) (o : Opened) (c : Lent) : Type 0 where
+  pub head-shown : Head-column p (c .head)
+  pub queues-shown : Queue-column p (c .queue)
+  pub signals-shown : Signal-columns p (o .signals) (c .signal-semaphore) (c .signal-value) (c .signal-operation)
+  pub marks-shown : Mark-columns p (o .marks) (c .mark) (c .mark-operation)
+
+-- of a plan that passes: its counts, all that is lent, and its rows in front of the table
+pub record Opened-plan (p : Plan) (o : Opened) (c : Lent) (table : List ℕ) : Type 0 where
+  pub limits : Limits p
+  pub sound : Sound p
+  pub passes : order-refusal p .number ≡ 0
+  pub queues-are : o .counted .queues ≡ queues p
+  pub semaphores-are : o .counted .semaphores ≡ length (p .owners)
+  pub buffers-are : o .counted .buffers ≡ length (p .sizes)
+  pub operations-are : o .counted .operations ≡ count p
+  pub read : Read-plan p o c
+  pub sources-shown : Source-column p (c .source)
+  pub rows-shown : Row-columns p (λ j. j < count p) table
