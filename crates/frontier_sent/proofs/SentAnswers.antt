@@ -17,7 +17,7 @@ use Rattle.frontier_sent.specs.declared.Sent.{Sent}
 use Rattle.frontier_sent.specs.Sent.{sent, sent-refusal, sent-outcome, told, Frontier-says}
 use Rattle.frontier_sent.specs.SentMeaning.{Sent-means, Sent-number, Frontier-right}
 use Rattle.frontier_sent.specs.SentWalk.{Sent-tells}
-use Rattle.checker.proofs.Passed.{passed-leaves, passed-good}
+use Rattle.checker.proofs.Passed.{passed-leaves, passes}
 use Rattle.frontier_sent.proofs.SentMeaning.{sent-means}
 use Rattle.frontier_sent.proofs.SentOutcome.{no-operation, no-capacity, none-refused, plan-first, then-asked, gives-asked, sent-left-case, sent-case, operation-if, capacity-if, answer-if}
 
@@ -104,5 +104,5 @@ module _ (bs : List ℕ) (j c : ℕ) (r : Sent) (t x l y : List ℕ) (s : Fronti
     is-sent = frontier-sent;
     means = λ z. let w = passed-by z in
         subst (Sent-means (plan-in bs) j c) (sym (frontier-sent z))
-        (sent-means (plan-in bs) (sound-in bs (passed-good bs (length t) (length l) (w .0))) j c (w .2) (w .3));
+        (sent-means (plan-in bs) (sound-in bs (passes bs (length t) (length l) (w .0) .good)) j c (w .2) (w .3));
   }

@@ -5,26 +5,21 @@ use mathlib.Core.Logic.{_⊎_}
 use mathlib.Core.List.{List, []}
 use Prim.Native.Nat.{ℕ, _+_, _*_, _≤_, _<_}
 use native.Mathlib.Omega.{arith}
-use lib.ListN.{length, drop, length-append}
-use Rattle.basics.specs.Lists.{in-front}
 use Rattle.frontier.specs.Frontiers.{pack, gathered}
 use Rattle.frontier.specs.declared.Frontier.{Frontier}
 use Rattle.plan_format.specs.Plan.{Plan, count}
 use Rattle.plan_format.specs.Refusal.{given}
-use Rattle.plan_format.specs.Stored.{scanned, plan-in}
+use Rattle.plan_format.specs.Stored.{plan-in}
 use Rattle.plan_format.specs.Meaning.{Refuses}
 use Rattle.plan_format.proofs.Judged.{zero-not-given, other-given}
 use Rattle.plan_order.specs.Promise.{Checked}
-use Rattle.plan_order.specs.Rows.{rows}
-use Rattle.plan_order.proofs.Rows.{rows-length}
 use Rattle.checker.specs.declared.Counted.{Counted}
-use Rattle.checker.specs.Counting.{Sizes-told}
-use Rattle.checker.specs.Passing.{Known-columns}
-use Rattle.checker.proofs.Passed.{sound, read, rows-lie, rows-shown, queues-are, operations-are, few-queues}
+use Rattle.checker.specs.declared.Opened.{Opened}
+use Rattle.checker.specs.Opening.{Lent, Opened-plan}
 use Rattle.frontier_sent.specs.declared.Sent.{Sent}
 use Rattle.frontier_sent.specs.Sent.{cut-to, sent-refusal, Frontier-says}
 use Rattle.frontier_sent.specs.SentMeaning.{Frontier-right}
-use Rattle.frontier_sent.specs.SentWalk.{Opened, Sent-tells, row-in}
+use Rattle.frontier_sent.specs.SentWalk.{Sent-given, Sent-tells, row-in}
 use Rattle.frontier_sent.proofs.SentOutcome.{no-operation, no-capacity, none-refused}
 use Rattle.frontier_sent.proofs.SentAnswers.{plan-said, asked-said, frontier-right}
 use Rattle.frontier_sent.proofs.SentWalk.{sent-found}
@@ -43,28 +38,18 @@ module _ {bs t x l y : List ℕ} (k : Counted) (j c : ℕ) (checked : Checked bs
   pub then-answered : (r : Sent) → k .number ≡ 0 → Sent-tells (plan-in bs) j c r → Frontier-right bs j c r t x l y
   then-answered r z a = frontier-right bs j c r t x l y (asked-said bs j c t x l y (k .number) (k .place) (checked .says) z a)
 
--- a plan that passes, with its counts, its axes and its rows
-module _ {bs t x l y : List ℕ} {k : Counted} (sizes : Sizes-told bs k)
-    (checked : Checked bs (record { number = k .number; place = k .place; answer = 0 }) t x l y) (z : k .number ≡ 0) where
-  pub room-lent : (k .queues ≤ 16) × (16 * k .operations ≤ length x)
-  unfolding in-front
-  room-lent =
-      let all = rows (plan-in bs) in
-      let long : length x ≡ length all + length (drop (length all) t) = ap length (rows-lie sizes checked z) ∙ length-append all (drop (length all) t) in
-      (few-queues sizes checked z, omega (arith, rows-length (plan-in bs), operations-are sizes checked z))
-
-  pub opened : {marks : ℕ} {head queue mark mop : List ℕ} →
-      (scanned bs .fault .number ≡ 0 → Known-columns (plan-in bs) marks head queue mark mop) → Opened (plan-in bs) k head x
-  opened known = record {
-    sound = sound sizes checked z;
-    queues-are = queues-are sizes checked z;
-    operations-are = operations-are sizes checked z;
-    axes-shown = known (read sizes checked z) .axes-shown;
-    rows-shown = rows-shown sizes checked z;
-  }
+-- a plan that passes, opened
+pub sent-given : {p : Plan} {o : Opened} {c : Lent} {table : List ℕ} → Opened-plan p o c table → Sent-given p (o .counted) (c .head) table
+sent-given opened = record {
+  sound = opened .sound;
+  queues-are = opened .queues-are;
+  operations-are = opened .operations-are;
+  head-shown = opened .read .head-shown;
+  rows-shown = opened .rows-shown;
+}
 
 -- ---- the question's own refusals, and its answer
-module _ {p : Plan} {k : Counted} {head table : List ℕ} (opened : Opened p k head table) (j c : ℕ) where
+module _ {p : Plan} {k : Counted} {head table : List ℕ} (opened : Sent-given p k head table) (j c : ℕ) where
   no-answer : (b : Bool) → _≡_ {A = ℕ} 0 (cond b 0 0)
   no-answer true = refl
   no-answer false = refl

@@ -18,10 +18,10 @@ use Rattle.frontier.proofs.Sorted.{same-entry}
 use Rattle.frontier.proofs.Raising.{raises, raises-from-empty, sorted-gathered, gathered-length, merge-empty}
 use Rattle.plan_format.specs.Plan.{Plan, count, queues}
 use Rattle.plan_order.specs.Rows.{row}
-use Rattle.plan_columns.specs.Columns.{Axis-column, Row-columns}
+use Rattle.plan_columns.specs.Columns.{Row-columns}
 use Rattle.checker.specs.declared.Counted.{Counted}
 use Rattle.frontier_sent.specs.Sent.{row-entries, sent-entries, cut-to, sent}
-use Rattle.frontier_sent.specs.SentWalk.{Opened, row-in}
+use Rattle.frontier_sent.specs.SentWalk.{Sent-given, row-in}
 
 -- ---- raising
 module _ (head table : List ℕ) (first : ℕ) where
@@ -70,13 +70,13 @@ module _ (head table : List ℕ) (first : ℕ) where
       ∙ merge-empty (gathered es) false c (sorted-gathered es) (omega (arith, gathered-length es, row-long many 0)) l k)
 
 -- ---- the row of an operation, where it lies
-module _ {p : Plan} {k : Counted} {head table : List ℕ} (opened : Opened p k head table) (j : ℕ) (inside : j < count p) where
+module _ {p : Plan} {k : Counted} {head table : List ℕ} (opened : Sent-given p k head table) (j : ℕ) (inside : j < count p) where
   row-found : row-in head table (16 * j) (queues p) 0 ≡ row-entries p j
-  unfolding row-in row-entries Row-columns Axis-column
+  unfolding row-in row-entries Row-columns
   row-found =
       tabulate-same (queues p) 0 (λ q. record { axis = getD head (1 + q) 0; epoch = getD table (16 * j + q) 0 })
       (λ q. record { axis = getD (p .axes) q 0; epoch = getD (row p j) q 0 })
-      (λ q m h. same-entry (opened .axes-shown q (omega arith)) (opened .rows-shown j q inside (omega (arith, opened .sound .few-queues))))
+      (λ q m h. same-entry (opened .head-shown .axes-shown q (omega arith)) (opened .rows-shown j q inside (omega (arith, opened .sound .few-queues))))
 
   pub sent-found : (c : ℕ) → cut-to c (gathered (row-in head table (16 * j) (k .queues) 0)) ≡ sent p j c
   unfolding sent sent-entries

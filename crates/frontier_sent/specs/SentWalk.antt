@@ -12,17 +12,17 @@ use Rattle.plan_format.specs.Plan.{Plan, count, queues}
 use Rattle.plan_format.specs.Refusal.{given}
 use Rattle.plan_format.specs.Sound.{Sound}
 use Rattle.plan_format.specs.Stored.{Tells}
-use Rattle.plan_columns.specs.Columns.{Axis-column, Row-columns}
+use Rattle.plan_columns.specs.Columns.{Head-column, Row-columns}
 use Rattle.checker.specs.declared.Counted.{Counted}
 use Rattle.frontier_sent.specs.declared.Sent.{Sent}
 use Rattle.frontier_sent.specs.Sent.{sent, sent-refusal, told}
 
 -- a sound plan with its counts, its axes and its rows
-pub record Opened (p : Plan) (c : Counted) (head table : List ℕ) : Type 0 where
+pub record Sent-given (p : Plan) (c : Counted) (head table : List ℕ) : Type 0 where
   pub sound : Sound p
   pub queues-are : c .queues ≡ queues p
-  pub operations-are : count p ≡ c .operations
-  pub axes-shown : Axis-column p head
+  pub operations-are : c .operations ≡ count p
+  pub head-shown : Head-column p head
   pub rows-shown : Row-columns p (λ j. j < count p) table
 
 -- what is handed back for a plan that passes: 21, or 15, or the frontier sent out

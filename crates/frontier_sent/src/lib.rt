@@ -18,7 +18,7 @@ ghost use Rattle.plan_format.specs.Sizes.{row-width};
 ghost use Rattle.plan_format.specs.Plan.{Plan};
 ghost use Rattle.frontier_sent.specs.Sent.{cut-to};
 ghost use Rattle.frontier_sent.specs.SentMeaning.{Frontier-right};
-ghost use Rattle.frontier_sent.specs.SentWalk.{Opened, Sent-tells, row-in};
+ghost use Rattle.frontier_sent.specs.SentWalk.{Sent-given, Sent-tells, row-in};
 
 // A frontier; or a refusal and its place, beside the empty untainted frontier.
 pub struct Sent {
@@ -67,7 +67,7 @@ pub fn frontier_of(
 // The question on a plan that passes, by its counts, its axes and its rows in the table.
 fn answer(c: Counted, head: &HeadNumbers, table: &[u32], operation: u32, capacity: u32) -> Sent
     requires { ⌜ (c .queues ≤ 16) × (row-width * c .operations ≤ length (now table)) ⌝ }
-    ensures { λ r. ⌜ ((p : Plan) → Opened p c (now (head .entry)) (now (table .entry)) → Sent-tells p operation capacity r) ⌝ }
+    ensures { λ r. ⌜ ((p : Plan) → Sent-given p c (now (head .entry)) (now (table .entry)) → Sent-tells p operation capacity r) ⌝ }
 {
     let j = operation as usize;
     if c.operations <= j {

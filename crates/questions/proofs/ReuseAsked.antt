@@ -10,7 +10,7 @@ use borrow.Author.Tests.{leb-true, leb-false, le-leb, lt-leb, eqb-true, eqb-fals
 use Rattle.basics.proofs.Tests.{by-cases, either}
 use Rattle.plan_format.specs.Plan.{Plan, queues}
 use Rattle.plan_format.specs.Refusal.{refusal, none-given, given, or-else}
-use Rattle.plan_format.specs.Stored.{scanned, plan-in, Tells}
+use Rattle.plan_format.specs.Stored.{plan-in, Tells}
 use Rattle.plan_format.specs.declared.Told.{Told}
 use Rattle.plan_format.proofs.Judged.{zero-not-given, other-given}
 use Rattle.plan_order.specs.Check.{Leaves, Outcome, outcome, or-then, check-outcome, table-left, list-left, Says, Check-says}
@@ -22,13 +22,12 @@ use Rattle.plan_order.specs.Promise.{Demand-3-stored, Safe, Checked}
 use Rattle.plan_order.proofs.CheckMeaning.{check-eleven, answer-unrefused, check-means}
 use Rattle.plan_order.proofs.Promises.{demand-3-stored}
 use Rattle.plan_order.proofs.QuestionMeaning.{question-means, question-left, question-answer}
-use Rattle.plan_columns.proofs.Limits.{limits}
-use Rattle.checker.specs.Counting.{Sizes-told}
-use Rattle.checker.specs.Passing.{Known-columns}
+use Rattle.checker.specs.Opening.{Lent, Opened-plan}
 use Rattle.checker.specs.declared.Counted.{Counted}
-use Rattle.checker.proofs.Passed.{passed-leaves, sound, read, rows-shown, queues-are, buffers-are, operations-are}
+use Rattle.checker.specs.declared.Opened.{Opened}
+use Rattle.checker.proofs.Passed.{passed-leaves}
 use Rattle.questions.specs.Reuse.{Asked}
-use Rattle.questions.specs.ReusePass.{Opened}
+use Rattle.questions.specs.ReusePass.{Question-given}
 use Rattle.questions.proofs.ReuseStray.{no-stray}
 
 -- ---- all that a caller gets
@@ -117,27 +116,24 @@ module _ {bs : List ℕ} (q b : ℕ) {n i : ℕ} {t x l y : List ℕ} (checked :
         list-holds = s .list-holds ∙ ap (λ (v : Leaves). list-left v (plan-in bs) l) leaves;
       })
 
--- ---- a plan that passes, with its counts, its columns and its rows
-pub opened : {bs queue mark mop head t x l y : List ℕ} {marks : ℕ} {c : Counted} → Sizes-told bs c →
-    Checked bs (record { number = c .number; place = c .place; answer = 0 }) t x l y → c .number ≡ 0 →
-    (scanned bs .fault .number ≡ 0 → Known-columns (plan-in bs) marks head queue mark mop) → Opened (plan-in bs) c marks queue mark mop x
-opened {bs} sizes checked z known =
-    let whole = read sizes checked z in
-    record {
-      queues-are = queues-are sizes checked z;
-      buffers-are = buffers-are sizes checked z;
-      shown = record {
-        sound = sound sizes checked z;
-        many = operations-are sizes checked z;
-        few-buffers = limits bs whole .few-buffers;
-        queues-shown = known whole .queues-shown;
-        marks-shown = known whole .marks-shown;
-        rows-shown = rows-shown sizes checked z;
-      };
-    }
+-- ---- a plan that passes, opened
+pub question-given : {p : Plan} {o : Opened} {c : Lent} {table : List ℕ} → Opened-plan p o c table →
+    Question-given p (o .counted) (o .marks) (c .queue) (c .mark) (c .mark-operation) table
+question-given opened = record {
+  queues-are = opened .queues-are;
+  buffers-are = opened .buffers-are;
+  shown = record {
+    sound = opened .sound;
+    many = sym (opened .operations-are);
+    few-buffers = opened .limits .few-buffers;
+    queues-shown = opened .read .queues-shown;
+    marks-shown = opened .read .marks-shown;
+    rows-shown = opened .rows-shown;
+  };
+}
 
 -- ---- the question's own refusals, and its answer
-module _ {p : Plan} {c : Counted} {marks : ℕ} {queue mark operation rows : List ℕ} (opened : Opened p c marks queue mark operation rows) (q b : ℕ) where
+module _ {p : Plan} {c : Counted} {marks : ℕ} {queue mark operation rows : List ℕ} (opened : Question-given p c marks queue mark operation rows) (q b : ℕ) where
   pub no-queue : c .queues ≤ q → Tells (question-refusal p q b) (number-of (verdict p q b)) (record { number = 12; place = q; answer = 0 })
   unfolding question-refusal or-else refusal given
   no-queue h = rw (le-leb (queues p) q (omega (arith, opened .queues-are))) (record { number = refl; place = refl; answer-is = refl })

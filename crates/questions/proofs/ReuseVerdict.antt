@@ -21,7 +21,7 @@ use Rattle.plan_marks.specs.Passes.{shown-from}
 use Rattle.plan_marks.proofs.Marks.{Each, Known, marks-known, marks-shown}
 use Rattle.plan_marks.proofs.Order.{ordered-right}
 use Rattle.plan_marks.proofs.Asks.{of-buffer, of-plan}
-use Rattle.questions.specs.ReusePass.{Shown, last-shown, seen, verdict-after, verdict-from}
+use Rattle.questions.specs.ReusePass.{Verdict-given, last-shown, seen, verdict-after, verdict-from}
 
 -- ---- the queue's last operation
 highest-same : (n : ℕ) (f g : ℕ → Bool) → ((i : ℕ) → i < n → f i ≡ g i) → highest-below n f ≡ highest-below n g
@@ -35,7 +35,7 @@ last-of p queue q shown =
     ap (λ (o : Option ℕ). place-or 1024 o)
     (highest-same (count p) (λ i. eqb (getD queue i 0) q) (λ i. eqb (op p i .queue) q) (λ i l. ap (λ (z : ℕ). eqb z q) (shown i l)))
 
-module _ {p : Plan} {n marks : ℕ} {queue mark operation rows : List ℕ} (shown : Shown p n marks queue mark operation rows) where
+module _ {p : Plan} {n marks : ℕ} {queue mark operation rows : List ℕ} (shown : Verdict-given p n marks queue mark operation rows) where
   seen-right : (q i : ℕ) → i < count p → seen queue rows (place-or 1024 (last-on p q)) i ≡ seen-by p (last-on p q) i
   unfolding seen seen-by place-or last-on
   seen-right q i l =
@@ -92,7 +92,7 @@ at-verdict p last ms (some m) =
     by-cases (is-free m) (λ t. by-cases (seen-by p last (m .by)) (λ s. rw (t, s)) (λ s. rw (t, s))) (λ e. rw e)
 
 pub verdict-right : {p : Plan} {n marks : ℕ} {queue mark operation rows : List ℕ} (q b : ℕ) {last : ℕ} {r : Verdict} →
-    Shown p n marks queue mark operation rows →
+    Verdict-given p n marks queue mark operation rows →
     last ≡ last-shown queue q n → r ≡ verdict-from (seen queue rows last) b Fresh true (shown-from mark operation marks 0) → r ≡ verdict p q b
 unfolding verdict
 verdict-right {p} {n} {marks} {queue} {mark} {operation} {rows} q b shown last-is e =

@@ -16,7 +16,7 @@ use Rattle.plan_marks.specs.Passes.{ordered}
 use Rattle.checker.specs.declared.Counted.{Counted}
 
 -- a sound plan shown by columns, and its rows
-pub record Shown (p : Plan) (n marks : ℕ) (queue mark operation rows : List ℕ) : Type 0 where
+pub record Verdict-given (p : Plan) (n marks : ℕ) (queue mark operation rows : List ℕ) : Type 0 where
   pub sound : Sound p
   pub many : count p ≡ n
   pub few-buffers : length (p .sizes) ≤ most-buffers
@@ -25,10 +25,10 @@ pub record Shown (p : Plan) (n marks : ℕ) (queue mark operation rows : List �
   pub rows-shown : Row-columns p (λ j. j < count p) rows
 
 -- the same with the plan's counts
-pub record Opened (p : Plan) (c : Counted) (marks : ℕ) (queue mark operation rows : List ℕ) : Type 0 where
+pub record Question-given (p : Plan) (c : Counted) (marks : ℕ) (queue mark operation rows : List ℕ) : Type 0 where
   pub queues-are : c .queues ≡ queues p
   pub buffers-are : c .buffers ≡ length (p .sizes)
-  pub shown : Shown p (c .operations) marks queue mark operation rows
+  pub shown : Verdict-given p (c .operations) marks queue mark operation rows
 
 -- 01: "the queue's last operation", of n; 1,024 where there is none
 unfoldable pub last-shown : (queue : List ℕ) → (q n : ℕ) → ℕ

@@ -22,7 +22,7 @@ ghost use Rattle.plan_order.specs.Reuse.{verdict as verdict-of, number-of, ques
 ghost use Rattle.plan_order.specs.declared.Verdict.the-variants.{Fresh};
 ghost use Rattle.plan_marks.specs.Passes.{shown-from};
 ghost use Rattle.questions.specs.Reuse.{Asked};
-ghost use Rattle.questions.specs.ReusePass.{Opened, Shown, last-shown, seen as is-seen, verdict-after, verdict-from};
+ghost use Rattle.questions.specs.ReusePass.{Question-given, Verdict-given, last-shown, seen as is-seen, verdict-after, verdict-from};
 
 // The reuse question: a verdict as the answer; or the refusal of the plan, of the queue or of the buffer.
 pub fn reuse_question(
@@ -85,7 +85,7 @@ fn answer(
     mop: &MarkColumn,
     table: &[u32],
 ) -> Told
-    ensures { λ r. ⌜ ((p : Plan) → Opened p c marks (now (queue .entry)) (now (mark .entry)) (now (mop .entry)) (now (table .entry)) → Tells (question-refusal p q b) (number-of (verdict-of p q b)) r) ⌝ }
+    ensures { λ r. ⌜ ((p : Plan) → Question-given p c marks (now (queue .entry)) (now (mark .entry)) (now (mop .entry)) (now (table .entry)) → Tells (question-refusal p q b) (number-of (verdict-of p q b)) r) ⌝ }
 {
     if c.queues <= q {
         return plan_format::refused(12, q);
@@ -112,7 +112,7 @@ fn verdict(
     mop: &MarkColumn,
     table: &[u32],
 ) -> Verdict
-    ensures { λ r. ⌜ ((p : Plan) → Shown p n marks (now (queue .entry)) (now (mark .entry)) (now (mop .entry)) (now (table .entry)) → r ≡ verdict-of p q b) ⌝ }
+    ensures { λ r. ⌜ ((p : Plan) → Verdict-given p n marks (now (queue .entry)) (now (mark .entry)) (now (mop .entry)) (now (table .entry)) → r ≡ verdict-of p q b) ⌝ }
 {
     let last = last_on(n, queue, q);
     judged(b, last, marks, queue, mark, mop, table)

@@ -1,11 +1,12 @@
 -- `frontier_of` meets its contract: the check's refusal, or what `answer` says of a plan that passes. Assumes nothing.
 use borrow.Author.Needs.{needs}
-use Rattle.frontier_sent.proofs.SentCalls.{plan-refused, then-answered, room-lent, opened}
+use Rattle.checker.proofs.Passed.{few-queues, rows-long}
+use Rattle.frontier_sent.proofs.SentCalls.{plan-refused, then-answered, sent-given}
 use Rattle.frontier_sent.proofs.frontier_of.Statement.{statement}
 use Rattle.frontier_sent.proofs.frontier_of.Tie as tie
 
-check-known-requires : tie.Need-check-known-requires
-check-known-requires c κs = search needs
+check-opened-requires : tie.Need-check-opened-requires
+check-opened-requires c κs = search needs
 
 refused-requires : tie.Need-refused-requires
 refused-requires c κs = search needs
@@ -18,13 +19,14 @@ same-length-2 c = search needs
 
 returns : tie.Need-returns
 returns c =
-    let check = c .before .before .before .before .before .before .before .check-known in
+    let check = c .before .before .before .before .before .before .before .check-opened in
     plan-refused (check .result .counted) _ _ (check .ensures .0) _ (c .before .if1 .taken) (c .refused .ensures)
 
 answer-requires : tie.Need-answer-requires
 answer-requires c κs =
-    let check = c .before .before .before .before .before .before .before .before .check-known .ensures in
-    room-lent (check .1 .0) (check .0) (c .before .before .if1 .left)
+    let check = c .before .before .before .before .before .before .before .before .check-opened .ensures in
+    let passed = c .before .before .if1 .left in
+    (few-queues (check .1 .0) (check .0) passed, rows-long (check .1 .0) (check .0) passed)
 
 same-length-3 : tie.Need-same-length-3
 same-length-3 c = search needs
@@ -34,16 +36,16 @@ same-length-4 c = search needs
 
 returns-2 : tie.Need-returns-2
 returns-2 c =
-    let check = c .before .before .before .before .before .before .before .before .before .check-known in
+    let check = c .before .before .before .before .before .before .before .before .before .check-opened in
     let passed = c .before .before .before .if1 .left in
     then-answered (check .result .counted) _ _ (check .ensures .0) _ passed
-    (c .answer .ensures _ (opened (check .ensures .1 .0) (check .ensures .0) passed (check .ensures .1 .1)))
+    (c .answer .ensures _ (sent-given (check .ensures .1 .1 .1 .1 passed)))
 
 pub frontier-of-spec : {M : Type 1} → statement M
 frontier-of-spec =
     tie.close
     (tie.spec
-    check-known-requires
+    check-opened-requires
     refused-requires
     same-length
     same-length-2
