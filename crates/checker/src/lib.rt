@@ -133,14 +133,13 @@ pub fn check_opened(
         (now (table .exit))) ⌝ }
 {
     let mut owner = [0u16; MOST_SEMAPHORES];
-    let mut wsem = [0u16; WAIT_PLACES];
     let mut wval = [0u64; WAIT_PLACES];
     let l = plan_load::load(
         plan,
         head,
         &mut owner,
         queue,
-        &mut wsem,
+        source,
         &mut wval,
         ssem,
         sval,
@@ -157,14 +156,13 @@ pub fn check_opened(
         l.marks as usize,
         &owner,
         queue,
-        &wsem,
+        source,
         &wval,
         ssem,
         sval,
         sop,
         mark,
         mop,
-        source,
         table,
         list,
     );

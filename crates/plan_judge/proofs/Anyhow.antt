@@ -37,21 +37,21 @@ module _ (n signals : ℕ) (owner queue wsem wval ssem sval sop : List ℕ) wher
       subst (λ (f : Refusal). Tells f 0 r)
       (sym (or-else-second _ _ (ap (λ (x : Refusal). x .number) (sym e) ∙ z) ∙ ap (λ (x : List ℕ). waits-found n signals wsem wval x) (sym l))) h
 
-  pub sources-refused : (m i : ℕ) {source : List ℕ} → refusal m i ≡ signals-walk owner queue ssem sval sop signals 0 zeros → (m ≡ 0 → ⊥) →
-      Sources-by n signals owner queue wsem wval ssem sval sop source source
+  pub sources-refused : (m i : ℕ) → refusal m i ≡ signals-walk owner queue ssem sval sop signals 0 zeros → (m ≡ 0 → ⊥) →
+      Sources-by n signals owner queue wsem wval ssem sval sop wsem
   sources-refused m i e z = record {
     refused = λ g. refl;
     resolved = λ f. clash (given (signals-walk owner queue ssem sval sop signals 0 zeros)) (ap given (sym e) ∙ refusal-given m i z) f;
   }
 
-  pub sources-resolved : (m i : ℕ) {source source′ last : List ℕ} {r : Told} → refusal m i ≡ signals-walk owner queue ssem sval sop signals 0 zeros → m ≡ 0 →
+  pub sources-resolved : (m i : ℕ) {source last : List ℕ} {r : Told} → refusal m i ≡ signals-walk owner queue ssem sval sop signals 0 zeros → m ≡ 0 →
       last ≡ lasts-walk owner queue ssem sval sop signals 0 zeros → Tells (waits-found n signals wsem wval last) 0 r →
-      Sources n signals (r .number) ssem sval sop wsem wval source source′ → Sources-by n signals owner queue wsem wval ssem sval sop source source′
+      Sources n signals (r .number) ssem sval sop wsem wval source → Sources-by n signals owner queue wsem wval ssem sval sop source
   unfolding refusal
-  sources-resolved m i {source} {source′} {last} {r} e z l h left = record {
+  sources-resolved m i {source} {last} {r} e z l h left = record {
     refused = λ g. clash (given (signals-walk owner queue ssem sval sop signals 0 zeros)) g
         (zero-not-given (signals-walk owner queue ssem sval sop signals 0 zeros) (ap (λ (x : Refusal). x .number) (sym e) ∙ z));
-    resolved = λ f. subst (λ (k : ℕ). Sources n signals k ssem sval sop wsem wval source source′)
+    resolved = λ f. subst (λ (k : ℕ). Sources n signals k ssem sval sop wsem wval source)
         (h .number ∙ ap (λ (x : List ℕ). waits-found n signals wsem wval x .number) l) left;
   }
 

@@ -22,11 +22,11 @@ rules-by n signals owner queue wsem wval ssem sval sop =
     or-else (signals-walk owner queue ssem sval sop signals 0 zeros)
     (waits-found n signals wsem wval (lasts-walk owner queue ssem sval sop signals 0 zeros))
 
--- the column of sources afterwards: as it was where 6 or 7 is given, else as the resolution leaves it
-pub record Sources-by (n signals : ℕ) (owner queue wsem wval ssem sval sop source source-now : List ℕ) : Type 0 where
-  pub refused : given (signals-walk owner queue ssem sval sop signals 0 zeros) ≡ true → source-now ≡ source
+-- the column of the waits afterwards: as it was where 6 or 7 is given, else as the resolution leaves it
+pub record Sources-by (n signals : ℕ) (owner queue wsem wval ssem sval sop source : List ℕ) : Type 0 where
+  pub refused : given (signals-walk owner queue ssem sval sop signals 0 zeros) ≡ true → source ≡ wsem
   pub resolved : given (signals-walk owner queue ssem sval sop signals 0 zeros) ≡ false →
-      Sources n signals (waits-found n signals wsem wval (lasts-walk owner queue ssem sval sop signals 0 zeros) .number) ssem sval sop wsem wval source source-now
+      Sources n signals (waits-found n signals wsem wval (lasts-walk owner queue ssem sval sop signals 0 zeros) .number) ssem sval sop wsem wval source
 
 -- 10 after fewer than n steps, else 11, by the rows
 unfoldable pub order-by : (n ran marks : ℕ) → (queue mark mop rows : List ℕ) → Refusal

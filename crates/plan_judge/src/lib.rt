@@ -21,8 +21,8 @@ ghost use Rattle.plan_columns.specs.Columns.{columns, Source-column};
 ghost use Rattle.plan_judge.specs.Answering.{rules-by, Sources-by, Answers-by};
 ghost use Rattle.plan_judge.specs.Given.{Check-given, Rules-given, Ruled};
 
-// Refusals 6 and 7, then 8, then 9, then the order: the answer, what is left in table and list, and the operation that each wait rests on in
-// the column of sources. Where the columns show no plan within the limits, what the run gives is unspecified: how many ran, the rows, and the
+// Refusals 6 and 7, then 8, then 9, then the order: the answer, what is left in table and list, and the operation that each wait rests on, in
+// place of its semaphore. Where the columns show no plan within the limits, what the run gives is unspecified: how many ran, the rows, and the
 // front of the list.
 pub fn check_columns(
     n: u16,
@@ -30,63 +30,50 @@ pub fn check_columns(
     marks: usize,
     owner: &OwnerColumn,
     queue: &QueueColumn,
-    wsem: &WaitColumn,
+    wait: &mut WaitColumn,
     wval: &WaitValues,
     ssem: &SignalColumn,
     sval: &SignalValues,
     sop: &SignalColumn,
     mark: &MarkColumn,
     mop: &MarkColumn,
-    source: &mut WaitColumn,
     table: &mut [u32],
     list: &mut [u32],
 ) -> Told
     ensures answers { λ r. ⌜ Answers-by (or-else
-        (rules-by n signals (now (owner .entry)) (now (queue .entry)) (now (wsem .entry)) (now (wval .entry)) (now (ssem .entry)) (now (sval .entry)) (now (sop .entry)))
+        (rules-by n signals (now (owner .entry)) (now (queue .entry)) (now (wait .entry)) (now (wval .entry)) (now (ssem .entry)) (now (sval .entry)) (now (sop .entry)))
         (room-refusal n (length (now (table .entry))) (length (now (list .entry)))))
         n marks (now (queue .entry)) (now (mark .entry)) (now (mop .entry)) r (now (table .entry)) (now (table .exit)) (now (list .entry)) (now (list .exit)) ⌝ }
-    ensures sources { λ _. ⌜ Sources-by n signals (now (owner .entry)) (now (queue .entry)) (now (wsem .entry)) (now (wval .entry)) (now (ssem .entry)) (now (sval .entry)) (now (sop .entry))
-        (now (source .entry)) (now (source .exit)) ⌝ }
+    ensures sources { λ _. ⌜ Sources-by n signals (now (owner .entry)) (now (queue .entry)) (now (wait .entry)) (now (wval .entry)) (now (ssem .entry)) (now (sval .entry)) (now (sop .entry))
+        (now (wait .exit)) ⌝ }
     ensures of_plans { λ r. ⌜ ((p : Plan) → Check-given p n signals marks (now (owner .entry))
-        (columns (now (queue .entry)) (now (wsem .entry)) (now (wval .entry)) (now (ssem .entry)) (now (sval .entry)) (now (sop .entry)) (now (mark .entry)) (now (mop .entry))) →
-        Plan-check-says p r (now (table .entry)) (now (table .exit)) (now (list .entry)) (now (list .exit)) × (rules-refusal p .number ≡ 0 → Source-column p (now (source .exit)))) ⌝ }
+        (columns (now (queue .entry)) (now (wait .entry)) (now (wval .entry)) (now (ssem .entry)) (now (sval .entry)) (now (sop .entry)) (now (mark .entry)) (now (mop .entry))) →
+        Plan-check-says p r (now (table .entry)) (now (table .exit)) (now (list .entry)) (now (list .exit)) × (rules-refusal p .number ≡ 0 → Source-column p (now (wait .exit)))) ⌝ }
 {
-    let ruled = rules(
-        n,
-        signals,
-        owner,
-        queue,
-        wsem,
-        wval,
-        ssem,
-        sval,
-        sop,
-        source,
-    );
+    let ruled = rules(n, signals, owner, queue, wait, wval, ssem, sval, sop);
     if ruled.number != 0 {
         return ruled;
     }
-    decide::check_order(n, marks, queue, source, mark, mop, table, list)
+    decide::check_order(n, marks, queue, wait, mark, mop, table, list)
 }
 
-// 6 or 7, else 8, else none and in the column of sources the operation that each wait rests on.
+// 6 or 7, else 8, else none and, in place of the semaphore of each wait, the operation that it rests on.
 fn rules(
     n: u16,
     signals: usize,
     owner: &OwnerColumn,
     queue: &QueueColumn,
-    wsem: &WaitColumn,
+    wait: &mut WaitColumn,
     wval: &WaitValues,
     ssem: &SignalColumn,
     sval: &SignalValues,
     sop: &SignalColumn,
-    source: &mut WaitColumn,
 ) -> Told
-    ensures told { λ r. ⌜ Tells (rules-by n signals (now (owner .entry)) (now (queue .entry)) (now (wsem .entry)) (now (wval .entry)) (now (ssem .entry)) (now (sval .entry)) (now (sop .entry))) 0 r ⌝ }
-    ensures sources { λ _. ⌜ Sources-by n signals (now (owner .entry)) (now (queue .entry)) (now (wsem .entry)) (now (wval .entry)) (now (ssem .entry)) (now (sval .entry)) (now (sop .entry))
-        (now (source .entry)) (now (source .exit)) ⌝ }
-    ensures of_plans { λ r. ⌜ ((p : Plan) → Rules-given p n signals (now (owner .entry)) (now (queue .entry)) (now (wsem .entry)) (now (wval .entry)) (now (ssem .entry)) (now (sval .entry)) (now (sop .entry)) →
-        Ruled p r (now (source .exit))) ⌝ }
+    ensures told { λ r. ⌜ Tells (rules-by n signals (now (owner .entry)) (now (queue .entry)) (now (wait .entry)) (now (wval .entry)) (now (ssem .entry)) (now (sval .entry)) (now (sop .entry))) 0 r ⌝ }
+    ensures sources { λ _. ⌜ Sources-by n signals (now (owner .entry)) (now (queue .entry)) (now (wait .entry)) (now (wval .entry)) (now (ssem .entry)) (now (sval .entry)) (now (sop .entry))
+        (now (wait .exit)) ⌝ }
+    ensures of_plans { λ r. ⌜ ((p : Plan) → Rules-given p n signals (now (owner .entry)) (now (queue .entry)) (now (wait .entry)) (now (wval .entry)) (now (ssem .entry)) (now (sval .entry)) (now (sop .entry)) →
+        Ruled p r (now (wait .exit))) ⌝ }
 {
     let signalled = plan_rules::judge(signals, owner, queue, ssem, sval, sop);
     if signalled.number != 0 {
@@ -96,15 +83,5 @@ fn rules(
             answer: 0,
         };
     }
-    plan_waits::resolve(
-        n,
-        signals,
-        ssem,
-        sval,
-        sop,
-        wsem,
-        wval,
-        &signalled.last,
-        source,
-    )
+    plan_waits::resolve(n, signals, ssem, sval, sop, wait, wval, &signalled.last)
 }

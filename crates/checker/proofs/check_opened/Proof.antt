@@ -44,7 +44,7 @@ same-length-2 c = c .before .before .list .given
 returns-2 : tie.Need-returns-2
 returns-2 c =
     let judged = c .before .before .before .before .before in
-    let test = judged .before .before .before .before .before .before .before .before .before .before .before .before .before .before .before in
+    let test = judged .before .before .before .before .before .before .before .before .before .before .before .before .before .before in
     let l = test .before .before .load .ensures in
     let none = test .if1 .left in
     let of-plan = judged .check-columns .ensures .1 .1 _ (loaded-given (l .0) none _ (l .1 none)) in
