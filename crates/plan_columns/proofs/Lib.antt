@@ -6,3 +6,5 @@ pub mod Lists
 pub mod Plans
 pub mod Padded
 pub mod Limits
+pub mod Marks
+pub mod Ordered

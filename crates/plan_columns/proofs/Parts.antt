@@ -11,7 +11,7 @@ use Rattle.basics.proofs.Stores.{sets-append}
 use Rattle.basics.proofs.Tables.{tabulate-length}
 use Rattle.plan_format.specs.Sizes.{most-operations, wait-places, signal-places, mark-places}
 use Rattle.plan_columns.specs.Columns.{Columns}
-use Rattle.plan_columns.specs.Filling.{repeated, Part, wait-semaphores, wait-values, signal-semaphores, signal-values, mark-codes, wait-count, signals-at, signal-count, marks-at, mark-count, next-at, queue-part, wait-semaphore-part, wait-value-part, signal-semaphore-part, signal-value-part, signal-operation-part, mark-part, mark-operation-part, parts, Put, Added}
+use Rattle.plan_columns.specs.Filling.{repeated, Part, wait-semaphores, wait-values, signal-semaphores, signal-values, codes-of-marks, wait-count, signals-at, signal-count, marks-at, mark-count, next-at, queue-part, wait-semaphore-part, wait-value-part, signal-semaphore-part, signal-value-part, signal-operation-part, mark-part, mark-operation-part, parts, Put, Added}
 
 -- ---- one operation
 module _ (X : List ℕ) (at : ℕ) {w s m : ℕ} (w-is : w ≡ getD X (at + 1) 0 % 4) (s-is : s ≡ getD X (at + 2 + 2 * w) 0 % 4)
@@ -58,8 +58,8 @@ module _ (X : List ℕ) (at : ℕ) {w s m : ℕ} (w-is : w ≡ getD X (at + 1) 0
     pub signal-operations-put : new ≡ sets old place (repeated s i) → length old ≡ room → Put room (signal-operation-part X i at) place old new
     signal-operations-put e l = record { stored = e ∙ rw s-right; size = l }
 
-    pub marks-put : new ≡ sets old place (mark-codes X m (at + 2 + 2 * w + 1 + 2 * s)) → length old ≡ room → Put room (mark-part X i at) place old new
-    marks-put e l = record { stored = e ∙ ap₂ (λ (k a : ℕ). sets old place (mark-codes X k a)) m-right marks-right; size = l }
+    pub marks-put : new ≡ sets old place (codes-of-marks X m (at + 2 + 2 * w + 1 + 2 * s)) → length old ≡ room → Put room (mark-part X i at) place old new
+    marks-put e l = record { stored = e ∙ ap₂ (λ (k a : ℕ). sets old place (codes-of-marks X k a)) m-right marks-right; size = l }
 
     pub mark-operations-put : new ≡ sets old place (repeated m i) → length old ≡ room → Put room (mark-operation-part X i at) place old new
     mark-operations-put e l = record { stored = e ∙ rw m-right; size = l }
@@ -118,7 +118,7 @@ pub record Filling (X : List ℕ) (n first : ℕ) (cs₀ cs : Columns)
   pub signal-semaphores : Column X (signal-semaphore-part X) signal-places n first (cs₀ .signal-semaphore) (cs .signal-semaphore) i at signals
   pub signal-values : Column X (signal-value-part X) signal-places n first (cs₀ .signal-value) (cs .signal-value) i at signals
   pub signal-operations : Column X (signal-operation-part X) signal-places n first (cs₀ .signal-operation) (cs .signal-operation) i at signals
-  pub mark-codes : Column X (mark-part X) mark-places n first (cs₀ .mark) (cs .mark) i at marks
+  pub codes-of-marks : Column X (mark-part X) mark-places n first (cs₀ .mark) (cs .mark) i at marks
   pub mark-operations : Column X (mark-operation-part X) mark-places n first (cs₀ .mark-operation) (cs .mark-operation) i at marks
 
 next-near : (X : List ℕ) (at : ℕ) → next-at X at ≤ at + 30
@@ -145,7 +145,7 @@ module _ {X : List ℕ} {n first : ℕ} {cs₀ : Columns} where
     signal-semaphores = column-none;
     signal-values = column-none;
     signal-operations = column-none;
-    mark-codes = column-none;
+    codes-of-marks = column-none;
     mark-operations = column-none;
   }
 
@@ -167,6 +167,6 @@ module _ {X : List ℕ} {n first : ℕ} {cs₀ : Columns} where
         signal-semaphores = column-next (b .signal-semaphores) l (a .signal-semaphores-added) (a .next) (more _);
         signal-values = column-next (b .signal-values) l (a .signal-values-added) (a .next) (more _);
         signal-operations = column-next (b .signal-operations) l (a .signal-operations-added) (a .next) (more _);
-        mark-codes = column-next (b .mark-codes) l (a .marks-added) (a .next) (further _);
+        codes-of-marks = column-next (b .codes-of-marks) l (a .marks-added) (a .next) (further _);
         mark-operations = column-next (b .mark-operations) l (a .mark-operations-added) (a .next) (further _);
       }

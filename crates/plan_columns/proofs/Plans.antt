@@ -153,11 +153,11 @@ module _ (p : Plan) (limits : Limits p) (X : List ℕ) (n first : ℕ) (stand : 
     marks-shown =
         let m = marks-says (mark-part X) code-of (λ i at f. mark-same X i at f) in
         let o = marks-says (mark-operation-part X) (λ x. x .by) (λ i at f. mark-operation-same X i at f) in
-        let many = column-many done (b .mark-codes) code-of no-mark (plan-marks p) m in
+        let many = column-many done (b .codes-of-marks) code-of no-mark (plan-marks p) m in
         record {
           few = omega (arith, many, few-marks);
           all = many;
-          marks = λ k l. column-shows done (b .mark-codes) code-of no-mark (plan-marks p) m refl few-marks k (omega (arith, many));
+          marks = λ k l. column-shows done (b .codes-of-marks) code-of no-mark (plan-marks p) m refl few-marks k (omega (arith, many));
           operations = λ k l. column-shows done (b .mark-operations) (λ x. x .by) no-mark (plan-marks p) o refl few-marks k (omega (arith, many));
         }
 

@@ -47,8 +47,8 @@ module _ (numbers : List ℕ) where
   abbrev pub signal-values : (many at : ℕ) → List ℕ
   signal-values many at = tabulate-from many 0 (λ j. second-at at j)
 
-  abbrev pub mark-codes : (many at : ℕ) → List ℕ
-  mark-codes many at = tabulate-from many 0 (λ j. 2 * (first-at at j % most-buffers) + second-at at j % 2)
+  abbrev pub codes-of-marks : (many at : ℕ) → List ℕ
+  codes-of-marks many at = tabulate-from many 0 (λ j. 2 * (first-at at j % most-buffers) + second-at at j % 2)
 
   -- ---- where the parts of an operation stand
   unfoldable pub wait-count : (at : ℕ) → ℕ
@@ -89,7 +89,7 @@ module _ (numbers : List ℕ) where
   signal-operation-part i at = repeated (signal-count at) i
 
   abbrev pub mark-part : Part
-  mark-part i at = mark-codes (mark-count at) (marks-at at)
+  mark-part i at = codes-of-marks (mark-count at) (marks-at at)
 
   abbrev pub mark-operation-part : Part
   mark-operation-part i at = repeated (mark-count at) i

@@ -17,7 +17,7 @@ ghost use lib.Seq.{sets};
 ghost use Rattle.plan_format.specs.Sizes.{most-queues, most-semaphores, most-operations, wait-places, plan-numbers};
 ghost use Rattle.plan_format.specs.Plan.{Plan, queues};
 ghost use Rattle.plan_columns.specs.Columns.{columns, Owner-column};
-ghost use Rattle.plan_columns.specs.Filling.{owner-numbers, wait-semaphores, wait-values, signal-semaphores, signal-values, mark-codes, repeated, next-at, Added};
+ghost use Rattle.plan_columns.specs.Filling.{owner-numbers, wait-semaphores, wait-values, signal-semaphores, signal-values, codes-of-marks, repeated, next-at, Added};
 
 // The columns of a plan: an owner for each semaphore, a queue for each operation; for each place of a wait a semaphore or the operation that
 // the wait rests on, and a value; for each signal a semaphore or its operation, and a value; for each mark its code or its operation.
@@ -188,7 +188,7 @@ fn put_marks(
 ) -> usize
     requires { ⌜ (at ≤ 15) × (i < most-operations) × (had < 65536) ⌝ }
     ensures { λ r. ⌜ r ≡ getD (now (window .entry)) at 0 % 8 ⌝ }
-    ensures { λ r. ⌜ now (mark .exit) ≡ sets (now (mark .entry)) had (mark-codes (now (window .entry)) r at) ⌝ }
+    ensures { λ r. ⌜ now (mark .exit) ≡ sets (now (mark .entry)) had (codes-of-marks (now (window .entry)) r at) ⌝ }
     ensures { λ r. ⌜ now (operation .exit) ≡ sets (now (operation .entry)) had (repeated r i) ⌝ }
 {
     let many = wide(window[at]) % 8;

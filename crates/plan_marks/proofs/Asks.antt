@@ -1,47 +1,20 @@
 -- What keeping asks, by the marks of all buffers in plan order: of each use against the next free of its buffer, and of each mark against
 -- the last free of its buffer before it. Assumes nothing.
-use mathlib.Core.Path.{_≡_, refl, sym, _∙_, subst}
+use mathlib.Core.Path.{_≡_, refl, sym, subst}
 use mathlib.Core.Bool.{false, cond}
 use mathlib.Core.Logic.{_⊎_, inl, inr}
 use mathlib.Core.List.{List, [], _∷_, _++_, List·Memᴰ, List·Memᴰ·not-nil, List·Memᴰ·append-cases, Memᴰ·append-left, Memᴰ·append-right}
 use mathlib.Core.Option.{Option, none, some}
-use Prim.Native.Nat.{ℕ, suc, _≤_, _<_}
+use Prim.Native.Nat.{ℕ, _≤_, _<_}
 use lib.Dec.{eqb}
 use lib.ListN.{length}
 use borrow.Author.Tests.{eqb-true, eq-eqb}
 use Rattle.basics.proofs.Tests.{by-cases, either}
-use Rattle.plan_format.specs.Plan.{Mark, Operation, Plan}
-use Rattle.plan_order.specs.Holdings.{Placed, placed, marks-of, marks-from, buffer-marks, is-free, freed-by, free-after, Ask, use-asks, later-asks, asks-from, asks, asked-of, all-asks}
+use Rattle.plan_format.specs.Plan.{Plan}
+use Rattle.plan_order.specs.Holdings.{is-free, freed-by, free-after, Ask, use-asks, later-asks, asks-from, asks, asked-of, all-asks}
 use Rattle.plan_order.proofs.Keeping.{all-asks-gives, all-asks-has}
-use Rattle.plan_columns.specs.Columns.{Marked, marked-of, marked-from, plan-marks}
-use Rattle.plan_marks.proofs.Marks.{Each, Known, Rising, rising-down}
-
-abbrev pub place : Marked → Placed
-place m = record { by = m .by; kind = m .kind }
-
--- ---- the marks of one buffer
-unfoldable pub of-buffer : (b : ℕ) → List Marked → List Placed
-of-buffer b [] = []
-of-buffer b (m ∷ ms) = cond (eqb (m .buffer) b) (place m ∷ of-buffer b ms) (of-buffer b ms)
-
-of-append : (b : ℕ) (ms ns : List Marked) → of-buffer b (ms ++ ns) ≡ of-buffer b ms ++ of-buffer b ns
-unfolding of-buffer
-of-append b [] ns = refl
-of-append b (m ∷ ms) ns = by-cases (eqb (m .buffer) b) (λ t. rw (t, of-append b ms ns)) (λ f. rw (f, of-append b ms ns))
-
-of-marked : (i b : ℕ) (ms : List Mark) → of-buffer b (marked-of i ms) ≡ marks-of i b ms
-unfolding of-buffer marked-of marks-of placed
-of-marked i b [] = refl
-of-marked i b (m ∷ ms) = by-cases (eqb (m .buffer) b) (λ t. rw (t, of-marked i b ms)) (λ f. rw (f, of-marked i b ms))
-
-of-from : (i b : ℕ) (os : List Operation) → of-buffer b (marked-from i os) ≡ marks-from i b os
-unfolding of-buffer marked-from marks-from
-of-from i b [] = refl
-of-from i b (o ∷ os) = of-append b (marked-of i (o .marks)) (marked-from (suc i) os) ∙ rw (of-marked i b (o .marks), of-from (suc i) b os)
-
-pub of-plan : (p : Plan) (b : ℕ) → of-buffer b (plan-marks p) ≡ buffer-marks p b
-unfolding plan-marks buffer-marks
-of-plan p b = of-from 0 b (p .operations)
+use Rattle.plan_columns.specs.Columns.{Marked, plan-marks}
+use Rattle.plan_columns.proofs.Marks.{place, of-buffer, of-plan, Each, Known, Rising, rising-down}
 
 -- ---- the last free of each buffer, after one more mark
 unfoldable pub after : (last : ℕ → Option ℕ) → Marked → ℕ → Option ℕ

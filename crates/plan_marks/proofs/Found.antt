@@ -20,10 +20,11 @@ use Rattle.plan_order.specs.Holdings.{is-free, freed-by, free-after, Ask, use-a
 use Rattle.plan_order.proofs.Keeping.{asked-marks, all-asks-has, broken-some, broken-none}
 use Rattle.plan_columns.specs.Columns.{Queue-column, Marked, plan-marks, Row-columns}
 use Rattle.plan_marks.specs.Given.{Marks-given}
-use Rattle.plan_marks.specs.Passes.{shown-from, none-noted, noted, free-in, noted-back, late, early, first-late, first-early, first-broken}
-use Rattle.plan_marks.proofs.Marks.{Each, Known, marks-known, Rising, marks-rising, marks-shown}
+use Rattle.plan_columns.specs.Shown.{shown-from}
+use Rattle.plan_marks.specs.Passes.{none-noted, noted, free-in, noted-back, late, early, first-late, first-early, first-broken}
+use Rattle.plan_columns.proofs.Marks.{place, of-buffer, Each, Known, marks-known, Rising, marks-rising, marks-shown}
 use Rattle.plan_marks.proofs.Order.{late-right, late-nothing, early-nothing, early-right}
-use Rattle.plan_marks.proofs.Asks.{place, of-buffer, after, of-uses, of-reuses, none-yet, all-asks-split, uses-all, reuses-all, uses-rising, reuses-rising}
+use Rattle.plan_marks.proofs.Asks.{after, of-uses, of-reuses, none-yet, all-asks-split, uses-all, reuses-all, uses-rising, reuses-rising}
 
 -- ---- the first of a list that is not met
 module _ (met : Ask → Bool) where

@@ -1,5 +1,4 @@
 pub mod Turns
-pub mod Marks
 pub mod Order
 pub mod Asks
 pub mod Found

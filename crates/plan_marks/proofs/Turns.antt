@@ -11,7 +11,10 @@ use lib.ListN.{getD, set, replicate}
 use borrow.Author.Tests.{ltb-true, ltb-false, ne-eqb}
 use Rattle.basics.specs.Lists.{tabulate-from}
 use Rattle.basics.proofs.Tests.{by-cases}
-use Rattle.plan_marks.specs.Passes.{mark-of, shown-from, none-noted, noted, free-in, noted-back, ordered, late, early, first-late, first-early}
+use Rattle.plan_columns.specs.Shown.{mark-of, shown-from, ordered}
+use Rattle.plan_columns.proofs.Marks.{shown-none, shown-next}
+use Rattle.plan_columns.proofs.Ordered.{ordered-is}
+use Rattle.plan_marks.specs.Passes.{none-noted, noted, free-in, noted-back, late, early, first-late, first-early}
 
 -- ---- the table
 pub noted-at : (m i : ℕ) (last : List ℕ) → set last m i ≡ noted (mark-of m i) last
@@ -36,14 +39,10 @@ low-set (x ∷ xs) (suc m) i l h (suc k) = low-set xs m i l (λ k. h (suc k)) k
 
 -- ---- tests
 module _ (queue rows : List ℕ) where
-  pub ordered-is : (i j x a b : ℕ) → x ≡ getD queue i 0 → a ≡ getD rows (16 * i + x % 16) 0 → b ≡ getD rows (16 * j + x % 16) 0 → leb a b ≡ ordered queue rows i j
-  unfolding ordered
-  ordered-is i j x a b e f g = rw (f, g, e)
-
   -- a number below 1,024 is its own remainder
   pub ordered-cut : (i j x a b : ℕ) → i < 1024 → x ≡ getD queue (i % 1024) 0 → a ≡ getD rows (16 * i + x % 16) 0 → b ≡ getD rows (16 * j + x % 16) 0 →
       leb a b ≡ ordered queue rows i j
-  ordered-cut i j x a b l e f g = ordered-is i j x a b (rw (mod-eq-of-lt l) at e) f g
+  ordered-cut i j x a b l e f g = ordered-is queue rows i j x a b (rw (mod-eq-of-lt l) at e) f g
 
   pub late-is : (i g : ℕ) (r : Bool) → r ≡ ordered queue rows i g → (ltb g 1024 && not r) ≡ late queue rows i g
   unfolding late
@@ -55,15 +54,6 @@ module _ (queue rows : List ℕ) where
   early-is g i r l e = by-cases (ltb g 1024) (λ t. rw (t, e (ltb-true g 1024 t))) (λ f. rw (f, ne-eqb g i (omega (arith, ltb-false g 1024 f))))
 
 -- ---- the marks of the columns, one at a time
-module _ (mark operation : List ℕ) where
-  pub shown-none : (many k : ℕ) → many ≤ k → shown-from mark operation (many - k) k ≡ []
-  unfolding tabulate-from
-  shown-none many k l = let e : many - k ≡ 0 = omega arith in rw e
-
-  pub shown-next : (many k : ℕ) → k < many →
-      shown-from mark operation (many - k) k ≡ mark-of (getD mark k 0 % 512) (getD operation k 0 % 1024) ∷ shown-from mark operation (many - (k + 1)) (k + 1)
-  unfolding tabulate-from
-  shown-next many k l = let e : many - k ≡ suc (many - (k + 1)) = omega arith in rw (e, add-one k)
 
 -- ---- uses, from the last mark to the first
 pub record Backward (queue rows mark operation : List ℕ) (n many : ℕ) (last : List ℕ) (lowest k : ℕ) : Type 0 where

@@ -5,20 +5,9 @@ use mathlib.Core.List.{List, [], _∷_}
 use Prim.Native.Nat.{ℕ, _+_, _*_, _/_, _%_, min}
 use lib.Dec.{ltb, leb, eqb}
 use lib.ListN.{getD, set, replicate}
-use Rattle.basics.specs.Lists.{tabulate-from}
 use Rattle.plan_format.specs.Sizes.{most-buffers, most-operations, mark-places, row-width, no-operation}
 use Rattle.plan_columns.specs.Columns.{Marked}
-
--- how many codes of marks there are: twice a buffer, and one more for a free
-abbrev pub mark-codes : ℕ
-mark-codes = 2 * most-buffers
-
--- a mark of the columns, and the marks from a place on; numbers are cut to their bits, which changes none in range
-abbrev pub mark-of : (mark operation : ℕ) → Marked
-mark-of m i = record { by = i; buffer = m / 2; kind = m % 2 }
-
-abbrev pub shown-from : (mark operation : List ℕ) → (many k : ℕ) → List Marked
-shown-from ms is many k = tabulate-from many k (λ k. mark-of (getD ms k 0 % mark-codes) (getD is k 0 % most-operations))
+use Rattle.plan_columns.specs.Shown.{mark-codes, shown-from, ordered}
 
 -- a table by mark, twice its buffer and one more for a free: the operation that had the mark last; 1,024 stands for none
 abbrev pub none-noted : List ℕ
@@ -37,17 +26,13 @@ noted-back [] = none-noted
 noted-back (m ∷ ms) = noted m (noted-back ms)
 
 module _ (queue rows : List ℕ) where
-  -- i is j or before j, by their rows
-  unfoldable pub ordered : (i j : ℕ) → Bool
-  ordered i j = let q = getD queue i 0 % row-width in leb (getD rows (row-width * i + q) 0) (getD rows (row-width * j + q) 0)
-
   -- a use by i is not forced to come no later than a free
   unfoldable pub late : (i free : ℕ) → Bool
-  late i g = ltb g no-operation && not (ordered i g)
+  late i g = ltb g no-operation && not (ordered queue rows i g)
 
   -- a mark by i is not forced to come after a free
   unfoldable pub early : (free i : ℕ) → Bool
-  early g i = ltb g no-operation && (eqb g i || not (ordered g i))
+  early g i = ltb g no-operation && (eqb g i || not (ordered queue rows g i))
 
   -- the operation of the first use that is late, and of the first mark that is early; n where there is none
   unfoldable pub first-late : (n : ℕ) → List Marked → ℕ

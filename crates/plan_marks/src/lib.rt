@@ -18,7 +18,8 @@ ghost use Rattle.plan_format.specs.Plan.{Plan};
 ghost use Rattle.plan_order.specs.Holdings.{broken as broken-mark};
 ghost use Rattle.basics.specs.Lists.{place-or};
 ghost use Rattle.plan_marks.specs.Given.{Marks-given};
-ghost use Rattle.plan_marks.specs.Passes.{mark-codes, mark-of, shown-from, none-noted, noted, free-in, ordered as is-ordered, late as is-late, early as is-early, first-late, first-early, first-broken};
+ghost use Rattle.plan_columns.specs.Shown.{mark-codes, mark-of, shown-from, ordered as is-ordered};
+ghost use Rattle.plan_marks.specs.Passes.{none-noted, noted, free-in, late as is-late, early as is-early, first-late, first-early, first-broken};
 
 // The lower of what the two passes find; n where they find nothing. By the columns of a plan it is the lowest operation with a broken mark.
 pub fn broken(

@@ -48,19 +48,16 @@ or-then a b = cond (given (a .refusal)) a b
 
 -- 01: "then 9, table before list; then 10; then 11", "No number is given on other grounds."; "Refusals 1 to 9 leave table and list untouched. 10 and 11 leave zeros .. A pass, any answer, and 12, 13, 15 and 21 leave the rows
 -- and the run there"
+abbrev pub order-outcome : Plan → (table list : ℕ) → Outcome
+order-outcome p t l =
+    or-then (outcome (room-refusal (count p) t l) untouched) (or-then (outcome (order-refusal p) zeros) (outcome none-given rows-and-run))
+
 unfoldable pub check-outcome : (bytes : List ℕ) → (table list : ℕ) → Outcome
-check-outcome bs t l =
-    let p = plan-in bs in
-    or-then (outcome (plan-refusal bs) untouched)
-    (or-then (outcome (room-refusal (count p) t l) untouched)
-    (or-then (outcome (order-refusal p) zeros) (outcome none-given rows-and-run)))
+check-outcome bs t l = or-then (outcome (plan-refusal bs) untouched) (order-outcome (plan-in bs) t l)
 
 -- the same for a plan that the reader takes, whatever its bytes
 unfoldable pub plan-outcome : Plan → (table list : ℕ) → Outcome
-plan-outcome p t l =
-    or-then (outcome (rules-refusal p) untouched)
-    (or-then (outcome (room-refusal (count p) t l) untouched)
-    (or-then (outcome (order-refusal p) zeros) (outcome none-given rows-and-run)))
+plan-outcome p t l = or-then (outcome (rules-refusal p) untouched) (order-outcome p t l)
 
 -- 01: "zeros in the first 16 × n numbers of the table and the first 2 × n of the list", "Numbers past those are never touched."
 unfoldable pub left-in : Leaves → (size : ℕ) → (new old : List ℕ) → List ℕ

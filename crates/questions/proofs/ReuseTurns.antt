@@ -11,8 +11,9 @@ use borrow.Author.Tests.{eq-eqb, ne-eqb, lt-ltb, le-ltb}
 use Rattle.basics.specs.Lists.{highest-below, place-or}
 use Rattle.plan_order.specs.declared.Verdict.{Verdict}
 use Rattle.plan_order.specs.declared.Verdict.the-variants.{Fresh}
-use Rattle.plan_marks.specs.Passes.{shown-from}
-use Rattle.plan_marks.proofs.Turns.{shown-none, shown-next, ordered-is}
+use Rattle.plan_columns.specs.Shown.{shown-from}
+use Rattle.plan_columns.proofs.Marks.{shown-none, shown-next}
+use Rattle.plan_columns.proofs.Ordered.{ordered-is}
 use Rattle.questions.specs.ReusePass.{last-shown, seen, verdict-after, verdict-from}
 
 -- ---- the queue's last operation, from the last to the first

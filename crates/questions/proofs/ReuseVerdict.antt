@@ -17,10 +17,10 @@ use Rattle.plan_order.specs.Reuse.{last-on, seen-by, last-mark, verdict-on, ver
 use Rattle.plan_order.specs.declared.Verdict.{Verdict}
 use Rattle.plan_order.specs.declared.Verdict.the-variants.{Fresh}
 use Rattle.plan_columns.specs.Columns.{Marked, Queue-column, plan-marks}
-use Rattle.plan_marks.specs.Passes.{shown-from}
-use Rattle.plan_marks.proofs.Marks.{Each, Known, marks-known, marks-shown}
-use Rattle.plan_marks.proofs.Order.{ordered-right}
-use Rattle.plan_marks.proofs.Asks.{of-buffer, of-plan}
+use Rattle.plan_columns.specs.Shown.{shown-from}
+use Rattle.plan_columns.proofs.Marks.{Each, Known, marks-known, marks-shown}
+use Rattle.plan_columns.proofs.Ordered.{ordered-right}
+use Rattle.plan_columns.proofs.Marks.{of-buffer, of-plan}
 use Rattle.questions.specs.ReusePass.{Verdict-given, last-shown, seen, verdict-after, verdict-from}
 
 -- ---- the queue's last operation

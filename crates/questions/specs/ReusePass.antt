@@ -12,7 +12,7 @@ use Rattle.plan_format.specs.Sound.{Sound}
 use Rattle.plan_order.specs.declared.Verdict.{Verdict}
 use Rattle.plan_order.specs.declared.Verdict.the-variants.{Reusable, Held, NotOrdered, StrayUse}
 use Rattle.plan_columns.specs.Columns.{Marked, Queue-column, Mark-columns, Row-columns}
-use Rattle.plan_marks.specs.Passes.{ordered}
+use Rattle.plan_columns.specs.Shown.{ordered}
 use Rattle.checker.specs.declared.Counted.{Counted}
 
 -- a sound plan shown by columns, and its rows

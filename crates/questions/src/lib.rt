@@ -20,7 +20,7 @@ ghost use Rattle.plan_format.specs.Plan.{Plan};
 ghost use Rattle.plan_format.specs.Stored.{Tells};
 ghost use Rattle.plan_order.specs.Reuse.{verdict as verdict-of, number-of, question-refusal};
 ghost use Rattle.plan_order.specs.declared.Verdict.the-variants.{Fresh};
-ghost use Rattle.plan_marks.specs.Passes.{shown-from};
+ghost use Rattle.plan_columns.specs.Shown.{shown-from};
 ghost use Rattle.questions.specs.Reuse.{Asked};
 ghost use Rattle.questions.specs.ReusePass.{Question-given, Verdict-given, last-shown, seen as is-seen, verdict-after, verdict-from};
 

@@ -1,17 +1,23 @@
 -- The marks of a plan: in range, in plan order, and those that the columns show. Assumes nothing.
-use mathlib.Core.Path.{_≡_, ap, _∙_, subst}
+use mathlib.Core.Path.{_≡_, refl, ap, _∙_, subst}
+use mathlib.Core.Bool.{cond}
 use mathlib.Core.List.{List, [], _∷_, _++_}
-use Prim.Native.Nat.{ℕ, zero, suc, _+_, _*_, _/_, _%_, _≤_, _<_}
+use Prim.Native.Nat.{ℕ, zero, suc, _+_, _-_, _*_, _/_, _%_, _≤_, _<_}
 use native.Mathlib.Nat.{le-refl, zero-add, not-suc-le-zero, le-of-suc-le-suc}
+use native.Mathlib.Numerals.{add-one}
 use native.Mathlib.Omega.{arith}
+use lib.Dec.{eqb}
 use lib.ListN.{length, getD}
 use lib.Seq.{ext-getD}
 use Rattle.basics.specs.Lists.{tabulate-from}
+use Rattle.basics.proofs.Tests.{by-cases}
 use Rattle.basics.proofs.Tables.{tabulate-length, tabulate-at}
+use Rattle.plan_format.specs.Sizes.{most-buffers, most-operations}
 use Rattle.plan_format.specs.Plan.{Mark, Operation, Plan, empty-operation, count, op}
 use Rattle.plan_format.specs.Sound.{Sound}
+use Rattle.plan_order.specs.Holdings.{Placed, placed, marks-of, marks-from, buffer-marks}
 use Rattle.plan_columns.specs.Columns.{Marked, no-mark, marked-of, marked-from, plan-marks, Mark-columns}
-use Rattle.plan_marks.specs.Passes.{mark-of, shown-from}
+use Rattle.plan_columns.specs.Shown.{mark-codes, mark-of, shown-from}
 
 -- ---- a fact of every mark
 abbrev pub Each : (P : Marked → Type 0) → List Marked → Type 0
@@ -80,17 +86,17 @@ unfolding plan-marks
 marks-rising p = rising-from 0 (p .operations)
 
 -- ---- the columns show the marks
-same-mark : (x : Marked) (m i : ℕ) → m ≡ 2 * x .buffer + x .kind → i ≡ x .by → x .buffer < 256 → x .kind < 2 → x .by < 1024 → mark-of (m % 512) (i % 1024) ≡ x
+same-mark : (x : Marked) (m i : ℕ) → m ≡ 2 * x .buffer + x .kind → i ≡ x .by → x .buffer < most-buffers → x .kind < 2 → x .by < most-operations → mark-of (m % mark-codes) (i % most-operations) ≡ x
 same-mark x m i e f l h u =
-    let o : i % 1024 ≡ x .by = omega arith in
-    let b : m % 512 / 2 ≡ x .buffer = omega arith in
-    let k : m % 512 % 2 ≡ x .kind = omega arith in
+    let o : i % most-operations ≡ x .by = omega arith in
+    let b : m % mark-codes / 2 ≡ x .buffer = omega arith in
+    let k : m % mark-codes % 2 ≡ x .kind = omega arith in
     λ j. record { by = o j; buffer = b j; kind = k j }
 
-pub marks-shown : (p : Plan) (many : ℕ) (mark operation : List ℕ) → Sound p → length (p .sizes) ≤ 256 → Mark-columns p many mark operation →
+pub marks-shown : (p : Plan) (many : ℕ) (mark operation : List ℕ) → Sound p → length (p .sizes) ≤ most-buffers → Mark-columns p many mark operation →
     shown-from mark operation many 0 ≡ plan-marks p
 marks-shown p many mark operation sound few c =
-    let f : ℕ → Marked = λ k. mark-of (getD mark k 0 % 512) (getD operation k 0 % 1024) in
+    let f : ℕ → Marked = λ k. mark-of (getD mark k 0 % mark-codes) (getD operation k 0 % most-operations) in
     let long = tabulate-length f many 0 in
     ext-getD no-mark (tabulate-from many 0 f) (plan-marks p) (long ∙ c .all) (λ k l.
     let b : k < many = omega (arith, long) in
@@ -98,3 +104,41 @@ marks-shown p many mark operation sound few c =
     tabulate-at f many 0 k no-mark b ∙ ap f (zero-add k)
     ∙ same-mark (getD (plan-marks p) k no-mark) (getD mark k 0) (getD operation k 0) (c .marks k b) (c .operations k b)
     (omega (arith, m .buffer)) (m .kind) (omega (arith, m .by, sound .few-operations)))
+
+-- one mark after the other
+module _ (mark operation : List ℕ) where
+  pub shown-none : (many k : ℕ) → many ≤ k → shown-from mark operation (many - k) k ≡ []
+  unfolding tabulate-from
+  shown-none many k l = let e : many - k ≡ 0 = omega arith in rw e
+
+  pub shown-next : (many k : ℕ) → k < many →
+      shown-from mark operation (many - k) k ≡ mark-of (getD mark k 0 % mark-codes) (getD operation k 0 % most-operations) ∷ shown-from mark operation (many - (k + 1)) (k + 1)
+  unfolding tabulate-from
+  shown-next many k l = let e : many - k ≡ suc (many - (k + 1)) = omega arith in rw (e, add-one k)
+
+-- ---- the marks of one buffer
+abbrev pub place : Marked → Placed
+place m = record { by = m .by; kind = m .kind }
+
+unfoldable pub of-buffer : (b : ℕ) → List Marked → List Placed
+of-buffer b [] = []
+of-buffer b (m ∷ ms) = cond (eqb (m .buffer) b) (place m ∷ of-buffer b ms) (of-buffer b ms)
+
+of-append : (b : ℕ) (ms ns : List Marked) → of-buffer b (ms ++ ns) ≡ of-buffer b ms ++ of-buffer b ns
+unfolding of-buffer
+of-append b [] ns = refl
+of-append b (m ∷ ms) ns = by-cases (eqb (m .buffer) b) (λ t. rw (t, of-append b ms ns)) (λ f. rw (f, of-append b ms ns))
+
+of-marked : (i b : ℕ) (ms : List Mark) → of-buffer b (marked-of i ms) ≡ marks-of i b ms
+unfolding of-buffer marked-of marks-of placed
+of-marked i b [] = refl
+of-marked i b (m ∷ ms) = by-cases (eqb (m .buffer) b) (λ t. rw (t, of-marked i b ms)) (λ f. rw (f, of-marked i b ms))
+
+of-from : (i b : ℕ) (os : List Operation) → of-buffer b (marked-from i os) ≡ marks-from i b os
+unfolding of-buffer marked-from marks-from
+of-from i b [] = refl
+of-from i b (o ∷ os) = of-append b (marked-of i (o .marks)) (marked-from (suc i) os) ∙ rw (of-marked i b (o .marks), of-from (suc i) b os)
+
+pub of-plan : (p : Plan) (b : ℕ) → of-buffer b (plan-marks p) ≡ buffer-marks p b
+unfolding plan-marks buffer-marks
+of-plan p b = of-from 0 b (p .operations)
