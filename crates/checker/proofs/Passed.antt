@@ -2,7 +2,6 @@
 -- Assumes nothing.
 use mathlib.Core.Path.{_≡_, sym, ap, _∙_, subst}
 use mathlib.Core.Bool.{not}
-use mathlib.Core.Logic.{inl}
 use mathlib.Core.List.{List}
 use Prim.Native.Nat.{ℕ, _+_, _*_, _≤_, _<_}
 use native.Mathlib.Omega.{arith}
@@ -17,31 +16,23 @@ use Rattle.plan_format.specs.Sound.{Sound, rules-refusal}
 use Rattle.plan_format.specs.Stored.{scanned, plan-in, plan-refusal}
 use Rattle.plan_format.proofs.Judged.{zero-not-given, not-given-zero, or-else-none}
 use Rattle.plan_format.proofs.Plans.{sound-in}
-use Rattle.plan_order.specs.Check.{room-refusal, Leaves, rows-and-run, check-outcome, left-in, table-left, Check-says}
+use Rattle.plan_order.specs.Check.{room-refusal, Leaves, check-outcome, left-in, table-left, Check-says}
 use Rattle.plan_order.specs.Rows.{rows}
 use Rattle.plan_order.specs.Promise.{unrefused, Checked}
-use Rattle.plan_order.proofs.CheckMeaning.{answer-unrefused}
-use Rattle.plan_order.proofs.OutcomeMeaning.{Left-case, left-untouched, left-zeros, left-rows, check-left-case}
+use Rattle.plan_order.proofs.CheckMeaning.{passed-unrefused}
+use Rattle.plan_order.proofs.OutcomeMeaning.{passed-leaves}
 use Rattle.plan_order.proofs.Rows.{row-at, rows-at, rows-length}
 use Rattle.plan_columns.specs.Columns.{Row-columns}
 use Rattle.checker.specs.Counting.{Sizes-told}
 use Rattle.checker.specs.declared.Counted.{Counted}
-
--- ---- the outcome of a passed check leaves the rows and the run
-pub passed-leaves : (bs : List ℕ) (t l : ℕ) → check-outcome bs t l .refusal .number ≡ 0 → check-outcome bs t l .leaves ≡ rows-and-run
-passed-leaves bs t l z = by-case (check-left-case bs t l)
-  where
-    by-case : Left-case (plan-in bs) (check-outcome bs t l) → check-outcome bs t l .leaves ≡ rows-and-run
-    by-case (left-untouched low high e) = absurd (omega arith)
-    by-case (left-zeros low high e) = absurd (omega arith)
-    by-case (left-rows n e w) = e
 
 -- a passed check refuses nothing of the plan
 pub passed-good : (bs : List ℕ) (t l : ℕ) → check-outcome bs t l .refusal .number ≡ 0 → plan-refusal bs .number ≡ 0
 unfolding unrefused
 passed-good bs t l z =
     not-given-zero (plan-refusal bs) (not-true (given (plan-refusal bs))
-    (and-left (not (given (plan-refusal bs))) (not (given (room-refusal (count (plan-in bs)) t l))) (answer-unrefused bs t l (inl z))))
+    (and-left (not (given (plan-refusal bs))) (not (given (room-refusal (count (plan-in bs)) t l)))
+    (passed-unrefused bs t l z)))
 
 -- rows in front of a table
 rows-in-front : (p : Plan) (t : List ℕ) → Row-columns p (λ j. j < count p) (in-front (rows p) t)

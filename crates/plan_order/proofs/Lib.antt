@@ -22,7 +22,9 @@ pub mod StandardMeaning
 pub mod RowsMeaning
 pub mod LeftMeaning
 pub mod RoomMeaning
+pub mod Leaving
 pub mod CheckMeaning
 pub mod OutcomeMeaning
+pub mod Asking
 pub mod QuestionMeaning
 pub mod Checks
