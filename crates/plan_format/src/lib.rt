@@ -23,6 +23,17 @@ pub fn refused(number: u32, place: usize) -> Told
     }
 }
 
+// An answer, with no refusal.
+pub fn answered(answer: u64) -> Told
+    ensures { λ r. ⌜ r ≡ record { number = 0; place = 0; answer = answer } ⌝ }
+{
+    Told {
+        number: 0,
+        place: 0,
+        answer,
+    }
+}
+
 // Whether a number stands in a list behind the first: an axis among the axes, the count being in front of them.
 pub fn repeated(list: &[u64], number: u64) -> bool
     ensures { λ r. ⌜ r ≡ member number (drop 1 (now (list .entry))) ⌝ }

@@ -17,6 +17,7 @@ pub mod AskedMarks
 pub mod KeepsMeaning
 pub mod MarksMeaning
 pub mod VerdictMeaning
+pub mod LastFree
 pub mod ReadyMeaning
 pub mod StandardMeaning
 pub mod RowsMeaning
@@ -28,3 +29,4 @@ pub mod OutcomeMeaning
 pub mod Asking
 pub mod QuestionMeaning
 pub mod Checks
+pub mod FirstBytes

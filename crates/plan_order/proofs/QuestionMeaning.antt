@@ -2,7 +2,7 @@
 use mathlib.Core.Path.{_≡_, refl, sym, _∙_, subst}
 use mathlib.Core.Bool.{true}
 use mathlib.Core.Logic.{_↔_}
-use mathlib.Core.List.{List}
+use mathlib.Core.List.{List, []}
 use Prim.Native.Nat.{ℕ, _≤_, _<_}
 use native.Mathlib.Omega.{arith}
 use lib.Dec.{leb}
@@ -10,19 +10,38 @@ use lib.ListN.{length}
 use borrow.Author.Tests.{leb-true, leb-false, le-leb, lt-leb}
 use Rattle.basics.specs.Lists.{member, all}
 use Rattle.basics.proofs.Tests.{by-cases}
-use Rattle.plan_format.specs.Plan.{Plan, queues}
+use Rattle.plan_format.specs.Plan.{Plan, queues, plan-of}
 use Rattle.plan_format.specs.Refusal.{Refusal, refusal, none-given, given, or-else}
 use Rattle.plan_format.specs.RefusalNumbers.{None-or, reuse-numbers}
-use Rattle.plan_format.specs.Stored.{plan-in}
+use Rattle.plan_format.specs.Grammar.{bytes, scan, refused, field-number, read-field, read-by, ended}
+use Rattle.plan_format.specs.Form.{first-form, plan-grammar, scanned-by}
+use Rattle.plan_format.specs.Stored.{scanned, plan-in, plan-refusal}
 use Rattle.plan_format.specs.Meaning.{Refuses}
 use Rattle.plan_format.specs.declared.Told.{Told}
 use Rattle.plan_format.proofs.Judged.{zero-not-given}
-use Rattle.plan_order.specs.Check.{rows-and-run, check-outcome}
+use Rattle.plan_order.specs.Check.{untouched, rows-and-run, outcome, or-then, check-outcome}
 use Rattle.plan_order.specs.Reuse.{number-of, verdict, question-refusal, reuse-outcome, Reuse-says}
 use Rattle.plan_order.specs.Meaning.{Verdict-table, Question-means, Left-means}
 use Rattle.plan_order.specs.Promise.{Safe, unrefused}
 use Rattle.plan_order.proofs.Asking.{plan-first, gives-asked, asked-own, asked-safe, asked-number, asked-leaves-by, asked-left}
-use Rattle.plan_order.proofs.VerdictMeaning.{verdict-table}
+use Rattle.plan_order.proofs.VerdictMeaning.{one-use, verdict-table}
+
+-- no bytes, and a queue that they do not have: the plan is refused
+unread-first : reuse-outcome [] 0 0 0 0 ≡ outcome (refusal 1 0) untouched
+unfolding reuse-outcome question-refusal check-outcome or-then outcome plan-refusal or-else given none-given refusal queues
+    plan-in plan-of scanned scanned-by bytes scan refused read-by read-field field-number ended first-form plan-grammar
+unread-first = refl
+
+-- a question on a plan that passes leaves rows and run
+rows-left : (bs : List ℕ) (q b t l : ℕ) → check-outcome bs t l .refusal .number ≡ 0 →
+    reuse-outcome bs q b t l .leaves ≡ rows-and-run
+unfolding reuse-outcome or-then outcome
+rows-left bs q b t l z = rw (zero-not-given (check-outcome bs t l .refusal) z)
+
+-- queues are named from 0
+queue-past : question-refusal one-use 1 0 ≡ refusal 12 1
+unfolding one-use question-refusal queues or-else given none-given refusal
+queue-past = refl
 
 -- ---- the question's own refusals
 module _ (p : Plan) (q b : ℕ) where

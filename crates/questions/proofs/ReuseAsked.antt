@@ -19,6 +19,7 @@ use Rattle.plan_order.specs.Promise.{Demand-3-stored, Checked}
 use Rattle.plan_order.proofs.CheckMeaning.{passed-unrefused, check-means}
 use Rattle.plan_order.proofs.OutcomeMeaning.{passed-leaves}
 use Rattle.plan_order.proofs.Promises.{demand-3-stored}
+use Rattle.plan_order.proofs.LastFree.{no-stray}
 use Rattle.plan_order.proofs.QuestionMeaning.{question-means, question-passed, question-answered, question-left, question-answer}
 use Rattle.plan_columns.proofs.Limits.{limits}
 use Rattle.checker.specs.Counting.{Sizes-told}
@@ -27,7 +28,6 @@ use Rattle.checker.specs.declared.Counted.{Counted}
 use Rattle.checker.proofs.Passed.{sound, read, rows-shown, queues-are, buffers-are, operations-are}
 use Rattle.questions.specs.Reuse.{Asked}
 use Rattle.questions.specs.ReusePass.{Opened}
-use Rattle.questions.proofs.ReuseStray.{no-stray}
 
 -- ---- all that a caller gets
 -- the marks of a passed plan on one of its buffers are forced
