@@ -12,7 +12,8 @@ use Rattle.plan_format.proofs.Plans.{scanned-shape}
 use Rattle.checker.specs.Counting.{Sizes-told}
 use Rattle.checker.specs.declared.Counted.{Counted}
 
-pub few-counts : (bs : List ℕ) (c : Counted) → Sizes-told bs c → (c .operations ≤ most-operations) × (c .queues ≤ most-queues)
+pub few-counts : (bs : List ℕ) (c : Counted) → Sizes-told bs c →
+    (c .operations ≤ most-operations) × (c .queues ≤ most-queues)
 unfolding queues
 few-counts bs c s =
     by-cases (given (scanned bs .fault))

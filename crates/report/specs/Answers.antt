@@ -1,9 +1,10 @@
 -- What the program prints for a check, as texts. Assumes nothing: these are definitions.
 use mathlib.Core.List.{List, [], _∷_, _++_}
-use Prim.Native.Nat.{ℕ, _*_}
-use lib.ListN.{take, drop, replicate}
+use Prim.Native.Nat.{ℕ, _*_, _≤_}
+use lib.ListN.{length, take, drop, replicate}
 use Rattle.basics.specs.Lists.{join-from}
-use Rattle.plan_format.specs.Sizes.{row-width, table-numbers, list-numbers}
+use Rattle.plan_format.specs.Sizes.{most-queues, most-operations, row-width, table-numbers, list-numbers}
+use Rattle.plan_format.specs.declared.Told.{Told}
 use Rattle.plan_order.specs.Promise.{Checked}
 use Rattle.checker.specs.Counting.{Sizes-told}
 use Rattle.checker.specs.declared.Counted.{Counted}
@@ -26,11 +27,21 @@ row-text q t i = decimal i ++ (ascii ":" ++ blanked (take q (drop (row-width * i
 unfoldable pub passed-text : Counted → (table list : List ℕ) → List ℕ
 passed-text c t l = sizes-text c ++ runs-text (c .operations) l ++ join-from (c .operations) 0 (row-text (c .queues) t)
 
--- the text of a check, to which the table and the list of the greatest plan are lent
+-- counts within their limits, and a table with room for the rows of every plan
+pub record Rows-inside (operations queues : ℕ) (table : List ℕ) : Type 0 where
+  pub few-operations : operations ≤ most-operations
+  pub few-queues : queues ≤ most-queues
+  pub table-long : table-numbers ≤ length table
+
+-- number and place of a check, beside its counts
+abbrev pub told-of : Counted → Told
+told-of c = record { number = c .number; place = c .place; answer = 0 }
+
+-- the text of a check, to which room for the rows and the run of every plan is lent
 pub record Check-printed (bytes room room-now : List ℕ) (end : ℕ) : Type 0 where
   pub counts : Counted
   pub table : List ℕ
   pub list : List ℕ
-  pub checked : Checked bytes (record { number = counts .number; place = counts .place; answer = 0 }) (replicate table-numbers 0) table (replicate list-numbers 0) list
+  pub checked : Checked bytes (told-of counts) (replicate table-numbers 0) table (replicate list-numbers 0) list
   pub sizes : Sizes-told bytes counts
   pub text : Puts (or-refused (counts .number) (counts .place) (passed-text counts table list)) room 0 room-now end

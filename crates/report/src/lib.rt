@@ -9,7 +9,7 @@ ghost use lib.ListN.{length, take, drop};
 ghost use Rattle.basics.specs.Lists.{join-from};
 ghost use Rattle.plan_format.specs.Sizes.{most-queues, most-operations, table-numbers, list-numbers};
 ghost use Rattle.text.specs.Text.{Puts, blanked, or-refused};
-ghost use Rattle.report.specs.Answers.{sizes-text, runs-text, row-text, passed-text, Check-printed};
+ghost use Rattle.report.specs.Answers.{sizes-text, runs-text, row-text, passed-text, Rows-inside, Check-printed};
 
 // The check of a plan.
 pub fn check(plan: &[u8], out: &mut [u8]) -> usize
@@ -23,7 +23,7 @@ pub fn check(plan: &[u8], out: &mut [u8]) -> usize
 
 // The line of a refusal, or the text of a pass.
 fn checked(out: &mut [u8], counts: Counted, table: &[u32], list: &[u32]) -> usize
-    requires { ⌜ (counts .operations ≤ most-operations) × (counts .queues ≤ most-queues) × (table-numbers ≤ length (now table)) × (list-numbers ≤ length (now list)) ⌝ }
+    requires { ⌜ Rows-inside (counts .operations) (counts .queues) (now table) × (list-numbers ≤ length (now list)) ⌝ }
     ensures { λ r. ⌜ Puts (or-refused (counts .number) (counts .place) (passed-text counts (now (table .entry)) (now (list .entry)))) (now (out .entry)) 0 (now (out .exit)) r ⌝ }
 {
     if counts.number != 0 {
@@ -70,7 +70,7 @@ fn listed(out: &mut [u8], at: usize, word: &[u8], list: &[u32], from: usize, n: 
 
 // A line for each operation: its row, one column for each queue.
 fn rows(out: &mut [u8], at: usize, n: usize, queues: usize, table: &[u32]) -> usize
-    requires { ⌜ (n ≤ most-operations) × (queues ≤ most-queues) × (table-numbers ≤ length (now table)) ⌝ }
+    requires { ⌜ Rows-inside n queues (now table) ⌝ }
     ensures { λ r. ⌜ Puts (join-from n 0 (row-text queues (now (table .entry)))) (now (out .entry)) at (now (out .exit)) r ⌝ }
 {
     let mut end = at;

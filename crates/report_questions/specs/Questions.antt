@@ -55,5 +55,6 @@ pub record Frontier-printed (bytes : List ℕ) (operation capacity : ℕ) (room 
   pub sent : Sent
   pub table : List ℕ
   pub list : List ℕ
-  pub right : Frontier-right bytes operation capacity sent (replicate table-numbers 0) table (replicate list-numbers 0) list
+  pub right :
+      Frontier-right bytes operation capacity sent (replicate table-numbers 0) table (replicate list-numbers 0) list
   pub text : Puts (or-refused (sent .number) (sent .place) (frontier-text (sent .frontier))) room 0 room-now end
