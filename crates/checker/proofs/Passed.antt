@@ -18,6 +18,7 @@ use Rattle.plan_format.proofs.Plans.{sound-in}
 use Rattle.plan_order.specs.Check.{room-refusal, order-refusal, Leaves, untouched, zeros, rows-and-run, Outcome, outcome, or-then, check-outcome, left-in, table-left, Check-says}
 use Rattle.plan_order.specs.Rows.{rows}
 use Rattle.plan_order.specs.Promise.{Checked}
+use Rattle.plan_order.proofs.OutcomeMeaning.{passed-leaves}
 use Rattle.plan_order.proofs.Rows.{row-at, rows-at, rows-length}
 use Rattle.plan_columns.specs.Columns.{Source-column, Row-columns}
 use Rattle.plan_columns.proofs.Limits.{limits}
@@ -35,13 +36,12 @@ or-then-none a b z =
     clash (given (a .refusal)) g (zero-not-given (a .refusal) (sym (ap (λ (o : Outcome). o .refusal .number) same) ∙ z)))
     (λ f. (not-given-zero (a .refusal) f, rw f))
 
-pub record Passes (bs : List ℕ) (t l : ℕ) : Type 0 where
+-- a passed check refuses nothing of the plan, and nothing of its order
+pub record Passes (bs : List ℕ) : Type 0 where
   pub good : plan-refusal bs .number ≡ 0
-  pub room : room-refusal (count (plan-in bs)) t l .number ≡ 0
   pub order : order-refusal (plan-in bs) .number ≡ 0
-  pub leaves : check-outcome bs t l .leaves ≡ rows-and-run
 
-pub passes : (bs : List ℕ) (t l : ℕ) → check-outcome bs t l .refusal .number ≡ 0 → Passes bs t l
+pub passes : (bs : List ℕ) (t l : ℕ) → check-outcome bs t l .refusal .number ≡ 0 → Passes bs
 unfolding check-outcome outcome
 passes bs t l z =
     let p = plan-in bs in
@@ -52,10 +52,7 @@ passes bs t l z =
     let a = or-then-none first (or-then second (or-then third last)) z in
     let b = or-then-none second (or-then third last) (sym (ap (λ (o : Outcome). o .refusal .number) (a .1)) ∙ z) in
     let c = or-then-none third last (sym (ap (λ (o : Outcome). o .refusal .number) (a .1 ∙ b .1)) ∙ z) in
-    record { good = a .0; room = b .0; order = c .0; leaves = ap (λ (o : Outcome). o .leaves) (a .1 ∙ b .1 ∙ c .1) }
-
-pub passed-leaves : (bs : List ℕ) (t l : ℕ) → check-outcome bs t l .refusal .number ≡ 0 → check-outcome bs t l .leaves ≡ rows-and-run
-passed-leaves bs t l z = passes bs t l z .leaves
+    record { good = a .0; order = c .0 }
 
 -- rows in front of a table
 rows-in-front : (p : Plan) (t : List ℕ) → Row-columns p (λ j. j < count p) (in-front (rows p) t)

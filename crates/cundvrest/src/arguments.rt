@@ -2,14 +2,7 @@
 use crate::usage;
 use check::same;
 use decimal::Word;
-
-// What is asked of a plan.
-pub enum Question {
-    Check,
-    Reuse(u32, u32),
-    Frontier(u32, u32),
-    Read,
-}
+use report_input::Question;
 
 pub enum Asked {
     Plan(Question),

@@ -20,7 +20,7 @@ pub fn interrupted() -> bool {
     again
 }
 
-// One read, behind the bytes that are kept; where the room is full, of bytes that are let go.
+// One read, after the bytes that are kept; where the room is full, of bytes that are let go.
 fn some(room: &mut [u8], kept: usize) -> Input
     requires { ⌜ kept ≤ length (now room) ⌝ }
     ensures { λ r. ⌜ r .kept ≤ length (now (room .exit)) ⌝ }

@@ -6,46 +6,32 @@ mod output;
 mod usage;
 
 use arguments::Asked;
-use arguments::Question;
 use libc::STDOUT_FILENO;
+use plan_format::limits::PLAN_BYTES;
+use plan_format::limits::PLAN_NUMBERS;
+use report_input::Question;
 
-// The answer to a question on the plan of standard input. Its first 63,687 bytes, one more than the longest plan has, decide the refusal of
-// any longer input: `first-bytes-decide` of `plan_format`.
+// One byte, and one number, more than the longest plan has: so many decide the answer to an input of any length.
+const FIRST_BYTES: usize = PLAN_BYTES + 1;
+
+const FIRST_NUMBERS: usize = PLAN_NUMBERS + 1;
+
+// Room for every text that is printed.
+const TEXT_ROOM: usize = 262144;
+
+// The answer to a question on the plan of standard input.
 fn on_plan(question: Question, out: &mut [u8]) -> usize {
-    let mut plan = [0u8; 63687];
+    let mut plan = [0u8; FIRST_BYTES];
     let read = input::plan(&mut plan);
     if read.failed {
         return 0;
     }
-    on_first(question, &plan, read.kept, out)
+    report_input::on_first(question, &plan, read.kept, out)
 }
 
-// The same on the first n bytes.
-fn on_first(question: Question, bytes: &[u8], n: usize, out: &mut [u8]) -> usize {
-    if n < bytes.len() {
-        return answered(question, &bytes[..n], out);
-    }
-    answered(question, bytes, out)
-}
-
-fn answered(question: Question, plan: &[u8], out: &mut [u8]) -> usize {
-    match question {
-        Question::Check => report::check(plan, out),
-        Question::Reuse(queue, buffer) => report_questions::reuse(plan, queue, buffer, out),
-        Question::Frontier(operation, capacity) => report_questions::frontier(
-            plan,
-            operation,
-            capacity,
-            out,
-        ),
-        Question::Read => report_stored::read(plan, out),
-    }
-}
-
-// The stored plan of the numbers of standard input. The first 22,869, one more than the longest plan has, decide the refusal of any longer
-// list: `first-numbers-decide` of `plan_format`.
+// The stored plan of the numbers of standard input.
 fn write(out: &mut [u8]) -> usize {
-    let mut list = [0u64; 22869];
+    let mut list = [0u64; FIRST_NUMBERS];
     let read = numbers::from_input(&mut list);
     if read.failed {
         return 0;
@@ -55,7 +41,7 @@ fn write(out: &mut [u8]) -> usize {
         usage::bad_number(s.before, s.fault);
         return 0;
     }
-    report_stored::write(&list, s.kept, out)
+    report_input::written(&list, s.kept, out)
 }
 
 // The text of what is asked; of length 0 where a line on standard error says why there is none.
@@ -69,7 +55,7 @@ fn answer(out: &mut [u8]) -> usize {
 }
 
 fn main() {
-    let mut out = [0u8; 262144];
+    let mut out = [0u8; TEXT_ROOM];
     let n = answer(&mut out);
     if !output::write(STDOUT_FILENO, &out, n) {
         os::fail(b"cundvrest: standard output cannot be written");

@@ -1,25 +1,29 @@
 -- What the question for a frontier says, from what the check says; and all that a caller gets with it. Assumes nothing.
 use mathlib.Core.Path.{_≡_, sym, ap, _∙_, subst}
 use mathlib.Core.Bool.{Bool, false, cond}
-use mathlib.Core.List.{List, []}
+use mathlib.Core.List.{List, [], _∷_}
 use Prim.Native.Nat.{ℕ, _≤_, _<_}
 use lib.ListN.{length}
 use Rattle.frontier.specs.Frontiers.{pack}
 use Rattle.plan_format.specs.Plan.{count}
 use Rattle.plan_format.specs.Refusal.{Refusal, given}
+use Rattle.plan_format.specs.RefusalNumbers.{sent-gives}
 use Rattle.plan_format.specs.Stored.{plan-in}
 use Rattle.plan_format.specs.Meaning.{Refuses}
 use Rattle.plan_format.proofs.Judged.{zero-not-given, other-given}
+use Rattle.plan_format.proofs.RefusalNumbers.{one-is}
 use Rattle.plan_format.proofs.Plans.{sound-in}
 use Rattle.plan_order.specs.Check.{Leaves, Outcome, outcome, check-outcome, table-left, list-left, Says, Check-says}
-use Rattle.plan_order.proofs.OutcomeMeaning.{left-by}
+use Rattle.plan_order.specs.Meaning.{Left-means}
+use Rattle.plan_order.proofs.OutcomeMeaning.{passed-leaves}
+use Rattle.plan_order.proofs.Asking.{asked-left}
 use Rattle.frontier_sent.specs.declared.Sent.{Sent}
 use Rattle.frontier_sent.specs.Sent.{sent, sent-refusal, sent-outcome, told, Frontier-says}
 use Rattle.frontier_sent.specs.SentMeaning.{Sent-means, Sent-number, Frontier-right}
 use Rattle.frontier_sent.specs.SentWalk.{Sent-tells}
-use Rattle.checker.proofs.Passed.{passed-leaves, passes}
+use Rattle.checker.proofs.Passed.{passes}
 use Rattle.frontier_sent.proofs.SentMeaning.{sent-means}
-use Rattle.frontier_sent.proofs.SentOutcome.{no-operation, no-capacity, none-refused, plan-first, then-asked, gives-asked, sent-left-case, sent-case, operation-if, capacity-if, answer-if}
+use Rattle.frontier_sent.proofs.SentOutcome.{no-operation, no-capacity, none-refused, plan-first, then-asked, gives-asked, operation-if, capacity-if, answer-if, sent-only, sent-leaves-by, sent-passed}
 
 -- ---- what is said
 module _ (bs : List ℕ) (j c : ℕ) (t x l y : List ℕ) (n i : ℕ) (s : Check-says bs (record { number = n; place = i; answer = 0 }) t x l y) where
@@ -63,7 +67,6 @@ module _ (bs : List ℕ) (j c : ℕ) (r : Sent) (t x l y : List ℕ) (s : Fronti
   by-number =
       let n = s .says .tells .number in
       let i = s .says .tells .place in
-      let this-case = sent-case bs j c (length t) (length l) in
       let given-as : (k v : ℕ) → check .number ≡ 0 → Refuses (sent-refusal (plan-in bs) j c) k v → (r .number ≡ k) × (r .place ≡ v) =
       λ k v z f. let g = gives-asked bs j c (length t) (length l) k v z f in (n ∙ g .0 .0, i ∙ g .0 .1) in
       record {
@@ -75,17 +78,18 @@ module _ (bs : List ℕ) (j c : ℕ) (r : Sent) (t x l y : List ℕ) (s : Fronti
         no-capacity = λ z h k. given-as 15 0 z (no-capacity (plan-in bs) j c h k);
         answered = λ z h k m. given-as 0 0 z (none-refused (plan-in bs) j c h k m);
         twenty-one = (
-          (λ e. operation-if bs j c (length t) (length l) (out .refusal .number) this-case (sym n ∙ e)),
+          (λ e. operation-if bs j c (length t) (length l) (sym n ∙ e)),
           (λ w. given-as 21 j (w .0) (no-operation (plan-in bs) j c (w .1)) .0),
         );
         fifteen = (
-          (λ e. capacity-if bs j c (length t) (length l) (out .refusal .number) this-case (sym n ∙ e)),
+          (λ e. capacity-if bs j c (length t) (length l) (sym n ∙ e)),
           (λ w. given-as 15 0 (w .0) (no-capacity (plan-in bs) j c (w .1) (w .2)) .0),
         );
         zero = (
-          (λ e. answer-if bs j c (length t) (length l) (out .refusal .number) this-case (sym n ∙ e)),
+          (λ e. answer-if bs j c (length t) (length l) (sym n ∙ e)),
           (λ w. given-as 0 0 (w .0) (none-refused (plan-in bs) j c (w .1) (w .2) (w .3)) .0),
         );
+        only = one-is (0 ∷ sent-gives) n (sent-only bs j c (length t) (length l));
         refused = λ h. s .frontier-is ∙ ap (λ (b : Bool). cond b (pack [] false) (sent (plan-in bs) j c)) (other-given (out .refusal) (λ z. h (n ∙ z)));
       }
 
@@ -96,11 +100,17 @@ module _ (bs : List ℕ) (j c : ℕ) (r : Sent) (t x l y : List ℕ) (s : Fronti
   frontier-sent z =
       s .frontier-is ∙ ap (λ (b : Bool). cond b (pack [] false) (sent (plan-in bs) j c)) (zero-not-given (out .refusal) (sym (s .says .tells .number) ∙ z))
 
+  sent-left : Left-means (plan-in bs) (out .leaves) t x l y
+  unfolding sent-outcome
+  sent-left = asked-left bs (sent-refusal (plan-in bs) j c) 0 (told r) t x l y (s .says)
+
   pub frontier-right : Frontier-right bs j c r t x l y
   frontier-right = record {
     says = s;
     number = by-number;
-    left = left-by (plan-in bs) out 0 (told r) t x l y (s .says) (sent-left-case bs j c (length t) (length l));
+    leaves = sent-leaves-by bs j c (length t) (length l);
+    passed = sent-passed bs j c (length t) (length l);
+    left = sent-left;
     is-sent = frontier-sent;
     means = λ z. let w = passed-by z in
         subst (Sent-means (plan-in bs) j c) (sym (frontier-sent z))

@@ -15,13 +15,15 @@ use Rattle.frontier.specs.declared.Lookup.the-variants.{Listed}
 use Rattle.frontier.specs.declared.Dominance.the-variants.{Yes, No}
 use Rattle.plan_format.specs.Plan.{Plan, count, queues}
 use Rattle.plan_format.specs.Refusal.{Refusal}
+use Rattle.plan_format.specs.RefusalNumbers.{None-or, sent-numbers, sent-gives}
 use Rattle.plan_format.specs.Stored.{plan-in}
 use Rattle.plan_order.specs.Precedence.{Before}
 use Rattle.plan_order.specs.Rows.{row}
-use Rattle.plan_order.specs.Check.{check-outcome}
-use Rattle.plan_order.specs.Meaning.{Left-by-number}
+use Rattle.plan_order.specs.Check.{Outcome, rows-and-run, check-outcome}
+use Rattle.plan_order.specs.Meaning.{Leaves-by, Left-means}
+use Rattle.plan_order.specs.Promise.{Safe, unrefused}
 use Rattle.frontier_sent.specs.declared.Sent.{Sent}
-use Rattle.frontier_sent.specs.Sent.{sent-entries, sent, Frontier-says}
+use Rattle.frontier_sent.specs.Sent.{sent-entries, sent, sent-outcome, Frontier-says}
 
 -- the queue has the axis and its entry in the row of operation j is e
 abbrev pub In-row : Plan → (j axis e q : ℕ) → Type 0
@@ -64,13 +66,24 @@ pub record Sent-number (check : Refusal) (p : Plan) (j capacity : ℕ) (r : Sent
   pub twenty-one : (r .number ≡ 21) ↔ ((check .number ≡ 0) × (count p ≤ j))
   pub fifteen : (r .number ≡ 15) ↔ ((check .number ≡ 0) × (j < count p) × ((capacity < 1) ⊎ (16 < capacity)))
   pub zero : (r .number ≡ 0) ↔ ((check .number ≡ 0) × (j < count p) × (1 ≤ capacity) × (capacity ≤ 16))
+  pub only : None-or sent-gives (r .number)
   -- 01: "A refusal hands back an empty untainted frontier"
   pub refused : (r .number ≡ 0 → ⊥) → r .frontier ≡ pack [] false
+
+-- the outcome of the question in lent table and list
+abbrev pub sent-outcome-in : (bytes : List ℕ) → (j capacity : ℕ) → (table list : List ℕ) → Outcome
+sent-outcome-in bs j c t l = sent-outcome bs j c (length t) (length l)
 
 -- what a caller gets
 pub record Frontier-right (bytes : List ℕ) (j capacity : ℕ) (r : Sent) (table table-now list list-now : List ℕ) : Type 0 where
   pub says : Frontier-says bytes j capacity r table table-now list list-now
   pub number : Sent-number (check-outcome bytes (length table) (length list) .refusal) (plan-in bytes) j capacity r
-  pub left : Left-by-number (plan-in bytes) (r .number) table table-now list list-now
+  -- what is left, and which numbers leave it; rows and run exactly where the plan passes
+  pub leaves : Leaves-by sent-numbers (sent-outcome-in bytes j capacity table list)
+  pub passed :
+      (sent-outcome-in bytes j capacity table list .leaves ≡ rows-and-run) ↔
+      ((unrefused bytes (length table) (length list) ≡ true) × Safe (plan-in bytes))
+  pub left :
+      Left-means (plan-in bytes) (sent-outcome-in bytes j capacity table list .leaves) table table-now list list-now
   pub is-sent : r .number ≡ 0 → r .frontier ≡ sent (plan-in bytes) j capacity
   pub means : r .number ≡ 0 → Sent-means (plan-in bytes) j capacity (r .frontier)

@@ -1,4 +1,5 @@
 pub mod Judged
+pub mod RefusalNumbers
 pub mod Faults
 pub mod Seams
 pub mod Bytes

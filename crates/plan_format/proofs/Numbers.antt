@@ -3,19 +3,20 @@ use mathlib.Core.Path.{_≡_, refl}
 use mathlib.Core.Bool.{Bool, true, false, _||_, cond}
 use mathlib.Core.Logic.{_⊎_, inl, inr}
 use mathlib.Core.List.{List, [], _∷_, _++_}
-use Prim.Native.Nat.{ℕ, zero, suc, _+_, _*_, _≤_}
-use native.Mathlib.Omega.{arith}
+use Prim.Native.Nat.{ℕ, zero, suc, _+_, _*_}
 use lib.Dec.{ltb, eqb}
 use lib.ListN.{length, drop}
 use Rattle.basics.specs.Lists.{member}
 use Rattle.basics.proofs.Tests.{either}
 use Rattle.plan_format.specs.Refusal.{Refusal, refusal, none-given, given, or-else}
+use Rattle.plan_format.specs.RefusalNumbers.{None-or, reading-numbers, rule-numbers, plan-gives}
 use Rattle.plan_format.specs.Grammar.{Grammar, field, seq, counted, nothing, Source, Scan, bytes, numbers, scan, refused, field-number, read-field, last-got, times, count-check, read-by, ended}
 use Rattle.plan_format.specs.Form.{first-form, queue-count, semaphore-count, buffer-count, any-number, below, new-axis, a-queue, a-semaphore, a-buffer, a-kind, point, mark, part, operation, plan-grammar, scanned-by}
 use Rattle.plan_format.specs.Stored.{scanned, listed, plan-in, plan-refusal}
 use Rattle.plan_format.specs.Sound.{rules-refusal}
 use Rattle.plan_format.specs.Meaning.{Fields-answer, first-of, rest-of, Sections-answer, Plan-refusal-means}
 use Rattle.plan_format.proofs.Judged.{other-given, or-else-first, or-else-second}
+use Rattle.plan_format.proofs.RefusalNumbers.{none-or-left, none-or-right}
 use Rattle.plan_format.proofs.RulesMeaning.{rules-mean}
 
 cond-has : {A : Type 0} (Q : A → Type 0) (b : Bool) (x y : A) → Q x → Q y → Q (cond b x y)
@@ -69,7 +70,7 @@ module _ (P : ℕ → Type 0) (p0 : P 0) (p1 : P 1) (p2 : P 2) (p4 : P 4) (S : S
   unfolding ended refused refusal scan
   ended-has p3 s e = cond-has (Fault-has P) (given (s .fault) || eqb (length (s .rest)) 0) s (refused 3 s) e p3
 
--- ---- 0 to 5 for a plan
+-- ---- the numbers of a reading
 abbrev Or-none : (n m : ℕ) → Type 0
 Or-none n m = (m ≡ 0) ⊎ (m ≡ n)
 
@@ -94,48 +95,45 @@ sections-answer =
       others = (queue, (any-none, (queue, (tt, (point-four, (point-four, ((λ g v. below-four (buffer-count g) v), (λ g v. below-four 2 v))))))));
     }
 
-abbrev To-five : ℕ → Type 0
-To-five n = n ≤ 5
+abbrev Of-a-reading : ℕ → Type 0
+Of-a-reading n = None-or reading-numbers n
 
-grammar-five : Fields-answer To-five (plan-grammar first-form)
-unfolding plan-grammar first-form
-grammar-five =
+grammar-numbers : Fields-answer Of-a-reading (plan-grammar first-form)
+unfolding plan-grammar first-form member
+grammar-numbers =
     let g = plan-grammar first-form in (
-      fields-mono (Or-none 5) To-five (λ n h. either h (λ e. omega arith) (λ e. omega arith)) (first-of g) (sections-answer .axes),
-      fields-mono (Or-none 4) To-five (λ n h. either h (λ e. omega arith) (λ e. omega arith)) (rest-of g) (sections-answer .others),
+      fields-mono (Or-none 5) Of-a-reading (λ n h. either h (λ e. rw e) (λ e. rw e)) (first-of g)
+          (sections-answer .axes),
+      fields-mono (Or-none 4) Of-a-reading (λ n h. either h (λ e. rw e) (λ e. rw e)) (rest-of g)
+          (sections-answer .others),
     )
 
--- 1 to 5 of a reader, and of a writer
-pub fault-five : (S : Source) (xs : List ℕ) → scanned-by S first-form xs .fault .number ≤ 5
-unfolding scanned-by none-given scan
-fault-five S xs =
+-- of a reader's fault, and of a writer's
+pub fault-number : (S : Source) (xs : List ℕ) → None-or reading-numbers (scanned-by S first-form xs .fault .number)
+unfolding scanned-by none-given scan member
+fault-number S xs =
     let k = S .leads * length (first-form .lead) in
     let s = scan (drop k xs) k [] none-given in
-    let four : To-five 4 = omega arith in
-    ended-has To-five (omega arith) (omega arith) (omega arith) four S (omega arith) (read-by S (plan-grammar first-form) s)
-    (read-has To-five (omega arith) (omega arith) (omega arith) four S (plan-grammar first-form) grammar-five s (omega arith))
+    ended-has Of-a-reading refl refl refl refl S refl (read-by S (plan-grammar first-form) s)
+    (read-has Of-a-reading refl refl refl refl S (plan-grammar first-form) grammar-numbers s refl)
 
-pub scanned-five : (bs : List ℕ) → scanned bs .fault .number ≤ 5
+pub scanned-number : (bs : List ℕ) → None-or reading-numbers (scanned bs .fault .number)
 unfolding scanned
-scanned-five bs = fault-five bytes bs
+scanned-number bs = fault-number bytes bs
 
-pub listed-five : (xs : List ℕ) → listed xs .fault .number ≤ 5
+pub listed-number : (xs : List ℕ) → None-or reading-numbers (listed xs .fault .number)
 unfolding listed
-listed-five xs = fault-five numbers xs
+listed-number xs = fault-number numbers xs
 
--- ---- 0 to 8 for a stored plan
-pub plan-eight : (bs : List ℕ) → plan-refusal bs .number ≤ 8
+-- ---- those of a stored plan
+pub plan-number : (bs : List ℕ) → None-or plan-gives (plan-refusal bs .number)
 unfolding plan-refusal or-else
-plan-eight bs =
+plan-number bs =
     let a = scanned bs .fault in
     let b = rules-refusal (plan-in bs) in
-    cond-has (λ (f : Refusal). f .number ≤ 8) (given a) a b (omega (arith, scanned-five bs)) (to-eight (b .number) (rules-mean (plan-in bs) .only))
-  where
-    to-eight : (n : ℕ) → (n ≡ 0) ⊎ ((n ≡ 6) ⊎ ((n ≡ 7) ⊎ (n ≡ 8))) → n ≤ 8
-    to-eight n (inl e) = omega arith
-    to-eight n (inr (inl e)) = omega arith
-    to-eight n (inr (inr (inl e))) = omega arith
-    to-eight n (inr (inr (inr e))) = omega arith
+    cond-has (λ (f : Refusal). None-or plan-gives (f .number)) (given a) a b
+    (none-or-left reading-numbers rule-numbers (a .number) (scanned-number bs))
+    (none-or-right reading-numbers rule-numbers (b .number) (rules-mean (plan-in bs) .only))
 
 -- 1 to 5 first, then 6 to 8
 pub plan-refusal-means : (bs : List ℕ) → Plan-refusal-means bs (plan-refusal bs)
@@ -146,5 +144,5 @@ plan-refusal-means bs =
     record {
       reading-first = λ h. or-else-first a b (other-given a h);
       then-rules = λ e. rw (or-else-second a b e) (rules-mean (plan-in bs));
-      only = plan-eight bs;
+      only = plan-number bs;
     }

@@ -1,4 +1,5 @@
--- A grammar reads no further than its greatest size, so a plan's first bytes decide. Assumes nothing.
+-- A grammar reads no further than its greatest size: a plan's first bytes decide what is read and its refusals.
+-- Assumes nothing.
 use mathlib.Core.Path.{_≡_, refl, sym, ap, _∙_, subst}
 use mathlib.Core.Bool.{cond}
 use mathlib.Core.List.{List, [], _++_}
@@ -10,14 +11,21 @@ use lib.ListN.{length, take, drop, length-append, length-drop, take-append-drop,
 use lib.Seq.{take-append-le, drop-append-le, length-take-le, take-all}
 use borrow.Author.Tests.{le-ltb, leb-true, leb-false, ne-eqb}
 use Rattle.basics.proofs.Tests.{by-cases}
-use Rattle.plan_format.specs.Refusal.{none-given, given}
+use Rattle.plan_format.specs.Sizes.{plan-bytes, plan-numbers}
+use Rattle.plan_format.specs.Refusal.{Refusal, none-given, given}
 use Rattle.plan_format.specs.Grammar.{Check, Grammar, field, seq, counted, nothing, Source, bytes, numbers, Scan, scan, refused, field-number, read-field, last-got, times, count-check, read-by, ended, value}
 use Rattle.plan_format.specs.Form.{Form, first-form, plan-grammar, scanned-by}
-use Rattle.plan_format.specs.Stored.{scanned, listed}
+use Rattle.plan_format.specs.Plan.{plan-of}
+use Rattle.plan_format.specs.Stored.{scanned, listed, plan-in, plan-refusal}
 use Rattle.plan_format.proofs.Judged.{not-given-zero}
 use Rattle.plan_format.proofs.Fields.{field-done, count-limits}
 use Rattle.plan_format.proofs.Reading.{last-is}
-use Rattle.plan_format.proofs.Sizes.{Most, bytes-most, numbers-most, longest-plan, most-plan-numbers}
+use Rattle.plan_format.proofs.Sizes.{Most, bytes-most, numbers-most, longest-plan, most-plan-numbers, listed-sizes}
+
+-- two readings with the same fault and the same numbers
+pub record Reads-alike (s t : Scan) : Type 0 where
+  pub fault : s .fault ≡ t .fault
+  pub got : s .got ≡ t .got
 
 -- a reading with more behind what is left
 unfoldable pub longer : List ℕ → Scan → Scan
@@ -134,29 +142,82 @@ module _ (S : Source) (front-is : Fronted S) (T : Most (S .wide)) where
         ne-eqb (length (s .rest)) 0 (λ e. omega arith),
       ))
 
+  ended-got : (b : List ℕ) (s : Scan) → ended (longer b s) .got ≡ ended s .got
+  unfolding ended refused longer scan
+  ended-got b s =
+      by-cases (given (s .fault)) (λ t. rw t)
+      (λ f. by-cases (eqb (length (s .rest ++ b)) 0)
+      (λ t. by-cases (eqb (length (s .rest)) 0) (λ u. rw (f, t, u)) (λ u. rw (f, t, u)))
+      (λ t. by-cases (eqb (length (s .rest)) 0) (λ u. rw (f, t, u)) (λ u. rw (f, t, u))))
+
   pub prefix-decides : (F : Form) (n : ℕ) (xs : List ℕ) → S .leads * length (F .lead) + T .most (plan-grammar F) < n →
-      scanned-by S F xs .fault ≡ scanned-by S F (take n xs) .fault
+      Reads-alike (scanned-by S F xs) (scanned-by S F (take n xs))
   unfolding scanned-by longer scan
   prefix-decides F n xs h =
-      by-cases (leb (length xs) n) (λ t. ap (λ z. scanned-by S F z .fault) (sym (take-all n xs (leb-true (length xs) n t)))) (λ f.
-      let k = S .leads * length (F .lead) in
+      by-cases (leb (length xs) n)
+      (λ t. let e = sym (take-all n xs (leb-true (length xs) n t)) in record {
+        fault = ap (λ z. scanned-by S F z .fault) e;
+        got = ap (λ z. scanned-by S F z .got) e;
+      })
+      (λ f. let k = S .leads * length (F .lead) in
       let a = take n xs in
       let b = drop n xs in
       let long : length a ≡ n = length-take-le n xs (omega (arith, leb-false (length xs) n f)) in
       let s = scan (drop k a) k [] none-given in
       let W = within (plan-grammar F) in
       let rest : length (drop k a) ≡ length a - k = length-drop k a in
-      ap (λ z. scanned-by S F z .fault) (sym (take-append-drop n xs))
-      ∙ ap (λ z. ended (read-by S (plan-grammar F) (scan z k [] none-given)) .fault) (drop-append-le k a b (omega arith))
-      ∙ ap (λ z. ended z .fault) (W .same b s (omega arith)) ∙ ended-fault b (read-by S (plan-grammar F) s) (omega (arith, W .left s)))
+      let e : scanned-by S F xs ≡ ended (longer b (read-by S (plan-grammar F) s)) =
+      ap (λ z. scanned-by S F z) (sym (take-append-drop n xs))
+      ∙ ap (λ z. ended (read-by S (plan-grammar F) (scan z k [] none-given))) (drop-append-le k a b (omega arith))
+      ∙ ap ended (W .same b s (omega arith)) in
+      record {
+        fault = ap (λ (z : Scan). z .fault) e ∙ ended-fault b (read-by S (plan-grammar F) s) (omega (arith, W .left s));
+        got = ap (λ (z : Scan). z .got) e ∙ ended-got b (read-by S (plan-grammar F) s);
+      })
 
 -- ---- the first form: one byte, or one number, past the greatest size
-pub first-bytes-decide : (bs : List ℕ) → scanned bs .fault ≡ scanned (take 63687 bs) .fault
+pub first-bytes-decide : (bs : List ℕ) → Reads-alike (scanned bs) (scanned (take (plan-bytes + 1) bs))
 unfolding scanned bytes bytes-most first-form
 first-bytes-decide bs = prefix-decides bytes (λ w a b l. ap value (take-append-le w a b l)) bytes-most first-form 63687 bs
     (omega (arith, longest-plan))
 
-pub first-numbers-decide : (xs : List ℕ) → listed xs .fault ≡ listed (take 22869 xs) .fault
+pub first-numbers-decide : (xs : List ℕ) → Reads-alike (listed xs) (listed (take (plan-numbers + 1) xs))
 unfolding listed numbers numbers-most first-form
 first-numbers-decide xs = prefix-decides numbers (λ w a b l. List·getD-append a b 0 0 l) numbers-most first-form 22869 xs
     (omega (arith, most-plan-numbers))
+
+-- bytes whose first are the same are the same plan, with the same refusals 1 to 8
+module _ (bs cs : List ℕ) (same : take (plan-bytes + 1) bs ≡ take (plan-bytes + 1) cs) where
+  pub bytes-alike : Reads-alike (scanned bs) (scanned cs)
+  bytes-alike =
+      let a = first-bytes-decide bs in
+      let b = first-bytes-decide cs in
+      record {
+        fault = a .fault ∙ ap (λ z. scanned z .fault) same ∙ sym (b .fault);
+        got = a .got ∙ ap (λ z. scanned z .got) same ∙ sym (b .got);
+      }
+
+  pub plan-alike : plan-in bs ≡ plan-in cs
+  unfolding plan-in
+  plan-alike = ap plan-of (bytes-alike .got)
+
+  pub refusal-alike : plan-refusal bs ≡ plan-refusal cs
+  unfolding plan-refusal
+  refusal-alike = rw (bytes-alike .fault, plan-alike)
+
+-- numbers whose first are the same are refused alike, and are the same where they are not
+module _ (xs ys : List ℕ) (same : take (plan-numbers + 1) xs ≡ take (plan-numbers + 1) ys) where
+  pub numbers-alike : Reads-alike (listed xs) (listed ys)
+  numbers-alike =
+      let a = first-numbers-decide xs in
+      let b = first-numbers-decide ys in
+      record {
+        fault = a .fault ∙ ap (λ z. listed z .fault) same ∙ sym (b .fault);
+        got = a .got ∙ ap (λ z. listed z .got) same ∙ sym (b .got);
+      }
+
+  pub taken-alike : listed xs .fault .number ≡ 0 → xs ≡ ys
+  taken-alike e =
+      let f : listed ys .fault .number ≡ 0 = sym (ap (λ (r : Refusal). r .number) (numbers-alike .fault)) ∙ e in
+      sym (take-all (plan-numbers + 1) xs (omega (arith, listed-sizes xs e))) ∙ same
+      ∙ take-all (plan-numbers + 1) ys (omega (arith, listed-sizes ys f))

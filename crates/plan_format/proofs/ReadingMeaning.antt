@@ -9,13 +9,14 @@ use lib.ListN.{length}
 use borrow.Author.Tests.{eqb-true, eqb-false, eq-eqb, ne-eqb}
 use Rattle.basics.proofs.Tests.{by-cases, either}
 use Rattle.plan_format.specs.Refusal.{refusal, none-given, given}
+use Rattle.plan_format.specs.RefusalNumbers.{None-or, reading-numbers}
 use Rattle.plan_format.specs.Grammar.{Grammar, Source, Scan, bytes, numbers, scan, refused, read-by, ended}
 use Rattle.plan_format.specs.Form.{first-form, plan-grammar, scanned-by}
 use Rattle.plan_format.specs.Stored.{scanned, listed}
 use Rattle.plan_format.specs.Meaning.{Refuses, Cursor, Reads, Stops, start, Reading-means}
 use Rattle.plan_format.proofs.Judged.{refusal-given}
 use Rattle.plan_format.proofs.Faults.{ended-stays}
-use Rattle.plan_format.proofs.Numbers.{scanned-five, listed-five}
+use Rattle.plan_format.proofs.Numbers.{scanned-number, listed-number}
 use Rattle.plan_format.proofs.Stopping.{at, through, reads-back, stops-back, stops-given, reads-level, stops-level}
 
 -- ---- the end of a reading
@@ -98,18 +99,18 @@ module _ (S : Source) (xs : List ℕ) where
   place-inside (more b r l) = omega (arith, refuses-at b read 3 (b .place) (more-is b r l) .1, reads-level S G (start xs) b r)
   place-inside (stop b m t) = omega (arith, refuses-at b read m (b .place) (stop-is b m t) .1, stops-level S G (start xs) b m t)
 
-  reading-means : read .fault .number ≤ 5 → Reading-means S xs read
-  reading-means five = record {
+  reading-means : None-or reading-numbers (read .fault .number) → Reading-means S xs read
+  reading-means number = record {
     fault = λ n i h. (fault-stops read-case n i h, stops-fault n i);
     none = (none-reads read-case, (λ w. none-at (w .0) read (whole-is (w .0) (w .1) (w .2)) .0));
-    only = five;
+    only = number;
     inside = place-inside read-case;
   }
 
 pub scanned-means : (bs : List ℕ) → Reading-means bytes bs (scanned bs)
 unfolding scanned scanned-by first-form bytes
-scanned-means bs = reading-means bytes bs (scanned-five bs)
+scanned-means bs = reading-means bytes bs (scanned-number bs)
 
 pub listed-means : (xs : List ℕ) → Reading-means numbers xs (listed xs)
 unfolding listed scanned-by first-form numbers
-listed-means xs = reading-means numbers xs (listed-five xs)
+listed-means xs = reading-means numbers xs (listed-number xs)

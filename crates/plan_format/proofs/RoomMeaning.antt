@@ -1,22 +1,23 @@
 -- Room: 9 exactly if it is too short, and only after the faults of a reading. Assumes nothing.
 use mathlib.Core.Path.{_≡_, refl, sym, ap, _∙_}
 use mathlib.Core.Bool.{Bool, false, cond}
-use mathlib.Core.Logic.{inl, inr}
-use mathlib.Core.List.{List}
+use mathlib.Core.List.{List, _∷_, _++_}
 use Prim.Native.Nat.{ℕ, _≤_}
 use native.Mathlib.Omega.{arith}
 use lib.Dec.{ltb, eqb}
 use lib.ListN.{length, getD}
 use borrow.Author.Tests.{ltb-true, ltb-false, lt-ltb, le-ltb, eqb-true, eqb-false}
-use Rattle.basics.specs.Lists.{in-front}
+use Rattle.basics.specs.Lists.{member, in-front}
 use Rattle.basics.proofs.Tests.{by-cases}
 use Rattle.basics.proofs.Fronts.{front-length, front-at, front-past}
 use Rattle.plan_format.specs.Refusal.{Refusal, refusal, none-given, given, or-else}
+use Rattle.plan_format.specs.RefusalNumbers.{None-or, reading-numbers, room-numbers, reader-gives, writer-gives}
 use Rattle.plan_format.specs.Stored.{scanned, listed, spelled, room-for, read-refusal, write-refusal, Fills, Read-says, Write-says}
 use Rattle.plan_format.specs.declared.Told.{Told}
 use Rattle.plan_format.specs.Meaning.{Room-for-means, Room-after, Filled}
 use Rattle.plan_format.proofs.Judged.{zero-not-given, other-given, or-else-first, or-else-second, or-else-none}
-use Rattle.plan_format.proofs.Numbers.{scanned-five, listed-five}
+use Rattle.plan_format.proofs.RefusalNumbers.{one-is, not-one, none-or-left}
+use Rattle.plan_format.proofs.Numbers.{scanned-number, listed-number}
 
 pub room-for-means : (needed room : ℕ) → Room-for-means needed room (room-for needed room)
 unfolding room-for refusal none-given
@@ -29,9 +30,11 @@ pub room-for-none : (needed room : ℕ) → room-for needed room .number ≡ 0 �
 room-for-none n k e =
     by-cases (ltb k n) (λ u. absurd (omega (arith, room-for-means n k .short (ltb-true k n u) .0))) (λ u. ltb-false k n u)
 
--- after a fault up to 5
-room-after : (a : Refusal) (needed room : ℕ) → a .number ≤ 5 → Room-after a needed room (or-else a (room-for needed room))
-room-after a n k five =
+-- after a fault of a reading
+room-after : (a : Refusal) (needed room : ℕ) → None-or reading-numbers (a .number) →
+    Room-after (reading-numbers ++ room-numbers) a needed room (or-else a (room-for needed room))
+unfolding member
+room-after a n k number =
     let b = room-for n k in
     let m = room-for-means n k in
     let f = or-else a b in
@@ -49,24 +52,29 @@ room-after a n k five =
             by-cases (ltb k n) (λ u. ltb-true k n u) (λ u.
                 absurd (omega (arith, number-second z, m .enough (ltb-false k n u) .0))),
           ))
-          (λ u. absurd (omega (arith, number-first (eqb-false (a .number) 0 u))));
+          (λ u. absurd (not-one (0 ∷ reading-numbers) (a .number) 9 refl number
+          (sym (number-first (eqb-false (a .number) 0 u)) ∙ e)));
       only = by-cases (eqb (a .number) 0)
-          (λ t. let z = eqb-true (a .number) 0 t in by-cases (ltb k n) (λ u. inr (number-second z ∙ m .short (ltb-true k n u) .0))
-          (λ u. inl (omega (arith, number-second z, m .enough (ltb-false k n u) .0))))
-          (λ u. inl (omega (arith, number-first (eqb-false (a .number) 0 u))));
+          (λ t. let z = eqb-true (a .number) 0 t in
+          by-cases (ltb k n) (λ u. rw (number-second z ∙ m .short (ltb-true k n u) .0))
+          (λ u. rw (number-second z ∙ m .enough (ltb-false k n u) .0)))
+          (λ u. one-is (0 ∷ reader-gives) (number-first (eqb-false (a .number) 0 u))
+          (none-or-left reading-numbers room-numbers (a .number) number));
     }
 
-pub read-room : (bs : List ℕ) (room : ℕ) → Room-after (scanned bs .fault) (length (scanned bs .got)) room (read-refusal bs room)
+pub read-room : (bs : List ℕ) (room : ℕ) → Room-after reader-gives (scanned bs .fault) (length (scanned bs .got)) room
+    (read-refusal bs room)
 unfolding read-refusal
-read-room bs k = room-after (scanned bs .fault) (length (scanned bs .got)) k (scanned-five bs)
+read-room bs k = room-after (scanned bs .fault) (length (scanned bs .got)) k (scanned-number bs)
 
-pub write-room : (xs : List ℕ) (room : ℕ) → Room-after (listed xs .fault) (length (spelled xs)) room (write-refusal xs room)
+pub write-room : (xs : List ℕ) (room : ℕ) → Room-after writer-gives (listed xs .fault) (length (spelled xs)) room
+    (write-refusal xs room)
 unfolding write-refusal
-write-room xs k = room-after (listed xs .fault) (length (spelled xs)) k (listed-five xs)
+write-room xs k = room-after (listed xs .fault) (length (spelled xs)) k (listed-number xs)
 
 -- ---- what is handed back and left
-module _ (fault : Refusal) (new : List ℕ) (r : Told) (o x : List ℕ) where
-  filled : Room-after fault (length new) (length o) (or-else fault (room-for (length new) (length o))) →
+module _ (numbers : List ℕ) (fault : Refusal) (new : List ℕ) (r : Told) (o x : List ℕ) where
+  filled : Room-after numbers fault (length new) (length o) (or-else fault (room-for (length new) (length o))) →
       Fills (or-else fault (room-for (length new) (length o))) new r o x → Filled new r o x
   unfolding Fills
   filled m w =
@@ -88,8 +96,8 @@ module _ (fault : Refusal) (new : List ℕ) (r : Told) (o x : List ℕ) where
 
 pub read-filled : (bs : List ℕ) (r : Told) (o x : List ℕ) → Read-says bs r o x → Filled (scanned bs .got) r o x
 unfolding Read-says read-refusal
-read-filled bs r o x w = filled (scanned bs .fault) (scanned bs .got) r o x (read-room bs (length o)) w
+read-filled bs r o x w = filled reader-gives (scanned bs .fault) (scanned bs .got) r o x (read-room bs (length o)) w
 
 pub write-filled : (xs : List ℕ) (r : Told) (o x : List ℕ) → Write-says xs r o x → Filled (spelled xs) r o x
 unfolding Write-says write-refusal
-write-filled xs r o x w = filled (listed xs .fault) (spelled xs) r o x (write-room xs (length o)) w
+write-filled xs r o x w = filled writer-gives (listed xs .fault) (spelled xs) r o x (write-room xs (length o)) w

@@ -1,17 +1,20 @@
 -- Refusals 6 to 8 by quantifiers: each is given exactly if its signal or wait is the first that breaks a rule. Assumes nothing.
-use mathlib.Core.Path.{_≡_, sym, ap, _∙_, subst, subst₂}
-use mathlib.Core.Logic.{_⊎_, inl, inr, _↔_}
-use mathlib.Core.List.{[]}
+use mathlib.Core.Path.{_≡_, refl, sym, ap, _∙_, subst, subst₂}
+use mathlib.Core.Logic.{inl, inr, _↔_}
+use mathlib.Core.List.{[], _∷_}
 use Prim.Native.Nat.{ℕ}
 use native.Mathlib.Omega.{arith}
 use lib.Dec.{ltb}
 use borrow.Author.Tests.{ltb-true, ltb-false}
+use Rattle.basics.specs.Lists.{member}
 use Rattle.basics.proofs.Tests.{by-cases}
 use Rattle.plan_format.specs.Refusal.{Refusal, refusal, none-given, or-else}
+use Rattle.plan_format.specs.RefusalNumbers.{None-or, rule-numbers}
 use Rattle.plan_format.specs.Plan.{Plan}
 use Rattle.plan_format.specs.Sound.{signals-refusal, waits-refusal, rules-refusal}
 use Rattle.plan_format.specs.Meaning.{Refuses, Is-signal, Earlier, Owned, Rising, First, Bad-owner, Not-rising, Signals-good, Too-high, Unmet-wait, Rules-mean}
 use Rattle.plan_format.proofs.Judged.{or-else-first, or-else-second, refusal-given}
+use Rattle.plan_format.proofs.RefusalNumbers.{one-is}
 use Rattle.plan_format.proofs.RulesFirst.{Signals-say, signals-good, signals-six, signals-seven, Waits-say, waits-good, waits-eight, plan-signals-say, plan-waits-say}
 
 -- a refusal by its number and place
@@ -124,11 +127,11 @@ module _ (p : Plan) where
     none (say-eight j r w) = ((λ s. absurd (omega (arith, r .0, s .0))), (λ v. absurd (v .1 j (w .too-high .0) (w .too-high .1))))
     none (say-none r g low) = ((λ s. (g, low)), (λ v. r))
 
-    only : Rules-say f → (f .number ≡ 0) ⊎ ((f .number ≡ 6) ⊎ ((f .number ≡ 7) ⊎ (f .number ≡ 8)))
-    only (say-six j l r w) = inr (inl (r .0))
-    only (say-seven j l r w) = inr (inr (inl (r .0)))
-    only (say-eight j r w) = inr (inr (inr (r .0)))
-    only (say-none r g low) = inl (r .0)
+    only : Rules-say f → None-or rule-numbers (f .number)
+    only (say-six j l r w) = one-is (0 ∷ rule-numbers) (r .0) (unfold member in refl)
+    only (say-seven j l r w) = one-is (0 ∷ rule-numbers) (r .0) (unfold member in refl)
+    only (say-eight j r w) = one-is (0 ∷ rule-numbers) (r .0) (unfold member in refl)
+    only (say-none r g low) = one-is (0 ∷ rule-numbers) (r .0) (unfold member in refl)
 
   pub rules-mean : Rules-mean p (rules-refusal p)
   rules-mean =

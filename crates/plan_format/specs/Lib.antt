@@ -1,5 +1,6 @@
 pub mod Sizes
 pub mod Refusal
+pub mod RefusalNumbers
 pub mod Grammar
 pub mod Form
 pub mod Sections

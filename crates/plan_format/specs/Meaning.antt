@@ -7,6 +7,7 @@ use mathlib.Core.List.{List, [], _∷_, _++_}
 use Prim.Native.Nat.{ℕ, zero, suc, _+_, _≤_, _<_}
 use lib.ListN.{length, getD, drop}
 use Rattle.plan_format.specs.Refusal.{Refusal}
+use Rattle.plan_format.specs.RefusalNumbers.{None-or, reading-numbers, rule-numbers, plan-gives}
 use Rattle.plan_format.specs.Grammar.{Grammar, field, seq, counted, nothing, Source, Scan, count-check}
 use Rattle.plan_format.specs.Form.{first-form, plan-grammar, any-number, new-axis, a-queue, a-semaphore, a-buffer, a-kind, queue-count, semaphore-count, buffer-count}
 use Rattle.plan_format.specs.Plan.{Point, Plan, op}
@@ -24,12 +25,12 @@ pub record Room-for-means (needed room : ℕ) (f : Refusal) : Type 0 where
   pub enough : needed ≤ room → Refuses f 0 0
 
 -- 01: "After those, for reader and writer alike, too little room is 9 with the length needed."
-pub record Room-after (fault : Refusal) (needed room : ℕ) (f : Refusal) : Type 0 where
+pub record Room-after (numbers : List ℕ) (fault : Refusal) (needed room : ℕ) (f : Refusal) : Type 0 where
   pub fault-first : (fault .number ≡ 0 → ⊥) → f ≡ fault
   pub then-room : fault .number ≡ 0 → Room-for-means needed room f
   pub nine : (f .number ≡ 9) → (fault .number ≡ 0) × (room < needed)
   -- 01: "Neither gives 6 to 8."
-  pub only : (f .number ≤ 5) ⊎ (f .number ≡ 9)
+  pub only : None-or numbers (f .number)
 
 -- ---- 2, 4 and 5: a field's number is n exactly if what is said of it holds, else 0
 pub record Given-when (answer n : ℕ) (P : Type 0) : Type 0 where
@@ -136,7 +137,7 @@ pub record Reading-means (S : Source) (xs : List ℕ) (s : Scan) : Type 0 where
       (n i : ℕ) → (n ≡ 0 → ⊥) → Refuses (s .fault) n i ↔ ((b : Cursor) × (b .place ≡ i) ×
       (Stops S (plan-grammar first-form) (start xs) b n ⊎ ((n ≡ 3) × Reads S (plan-grammar first-form) (start xs) b × (0 < length (b .rest)))))
   pub none : Refuses (s .fault) 0 0 ↔ ((b : Cursor) × Reads S (plan-grammar first-form) (start xs) b × (length (b .rest) ≡ 0) × (s .got ≡ b .got))
-  pub only : s .fault .number ≤ 5
+  pub only : None-or reading-numbers (s .fault .number)
   pub inside : s .fault .place ≤ length xs
 
 -- ---- 6 to 8
@@ -204,13 +205,13 @@ pub record Rules-mean (p : Plan) (f : Refusal) : Type 0 where
   pub seven : (i : ℕ) → (Refuses f 7 i) ↔ ((k : ℕ) × Not-rising p i k)
   pub eight : (i : ℕ) → (Refuses f 8 i) ↔ Unmet-wait p i
   pub none : (Refuses f 0 0) ↔ (Signals-good p × ((i k : ℕ) → Too-high p i k → ⊥))
-  pub only : (f .number ≡ 0) ⊎ ((f .number ≡ 6) ⊎ ((f .number ≡ 7) ⊎ (f .number ≡ 8)))
+  pub only : None-or rule-numbers (f .number)
 
 -- 01: "Numbers 1 to 5 come from the first fault ..  Then 6 and 7 ..; then 8 likewise"
 pub record Plan-refusal-means (bytes : List ℕ) (f : Refusal) : Type 0 where
   pub reading-first : (scanned bytes .fault .number ≡ 0 → ⊥) → f ≡ scanned bytes .fault
   pub then-rules : scanned bytes .fault .number ≡ 0 → Rules-mean (plan-in bytes) f
-  pub only : f .number ≤ 8
+  pub only : None-or plan-gives (f .number)
 
 -- ---- what is handed back by reader and writer
 -- 01: "A success hands back 0 and, beside it, the length. A refusal leaves the room untouched; past the length nothing is touched."

@@ -41,6 +41,13 @@ row-width = most-queues
 abbrev pub row-places : ℕ
 row-places = row-width * (most-operations + 2)
 
+-- room for the rows and the run of every plan
+abbrev pub table-numbers : ℕ
+table-numbers = row-width * most-operations
+
+abbrev pub list-numbers : ℕ
+list-numbers = 2 * most-operations
+
 -- the most numbers before the operations, of one operation and of a plan; the most bytes of a plan
 abbrev pub head-numbers : ℕ
 head-numbers = 4 + most-queues + most-semaphores + most-buffers

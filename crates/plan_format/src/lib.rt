@@ -23,7 +23,7 @@ pub fn refused(number: u32, place: usize) -> Told
     }
 }
 
-// No refusal, and an answer.
+// An answer, with no refusal.
 pub fn answered(answer: u64) -> Told
     ensures { λ r. ⌜ r ≡ record { number = 0; place = 0; answer = answer } ⌝ }
 {

@@ -28,6 +28,11 @@ pub const ROW_WIDTH: usize = MOST_QUEUES;
 
 pub const ROW_PLACES: usize = ROW_WIDTH * (MOST_OPERATIONS + 2);
 
+// Room for the rows and the run of every plan.
+pub const TABLE_NUMBERS: usize = ROW_WIDTH * MOST_OPERATIONS;
+
+pub const LIST_NUMBERS: usize = 2 * MOST_OPERATIONS;
+
 // The most numbers before the operations, of one operation and of a plan; the most bytes of a plan.
 pub const HEAD_NUMBERS: usize = 4 + MOST_QUEUES + MOST_SEMAPHORES + MOST_BUFFERS;
 

@@ -1,27 +1,31 @@
 -- The check: which number is given, at which place, and on what grounds. Assumes nothing.
-use mathlib.Core.Path.{_≡_, sym, ap, _∙_, subst}
-use mathlib.Core.Bool.{true}
-use mathlib.Core.Logic.{_⊎_, inl, inr}
-use mathlib.Core.List.{List}
+use mathlib.Core.Path.{_≡_, refl, sym, ap, _∙_, subst}
+use mathlib.Core.Bool.{true, false}
+use mathlib.Core.List.{List, [], _∷_}
 use mathlib.Core.Option.{Option, none, some}
-use Prim.Native.Nat.{ℕ, _≤_, _<_}
+use Prim.Native.Nat.{ℕ, _<_}
 use native.Mathlib.Omega.{arith}
 use lib.Dec.{eqb}
 use lib.ListN.{length}
 use borrow.Author.Tests.{eqb-true, eqb-false}
+use Rattle.basics.specs.Lists.{member, all}
 use Rattle.basics.proofs.Tests.{by-cases, by-option, either}
+use Rattle.basics.proofs.Members.{member-left}
 use Rattle.plan_format.specs.Plan.{count, op, queues}
 use Rattle.plan_format.specs.Refusal.{Refusal, refusal, none-given}
+use Rattle.plan_format.specs.RefusalNumbers.{None-or, room-numbers, order-numbers, plan-gives, untouched-numbers, check-gives}
 use Rattle.plan_format.specs.Stored.{plan-in, plan-refusal}
 use Rattle.plan_format.specs.Meaning.{Refuses}
 use Rattle.plan_format.proofs.Judged.{zero-not-given, other-given}
-use Rattle.plan_format.proofs.Numbers.{plan-eight}
+use Rattle.plan_format.proofs.RefusalNumbers.{one-is, not-one, apart, none-or-zero, given-one}
+use Rattle.plan_format.proofs.Numbers.{plan-number}
 use Rattle.plan_format.proofs.Plans.{sound-in}
 use Rattle.plan_order.specs.Check.{room-refusal, Leaves, untouched, zeros, rows-and-run, Outcome, outcome, check-outcome}
 use Rattle.plan_order.specs.Holdings.{broken, buffer-marks}
 use Rattle.plan_order.specs.Meaning.{Gives, Unrefused, Full-means, Lowest-in-no-run, Forced, Lowest-broken, Check-means}
 use Rattle.plan_order.specs.Promise.{unrefused}
 use Rattle.plan_order.specs.Runs.{missing}
+use Rattle.plan_order.proofs.Leaving.{Left-case, left-untouched, left-zeros, left-rows, left-number, leaves-by}
 use Rattle.plan_order.proofs.Outcomes.{plan-refused, room-refused, stuck-outcome, broken-outcome, passed-outcome}
 use Rattle.plan_order.proofs.RoomMeaning.{room-nine}
 use Rattle.plan_order.proofs.KeepsMeaning.{unbroken-means, broken-means}
@@ -66,25 +70,45 @@ module _ (bs : List ℕ) (t l : ℕ) where
       (λ nine. room-case good nine (room-refused bs t l good (other-given room (λ z. omega arith)))))
       (λ a. let bad = eqb-false (plan-refusal bs .number) 0 a in plan-case bad (plan-refused bs t l (other-given (plan-refusal bs) bad)))
 
-  -- ---- no number is given on other grounds
-  case-eleven : (o : Outcome) → Check-case o → o .refusal .number ≤ 11
-  unfolding refusal none-given
-  case-eleven o (plan-case bad e) = omega (arith, plan-eight bs, gives-of o (plan-refusal bs) untouched e .0 .0)
-  case-eleven o (room-case good nine e) = omega (arith, gives-of o room untouched e .0 .0)
-  case-eleven o (stuck-case i good enough m e) = omega (arith, gives-of o (refusal 10 i) zeros e .0 .0)
-  case-eleven o (broken-case i good enough m b e) = omega (arith, gives-of o (refusal 11 i) zeros e .0 .0)
-  case-eleven o (pass-case good enough m b e) = omega (arith, gives-of o none-given rows-and-run e .0 .0)
+  -- ---- no number is given on other grounds, and each leaves what its class does
+  -- a refusal of the plan has no other number
+  not-plan : {o : Outcome} (n : ℕ) → member n (0 ∷ plan-gives) ≡ false → o ≡ outcome (plan-refusal bs) untouched →
+      o .refusal .number ≡ n → ⊥
+  not-plan {o} n lacks e is = not-one (0 ∷ plan-gives) (plan-refusal bs .number) n lacks (plan-number bs)
+      (sym (gives-of o (plan-refusal bs) untouched e .0 .0) ∙ is)
 
-  pub check-eleven : check-outcome bs t l .refusal .number ≤ 11
-  check-eleven = case-eleven (check-outcome bs t l) check-case
+  case-left : (o : Outcome) → Check-case o → Left-case [] o
+  unfolding refusal none-given member
+  case-left o (plan-case bad e) =
+      let w = gives-of o (plan-refusal bs) untouched e in
+      left-untouched (one-is untouched-numbers (w .0 .0) (member-left (plan-refusal bs .number) plan-gives room-numbers
+      (given-one plan-gives (plan-refusal bs .number) (plan-number bs) bad))) (w .1)
+  case-left o (room-case good nine e) =
+      let w = gives-of o room untouched e in left-untouched (one-is untouched-numbers (w .0 .0 ∙ nine) refl) (w .1)
+  case-left o (stuck-case i good enough m e) =
+      let w = gives-of o (refusal 10 i) zeros e in left-zeros (one-is order-numbers (w .0 .0) refl) (w .1)
+  case-left o (broken-case i good enough m b e) =
+      let w = gives-of o (refusal 11 i) zeros e in left-zeros (one-is order-numbers (w .0 .0) refl) (w .1)
+  case-left o (pass-case good enough m b e) =
+      let w = gives-of o none-given rows-and-run e in left-rows (none-or-zero [] (o .refusal .number) (w .0 .0)) (w .1)
 
-  -- 0, 10 and 11 are handed back for plans with none of refusals 1 to 9 only
-  case-unrefused : (o : Outcome) → Check-case o → (o .refusal .number ≡ 0) ⊎ (10 ≤ o .refusal .number) → Unrefused bs t l
+  pub check-left-case : Left-case [] (check-outcome bs t l)
+  check-left-case = case-left (check-outcome bs t l) check-case
+
+  pub check-number : None-or check-gives (check-outcome bs t l .refusal .number)
+  check-number = left-number [] (check-outcome bs t l) check-left-case
+
+  -- a number of the order, and none, is handed back only where neither the plan nor the room is refused
+  case-unrefused : (o : Outcome) → Check-case o → None-or order-numbers (o .refusal .number) → Unrefused bs t l
+  unfolding all member
   case-unrefused o (plan-case bad e) w =
       let same = gives-of o (plan-refusal bs) untouched e .0 .0 in
-      absurd (either w (λ z. bad (sym same ∙ z)) (λ z. omega (arith, plan-eight bs)))
+      let own = given-one plan-gives (plan-refusal bs .number) (plan-number bs) bad in
+      absurd (apart plan-gives (0 ∷ order-numbers) refl (plan-refusal bs .number) own
+      (one-is (0 ∷ order-numbers) (sym same) w))
   case-unrefused o (room-case good nine e) w =
-      let same = gives-of o room untouched e .0 .0 in absurd (either w (λ z. omega arith) (λ z. omega arith))
+      let same = gives-of o room untouched e .0 .0 in
+      absurd (not-one (0 ∷ order-numbers) (o .refusal .number) 9 refl w (same ∙ nine))
   case-unrefused o (stuck-case i good enough m e) w = (good, enough)
   case-unrefused o (broken-case i good enough m b e) w = (good, enough)
   case-unrefused o (pass-case good enough m b e) w = (good, enough)
@@ -93,10 +117,11 @@ module _ (bs : List ℕ) (t l : ℕ) where
   unfolding unrefused
   unrefused-by u = rw (zero-not-given (plan-refusal bs) (u .0), zero-not-given room (u .1))
 
-  pub answer-unrefused : (check-outcome bs t l .refusal .number ≡ 0) ⊎ ((check-outcome bs t l .refusal .number ≡ 10) ⊎ (check-outcome bs t l .refusal .number ≡ 11)) →
-      unrefused bs t l ≡ true
-  answer-unrefused w =
-      unrefused-by (case-unrefused (check-outcome bs t l) check-case (either w (λ z. inl z) (λ v. inr (either v (λ z. omega arith) (λ z. omega arith)))))
+  pub answer-unrefused : None-or order-numbers (check-outcome bs t l .refusal .number) → unrefused bs t l ≡ true
+  answer-unrefused w = unrefused-by (case-unrefused (check-outcome bs t l) check-case w)
+
+  pub passed-unrefused : check-outcome bs t l .refusal .number ≡ 0 → unrefused bs t l ≡ true
+  passed-unrefused z = answer-unrefused (none-or-zero order-numbers (check-outcome bs t l .refusal .number) z)
 
   -- ---- exactly if
   known : Good → (j : ℕ) → j < count (plan-in bs) → op (plan-in bs) j .queue < queues (plan-in bs)
@@ -109,16 +134,16 @@ module _ (bs : List ℕ) (t l : ℕ) where
   All-forced = (b k : ℕ) → b < length (plan-in bs .sizes) → k < length (buffer-marks (plan-in bs) b) → Forced (plan-in bs) b k
 
   nine-why : (o : Outcome) → Check-case o → (i : ℕ) → Gives o 9 i untouched → Good × Refuses room 9 i
-  unfolding refusal none-given
-  nine-why o (plan-case bad e) i g = absurd (omega (arith, plan-eight bs, g .0 .0, gives-of o (plan-refusal bs) untouched e .0 .0))
+  unfolding refusal none-given member
+  nine-why o (plan-case bad e) i g = absurd (not-plan 9 refl e (g .0 .0))
   nine-why o (room-case good nine e) i g = (good, (nine, sym (gives-of o room untouched e .0 .1) ∙ g .0 .1))
   nine-why o (stuck-case j good enough m e) i g = absurd (omega (arith, g .0 .0, gives-of o (refusal 10 j) zeros e .0 .0))
   nine-why o (broken-case j good enough m b e) i g = absurd (omega (arith, g .0 .0, gives-of o (refusal 11 j) zeros e .0 .0))
   nine-why o (pass-case good enough m b e) i g = absurd (omega (arith, g .0 .0, gives-of o none-given rows-and-run e .0 .0))
 
   ten-why : (o : Outcome) → Check-case o → (i : ℕ) → Gives o 10 i zeros → Unrefused bs t l × Lowest-in-no-run (plan-in bs) i
-  unfolding refusal none-given
-  ten-why o (plan-case bad e) i g = absurd (omega (arith, plan-eight bs, g .0 .0, gives-of o (plan-refusal bs) untouched e .0 .0))
+  unfolding refusal none-given member
+  ten-why o (plan-case bad e) i g = absurd (not-plan 10 refl e (g .0 .0))
   ten-why o (room-case good nine e) i g = absurd (omega (arith, g .0 .0, gives-of o room untouched e .0 .0))
   ten-why o (stuck-case j good enough m e) i g =
       ((good, enough), subst (Lowest-in-no-run (plan-in bs)) (sym (gives-of o (refusal 10 j) zeros e .0 .1) ∙ g .0 .1) (missing-means (plan-in bs) (known good) j .0 m))
@@ -126,8 +151,8 @@ module _ (bs : List ℕ) (t l : ℕ) where
   ten-why o (pass-case good enough m b e) i g = absurd (omega (arith, g .0 .0, gives-of o none-given rows-and-run e .0 .0))
 
   eleven-why : (o : Outcome) → Check-case o → (i : ℕ) → Gives o 11 i zeros → Unrefused bs t l × Full-run × Lowest-broken (plan-in bs) i
-  unfolding refusal none-given
-  eleven-why o (plan-case bad e) i g = absurd (omega (arith, plan-eight bs, g .0 .0, gives-of o (plan-refusal bs) untouched e .0 .0))
+  unfolding refusal none-given member
+  eleven-why o (plan-case bad e) i g = absurd (not-plan 11 refl e (g .0 .0))
   eleven-why o (room-case good nine e) i g = absurd (omega (arith, g .0 .0, gives-of o room untouched e .0 .0))
   eleven-why o (stuck-case j good enough m e) i g = absurd (omega (arith, g .0 .0, gives-of o (refusal 10 j) zeros e .0 .0))
   eleven-why o (broken-case j good enough m b e) i g = (
@@ -146,7 +171,7 @@ module _ (bs : List ℕ) (t l : ℕ) where
   passed-why o (pass-case good enough m b e) g = ((good, enough), none-missing-means (plan-in bs) (known good) .0 m, unbroken-means (plan-in bs) .0 b)
 
   pub check-means : Check-means bs t l (check-outcome bs t l)
-  unfolding refusal none-given outcome
+  unfolding refusal none-given outcome all member
   check-means =
       let o = check-outcome bs t l in
       let p = plan-in bs in
@@ -173,5 +198,6 @@ module _ (bs : List ℕ) (t l : ℕ) where
           (λ w. gives-of o none-given rows-and-run
               (passed-outcome bs t l (w .0 .0) (w .0 .1) (none-missing-means p (known (w .0 .0)) .1 (w .1)) (unbroken-means p .1 (w .2)))),
         );
-        only = check-eleven;
+        only = check-number;
+        leaves = leaves-by [] refl o check-left-case;
       }

@@ -1,7 +1,6 @@
 -- Demand 3 for every sound plan: what the number and place of refusals 10 and 11, and of a pass, mean. Assumes nothing.
 use mathlib.Core.Path.{_≡_, refl, sym, _∙_, subst}
 use mathlib.Core.Bool.{true, true≢false}
-use mathlib.Core.Logic.{inl, inr}
 use mathlib.Core.List.{List, [], _∷_, _++_, List·Memᴰ}
 use mathlib.Core.Option.{Option, none, some}
 use Prim.Native.Nat.{ℕ, suc, _<_}
@@ -121,11 +120,11 @@ module _ (p : Plan) (sound : Sound p) where
       (w .0, runs-snoc (count p) (enabled p) r (w .0) h (w .1))
 
   demand-of : (f : Refusal) → Ordered p f → Demand-3 p (f .number) (f .place)
-  unfolding refusal none-given
+  unfolding refusal none-given member
   demand-of _ (stuck-there i e) =
       let s = stuck-at i e in
       record {
-        only = inr (inl refl);
+        only = refl;
         exactly = ((λ z. absurd (omega arith)), (λ t. absurd (true≢false (sym (t .0 .1) ∙ s .no-full (t .0 .0)))));
         passed-place = λ z. absurd (omega arith);
         never-stuck = λ z. absurd (omega arith);
@@ -136,7 +135,7 @@ module _ (p : Plan) (sound : Sound p) where
   demand-of _ (broken-there i n e) =
       let b = broken-at i n e in
       record {
-        only = inr (inr refl);
+        only = refl;
         exactly = ((λ z. absurd (omega arith)), (λ t. absurd (true≢false (sym (t .1 (b .run) (b .buffer) (b .full)) ∙ b .breaks))));
         passed-place = λ z. absurd (omega arith);
         never-stuck = λ z. absurd (omega arith);
@@ -145,7 +144,7 @@ module _ (p : Plan) (sound : Sound p) where
         broken = λ z. b;
       }
   demand-of _ (in-order n m) = record {
-    only = inl refl;
+    only = refl;
     exactly = ((λ z. safe n m), (λ t. refl));
     passed-place = λ z. refl;
     never-stuck = λ z r h l. goes-further n r h l;

@@ -17,12 +17,16 @@ pub mod AskedMarks
 pub mod KeepsMeaning
 pub mod MarksMeaning
 pub mod VerdictMeaning
+pub mod LastFree
 pub mod ReadyMeaning
 pub mod StandardMeaning
 pub mod RowsMeaning
 pub mod LeftMeaning
 pub mod RoomMeaning
+pub mod Leaving
 pub mod CheckMeaning
 pub mod OutcomeMeaning
+pub mod Asking
 pub mod QuestionMeaning
 pub mod Checks
+pub mod FirstBytes

@@ -1,25 +1,47 @@
 -- The reuse question: the plan first, then the queue, then the buffer, then the verdict; what each leaves. Assumes nothing.
-use mathlib.Core.Path.{_≡_, refl, sym, ap, _∙_, subst}
-use mathlib.Core.Logic.{_⊎_, inl, inr}
-use mathlib.Core.List.{List}
+use mathlib.Core.Path.{_≡_, refl, sym, _∙_, subst}
+use mathlib.Core.Bool.{true}
+use mathlib.Core.Logic.{_↔_}
+use mathlib.Core.List.{List, []}
 use Prim.Native.Nat.{ℕ, _≤_, _<_}
 use native.Mathlib.Omega.{arith}
-use lib.Dec.{leb, eqb}
+use lib.Dec.{leb}
 use lib.ListN.{length}
-use borrow.Author.Tests.{leb-true, leb-false, le-leb, lt-leb, eqb-true, eqb-false}
+use borrow.Author.Tests.{leb-true, leb-false, le-leb, lt-leb}
+use Rattle.basics.specs.Lists.{member, all}
 use Rattle.basics.proofs.Tests.{by-cases}
-use Rattle.plan_format.specs.Plan.{Plan, queues}
-use Rattle.plan_format.specs.Refusal.{refusal, none-given, given, or-else}
-use Rattle.plan_format.specs.Stored.{plan-in}
+use Rattle.plan_format.specs.Plan.{Plan, queues, plan-of}
+use Rattle.plan_format.specs.Refusal.{Refusal, refusal, none-given, given, or-else}
+use Rattle.plan_format.specs.RefusalNumbers.{None-or, reuse-numbers}
+use Rattle.plan_format.specs.Grammar.{bytes, scan, refused, field-number, read-field, read-by, ended}
+use Rattle.plan_format.specs.Form.{first-form, plan-grammar, scanned-by}
+use Rattle.plan_format.specs.Stored.{scanned, plan-in, plan-refusal}
 use Rattle.plan_format.specs.Meaning.{Refuses}
 use Rattle.plan_format.specs.declared.Told.{Told}
-use Rattle.plan_format.proofs.Judged.{zero-not-given, other-given}
-use Rattle.plan_order.specs.Check.{rows-and-run, Outcome, outcome, or-then, check-outcome}
+use Rattle.plan_format.proofs.Judged.{zero-not-given}
+use Rattle.plan_order.specs.Check.{untouched, rows-and-run, outcome, or-then, check-outcome}
 use Rattle.plan_order.specs.Reuse.{number-of, verdict, question-refusal, reuse-outcome, Reuse-says}
-use Rattle.plan_order.specs.Meaning.{Gives, Verdict-table, Question-means, Left-by-number}
-use Rattle.plan_order.proofs.CheckMeaning.{check-eleven}
-use Rattle.plan_order.proofs.OutcomeMeaning.{Left-case, left-rows, left-by, check-left-case, passed-whole}
-use Rattle.plan_order.proofs.VerdictMeaning.{verdict-table}
+use Rattle.plan_order.specs.Meaning.{Verdict-table, Question-means, Left-means}
+use Rattle.plan_order.specs.Promise.{Safe, unrefused}
+use Rattle.plan_order.proofs.Asking.{plan-first, gives-asked, asked-own, asked-safe, asked-number, asked-leaves-by, asked-left}
+use Rattle.plan_order.proofs.VerdictMeaning.{one-use, verdict-table}
+
+-- no bytes, and a queue that they do not have: the plan is refused
+unread-first : reuse-outcome [] 0 0 0 0 ≡ outcome (refusal 1 0) untouched
+unfolding reuse-outcome question-refusal check-outcome or-then outcome plan-refusal or-else given none-given refusal queues
+    plan-in plan-of scanned scanned-by bytes scan refused read-by read-field field-number ended first-form plan-grammar
+unread-first = refl
+
+-- a question on a plan that passes leaves rows and run
+rows-left : (bs : List ℕ) (q b t l : ℕ) → check-outcome bs t l .refusal .number ≡ 0 →
+    reuse-outcome bs q b t l .leaves ≡ rows-and-run
+unfolding reuse-outcome or-then outcome
+rows-left bs q b t l z = rw (zero-not-given (check-outcome bs t l .refusal) z)
+
+-- queues are named from 0
+queue-past : question-refusal one-use 1 0 ≡ refusal 12 1
+unfolding one-use question-refusal queues or-else given none-given refusal
+queue-past = refl
 
 -- ---- the question's own refusals
 module _ (p : Plan) (q b : ℕ) where
@@ -35,95 +57,83 @@ module _ (p : Plan) (q b : ℕ) where
   unfolding question-refusal or-else refusal given none-given
   none-is h g = rw (lt-leb (queues p) q h, lt-leb (length (p .sizes)) b g) (refl, refl)
 
+  data Own-case (n : ℕ) : Type 0 where
+    queue-case : n ≡ 12 → queues p ≤ q → Own-case n
+    buffer-case : n ≡ 13 → q < queues p → length (p .sizes) ≤ b → Own-case n
+    answer-case : n ≡ 0 → q < queues p → b < length (p .sizes) → Own-case n
+
+  own-case : Own-case (question-refusal p q b .number)
+  own-case =
+      by-cases (leb (queues p) q) (λ u. let h = leb-true (queues p) q u in queue-case (twelve-is h .0) h)
+      (λ u. let h = leb-false (queues p) q u in
+      by-cases (leb (length (p .sizes)) b)
+      (λ v. let g = leb-true (length (p .sizes)) b v in buffer-case (thirteen-is h g .0) h g)
+      (λ v. let g = leb-false (length (p .sizes)) b v in answer-case (none-is h g .0) h g))
+
+  own-number : {n : ℕ} → Own-case n → None-or reuse-numbers n
+  unfolding member
+  own-number (queue-case e h) = rw e
+  own-number (buffer-case e h g) = rw e
+  own-number (answer-case e h g) = rw e
+
+  twelve-if : {n : ℕ} → Own-case n → n ≡ 12 → queues p ≤ q
+  twelve-if (queue-case k h) e = h
+  twelve-if (buffer-case k h g) e = absurd (omega arith)
+  twelve-if (answer-case k h g) e = absurd (omega arith)
+
+  thirteen-if : {n : ℕ} → Own-case n → n ≡ 13 → (q < queues p) × (length (p .sizes) ≤ b)
+  thirteen-if (queue-case k h) e = absurd (omega arith)
+  thirteen-if (buffer-case k h g) e = (h, g)
+  thirteen-if (answer-case k h g) e = absurd (omega arith)
+
 module _ (bs : List ℕ) (q b t l : ℕ) where
   abbrev plan : Plan
   plan = plan-in bs
 
-  abbrev checked : Outcome
-  checked = check-outcome bs t l
-
-  plan-first : (checked .refusal .number ≡ 0 → ⊥) → reuse-outcome bs q b t l ≡ checked
-  unfolding reuse-outcome or-then
-  plan-first h = rw (other-given (checked .refusal) h)
-
-  then-asked : (n i : ℕ) → checked .refusal .number ≡ 0 → Refuses (question-refusal plan q b) n i → Gives (reuse-outcome bs q b t l) n i rows-and-run
-  unfolding reuse-outcome or-then outcome
-  then-asked n i z r = rw (zero-not-given (checked .refusal) z) (r, refl)
-
-  -- ---- exactly if
-  data Question-case (n : ℕ) : Type 0 where
-    plan-case : 1 ≤ n → n ≤ 11 → (checked .refusal .number ≡ 0 → ⊥) → Question-case n
-    queue-case : n ≡ 12 → checked .refusal .number ≡ 0 → queues plan ≤ q → Question-case n
-    buffer-case : n ≡ 13 → checked .refusal .number ≡ 0 → q < queues plan → length (plan .sizes) ≤ b → Question-case n
-    answer-case : n ≡ 0 → checked .refusal .number ≡ 0 → q < queues plan → b < length (plan .sizes) → Question-case n
-
-  question-case : Question-case (reuse-outcome bs q b t l .refusal .number)
-  question-case =
-      by-cases (eqb (checked .refusal .number) 0)
-      (λ a. let z = eqb-true (checked .refusal .number) 0 a in
-      by-cases (leb (queues plan) q)
-      (λ u. let h = leb-true (queues plan) q u in queue-case (then-asked 12 q z (twelve-is plan q b h) .0 .0) z h)
-      (λ u. let h = leb-false (queues plan) q u in
-      by-cases (leb (length (plan .sizes)) b)
-      (λ v. let g = leb-true (length (plan .sizes)) b v in buffer-case (then-asked 13 b z (thirteen-is plan q b h g) .0 .0) z h g)
-      (λ v. let g = leb-false (length (plan .sizes)) b v in answer-case (then-asked 0 0 z (none-is plan q b h g) .0 .0) z h g)))
-      (λ a. let bad = eqb-false (checked .refusal .number) 0 a in
-      let same = ap (λ (o : Outcome). o .refusal .number) (plan-first bad) in
-      plan-case (omega arith) (omega (arith, check-eleven bs t l)) bad)
-
-  twelve-if : (n : ℕ) → Question-case n → n ≡ 12 → (checked .refusal .number ≡ 0) × (queues plan ≤ q)
-  twelve-if n (plan-case low high bad) e = absurd (omega arith)
-  twelve-if n (queue-case k z h) e = (z, h)
-  twelve-if n (buffer-case k z h g) e = absurd (omega arith)
-  twelve-if n (answer-case k z h g) e = absurd (omega arith)
-
-  thirteen-if : (n : ℕ) → Question-case n → n ≡ 13 → (checked .refusal .number ≡ 0) × (q < queues plan) × (length (plan .sizes) ≤ b)
-  thirteen-if n (plan-case low high bad) e = absurd (omega arith)
-  thirteen-if n (queue-case k z h) e = absurd (omega arith)
-  thirteen-if n (buffer-case k z h g) e = (z, h, g)
-  thirteen-if n (answer-case k z h g) e = absurd (omega arith)
-
-  to-thirteen : (n : ℕ) → Question-case n → n ≤ 13
-  to-thirteen n (plan-case low high bad) = omega arith
-  to-thirteen n (queue-case k z h) = omega arith
-  to-thirteen n (buffer-case k z h g) = omega arith
-  to-thirteen n (answer-case k z h g) = omega arith
+  abbrev own : Refusal
+  own = question-refusal plan q b
 
   pub question-means : Question-means bs q b t l (reuse-outcome bs q b t l)
+  unfolding reuse-outcome member all
   question-means = record {
-    plan-first = plan-first;
-    no-queue = λ z h. then-asked 12 q z (twelve-is plan q b h);
-    no-buffer = λ z h g. then-asked 13 b z (thirteen-is plan q b h g);
-    answered = λ z h g. then-asked 0 0 z (none-is plan q b h g);
-    twelve = (twelve-if (reuse-outcome bs q b t l .refusal .number) question-case, (λ w. then-asked 12 q (w .0) (twelve-is plan q b (w .1)) .0 .0));
-    thirteen = (
-      thirteen-if (reuse-outcome bs q b t l .refusal .number) question-case,
-      (λ w. then-asked 13 b (w .0) (thirteen-is plan q b (w .1) (w .2)) .0 .0),
+    plan-first = plan-first bs t l own;
+    no-queue = λ z h. gives-asked bs t l own 12 q z (twelve-is plan q b h);
+    no-buffer = λ z h g. gives-asked bs t l own 13 b z (thirteen-is plan q b h g);
+    answered = λ z h g. gives-asked bs t l own 0 0 z (none-is plan q b h g);
+    twelve = (
+      (λ e. let w = asked-own bs t l own 12 refl e in (w .0, twelve-if plan q b (own-case plan q b) (w .1))),
+      (λ w. gives-asked bs t l own 12 q (w .0) (twelve-is plan q b (w .1)) .0 .0),
     );
-    only = to-thirteen (reuse-outcome bs q b t l .refusal .number) question-case;
+    thirteen = (
+      (λ e. let w = asked-own bs t l own 13 refl e in let v = thirteen-if plan q b (own-case plan q b) (w .1) in
+          (w .0, v .0, v .1)),
+      (λ w. gives-asked bs t l own 13 b (w .0) (thirteen-is plan q b (w .1) (w .2)) .0 .0),
+    );
+    only = asked-number bs t l own reuse-numbers (own-number plan q b (own-case plan q b));
+    leaves = asked-leaves-by bs t l own reuse-numbers (own-number plan q b (own-case plan q b)) refl;
   }
 
-  -- ---- what it leaves
-  asked-left : (n i : ℕ) → checked .refusal .number ≡ 0 → (n ≡ 0) ⊎ (12 ≤ n) → Gives (reuse-outcome bs q b t l) n i rows-and-run →
-      Left-case plan (reuse-outcome bs q b t l)
-  asked-left n i z (inl e) g = left-rows (inl (g .0 .0 ∙ e)) (g .1) (passed-whole bs t l z)
-  asked-left n i z (inr h) g = left-rows (inr (omega (arith, g .0 .0))) (g .1) (passed-whole bs t l z)
+  -- rows and run are left exactly where the plan passes
+  pub question-passed : (reuse-outcome bs q b t l .leaves ≡ rows-and-run) ↔ ((unrefused bs t l ≡ true) × Safe plan)
+  unfolding reuse-outcome
+  question-passed = asked-safe bs t l own
 
-  case-left : (n : ℕ) → Question-case n → Left-case plan (reuse-outcome bs q b t l)
-  case-left n (plan-case low high bad) = subst (Left-case plan) (sym (plan-first bad)) (check-left-case bs t l)
-  case-left n (queue-case k z h) = asked-left 12 q z (inr (omega arith)) (question-means .no-queue z h)
-  case-left n (buffer-case k z h g) = asked-left 13 b z (inr (omega arith)) (question-means .no-buffer z h g)
-  case-left n (answer-case k z h g) = asked-left 0 0 z (inl refl) (question-means .answered z h g)
-
-  question-left-case : Left-case plan (reuse-outcome bs q b t l)
-  question-left-case = case-left (reuse-outcome bs q b t l .refusal .number) question-case
+  -- an answer is given on a plan that passes, to a queue and a buffer that it has
+  pub question-answered : reuse-outcome bs q b t l .refusal .number ≡ 0 →
+      (check-outcome bs t l .refusal .number ≡ 0) × (q < queues plan) × (b < length (plan .sizes))
+  unfolding reuse-outcome member
+  question-answered e = let w = asked-own bs t l own 0 refl e in let v = answer-if (own-case plan q b) (w .1) in
+      (w .0, v .0, v .1)
+    where
+      answer-if : {n : ℕ} → Own-case plan q b n → n ≡ 0 → (q < queues plan) × (b < length (plan .sizes))
+      answer-if (queue-case k h) e = absurd (omega arith)
+      answer-if (buffer-case k h g) e = absurd (omega arith)
+      answer-if (answer-case k h g) e = (h, g)
 
 module _ (bs : List ℕ) (q b : ℕ) (r : Told) (t x l y : List ℕ) (s : Reuse-says bs q b r t x l y) where
-  pub question-left : Left-by-number (plan-in bs) (r .number) t x l y
-  unfolding Reuse-says
-  question-left =
-      left-by (plan-in bs) (reuse-outcome bs q b (length t) (length l)) (number-of (verdict (plan-in bs) q b)) r t x l y s
-      (question-left-case bs q b (length t) (length l))
+  pub question-left : Left-means (plan-in bs) (reuse-outcome bs q b (length t) (length l) .leaves) t x l y
+  unfolding Reuse-says reuse-outcome
+  question-left = asked-left bs (question-refusal (plan-in bs) q b) (number-of (verdict (plan-in bs) q b)) r t x l y s
 
   -- an answer is the number of the verdict whose line of the table holds
   pub question-answer : r .number ≡ 0 → Verdict-table (plan-in bs) q b (r .answer)

@@ -30,7 +30,7 @@ number-head p q bs own x xs e =
     (λ u. (omega (arith, leb-false (x .value) top u), rw (t, u) at e)))
     (λ f. absurd (let z : 6 ≡ 0 = rw f at e in omega arith))
 
--- an operation's signals rise above what is behind them, then the rest does
+-- an operation's signals rise above what came before them, then the rest does
 rise-own : (p : Plan) (q : ℕ) (bs : List Operation) (so-far : ℕ → ℕ) (xs ys own got : List Point) → signals-number p q bs own xs ≡ 0 →
     ((s : ℕ) → highest-in s got ≤ max (highest-in s own) (so-far s)) → ((s v : ℕ) → signals-value s v xs ≡ true → so-far s < v) →
     ((got′ : List Point) → ((s : ℕ) → highest-in s got′ ≤ max (max (highest-in s own) (highest-in s xs)) (so-far s)) → points-rise got′ ys ≡ true) →

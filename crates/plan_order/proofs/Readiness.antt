@@ -1,6 +1,7 @@
 -- Readiness only grows with what has run, and after a run an operation is enabled exactly when all that is directly before it has run. Assumes nothing.
 use mathlib.Core.Path.{_≡_, refl, sym, subst}
 use mathlib.Core.Bool.{Bool, true, false, _&&_, _||_, not, false≢true}
+use mathlib.Core.Logic.{_↔_}
 use mathlib.Core.List.{List, [], _∷_, List·Memᴰ, List·Memᴰ·head, List·Memᴰ·tail, List·Memᴰ·not-nil, List·Memᴰ·cases-cons}
 use Prim.Native.Nat.{ℕ, _≤_, _<_, zero-le, max}
 use native.Mathlib.Nat.{le-trans}
@@ -18,7 +19,7 @@ use Rattle.order.proofs.Extensions.{chain-steps}
 use Rattle.plan_format.specs.Plan.{Point, Plan, count, op}
 use Rattle.plan_format.specs.Sound.{highest-in, highest, signals-refusal, any-too-high, waits-refusal}
 use Rattle.plan_order.specs.Precedence.{Signal, resolve, rests-on, any-rests-on, same-queue, direct}
-use Rattle.plan_order.specs.Runs.{reached, wait-met, earlier-run, enabled}
+use Rattle.plan_order.specs.Runs.{reached, wait-met, earlier-run, enabled, is-run}
 use Rattle.plan_order.proofs.Signals.{signals-value, value-under, high-gives, highest-gives, too-high-none, waits-none, value-inside, one-queue, rises}
 use Rattle.plan_order.proofs.Resolution.{Rests, rests-gives, rests-somewhere}
 
@@ -187,7 +188,8 @@ module _ (p : Plan) where
   -- ---- without 8: what has all that is directly before it in a list is enabled by it
   module _ (waits-good : waits-refusal 0 p (p .operations) .number ≡ 0) where
     wait-holds : (r : List ℕ) (w : Point) → (0 < w .value → w .value ≤ highest (w .semaphore) (p .operations)) →
-        ((i : ℕ) → i < count p → rests-on (resolve p w) i ≡ true → member i r ≡ true) → w .value ≤ reached p (w .semaphore) r
+        ((i : ℕ) → i < count p → rests-on (resolve p w) i ≡ true → member i r ≡ true) →
+        w .value ≤ reached p (w .semaphore) r
     unfolding op count
     wait-holds r w low h =
         by-cases (ltb 0 (w .value))
@@ -199,16 +201,38 @@ module _ (p : Plan) where
         (reached-has (w .semaphore) r (x .0 .operation) (h (x .0 .operation) (t .inside) (x .2))))
         (λ a. omega (arith, ltb-false 0 (w .value) a))
 
+    low-enough : (ws : List Point) → any-too-high p ws ≡ false → (w : Point) → List·Memᴰ w ws →
+        0 < w .value → w .value ≤ highest (w .semaphore) (p .operations)
+    low-enough [] e w m = absurd (List·Memᴰ·not-nil m)
+    low-enough (v ∷ vs) e w m =
+        let t = too-high-none p v vs e in
+        either (List·Memᴰ·cases-cons m)
+        (λ q. subst (λ (z : Point). 0 < z .value → z .value ≤ highest (z .semaphore) (p .operations)) (sym q) (t .0))
+        (λ m′. low-enough vs (t .1) w m′)
+
+    -- a wait of an operation of the plan
+    own-wait-holds : (r : List ℕ) (j : ℕ) → j < count p → (w : Point) → List·Memᴰ w (op p j .waits) →
+        ((i : ℕ) → i < count p → rests-on (resolve p w) i ≡ true → member i r ≡ true) →
+        w .value ≤ reached p (w .semaphore) r
+    own-wait-holds r j l w m h =
+        wait-holds r w (low-enough (op p j .waits)
+        (unfold op count in (waits-none 0 p (p .operations) waits-good j l)) w m) h
+
     pub predecessors-suffice : (r : List ℕ) (j : ℕ) → j < count p → ((i : ℕ) → direct p i j ≡ true → member i r ≡ true) → enabled p r j ≡ true
     predecessors-suffice r j l h =
         enabled-by r j (record {
           earlier = λ k b q. h k (direct-by k j (omega arith) l (by-queue b q));
-          waits = λ w m. wait-holds r w (low-enough (op p j .waits) (unfold op count in (waits-none 0 p (p .operations) waits-good j l)) w m)
-              (λ i b t. h i (direct-by i j b l (by-wait w m t)));
+          waits = λ w m. own-wait-holds r j l w m (λ i b t. h i (direct-by i j b l (by-wait w m t)));
         })
-      where
-        low-enough : (ws : List Point) → any-too-high p ws ≡ false → (w : Point) → List·Memᴰ w ws → 0 < w .value → w .value ≤ highest (w .semaphore) (p .operations)
-        low-enough [] e w m = absurd (List·Memᴰ·not-nil m)
-        low-enough (v ∷ vs) e w m =
-            let t = too-high-none p v vs e in
-            either (List·Memᴰ·cases-cons m) (λ q. subst (λ (z : Point). 0 < z .value → z .value ≤ highest (z .semaphore) (p .operations)) (sym q) (t .0)) (λ m′. low-enough vs (t .1) w m′)
+
+    -- ---- without 6 to 8: after a run a wait is met exactly if what it rests on has run
+    pub wait-met-means : signals-refusal 0 p [] (p .operations) .number ≡ 0 → (r : List ℕ) → is-run p r ≡ true →
+        (j : ℕ) → j < count p → (w : Point) → List·Memᴰ w (op p j .waits) →
+        (wait-met p r w ≡ true) ↔ ((i : ℕ) → rests-on (resolve p w) i ≡ true → member i r ≡ true)
+    unfolding wait-met is-run
+    wait-met-means signals-good r run j l w m = (
+      (λ met i t. let g = rests-gives p w i t in
+          subst (λ (z : ℕ). member z r ≡ true) (g .2)
+          (wait-asks signals-good r w (g .0) (g .1) run (leb-true (w .value) (reached p (w .semaphore) r) met))),
+      (λ h. le-leb (w .value) (reached p (w .semaphore) r) (own-wait-holds r j l w m (λ i b t. h i t))),
+    )

@@ -1,16 +1,27 @@
 -- Room for table and list: 9 at the length needed, the table before the list. Assumes nothing.
-use mathlib.Core.Path.{_≡_}
+use mathlib.Core.Path.{_≡_, refl}
 use mathlib.Core.Logic.{_⊎_, inl, inr}
 use Prim.Native.Nat.{ℕ, _*_}
 use lib.Dec.{ltb}
 use borrow.Author.Tests.{ltb-true, ltb-false}
 use native.Mathlib.Omega.{arith}
 use Rattle.basics.proofs.Tests.{by-cases}
+use Rattle.plan_format.specs.Refusal.{refusal, none-given, given, or-else}
 use Rattle.plan_format.specs.Stored.{room-for}
 use Rattle.plan_format.proofs.Judged.{other-given, or-else-first, or-else-second}
 use Rattle.plan_format.proofs.RoomMeaning.{room-for-means}
 use Rattle.plan_order.specs.Check.{room-refusal}
 use Rattle.plan_order.specs.Meaning.{Room-means}
+
+-- too little room for both: the table comes first
+table-first : room-refusal 1 15 1 ≡ refusal 9 16
+unfolding room-refusal room-for or-else given refusal
+table-first = refl
+
+-- the list holds a ready number for each step besides the run
+list-doubled : room-refusal 1 16 1 ≡ refusal 9 2
+unfolding room-refusal room-for or-else given none-given refusal
+list-doubled = refl
 
 module _ (n t l : ℕ) where
   pub room-means : Room-means n t l (room-refusal n t l)

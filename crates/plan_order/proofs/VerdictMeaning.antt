@@ -12,7 +12,7 @@ use Rattle.basics.specs.Lists.{all}
 use Rattle.basics.proofs.Tests.{by-cases, by-option, clash, is-false}
 use Rattle.basics.proofs.Searches.{all-gives, all-by, all-fails, all-no, highest-some, highest-none}
 use Rattle.plan_format.specs.Plan.{Plan, count, op}
-use Rattle.plan_order.specs.Holdings.{Placed, is-free, buffer-marks}
+use Rattle.plan_order.specs.Holdings.{Placed, placed, marks-of, marks-from, is-free, buffer-marks}
 use Rattle.plan_order.specs.Reuse.{number-of, last-on, seen-by, last-mark, verdict-on, verdict}
 use Rattle.plan_order.specs.Meaning.{Last-on, Seen, Last-mark, When, Verdict-table}
 use Rattle.plan_order.specs.declared.Verdict.{Verdict}
@@ -20,6 +20,19 @@ use Rattle.plan_order.specs.declared.Verdict.the-variants.{Fresh, Reusab
 use Rattle.plan_order.proofs.Precedence.{at-or-means}
 use Rattle.plan_order.proofs.AskedMarks.{free-kind, kind-free, kind-use, use-kind}
 use Rattle.plan_order.proofs.MarksMeaning.{mark-marked, marked-mark}
+
+-- a plan of one queue, one buffer, and one operation that uses it and does not free it
+unfoldable pub one-use : Plan
+one-use = record {
+  axes = 0 ∷ [];
+  owners = [];
+  sizes = 0 ∷ [];
+  operations = record { queue = 0; waits = []; signals = []; marks = record { buffer = 0; kind = 0 } ∷ [] } ∷ [];
+}
+
+used-held : verdict one-use 0 0 ≡ Held
+unfolding one-use verdict verdict-on buffer-marks marks-from marks-of placed last-mark is-free
+used-held = refl
 
 module _ (p : Plan) (q : ℕ) where
   -- ---- the queue's last operation

@@ -9,6 +9,7 @@ use Rattle.basics.specs.Places.{Among, Counts}
 use Rattle.order.specs.Runs.{step-of}
 use Rattle.plan_format.specs.Sizes.{row-width}
 use Rattle.plan_format.specs.Refusal.{Refusal}
+use Rattle.plan_format.specs.RefusalNumbers.{One-of, None-or, order-numbers, reuse-numbers, untouched-numbers, check-gives, reuse-gives}
 use Rattle.plan_format.specs.Plan.{Point, Mark, Plan, count, op, queues}
 use Rattle.plan_format.specs.Stored.{plan-in, plan-refusal}
 use Rattle.plan_format.specs.Meaning.{Refuses, signal-at}
@@ -203,6 +204,13 @@ Gives o n i l = Refuses (o .refusal) n i × (o .leaves ≡ l)
 abbrev pub Unrefused : (bytes : List ℕ) → (table list : ℕ) → Type 0
 Unrefused bs t l = (plan-refusal bs .number ≡ 0) × (room-refusal (count (plan-in bs)) t l .number ≡ 0)
 
+-- what is left goes by the number's class: numbers of the plan and of room, those of the order, and none or a
+-- question's own
+pub record Leaves-by (own : List ℕ) (o : Outcome) : Type 0 where
+  pub untouched : (o .leaves ≡ untouched) ↔ One-of untouched-numbers (o .refusal .number)
+  pub zeros : (o .leaves ≡ zeros) ↔ One-of order-numbers (o .refusal .number)
+  pub rows-and-run : (o .leaves ≡ rows-and-run) ↔ None-or own (o .refusal .number)
+
 -- 01: "Then 6 and 7 ..; then 8 likewise; then 9 ..; then 10; then 11", "No number is given on other grounds."
 pub record Check-means (bytes : List ℕ) (table list : ℕ) (o : Outcome) : Type 0 where
   pub plan-first : (plan-refusal bytes .number ≡ 0 → ⊥) → (o .refusal ≡ plan-refusal bytes) × (o .leaves ≡ untouched)
@@ -214,7 +222,8 @@ pub record Check-means (bytes : List ℕ) (table list : ℕ) (o : Outcome) : Typ
   pub passed :
       Gives o 0 0 rows-and-run ↔ (Unrefused bytes table list × ((r : List ℕ) × Full-means (plan-in bytes) r) ×
       ((b k : ℕ) → b < length (plan-in bytes .sizes) → k < length (buffer-marks (plan-in bytes) b) → Forced (plan-in bytes) b k))
-  pub only : o .refusal .number ≤ 11
+  pub only : None-or check-gives (o .refusal .number)
+  pub leaves : Leaves-by [] o
 
 -- ---- the question
 -- 01: "The plan is checked first", "then 12; then 13", "place the number asked", "any answer, and 12, 13 .. leave the rows and the run there"
@@ -227,7 +236,8 @@ pub record Question-means (bytes : List ℕ) (q b table list : ℕ) (o : Outcome
   pub twelve : (o .refusal .number ≡ 12) ↔ ((check-outcome bytes table list .refusal .number ≡ 0) × (queues (plan-in bytes) ≤ q))
   pub thirteen : (o .refusal .number ≡ 13) ↔
       ((check-outcome bytes table list .refusal .number ≡ 0) × (q < queues (plan-in bytes)) × (length (plan-in bytes .sizes) ≤ b))
-  pub only : o .refusal .number ≤ 13
+  pub only : None-or reuse-gives (o .refusal .number)
+  pub leaves : Leaves-by reuse-numbers o
 
 -- ---- what is left in table and list
 -- 01: "Numbers past those are never touched."
@@ -253,8 +263,8 @@ pub record Run-left (p : Plan) (old now : List ℕ) : Type 0 where
   pub ready : (k : ℕ) → k < count p → Counts (Ready-queue p (take k now)) (getD now (count p + k) 0)
 
 -- 01: "Refusals 1 to 9 leave table and list untouched. 10 and 11 leave zeros .. A pass, any answer, and 12, 13, 15 and 21 leave the rows
--- and the run there"; n is the number handed back
-pub record Left-by-number (p : Plan) (n : ℕ) (table table-now list list-now : List ℕ) : Type 0 where
-  pub untouched : 1 ≤ n → n ≤ 9 → (table-now ≡ table) × (list-now ≡ list)
-  pub zeros : 10 ≤ n → n ≤ 11 → Zeros-left (row-width * count p) table table-now × Zeros-left (2 * count p) list list-now
-  pub rows-and-run : (n ≡ 0) ⊎ (12 ≤ n) → Rows-left p table table-now × Run-left p list list-now
+-- and the run there"; v is what the outcome leaves, and Leaves-by tells which numbers leave it
+pub record Left-means (p : Plan) (v : Leaves) (table table-now list list-now : List ℕ) : Type 0 where
+  pub untouched : v ≡ untouched → (table-now ≡ table) × (list-now ≡ list)
+  pub zeros : v ≡ zeros → Zeros-left (row-width * count p) table table-now × Zeros-left (2 * count p) list list-now
+  pub rows-and-run : v ≡ rows-and-run → Rows-left p table table-now × Run-left p list list-now

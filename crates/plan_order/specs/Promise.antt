@@ -11,18 +11,20 @@ use lib.ListN.{length, getD, take}
 use Rattle.basics.specs.Lists.{member}
 use Rattle.basics.specs.Places.{Counts}
 use Rattle.order.specs.Runs.{step-of}
-use Rattle.plan_format.specs.Sizes.{row-width}
+use Rattle.plan_format.specs.Sizes.{row-width, plan-bytes}
 use Rattle.plan_format.specs.Refusal.{given}
+use Rattle.plan_format.specs.RefusalNumbers.{None-or, order-numbers}
 use Rattle.plan_format.specs.Plan.{Plan, count, op}
 use Rattle.plan_format.specs.Sound.{Sound}
 use Rattle.plan_format.specs.Stored.{all-bytes, plan-in, plan-refusal}
 use Rattle.plan_order.specs.Precedence.{direct, Before, before, at-or-before}
-use Rattle.plan_order.specs.Rows.{epoch, row}
-use Rattle.plan_order.specs.Runs.{is-run, is-full, ahead, ready, raises-in-order, next, standard}
+use Rattle.plan_order.specs.Rows.{epoch, row, rows}
+use Rattle.plan_order.specs.Runs.{is-run, is-full, ahead, ready, raises-in-order, next, standard, run-list}
 use Rattle.plan_order.specs.Holdings.{Ask, asks, asked-of, met, keeps, marks-buffer}
 use Rattle.plan_format.specs.declared.Told.{Told}
-use Rattle.plan_order.specs.Meaning.{In-column, Left-by-number}
-use Rattle.plan_order.specs.Check.{room-refusal, order-refusal, Check-says}
+use Rattle.plan_order.specs.Meaning.{In-column, Check-means, Left-means}
+use Rattle.plan_order.specs.Check.{room-refusal, order-refusal, Outcome, check-outcome, Check-says}
+use Rattle.plan_order.specs.Reuse.{verdict, reuse-outcome}
 
 -- ---- DEMAND 3
 -- 01: "10: stuck: no full run; lowest operation that is in no run"
@@ -54,7 +56,7 @@ Safe p = ((r : List ℕ) × (is-full p r ≡ true)) × ((r : List ℕ) (b : ℕ)
 
 -- the number and place handed back for a plan with none of refusals 1 to 9
 pub record Demand-3 (p : Plan) (number place : ℕ) : Type 0 where
-  pub only : (number ≡ 0) ⊎ ((number ≡ 10) ⊎ (number ≡ 11))
+  pub only : None-or order-numbers number
   pub exactly : (number ≡ 0) ↔ Safe p
   pub passed-place : number ≡ 0 → place ≡ 0
   pub never-stuck :
@@ -147,11 +149,35 @@ unfoldable pub None-itself : Type 0
 None-itself = (bs : List ℕ) (j : ℕ) → passed bs ≡ true → before (plan-in bs) j j ≡ false
 
 -- ---- THE CHECK
--- what a caller of the check gets: what it hands back and leaves, by its definition and by index, and demands 3 and 2
+-- the outcome of a check in lent table and list
+abbrev pub check-outcome-in : (bytes table list : List ℕ) → Outcome
+check-outcome-in bs t l = check-outcome bs (length t) (length l)
+
+-- what a caller of the check gets: what it hands back and leaves, by its definition, by quantifiers and by index, and
+-- demands 3 and 2
 pub record Checked (bytes : List ℕ) (r : Told) (table table-now list list-now : List ℕ) : Type 0 where
   pub says : Check-says bytes r table table-now list list-now
-  -- 0, 10 and 11 are given only where none of 1 to 9 is
-  pub answers : (r .number ≡ 0) ⊎ ((r .number ≡ 10) ⊎ (r .number ≡ 11)) → unrefused bytes (length table) (length list) ≡ true
+  -- the number and the place are those of the outcome of which `means` speaks
+  pub number : r .number ≡ check-outcome-in bytes table list .refusal .number
+  pub place : r .place ≡ check-outcome-in bytes table list .refusal .place
+  pub means : Check-means bytes (length table) (length list) (check-outcome-in bytes table list)
+  -- none, or a number of the order, is given only where the plan and the room are not refused
+  pub answers : None-or order-numbers (r .number) → unrefused bytes (length table) (length list) ≡ true
   pub demand-3 : Demand-3-stored bytes (length table) (length list) (r .number) (r .place)
   pub demand-2 : r .number ≡ 0 → Demand-2 (plan-in bytes) table-now
-  pub left : Left-by-number (plan-in bytes) (r .number) table table-now list list-now
+  pub left : Left-means (plan-in bytes) (check-outcome-in bytes table list .leaves) table table-now list list-now
+
+-- ---- THE FIRST BYTES
+-- two inputs that no call on a stored plan tells apart: each answer is the same
+pub record Judged-alike (bs cs : List ℕ) : Type 0 where
+  pub plan : plan-in bs ≡ plan-in cs
+  pub refusal : plan-refusal bs ≡ plan-refusal cs
+  pub check : (table list : ℕ) → check-outcome bs table list ≡ check-outcome cs table list
+  pub reuse : (q b table list : ℕ) → reuse-outcome bs q b table list ≡ reuse-outcome cs q b table list
+  pub rows-of : rows (plan-in bs) ≡ rows (plan-in cs)
+  pub run-of : run-list (plan-in bs) ≡ run-list (plan-in cs)
+  pub verdict-of : (q b : ℕ) → verdict (plan-in bs) q b ≡ verdict (plan-in cs) q b
+
+-- one byte more than the longest plan has decides all that is answered
+unfoldable pub First-bytes : Type 0
+First-bytes = (bs : List ℕ) → Judged-alike bs (take (plan-bytes + 1) bs)

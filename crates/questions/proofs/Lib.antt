@@ -1,4 +1,3 @@
-pub mod ReuseStray
 pub mod ReuseAsked
 pub mod ReuseVerdict
 pub mod ReuseTurns

@@ -1,13 +1,10 @@
 -- What the reuse question says, from what the check says; and all that a caller gets with it. Assumes nothing.
 use mathlib.Core.Path.{_≡_, refl, sym, ap, _∙_, subst}
-use mathlib.Core.Logic.{_⊎_, inl}
 use mathlib.Core.List.{List}
 use Prim.Native.Nat.{ℕ, _≤_, _<_}
 use native.Mathlib.Omega.{arith}
-use lib.Dec.{leb, eqb}
 use lib.ListN.{length}
-use borrow.Author.Tests.{leb-true, leb-false, le-leb, lt-leb, eqb-true, eqb-false}
-use Rattle.basics.proofs.Tests.{by-cases, either}
+use borrow.Author.Tests.{le-leb, lt-leb}
 use Rattle.plan_format.specs.Plan.{Plan, queues}
 use Rattle.plan_format.specs.Refusal.{refusal, none-given, given, or-else}
 use Rattle.plan_format.specs.Stored.{plan-in, Tells}
@@ -18,53 +15,31 @@ use Rattle.plan_order.specs.Reuse.{number-of, verdict, question-refusal, reuse-
 use Rattle.plan_order.specs.Holdings.{buffer-marks}
 use Rattle.plan_order.specs.Meaning.{Forced, When}
 use Rattle.plan_order.specs.declared.Verdict.the-variants.{StrayUse}
-use Rattle.plan_order.specs.Promise.{Demand-3-stored, Safe, Checked}
-use Rattle.plan_order.proofs.CheckMeaning.{check-eleven, answer-unrefused, check-means}
+use Rattle.plan_order.specs.Promise.{Demand-3-stored, Checked}
+use Rattle.plan_order.proofs.CheckMeaning.{passed-unrefused, check-means}
+use Rattle.plan_order.proofs.OutcomeMeaning.{passed-leaves}
 use Rattle.plan_order.proofs.Promises.{demand-3-stored}
-use Rattle.plan_order.proofs.QuestionMeaning.{question-means, question-left, question-answer}
+use Rattle.plan_order.proofs.LastFree.{no-stray}
+use Rattle.plan_order.proofs.QuestionMeaning.{question-means, question-passed, question-answered, question-left, question-answer}
 use Rattle.checker.specs.Opening.{Lent, Opened-plan}
 use Rattle.checker.specs.declared.Counted.{Counted}
 use Rattle.checker.specs.declared.Opened.{Opened}
-use Rattle.checker.proofs.Passed.{passed-leaves}
 use Rattle.questions.specs.Reuse.{Asked}
 use Rattle.questions.specs.ReusePass.{Question-given}
-use Rattle.questions.proofs.ReuseStray.{no-stray}
 
 -- ---- all that a caller gets
-module _ (bs : List ℕ) (q b t l : ℕ) where
-  -- an answer, 12 and 13 are given only for a plan that passes
-  check-passed : {n : ℕ} → n ≡ reuse-outcome bs q b t l .refusal .number → (n ≡ 0) ⊎ (12 ≤ n) → check-outcome bs t l .refusal .number ≡ 0
-  check-passed {n} e w =
-      by-cases (eqb (check-outcome bs t l .refusal .number) 0) (λ z. eqb-true (check-outcome bs t l .refusal .number) 0 z)
-      (λ f. let bad = eqb-false (check-outcome bs t l .refusal .number) 0 f in
-      let same = ap (λ (o : Outcome). o .refusal .number) (question-means bs q b t l .plan-first bad) in
-      let most = check-eleven bs t l in
-      absurd (either w (λ z. bad (omega arith)) (λ h. omega arith)))
+-- the marks of a passed plan on one of its buffers are forced
+passed-forced : (bs : List ℕ) (b t l : ℕ) → check-outcome bs t l .refusal .number ≡ 0 → b < length (plan-in bs .sizes) →
+    (k : ℕ) → k < length (buffer-marks (plan-in bs) b) → Forced (plan-in bs) b k
+unfolding Demand-3-stored
+passed-forced bs b t l z inside k here =
+    let place = demand-3-stored bs t l (passed-unrefused bs t l z) .passed-place z in
+    check-means bs t l .passed .0 ((z, place), passed-leaves bs t l z) .2 b k inside here
 
-  passed-safe : check-outcome bs t l .refusal .number ≡ 0 → Safe (plan-in bs)
-  unfolding Demand-3-stored
-  passed-safe z = demand-3-stored bs t l (answer-unrefused bs t l (inl z)) .exactly .0 z
-
-  -- its marks are forced, on a buffer of the plan
-  passed-forced : check-outcome bs t l .refusal .number ≡ 0 → b < length (plan-in bs .sizes) →
-      (k : ℕ) → k < length (buffer-marks (plan-in bs) b) → Forced (plan-in bs) b k
-  unfolding Demand-3-stored
-  passed-forced z inside k here =
-      let place = demand-3-stored bs t l (answer-unrefused bs t l (inl z)) .passed-place z in
-      check-means bs t l .passed .0 ((z, place), passed-leaves bs t l z) .2 b k inside here
-
-  answered-inside : reuse-outcome bs q b t l .refusal .number ≡ 0 → b < length (plan-in bs .sizes)
-  answered-inside e =
-      let z = check-passed (sym e) (inl refl) in
-      let means = question-means bs q b t l in
-      by-cases (leb (queues (plan-in bs)) q)
-      (λ h. absurd (omega (arith, means .twelve .1 (z, leb-true (queues (plan-in bs)) q h))))
-      (λ h. by-cases (leb (length (plan-in bs .sizes)) b)
-      (λ g. absurd (omega (arith, means .thirteen .1 (z, leb-false (queues (plan-in bs)) q h, leb-true (length (plan-in bs .sizes)) b g))))
-      (λ g. leb-false (length (plan-in bs .sizes)) b g))
-
-  answered-no-stray : reuse-outcome bs q b t l .refusal .number ≡ 0 → When (plan-in bs) q b StrayUse → ⊥
-  answered-no-stray e = no-stray (plan-in bs) b (passed-forced (check-passed (sym e) (inl refl)) (answered-inside e)) q
+answered-no-stray : (bs : List ℕ) (q b t l : ℕ) → reuse-outcome bs q b t l .refusal .number ≡ 0 →
+    When (plan-in bs) q b StrayUse → ⊥
+answered-no-stray bs q b t l e =
+    let w = question-answered bs q b t l e in no-stray (plan-in bs) b (passed-forced bs b t l (w .0) (w .2)) q
 
 pub asked : (bs : List ℕ) (q b : ℕ) (r : Told) (t x l y : List ℕ) → Reuse-says bs q b r t x l y → Asked bs q b r t x l y
 unfolding Reuse-says
@@ -76,7 +51,7 @@ asked bs q b r t x l y s =
       number = n;
       place = s .tells .place;
       means = question-means bs q b (length t) (length l);
-      passed = λ w. passed-safe bs q b (length t) (length l) (check-passed bs q b (length t) (length l) n w);
+      passed = question-passed bs q b (length t) (length l);
       left = question-left bs q b r t x l y s;
       answer = question-answer bs q b r t x l y s;
       no-stray-use =

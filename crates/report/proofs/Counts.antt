@@ -3,6 +3,7 @@ use mathlib.Core.List.{List}
 use Prim.Native.Nat.{ℕ, _≤_}
 use native.Mathlib.Omega.{arith}
 use Rattle.basics.proofs.Tests.{by-cases}
+use Rattle.plan_format.specs.Sizes.{most-queues, most-operations}
 use Rattle.plan_format.specs.Plan.{queues}
 use Rattle.plan_format.specs.Refusal.{given}
 use Rattle.plan_format.specs.Stored.{scanned}
@@ -11,7 +12,8 @@ use Rattle.plan_format.proofs.Plans.{scanned-shape}
 use Rattle.checker.specs.Counting.{Sizes-told}
 use Rattle.checker.specs.declared.Counted.{Counted}
 
-pub few-counts : (bs : List ℕ) (c : Counted) → Sizes-told bs c → (c .operations ≤ 1024) × (c .queues ≤ 16)
+pub few-counts : (bs : List ℕ) (c : Counted) → Sizes-told bs c →
+    (c .operations ≤ most-operations) × (c .queues ≤ most-queues)
 unfolding queues
 few-counts bs c s =
     by-cases (given (scanned bs .fault))

@@ -1,44 +1,47 @@
 -- What the program prints for a check, as texts. Assumes nothing: these are definitions.
 use mathlib.Core.List.{List, [], _∷_, _++_}
-use Prim.Native.Nat.{ℕ, _*_}
-use lib.ListN.{take, drop, replicate}
+use Prim.Native.Nat.{ℕ, _*_, _≤_}
+use lib.ListN.{length, take, drop, replicate}
 use Rattle.basics.specs.Lists.{join-from}
+use Rattle.plan_format.specs.Sizes.{most-queues, most-operations, row-width, table-numbers, list-numbers}
+use Rattle.plan_format.specs.declared.Told.{Told}
 use Rattle.plan_order.specs.Promise.{Checked}
 use Rattle.checker.specs.Counting.{Sizes-told}
 use Rattle.checker.specs.declared.Counted.{Counted}
+use Rattle.text.specs.Ascii.{ascii}
 use Rattle.text.specs.Text.{Puts, decimal, blanked, spaced, or-refused}
-
--- words in ASCII: `passed 0` with the next line's `size` and a blank, and, behind the end of a line, `run` and `ready`
-abbrev pub passed-words : List ℕ
-passed-words = 112 ∷ 97 ∷ 115 ∷ 115 ∷ 101 ∷ 100 ∷ 32 ∷ 48 ∷ 10 ∷ 115 ∷ 105 ∷ 122 ∷ 101 ∷ 32 ∷ []
-
-abbrev pub run-word : List ℕ
-run-word = 10 ∷ 114 ∷ 117 ∷ 110 ∷ []
-
-abbrev pub ready-word : List ℕ
-ready-word = 10 ∷ 114 ∷ 101 ∷ 97 ∷ 100 ∷ 121 ∷ []
 
 -- 01: "`size` is queues, semaphores, buffers, operations."
 unfoldable pub sizes-text : Counted → List ℕ
-sizes-text c = passed-words ++ spaced (c .queues ∷ c .semaphores ∷ c .buffers ∷ c .operations ∷ [])
+sizes-text c = ascii "passed 0\nsize " ++ spaced (c .queues ∷ c .semaphores ∷ c .buffers ∷ c .operations ∷ [])
 
 -- 01: "With no operations the run and ready lines are the bare words."
 unfoldable pub runs-text : (n : ℕ) → (list : List ℕ) → List ℕ
-runs-text n l = (run-word ++ blanked (take n l)) ++ (ready-word ++ blanked (take n (drop n l))) ++ (10 ∷ [])
+runs-text n l = (ascii "\nrun" ++ blanked (take n l)) ++ (ascii "\nready" ++ blanked (take n (drop n l))) ++ ascii "\n"
 
 -- an operation, and its row's columns for the queues
 unfoldable pub row-text : (queues : ℕ) → (table : List ℕ) → (i : ℕ) → List ℕ
-row-text q t i = decimal i ++ ((58 ∷ []) ++ blanked (take q (drop (16 * i) t))) ++ (10 ∷ [])
+row-text q t i = decimal i ++ (ascii ":" ++ blanked (take q (drop (row-width * i) t))) ++ ascii "\n"
 
 -- the text of a pass: counts, run and ready numbers, rows
 unfoldable pub passed-text : Counted → (table list : List ℕ) → List ℕ
 passed-text c t l = sizes-text c ++ runs-text (c .operations) l ++ join-from (c .operations) 0 (row-text (c .queues) t)
 
--- the text of a check, to which the table and the list of the greatest plan are lent
+-- counts within their limits, and a table with room for the rows of every plan
+pub record Rows-inside (operations queues : ℕ) (table : List ℕ) : Type 0 where
+  pub few-operations : operations ≤ most-operations
+  pub few-queues : queues ≤ most-queues
+  pub table-long : table-numbers ≤ length table
+
+-- number and place of a check, beside its counts
+abbrev pub told-of : Counted → Told
+told-of c = record { number = c .number; place = c .place; answer = 0 }
+
+-- the text of a check, to which room for the rows and the run of every plan is lent
 pub record Check-printed (bytes room room-now : List ℕ) (end : ℕ) : Type 0 where
   pub counts : Counted
   pub table : List ℕ
   pub list : List ℕ
-  pub checked : Checked bytes (record { number = counts .number; place = counts .place; answer = 0 }) (replicate 16384 0) table (replicate 2048 0) list
+  pub checked : Checked bytes (told-of counts) (replicate table-numbers 0) table (replicate list-numbers 0) list
   pub sizes : Sizes-told bytes counts
   pub text : Puts (or-refused (counts .number) (counts .place) (passed-text counts table list)) room 0 room-now end

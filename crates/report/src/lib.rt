@@ -1,25 +1,29 @@
 // What is printed for a check, as text in lent room; the text's length is handed back.
 use checker::Counted;
+use plan_format::limits::LIST_NUMBERS;
+use plan_format::limits::ROW_WIDTH;
+use plan_format::limits::TABLE_NUMBERS;
 ghost use Prim.Native.Nat.{_+_, _*_, _<_, _≤_};
 ghost use mathlib.Core.List.{_++_};
 ghost use lib.ListN.{length, take, drop};
 ghost use Rattle.basics.specs.Lists.{join-from};
+ghost use Rattle.plan_format.specs.Sizes.{most-queues, most-operations, table-numbers, list-numbers};
 ghost use Rattle.text.specs.Text.{Puts, blanked, or-refused};
-ghost use Rattle.report.specs.Answers.{sizes-text, runs-text, row-text, passed-text, Check-printed};
+ghost use Rattle.report.specs.Answers.{sizes-text, runs-text, row-text, passed-text, Rows-inside, Check-printed};
 
 // The check of a plan.
 pub fn check(plan: &[u8], out: &mut [u8]) -> usize
     ensures { λ r. ⌜ Check-printed (now (plan .entry)) (now (out .entry)) (now (out .exit)) r ⌝ }
 {
-    let mut table = [0u32; 16384];
-    let mut list = [0u32; 2048];
+    let mut table = [0u32; TABLE_NUMBERS];
+    let mut list = [0u32; LIST_NUMBERS];
     let counts = checker::check_counted(plan, &mut table, &mut list);
     checked(out, counts, &table, &list)
 }
 
 // The line of a refusal, or the text of a pass.
 fn checked(out: &mut [u8], counts: Counted, table: &[u32], list: &[u32]) -> usize
-    requires { ⌜ (counts .operations ≤ 1024) × (counts .queues ≤ 16) × (16384 ≤ length (now table)) × (2048 ≤ length (now list)) ⌝ }
+    requires { ⌜ Rows-inside (counts .operations) (counts .queues) (now table) × (list-numbers ≤ length (now list)) ⌝ }
     ensures { λ r. ⌜ Puts (or-refused (counts .number) (counts .place) (passed-text counts (now (table .entry)) (now (list .entry)))) (now (out .entry)) 0 (now (out .exit)) r ⌝ }
 {
     if counts.number != 0 {
@@ -44,9 +48,9 @@ fn sizes(out: &mut [u8], counts: Counted) -> usize
     text::line(out, words, &four, 4)
 }
 
-// The lines of the run and of the ready numbers, each behind the end of the line before.
+// The lines of the run and of the ready numbers, each after the end of the line before.
 fn runs(out: &mut [u8], at: usize, n: usize, list: &[u32]) -> usize
-    requires { ⌜ (n ≤ 1024) × (2 * n ≤ length (now list)) ⌝ }
+    requires { ⌜ (n ≤ most-operations) × (2 * n ≤ length (now list)) ⌝ }
     ensures { λ r. ⌜ Puts (runs-text n (now (list .entry))) (now (out .entry)) at (now (out .exit)) r ⌝ }
 {
     let run = listed(out, at, b"\nrun", list, 0, n);
@@ -54,7 +58,7 @@ fn runs(out: &mut [u8], at: usize, n: usize, list: &[u32]) -> usize
     text::byte(out, ready, b'\n')
 }
 
-// A word, and n numbers of a list from a place on, each behind a blank.
+// A word, and n numbers of a list from a place on, each after a blank.
 fn listed(out: &mut [u8], at: usize, word: &[u8], list: &[u32], from: usize, n: usize) -> usize
     requires { ⌜ from + n ≤ length (now list) ⌝ }
     ensures { λ r. ⌜ Puts (now (word .entry) ++ blanked (take n (drop from (now (list .entry))))) (now (out .entry)) at (now (out .exit)) r ⌝ }
@@ -66,7 +70,7 @@ fn listed(out: &mut [u8], at: usize, word: &[u8], list: &[u32], from: usize, n: 
 
 // A line for each operation: its row, one column for each queue.
 fn rows(out: &mut [u8], at: usize, n: usize, queues: usize, table: &[u32]) -> usize
-    requires { ⌜ (n ≤ 1024) × (queues ≤ 16) × (16384 ≤ length (now table)) ⌝ }
+    requires { ⌜ Rows-inside n queues (now table) ⌝ }
     ensures { λ r. ⌜ Puts (join-from n 0 (row-text queues (now (table .entry)))) (now (out .entry)) at (now (out .exit)) r ⌝ }
 {
     let mut end = at;
@@ -78,12 +82,12 @@ fn rows(out: &mut [u8], at: usize, n: usize, queues: usize, table: &[u32]) -> us
     end
 }
 
-// The line of operation i: its position, and its row behind a colon.
+// The line of operation i: its position, and its row after a colon.
 fn row(out: &mut [u8], at: usize, i: usize, queues: usize, table: &[u32]) -> usize
-    requires { ⌜ (i < 1024) × (queues ≤ 16) × (16384 ≤ length (now table)) ⌝ }
+    requires { ⌜ (i < most-operations) × (queues ≤ most-queues) × (table-numbers ≤ length (now table)) ⌝ }
     ensures { λ r. ⌜ Puts (row-text queues (now (table .entry)) i) (now (out .entry)) at (now (out .exit)) r ⌝ }
 {
     let name = text::number(out, at, i as u64);
-    let columns = listed(out, name, b":", table, 16 * i, queues);
+    let columns = listed(out, name, b":", table, ROW_WIDTH * i, queues);
     text::byte(out, columns, b'\n')
 }

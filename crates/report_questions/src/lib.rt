@@ -1,17 +1,18 @@
 // What is printed for a question on a plan, as text in lent room; the text's length is handed back.
 use frontier_sent::Sent;
 use plan_format::Told;
-ghost use mathlib.Core.List.{[], _∷_, _++_};
+use plan_format::limits::LIST_NUMBERS;
+use plan_format::limits::TABLE_NUMBERS;
 ghost use Rattle.basics.specs.Lists.{join-from};
-ghost use Rattle.text.specs.Text.{Puts, decimal, or-refused};
-ghost use Rattle.report_questions.specs.Questions.{verdict-name, verdict-text, whole-words, entry-text, frontier-text, Reuse-printed, Frontier-printed};
+ghost use Rattle.text.specs.Text.{Puts, or-refused};
+ghost use Rattle.report_questions.specs.Questions.{verdict-name, verdict-text, whole-words, entry-of, entry-text, frontier-text, Reuse-printed, Frontier-printed};
 
 // The verdict on a buffer for a queue.
 pub fn reuse(plan: &[u8], queue: u32, buffer: u32, out: &mut [u8]) -> usize
     ensures { λ r. ⌜ Reuse-printed (now (plan .entry)) queue buffer (now (out .entry)) (now (out .exit)) r ⌝ }
 {
-    let mut table = [0u32; 16384];
-    let mut list = [0u32; 2048];
+    let mut table = [0u32; TABLE_NUMBERS];
+    let mut list = [0u32; LIST_NUMBERS];
     let told = questions::reuse_question(plan, queue, buffer, &mut table, &mut list);
     judged(out, told)
 }
@@ -29,7 +30,7 @@ fn judged(out: &mut [u8], told: Told) -> usize
     text::byte(out, name, b'\n')
 }
 
-// The name of a verdict's number, behind a blank.
+// The name of a verdict's number, after a blank.
 fn verdict(out: &mut [u8], at: usize, number: u64) -> usize
     ensures { λ r. ⌜ Puts (verdict-name number) (now (out .entry)) at (now (out .exit)) r ⌝ }
 {
@@ -52,8 +53,8 @@ fn verdict(out: &mut [u8], at: usize, number: u64) -> usize
 pub fn frontier(plan: &[u8], operation: u32, capacity: u32, out: &mut [u8]) -> usize
     ensures { λ r. ⌜ Frontier-printed (now (plan .entry)) operation capacity (now (out .entry)) (now (out .exit)) r ⌝ }
 {
-    let mut table = [0u32; 16384];
-    let mut list = [0u32; 2048];
+    let mut table = [0u32; TABLE_NUMBERS];
+    let mut list = [0u32; LIST_NUMBERS];
     let sent = frontier_sent::frontier_of(plan, operation, capacity, &mut table, &mut list);
     entered(out, sent)
 }
@@ -83,7 +84,7 @@ fn whole(out: &mut [u8], tainted: bool) -> usize
     text::words(out, 0, b"frontier whole")
 }
 
-// The first n entries, AXIS:EPOCH, each behind a blank.
+// The first n entries, AXIS:EPOCH, each after a blank.
 fn entries(out: &mut [u8], at: usize, axes: &[u64], epochs: &[u64], n: usize) -> usize
     ensures { λ r. ⌜ Puts (join-from n 0 (entry-text (now (axes .entry)) (now (epochs .entry)))) (now (out .entry)) at (now (out .exit)) r ⌝ }
 {
@@ -96,9 +97,9 @@ fn entries(out: &mut [u8], at: usize, axes: &[u64], epochs: &[u64], n: usize) ->
     end
 }
 
-// AXIS:EPOCH behind a blank.
+// AXIS:EPOCH after a blank.
 fn entry(out: &mut [u8], at: usize, axis: u64, epoch: u64) -> usize
-    ensures { λ r. ⌜ Puts ((32 ∷ decimal axis) ++ (58 ∷ []) ++ decimal epoch) (now (out .entry)) at (now (out .exit)) r ⌝ }
+    ensures { λ r. ⌜ Puts (entry-of axis epoch) (now (out .entry)) at (now (out .exit)) r ⌝ }
 {
     let name = text::next(out, at, axis);
     let colon = text::byte(out, name, b':');

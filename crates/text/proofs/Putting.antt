@@ -1,4 +1,4 @@
--- Text put in lent room: nothing, a byte, one text behind another, and the numbers of a list. Assumes nothing.
+-- Text put in lent room: nothing, a byte, one text after another, and the numbers of a list. Assumes nothing.
 use mathlib.Core.Path.{_≡_, refl, ap, sym, subst, _∙_}
 use mathlib.Core.List.{List, [], _∷_, _++_, append-nil, append-assoc}
 use Prim.Native.Nat.{ℕ, zero, suc, _+_, _<_, _≤_, min, max}
@@ -10,7 +10,7 @@ use lib.ListN.{length, set, take, getD, length-set, length-append}
 use lib.Seq.{set-out, take-suc, take-all}
 use Rattle.basics.specs.Lists.{join-from}
 use Rattle.basics.proofs.Tests.{by-cases}
-use Rattle.text.specs.Text.{put, Puts, decimal, blanked, refused-text, or-refused}
+use Rattle.text.specs.Text.{put, Puts, after-blank, blanked, refused-text, or-refused}
 
 pub put-length : (t : List ℕ) (a : ℕ) (o : List ℕ) → length (put t a o) ≡ length o
 unfolding put
@@ -67,16 +67,16 @@ puts-whole t i h p = rw (take-all i t h) at p
 blanked-append : (s t : List ℕ) → blanked (s ++ t) ≡ blanked s ++ blanked t
 unfolding blanked
 blanked-append [] t = refl
-blanked-append (n ∷ s) t = rw (blanked-append s t) (sym (append-assoc (32 ∷ decimal n) (blanked s) (blanked t)))
+blanked-append (n ∷ s) t = rw (blanked-append s t) (sym (append-assoc (after-blank n) (blanked s) (blanked t)))
 
-blanked-one : (n : ℕ) → blanked (n ∷ []) ≡ 32 ∷ decimal n
+blanked-one : (n : ℕ) → blanked (n ∷ []) ≡ after-blank n
 unfolding blanked
-blanked-one n = append-nil (32 ∷ decimal n)
+blanked-one n = append-nil (after-blank n)
 
 -- one more number of a list
 pub puts-number :
     (t : List ℕ) (i : ℕ) {o x y : List ℕ} {a e f : ℕ} → i < length t →
-    Puts (blanked (take i t)) o a x e → Puts (32 ∷ decimal (getD t i 0)) x e y f → Puts (blanked (take (i + 1) t)) o a y f
+    Puts (blanked (take i t)) o a x e → Puts (after-blank (getD t i 0)) x e y f → Puts (blanked (take (i + 1) t)) o a y f
 puts-number t i h p q =
     rw (add-one, take-suc t i 0 h, blanked-append (take i t) (getD t i 0 ∷ []), blanked-one (getD t i 0)) (puts-both p q)
 
@@ -87,7 +87,7 @@ puts-list t i h p = rw (take-all i t h) at p
 pub puts-length : {t o x : List ℕ} {a e : ℕ} → Puts t o a x e → length x ≡ length o
 puts-length {t} {o} {a = a} p = ap length (p .room-is) ∙ put-length t a o
 
--- ---- texts one behind the other
+-- ---- texts one after the other
 
 join-more : (n i : ℕ) (f : ℕ → List ℕ) → join-from (suc n) i f ≡ join-from n i f ++ f (i + n)
 unfolding join-from

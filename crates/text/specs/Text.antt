@@ -6,13 +6,14 @@ use Prim.Native.Nat.{ℕ, zero, suc, _+_, _/_, _%_, min, max}
 use lib.Dec.{ltb, eqb}
 use lib.ListN.{length, set}
 use Rattle.io.specs.Digits.{glyph}
+use Rattle.text.specs.Ascii.{ascii}
 
 -- a text's bytes from a place of the room on; what is past its end is left out
 unfoldable pub put : (text : List ℕ) → (at : ℕ) → (room : List ℕ) → List ℕ
 put [] at o = o
 put (b ∷ text) at o = put text (suc at) (set o at b)
 
--- a text is put behind the first `at` bytes of a room, which ends where the room ends
+-- a text is put after the first `at` bytes of a room, which ends where the room ends
 pub record Puts (text room : List ℕ) (at : ℕ) (room-now : List ℕ) (end : ℕ) : Type 0 where
   pub room-is : room-now ≡ put text at room
   pub end-is : end ≡ max at (min (at + length text) (length room))
@@ -25,23 +26,23 @@ decimal-by (suc f) n = cond (ltb n 10) (glyph n ∷ []) (decimal-by f (n / 10) +
 unfoldable pub decimal : ℕ → List ℕ
 decimal n = decimal-by (suc n) n
 
--- numbers in decimal, each behind a blank
+-- a number in decimal after a blank
+abbrev pub after-blank : ℕ → List ℕ
+after-blank n = ascii " " ++ decimal n
+
+-- numbers in decimal, each after a blank
 unfoldable pub blanked : List ℕ → List ℕ
 blanked [] = []
-blanked (n ∷ ns) = (32 ∷ decimal n) ++ blanked ns
+blanked (n ∷ ns) = after-blank n ++ blanked ns
 
 -- numbers in decimal with a blank between
 unfoldable pub spaced : List ℕ → List ℕ
 spaced [] = []
 spaced (n ∷ ns) = decimal n ++ blanked ns
 
--- `refused` in ASCII
-abbrev pub refused-word : List ℕ
-refused-word = 114 ∷ 101 ∷ 102 ∷ 117 ∷ 115 ∷ 101 ∷ 100 ∷ []
-
 -- 01: "A refused plan prints one line, as `refused 10 0`."
 unfoldable pub refused-text : (number place : ℕ) → List ℕ
-refused-text n p = refused-word ++ (32 ∷ decimal n) ++ (32 ∷ decimal p) ++ (10 ∷ [])
+refused-text n p = ascii "refused" ++ after-blank n ++ after-blank p ++ ascii "\n"
 
 -- a refusal's line, or the text of an answer
 unfoldable pub or-refused : (number place : ℕ) → (answer : List ℕ) → List ℕ

@@ -3,7 +3,7 @@
 ghost use mathlib.Core.List.{[], _∷_};
 ghost use mathlib.Core.Path.{_≡_};
 ghost use lib.ListN.{take};
-ghost use Rattle.text.specs.Text.{Puts, decimal, blanked, spaced, refused-text};
+ghost use Rattle.text.specs.Text.{Puts, decimal, after-blank, blanked, spaced, refused-text};
 
 // One byte.
 pub fn byte(out: &mut [u8], at: usize, b: u8) -> usize
@@ -38,9 +38,9 @@ pub fn number(out: &mut [u8], at: usize, n: u64) -> usize
     words(out, at, &digits[..k])
 }
 
-// A number in decimal behind a blank.
+// A number in decimal after a blank.
 pub fn next(out: &mut [u8], at: usize, n: u64) -> usize
-    ensures { λ r. ⌜ Puts (32 ∷ decimal n) (now (out .entry)) at (now (out .exit)) r ⌝ }
+    ensures { λ r. ⌜ Puts (after-blank n) (now (out .entry)) at (now (out .exit)) r ⌝ }
 {
     let end = byte(out, at, b' ');
     number(out, end, n)
@@ -52,7 +52,7 @@ fn wide(n: u32) -> u64
     n as u64
 }
 
-// Numbers, each behind a blank.
+// Numbers, each after a blank.
 pub fn list(out: &mut [u8], at: usize, numbers: &[u32]) -> usize
     ensures { λ r. ⌜ Puts (blanked (now (numbers .entry))) (now (out .entry)) at (now (out .exit)) r ⌝ }
 {

@@ -22,8 +22,15 @@ slice-aggregate-checked-2 c = search needs
 
 checked-requires : tie.Need-checked-requires
 checked-requires c κs =
-    let few = few-counts _ (c .before .before .before .before .before .check-counted .result) (c .before .before .before .before .before .check-counted .ensures .1) in
-    (few .0, few .1, omega (arith, c .before .before .before .before .table2 .given), omega (arith, c .before .before .before .list2 .given))
+    let counted = c .before .before .before .before .before .check-counted in
+    let few = few-counts _ (counted .result) (counted .ensures .1) in (
+      record {
+        few-operations = few .0;
+        few-queues = few .1;
+        table-long = omega (arith, c .before .before .before .before .table2 .given);
+      },
+      omega (arith, c .before .before .before .list2 .given),
+    )
 
 same-length : tie.Need-same-length
 same-length c = search needs

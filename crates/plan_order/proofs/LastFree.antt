@@ -1,5 +1,5 @@
--- A plan that passes has no stray use: whoever has seen the last free of a buffer has seen every operation with a mark on it.
--- Assumes nothing.
+-- A buffer whose last mark is a free, in a plan without broken marks: every operation with a mark on it is at or before
+-- that free, so there is no stray use. Assumes nothing.
 use mathlib.Core.Path.{_≡_, sym, ap, _∙_, subst, subst₂}
 use mathlib.Core.Logic.{_⊎_, inl, inr}
 use mathlib.Core.List.{[], _∷_}
@@ -12,18 +12,19 @@ use borrow.Author.Tests.{eqb-true, eqb-false}
 use Rattle.basics.proofs.Tests.{by-cases}
 use Rattle.basics.proofs.Places.{mem-place}
 use Rattle.plan_format.specs.Plan.{Plan}
 use Rattle.plan_order.specs.Precedence.{Before}
 use Rattle.plan_order.specs.Holdings.{Placed, buffer-marks}
-use Rattle.plan_order.specs.Meaning.{mark-at, Frees, No-free, Forced, When}
+use Rattle.plan_order.specs.Meaning.{mark-at, Frees, No-free, Forced, Marked, Last-mark, When}
 use Rattle.plan_order.specs.declared.Verdict.the-variants.{StrayUse}
 use Rattle.plan_order.proofs.Precedence.{before-chain, chain-before, before-join}
 use Rattle.plan_order.proofs.MarksMeaning.{marked-mark}
 
+-- at or before, by chains
 module _ (p : Plan) where
-  abbrev At : (i j : ℕ) → Type 0
+  abbrev pub At : (i j : ℕ) → Type 0
   At i j = (i ≡ j) ⊎ Before p i j
 
-  at-join : (i j k : ℕ) → At i j → At j k → At i k
+  pub at-join : (i j k : ℕ) → At i j → At j k → At i k
   at-join i j k (inl e) b = subst (λ (z : ℕ). At z k) (sym e) b
   at-join i j k (inr a) (inl e) = inr (subst (λ (z : ℕ). Before p i z) e a)
   at-join i j k (inr a) (inr b) = inr (before-chain p i k (before-join p i j k a (chain-before p j k b)))
@@ -56,9 +57,9 @@ module _ (p : Plan) (b : ℕ) (forced : (k : ℕ) → k < length (buffer-marks p
       (λ s. eqb-false (mark-at (buffer-marks p b) n .kind) 1 f (subst (λ (z : ℕ). Frees (buffer-marks p b) z) (eqb-true m n s) g))
       (λ s. none m a (omega (arith, eqb-false m n s)) g)) frees)
 
-  pub no-stray : (q : ℕ) → When p q b StrayUse → ⊥
-  unfolding When
-  no-stray q (m, (ns, e), frees, (j, last, seen), (i, marked, unseen)) =
+  -- a buffer whose last mark is a free: every operation with a mark on it is the one that frees, or before it
+  pub marked-by-free : (m : Placed) → Last-mark p b m → m .kind ≡ 1 → (i : ℕ) → Marked p b i → At p i (m .by)
+  marked-by-free m (ns, e) frees i marked =
       let none : Placed = record { by = 0; kind = 0 } in
       let (x, among, x-by) = marked-mark p b i marked in
       let (k, inside, x-is) = mem-place (buffer-marks p b) none x among in
@@ -67,5 +68,9 @@ module _ (p : Plan) (b : ℕ) (forced : (k : ℕ) → k < length (buffer-marks p
       let m-is : mark-at (buffer-marks p b) l ≡ m = rw e (getD-append-seam ns m [] none) in
       let reached = later-free (l - k) k k l (omega arith) (omega arith) (omega arith) (λ n a c. absurd (omega arith))
       (ap (λ (z : Placed). z .kind) m-is ∙ frees) in
-      let joined : At p i (m .by) = subst₂ (λ (y z : ℕ). At p y z) (ap (λ (z : Placed). z .by) x-is ∙ x-by) (ap (λ (z : Placed). z .by) m-is) reached in
-      unseen (j, last, at-join p i (m .by) j joined seen)
+      subst₂ (λ (y z : ℕ). At p y z) (ap (λ (z : Placed). z .by) x-is ∙ x-by) (ap (λ (z : Placed). z .by) m-is) reached
+
+  pub no-stray : (q : ℕ) → When p q b StrayUse → ⊥
+  unfolding When
+  no-stray q (m, last-mark, frees, (j, last, seen), (i, marked, unseen)) =
+      unseen (j, last, at-join p i (m .by) j (marked-by-free m last-mark frees i marked) seen)

@@ -1,0 +1,64 @@
+-- The numbers of refusals: a list for each class, and what each entry can give, made of these lists. Assumes nothing:
+-- these are definitions.
+use mathlib.Core.Path.{_≡_}
+use mathlib.Core.Bool.{true}
+use mathlib.Core.List.{List, [], _∷_, _++_}
+use Prim.Native.Nat.{ℕ}
+use Rattle.basics.specs.Lists.{member}
+
+-- the number is one of those listed
+abbrev pub One-of : (numbers : List ℕ) → (n : ℕ) → Type 0
+One-of ns n = member n ns ≡ true
+
+-- the number is 0, which stands for no refusal, or one of those listed
+abbrev pub None-or : (numbers : List ℕ) → (n : ℕ) → Type 0
+None-or ns n = One-of (0 ∷ ns) n
+
+-- ---- classes
+-- of a reading: a field cut short, a count, bytes that follow, a name that is in no list, an axis twice
+abbrev pub reading-numbers : List ℕ
+reading-numbers = 1 ∷ 2 ∷ 3 ∷ 4 ∷ 5 ∷ []
+
+-- of signals and waits: not by the owner, not higher, above the highest
+abbrev pub rule-numbers : List ℕ
+rule-numbers = 6 ∷ 7 ∷ 8 ∷ []
+
+-- of lent room
+abbrev pub room-numbers : List ℕ
+room-numbers = 9 ∷ []
+
+-- of the order: stuck, a broken mark
+abbrev pub order-numbers : List ℕ
+order-numbers = 10 ∷ 11 ∷ []
+
+-- of the reuse question: no such queue, no such buffer
+abbrev pub reuse-numbers : List ℕ
+reuse-numbers = 12 ∷ 13 ∷ []
+
+-- of the question for a frontier: no such operation, no such capacity
+abbrev pub sent-numbers : List ℕ
+sent-numbers = 21 ∷ 15 ∷ []
+
+-- ---- entries: what each can give besides 0
+abbrev pub reader-gives : List ℕ
+reader-gives = reading-numbers ++ room-numbers
+
+abbrev pub writer-gives : List ℕ
+writer-gives = reading-numbers ++ room-numbers
+
+-- what a stored plan is refused for, whatever room is lent
+abbrev pub plan-gives : List ℕ
+plan-gives = reading-numbers ++ rule-numbers
+
+-- what leaves table and list as they were
+abbrev pub untouched-numbers : List ℕ
+untouched-numbers = plan-gives ++ room-numbers
+
+abbrev pub check-gives : List ℕ
+check-gives = untouched-numbers ++ order-numbers
+
+abbrev pub reuse-gives : List ℕ
+reuse-gives = check-gives ++ reuse-numbers
+
+abbrev pub sent-gives : List ℕ
+sent-gives = check-gives ++ sent-numbers

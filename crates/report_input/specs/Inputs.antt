@@ -1,0 +1,26 @@
+-- What the program prints for each question, and inputs that begin alike. Assumes nothing: these are definitions.
+use mathlib.Core.Path.{_≡_}
+use mathlib.Core.List.{List}
+use Prim.Native.Nat.{ℕ, _+_}
+use lib.ListN.{take}
+use Rattle.plan_format.specs.Sizes.{plan-bytes, plan-numbers}
+use Rattle.text.specs.Text.{Puts}
+use Rattle.report.specs.Answers.{Check-printed}
+use Rattle.report_stored.specs.Texts.{read-text}
+use Rattle.report_questions.specs.Questions.{Reuse-printed, Frontier-printed}
+use Rattle.report_input.specs.declared.Question.{Question}
+use Rattle.report_input.specs.declared.Question.the-variants.{Check, Reuse, Frontier, Read}
+
+-- the text of the answer to a question on a plan
+unfoldable pub Answered : Question → (bytes room room-now : List ℕ) → (end : ℕ) → Type 0
+Answered Check bs o x e = Check-printed bs o x e
+Answered (Reuse q b) bs o x e = Reuse-printed bs q b o x e
+Answered (Frontier j c) bs o x e = Frontier-printed bs j c o x e
+Answered Read bs o x e = Puts (read-text bs) o 0 x e
+
+-- two inputs with the same first bytes, or numbers: one more than the longest plan has
+abbrev pub Same-bytes : (xs ys : List ℕ) → Type 0
+Same-bytes xs ys = take (plan-bytes + 1) xs ≡ take (plan-bytes + 1) ys
+
+abbrev pub Same-numbers : (xs ys : List ℕ) → Type 0
+Same-numbers xs ys = take (plan-numbers + 1) xs ≡ take (plan-numbers + 1) ys
