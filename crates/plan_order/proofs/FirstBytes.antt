@@ -43,7 +43,8 @@ module _ (bs cs : List ℕ) (same : take (plan-bytes + 1) bs ≡ take (plan-byte
   unfolding Check-says
   check-says-alike r t x l y s = rw (sym (check-alike (length t) (length l)), sym (plan-alike bs cs same)) s
 
-  pub reuse-says-alike : (q b : ℕ) (r : Told) (t x l y : List ℕ) → Reuse-says bs q b r t x l y → Reuse-says cs q b r t x l y
+  pub reuse-says-alike : (q b : ℕ) (r : Told) (t x l y : List ℕ) → Reuse-says bs q b r t x l y →
+      Reuse-says cs q b r t x l y
   unfolding Reuse-says
   reuse-says-alike q b r t x l y s = rw (sym (reuse-alike q b (length t) (length l)), sym (plan-alike bs cs same)) s
 

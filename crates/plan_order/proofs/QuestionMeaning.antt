@@ -28,8 +28,9 @@ use Rattle.plan_order.proofs.VerdictMeaning.{one-use, verdict-table}
 
 -- no bytes, and a queue that they do not have: the plan is refused
 unread-first : reuse-outcome [] 0 0 0 0 ≡ outcome (refusal 1 0) untouched
-unfolding reuse-outcome question-refusal check-outcome or-then outcome plan-refusal or-else given none-given refusal queues
-    plan-in plan-of scanned scanned-by bytes scan refused read-by read-field field-number ended first-form plan-grammar
+unfolding reuse-outcome question-refusal check-outcome or-then outcome plan-refusal or-else given none-given refusal
+    queues plan-in plan-of scanned scanned-by bytes scan refused read-by read-field field-number ended first-form
+    plan-grammar
 unread-first = refl
 
 -- a question on a plan that passes leaves rows and run

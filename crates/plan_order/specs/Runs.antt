@@ -32,8 +32,8 @@ enabled p r j = earlier-run p r j && all (λ w. wait-met p r w) (op p j .waits)
 unfoldable pub ready : Plan → (run : List ℕ) → (j : ℕ) → Bool
 ready p r j = can (count p) (λ r j. enabled p r j) r j
 
--- 01: "A run is a list of distinct operations. Each, at its turn, has .."; "A wait holds its queue": what is after a wait that is not
--- met does not run, and a wait for a later signal of its own queue is never met
+-- 01: "A run is a list of distinct operations. Each, at its turn, has .."; "A wait holds its queue": what is after a
+-- wait that is not met does not run, and a wait for a later signal of its own queue is never met
 unfoldable pub is-run : Plan → List ℕ → Bool
 is-run p r = runs (count p) (λ r j. enabled p r j) [] r
 

@@ -42,7 +42,8 @@ module _ (bs cs : List ℕ) (same : Same-bytes bs cs) where
   pub sent-alike : (j c : ℕ) → sent (plan-in bs) j c ≡ sent (plan-in cs) j c
   sent-alike j c = ap (λ (p : Plan). sent p j c) (plan-alike bs cs same)
 
-  frontier-says-alike : (j c : ℕ) (r : Sent) (t x l y : List ℕ) → Frontier-says bs j c r t x l y → Frontier-says cs j c r t x l y
+  frontier-says-alike : (j c : ℕ) (r : Sent) (t x l y : List ℕ) → Frontier-says bs j c r t x l y →
+      Frontier-says cs j c r t x l y
   frontier-says-alike j c r t x l y s =
       let o = sent-outcome-alike j c (length t) (length l) in
       let p = plan-alike bs cs same in
@@ -58,7 +59,8 @@ module _ (bs cs : List ℕ) (same : Same-bytes bs cs) where
     counts = w .counts;
     table = w .table;
     list = w .list;
-    checked = checked cs _ _ (w .table) _ (w .list) (check-says-alike bs cs same _ _ (w .table) _ (w .list) (w .checked .says));
+    checked = checked cs _ _ (w .table) _ (w .list)
+        (check-says-alike bs cs same _ _ (w .table) _ (w .list) (w .checked .says));
     sizes = sizes-alike (w .counts) (w .sizes);
     text = w .text;
   }

@@ -2,11 +2,11 @@
 use mathlib.Core.Path.{_≡_}
 use mathlib.Core.List.{List}
 use Prim.Native.Nat.{ℕ, _+_}
-use lib.ListN.{take}
+use lib.ListN.{length, take}
 use Rattle.plan_format.specs.Sizes.{plan-bytes, plan-numbers}
 use Rattle.text.specs.Text.{Puts}
 use Rattle.report.specs.Answers.{Check-printed}
-use Rattle.report_stored.specs.Texts.{read-text}
+use Rattle.report_stored.specs.Texts.{read-text, write-text}
 use Rattle.report_questions.specs.Questions.{Reuse-printed, Frontier-printed}
 use Rattle.report_input.specs.declared.Question.{Question}
 use Rattle.report_input.specs.declared.Question.the-variants.{Check, Reuse, Frontier, Read}
@@ -24,3 +24,10 @@ Same-bytes xs ys = take (plan-bytes + 1) xs ≡ take (plan-bytes + 1) ys
 
 abbrev pub Same-numbers : (xs ys : List ℕ) → Type 0
 Same-numbers xs ys = take (plan-numbers + 1) xs ≡ take (plan-numbers + 1) ys
+
+-- the text is that of every input, whole, that begins so
+abbrev pub Answered-whole : Question → (begun room room-now : List ℕ) → (end : ℕ) → Type 0
+Answered-whole q begun o x e = (whole : List ℕ) → Same-bytes whole begun → Answered q whole o x e
+
+abbrev pub Written-whole : (begun room room-now : List ℕ) → (end : ℕ) → Type 0
+Written-whole begun o x e = (whole : List ℕ) → Same-numbers whole begun → Puts (write-text whole (length o)) o 0 x e

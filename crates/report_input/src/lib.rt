@@ -1,10 +1,6 @@
 // What is printed for what is asked of an input of any length, which is known by its first bytes or its first numbers.
-ghost use mathlib.Core.List.{List};
-ghost use Prim.Native.Nat.{ℕ};
-ghost use lib.ListN.{length, take};
-ghost use Rattle.text.specs.Text.{Puts};
-ghost use Rattle.report_stored.specs.Texts.{write-text};
-ghost use Rattle.report_input.specs.Inputs.{Answered, Same-bytes, Same-numbers};
+ghost use lib.ListN.{take};
+ghost use Rattle.report_input.specs.Inputs.{Answered, Answered-whole, Written-whole};
 
 // What is asked of a plan.
 pub enum Question {
@@ -33,7 +29,7 @@ pub fn answered(question: Question, plan: &[u8], out: &mut [u8]) -> usize
 
 // The answer on every input that begins as the first n bytes do.
 pub fn on_first(question: Question, bytes: &[u8], n: usize, out: &mut [u8]) -> usize
-    ensures { λ r. ⌜ ((whole : List ℕ) → Same-bytes whole (take n (now (bytes .entry))) → Answered question whole (now (out .entry)) (now (out .exit)) r) ⌝ }
+    ensures { λ r. ⌜ Answered-whole question (take n (now (bytes .entry))) (now (out .entry)) (now (out .exit)) r ⌝ }
 {
     if n < bytes.len() {
         return answered(question, &bytes[..n], out);
@@ -43,7 +39,7 @@ pub fn on_first(question: Question, bytes: &[u8], n: usize, out: &mut [u8]) -> u
 
 // The stored plan of every list that begins as the first n numbers do.
 pub fn written(numbers: &[u64], n: usize, out: &mut [u8]) -> usize
-    ensures { λ r. ⌜ ((whole : List ℕ) → Same-numbers whole (take n (now (numbers .entry))) → Puts (write-text whole (length (now (out .entry)))) (now (out .entry)) 0 (now (out .exit)) r) ⌝ }
+    ensures { λ r. ⌜ Written-whole (take n (now (numbers .entry))) (now (out .entry)) (now (out .exit)) r ⌝ }
 {
     report_stored::write(numbers, n, out)
 }

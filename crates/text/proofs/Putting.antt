@@ -76,7 +76,8 @@ blanked-one n = append-nil (after-blank n)
 -- one more number of a list
 pub puts-number :
     (t : List ℕ) (i : ℕ) {o x y : List ℕ} {a e f : ℕ} → i < length t →
-    Puts (blanked (take i t)) o a x e → Puts (after-blank (getD t i 0)) x e y f → Puts (blanked (take (i + 1) t)) o a y f
+    Puts (blanked (take i t)) o a x e → Puts (after-blank (getD t i 0)) x e y f →
+    Puts (blanked (take (i + 1) t)) o a y f
 puts-number t i h p q =
     rw (add-one, take-suc t i 0 h, blanked-append (take i t) (getD t i 0 ∷ []), blanked-one (getD t i 0)) (puts-both p q)
 

@@ -23,7 +23,8 @@ same-length c = search needs
 returns : tie.Need-returns
 returns c whole same =
     let a = c .before .before .before .before .before .before .before .before .args in
-    answered-alike (take (a .n) (now (a .bytes))) whole (sym same) (a .question) _ _ _ (c .before .before .answered .ensures)
+    answered-alike (take (a .n) (now (a .bytes))) whole (sym same) (a .question) _ _ _
+    (c .before .before .answered .ensures)
 
 answered-requires-2 : tie.Need-answered-requires-2
 answered-requires-2 c κs = search needs

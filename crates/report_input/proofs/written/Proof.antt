@@ -15,7 +15,8 @@ same-length c = search needs
 returns : tie.Need-returns
 returns c whole same =
     let a = c .before .before .before .before .before .before .args in
-    rw (write-alike whole (take (a .n) (now (a .numbers))) same (length (now (a .out)))) (c .before .before .write .ensures)
+    rw (write-alike whole (take (a .n) (now (a .numbers))) same (length (now (a .out))))
+    (c .before .before .write .ensures)
 
 pub written-spec : {M : Type 1} → statement M
 written-spec = tie.close (tie.spec write-requires same-length returns)
