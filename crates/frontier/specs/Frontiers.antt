@@ -110,9 +110,13 @@ dominance f g =
     cond (eqb (dominance-number f g) 0) (answer (reached (entries f) (entries g)) (f .tainted) (g .tainted))
     (Refused (dominance-number f g))
 
--- 01's number of each answer: 0 for an answer, the refusal's number in its stead
-unfoldable pub number-of : Dominance → ℕ
-number-of Yes = 0
-number-of No = 0
-number-of Unknown = 0
-number-of (Refused n) = n
+-- the numbers of an answer: a refusal's number, 0 for none, and the value of the answer, 0 beside a refusal
+pub record Numbers : Type 0 where
+  pub number : ℕ
+  pub value : ℕ
+
+unfoldable pub number-of : Dominance → Numbers
+number-of No = record { number = 0; value = 0 }
+number-of Yes = record { number = 0; value = 1 }
+number-of Unknown = record { number = 0; value = 2 }
+number-of (Refused n) = record { number = n; value = 0 }

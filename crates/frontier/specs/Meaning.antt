@@ -92,7 +92,7 @@ pub record Raise-right (f : Frontier) (axis epoch capacity : ℕ) (r : Merged) :
 
 -- yes: every completion of f dominates every completion of g. no: none does. unknown: there are completions of both kinds
 pub record Dominance-means (f g : Frontier) (r : Dominance) : Type 0 where
-  pub number : number-of r ≡ dominance-number f g
+  pub number : number-of r .number ≡ dominance-number f g
   pub if-yes : r ≡ Yes → (full other : ℕ → ℕ) → Completion f full → Completion g other → Over full other
   pub if-no : r ≡ No → (full other : ℕ → ℕ) → Completion f full → Completion g other → Over full other → ⊥
   pub if-unknown : r ≡ Unknown → (full : ℕ → ℕ) × (other : ℕ → ℕ) × Completion f full × Completion g other × Small f g full × Small f g other × Over full other

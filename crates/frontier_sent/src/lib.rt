@@ -6,6 +6,7 @@ ghost use mathlib.Core.Bool.{false};
 ghost use mathlib.Core.List.{[]};
 ghost use Prim.Native.Nat.{_+_, _*_, _≤_};
 ghost use lib.ListN.{length};
+ghost use Rattle.frontier.specs.Entries.{most-entries};
 ghost use Rattle.frontier.specs.Frontiers.{pack, gathered};
 ghost use Rattle.plan_format.specs.Plan.{Plan};
 ghost use Rattle.frontier_sent.specs.Sent.{cut-to};
@@ -57,7 +58,7 @@ fn answer(c: Counted, head: &[u64; 340], table: &[u32], operation: u32, capacity
     if c.operations <= j {
         return refused(21, operation as u64);
     }
-    if capacity < 1 {
+    if capacity < Frontier::LEAST {
         return refused(15, 0);
     }
     if Frontier::MOST < capacity {
@@ -84,7 +85,7 @@ fn refused(number: u32, place: u64) -> Sent
 
 // The row that begins at `first` in the table, under the axes, cut to a capacity as a merge is.
 fn send(head: &[u64; 340], table: &[u32], queues: usize, first: usize, capacity: u32) -> Frontier
-    requires { ⌜ (queues ≤ 16) × (first + queues ≤ length (now table)) × (1 ≤ capacity) × (capacity ≤ 16) ⌝ }
+    requires { ⌜ (queues ≤ 16) × (first + queues ≤ length (now table)) × (1 ≤ capacity) × (capacity ≤ most-entries) ⌝ }
     ensures { λ r. ⌜ r ≡ cut-to capacity (gathered (row-in (now (head .entry)) (now (table .entry)) first queues 0)) ⌝ }
 {
     let whole = gather(head, table, queues, first);

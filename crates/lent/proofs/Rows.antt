@@ -49,7 +49,7 @@ module _ (l : List ℕ) (at : ℕ) (row : List ℕ) where
       ∙ sets-append (take i row) l (getD row i 0 ∷ []) at
       ∙ ap (λ (xs : List ℕ). sets l at xs) (sym (take-suc row i 0 b) ∙ ap (λ (k : ℕ). take k row) (sym (add-one i)))
 
--- two rows and what is behind them, over a whole list
+-- two rows and what comes after them, over a whole list
 pub stored-whole : (l xs ys zs : List ℕ) (n m : ℕ) → length xs ≡ n → length xs + length ys ≡ m → length l ≡ length xs + length ys + length zs →
     sets (sets (sets l 0 xs) n ys) m zs ≡ xs ++ ys ++ zs
 stored-whole l xs ys zs n m en em el =
