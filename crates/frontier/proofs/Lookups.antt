@@ -8,13 +8,12 @@ use native.Mathlib.Numerals.{add-one}
 use native.Mathlib.Omega.{arith}
 use lib.Dec.{ltb, eqb}
 use lib.ListN.{getD}
-use borrow.Author.Tests.{ltb-true, ltb-false, eqb-true, eqb-false, eq-eqb, ne-eqb}
+use borrow.Author.Tests.{ltb-true, eqb-true, eq-eqb, ne-eqb}
 use Rattle.basics.proofs.Tests.{by-cases}
 use Rattle.frontier.specs.declared.Frontier.{Frontier}
-use Rattle.frontier.specs.declared.Lookup.{Lookup}
 use Rattle.frontier.specs.declared.Lookup.the-variants.{Listed, Absent}
 use Rattle.frontier.specs.declared.walks.Found.{Found}
-use Rattle.frontier.specs.Entries.{Entry, most-entries, rising-from, find, values-of, epochs-under}
+use Rattle.frontier.specs.Entries.{Entry, most-entries, find, values-of, epochs-under}
 use Rattle.frontier.specs.Frontiers.{slot, slots, entries, well-formed}
 use Rattle.frontier.specs.Meaning.{Looked}
 use Rattle.frontier.specs.Walks.{rest, floor, skip-below, Found-from}

@@ -3,8 +3,6 @@ use mathlib.Core.Path.{_≡_, refl, sym, ap, ap₂, _∙_}
 use mathlib.Core.Bool.{Bool, true, false, not, _||_, or-false}
 use mathlib.Core.List.{List, [], _∷_}
 use Prim.Native.Nat.{ℕ, zero, suc, _+_, _≤_, _<_, max, zero-le}
-use native.Mathlib.Nat.{le-refl}
-use native.Mathlib.Numerals.{add-one}
 use native.Mathlib.Omega.{arith}
 use mir.Val.{boolByte}
 use lib.Dec.{eqb}
@@ -18,10 +16,10 @@ use Rattle.frontier.specs.declared.Merged.{Merged}
 use Rattle.frontier.specs.declared.Lookup.the-variants.{Listed}
 use Rattle.frontier.specs.declared.walks.Found.{Found}
 use Rattle.frontier.specs.Entries.{Entry, most-entries, rising-from, put, union}
-use Rattle.frontier.specs.Frontiers.{slot, slots, entries, pack, refusal, handed, joined, merge, one-entry, raise}
+use Rattle.frontier.specs.Frontiers.{slot, slots, entries, pack, refusal, handed, joined, one-entry, raise}
 use Rattle.frontier.specs.Walks.{rest, Found-from, left-number}
 use Rattle.frontier.proofs.Sorted.{Sorted, rising, same-entry, put-same, put-past, union-commutes, union-none}
-use Rattle.frontier.proofs.Slots.{tabulate-same, slots-length, rest-all, rest-more, sorted-rest}
+use Rattle.frontier.proofs.Slots.{tabulate-same, slots-length, rest-all, rest-more}
 use Rattle.frontier.proofs.Pack.{Formed, formed, repack, entries-pack, sorted-entries}
 use Rattle.frontier.proofs.Merge.{Left-accepted, left-accepted, refused-first, merged, formed-one, sorted-one, joined-whole}
 

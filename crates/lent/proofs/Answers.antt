@@ -1,22 +1,17 @@
 -- What merge, raise and dominance tell and store, from what the proved functions answer of the frontiers that were lent. Assumes nothing.
-use mathlib.Core.Path.{_≡_, refl, sym, ap, _∙_, subst}
+use mathlib.Core.Path.{_≡_, sym, ap, _∙_, subst}
 use mathlib.Core.Bool.{true, false, _||_}
-use mathlib.Core.List.{List, []}
+use mathlib.Core.List.{List}
 use Prim.Native.Nat.{ℕ}
-use native.Mathlib.Omega.{arith}
-use lib.Dec.{eqb}
-use borrow.Author.Tests.{eqb-true, eqb-false}
-use Rattle.basics.proofs.Tests.{by-cases}
 use Rattle.plan_format.specs.declared.Told.{Told}
 use Rattle.frontier.specs.declared.Frontier.{Frontier}
 use Rattle.frontier.specs.declared.Merged.{Merged}
 use Rattle.frontier.specs.declared.Dominance.{Dominance}
 use Rattle.frontier.specs.Frontiers.{well-formed, pack, capable, one-entry, merge, raise, dominance}
 use Rattle.frontier.specs.Meaning.{Merge-right, Raise-right, Dominance-means}
-use Rattle.frontier.proofs.Pack.{well-formed-pack}
 use Rattle.lent.specs.Lent.{told-of, frontier-of, list-of, oversized, Merge-says, merged-of, Oversized-refused, dominance-told, dominance-of}
 use Rattle.lent.proofs.Told.{dominance-back}
-use Rattle.lent.proofs.Frontiers.{frontier-back, merged-back}
+use Rattle.lent.proofs.Frontiers.{merged-back}
 use Rattle.lent.proofs.Refusals.{first-fails, oversized-formed, either-oversized, dominance-fourteen, merge-refused}
 
 module _ (m n : Merged) (told frontier : List ℕ) (s : Merge-says m told frontier) (same : m ≡ n) where
