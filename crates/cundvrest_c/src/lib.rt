@@ -86,7 +86,8 @@ pub extern "C" fn cundvrest_merge(
 )
     ensures { λ _. ⌜ Merge-says (merge (frontier-of (now (left .entry))) (frontier-of (now (right .entry))) capacity) (now (told .exit)) (now (merged .exit)) ⌝ }
     ensures { λ _. ⌜ Merge-right (frontier-of (now (left .entry))) (frontier-of (now (right .entry))) capacity (merged-of (now (told .exit)) (now (merged .exit))) ⌝ }
-    ensures { λ _. ⌜ Oversized-refused (oversized (now (left .entry)) || oversized (now (right .entry))) (capable capacity) (now (told .exit)) ⌝ }
+    ensures { λ _. ⌜ Oversized-refused (oversized (now (left .entry)) || oversized (now (right .entry)))
+        (capable capacity) (now (told .exit)) ⌝ }
 {
     let r = lent::frontier(left).merge(lent::frontier(right), capacity);
     lent::hand(r.number, 0, r.frontier, merged, told);

@@ -134,7 +134,9 @@ module _ (f g : Frontier) where
     nor-yes = λ q. apart (Refused n) Unknown q (λ z. omega arith);
   }
 
-  answered : (all ft gt : Bool) → 0 ≡ dominance-number f g → Sorted 0 (entries f) → length (entries f) ≤ most-entries → Sorted 0 (entries g) → reached (entries f) (entries g) ≡ all → f .tainted ≡ ft → g .tainted ≡ gt → Dominance-means f g (answer all ft gt)
+  answered : (all ft gt : Bool) → 0 ≡ dominance-number f g → Sorted 0 (entries f) → length (entries f) ≤ most-entries →
+      Sorted 0 (entries g) → reached (entries f) (entries g) ≡ all → f .tainted ≡ ft → g .tainted ≡ gt →
+      Dominance-means f g (answer all ft gt)
   unfolding answer number-of code
   answered true ft false n sf l s r p q = record {
     number = n;

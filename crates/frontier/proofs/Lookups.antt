@@ -1,4 +1,5 @@
--- The lookup of an axis: from a slot on it gives what is listed there, and of a whole frontier what `Looked` promises. Assumes nothing.
+-- The lookup of an axis: from a slot on it gives what is listed there, and of a whole frontier what `Looked` promises.
+-- Assumes nothing.
 use mathlib.Core.Path.{_≡_, refl, sym, ap, _∙_}
 use mathlib.Core.Bool.{true}
 use mathlib.Core.List.{List, [], _∷_}
@@ -52,7 +53,8 @@ module _ (xs es : List ℕ) (n : ℕ) (s : Sorted 0 (slots xs es n 0)) (a : ℕ)
       before i h = unfold slot in ((rw (rest-more xs es n i h) at (sorted-rest xs es n i (omega arith) s)) .0)
 
       here : (i : ℕ) → i < n → getD xs i 0 < a → find a (rest xs es n i) ≡ find a (rest xs es n (suc i))
-      here i h l = unfold find slot in (rw (rest-more xs es n i h, add-one i, ne-eqb (getD xs i 0) a (λ q. omega arith)))
+      here i h l = unfold find slot in
+          (rw (rest-more xs es n i h, add-one i, ne-eqb (getD xs i 0) a (λ q. omega arith)))
 
 -- FROM A SLOT ON
 -- the search came to slot `at`
@@ -68,7 +70,8 @@ module _ (xs es : List ℕ) (n from axis at : ℕ) where
   came-first h l q = rw q (record { past = skip-stop xs es n from axis h l; stops = λ m. l })
 
   -- what the search from the next slot on answers
-  pub came-later : from < n → getD xs from 0 < axis → (r : ℕ) → (r < n → axis ≤ getD xs r 0) → rest xs es n r ≡ skip-below axis (rest xs es n (from + 1)) → at ≡ r → Came xs es n from axis at
+  pub came-later : from < n → getD xs from 0 < axis → (r : ℕ) → (r < n → axis ≤ getD xs r 0) →
+      rest xs es n r ≡ skip-below axis (rest xs es n (from + 1)) → at ≡ r → Came xs es n from axis at
   came-later h l r s e q = rw q (record { past = e ∙ sym (skip-more xs es n from axis h l); stops = s })
 
 module _ (xs es : List ℕ) (n from axis at : ℕ) (c : Came xs es n from axis at) where
@@ -84,7 +87,8 @@ module _ (xs es : List ℕ) (n from axis at : ℕ) (c : Came xs es n from axis a
       none : n ≤ at → Absent ≡ find axis (rest xs es n at)
       none h = unfold find in (rw (rest-none xs es n at h))
 
-  pub lookup-here : at < n → getD xs at 0 ≡ axis → Found-from xs es n from axis (record { answer = Listed (getD es at 0); at = at })
+  pub lookup-here : at < n → getD xs at 0 ≡ axis →
+      Found-from xs es n from axis (record { answer = Listed (getD es at 0); at = at })
   lookup-here h e = record {
     found = λ r. here h e ∙ sought;
     in-slot = λ k q. (h, unfold slot in (same-entry e (same-epoch q)));
@@ -93,7 +97,8 @@ module _ (xs es : List ℕ) (n from axis at : ℕ) (c : Came xs es n from axis a
       here : at < n → getD xs at 0 ≡ axis → Listed (getD es at 0) ≡ find axis (rest xs es n at)
       here h e = unfold find slot in (rw (rest-more xs es n at h, eq-eqb (getD xs at 0) axis e))
 
-  pub lookup-other : at < n → (getD xs at 0 ≡ axis → ⊥) → Found-from xs es n from axis (record { answer = Absent; at = at })
+  pub lookup-other : at < n → (getD xs at 0 ≡ axis → ⊥) →
+      Found-from xs es n from axis (record { answer = Absent; at = at })
   lookup-other l e = record {
     found = λ r. sym (past (sorted-rest xs es n at (omega arith) (sorted 0 (slots xs es n 0) r))) ∙ sought;
     in-slot = λ k q. absent-listed q;
@@ -103,7 +108,8 @@ module _ (xs es : List ℕ) (n from axis at : ℕ) (c : Came xs es n from axis a
       past s =
           let t = rw (rest-more xs es n at l) at s in
           unfold slot in (rw (rest-more xs es n at l)
-          (find-below (getD xs at 0) axis (slot xs es at ∷ rest xs es n (at + 1)) (le-refl (getD xs at 0), t .1, t .2) (omega (arith, c .stops l))))
+          (find-below (getD xs at 0) axis (slot xs es at ∷ rest xs es n (at + 1)) (le-refl (getD xs at 0), t .1, t .2)
+          (omega (arith, c .stops l))))
 
 -- OF A WHOLE FRONTIER
 under-none : (b a : ℕ) (xs : List Entry) → Sorted b xs → a < b → epochs-under a xs ≡ []
@@ -127,7 +133,8 @@ module _ (f : Frontier) (axis : ℕ) where
     in-a-slot = λ e q. absent-listed q;
   }
 
-  pub looked : (r : Found) → f .len ≤ most-entries → Found-from (f .axes) (f .epochs) (f .len) 0 axis r → Looked f axis (r .answer)
+  pub looked : (r : Found) → f .len ≤ most-entries → Found-from (f .axes) (f .epochs) (f .len) 0 axis r →
+      Looked f axis (r .answer)
   looked r short w = record {
     found = found-right;
     exactly = λ v. ap values-of (found-right v) ∙ found-exactly 0 axis (entries f) (sorted-entries f v);
@@ -135,4 +142,5 @@ module _ (f : Frontier) (axis : ℕ) where
   }
     where
       found-right : well-formed f ≡ true → r .answer ≡ find axis (entries f)
-      found-right v = unfold entries in (w .found (formed f v .rises) ∙ ap (find axis) (rest-all (f .axes) (f .epochs) (f .len)))
+      found-right v = unfold entries in
+          (w .found (formed f v .rises) ∙ ap (find axis) (rest-all (f .axes) (f .epochs) (f .len)))

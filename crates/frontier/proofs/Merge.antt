@@ -42,7 +42,8 @@ pub judged-large : (f : Frontier) (c : ℕ) → most-entries < c → 15 ≡ left
 unfolding left-number
 judged-large f c h = rw (le-leb 1 c (omega arith), lt-leb c most-entries h)
 
-pub judged-form : (f : Frontier) (c n : ℕ) (b : Bool) → 1 ≤ c → c ≤ most-entries → well-formed f ≡ b → n ≡ cond b 0 14 → n ≡ left-number f c
+pub judged-form : (f : Frontier) (c n : ℕ) (b : Bool) → 1 ≤ c → c ≤ most-entries → well-formed f ≡ b → n ≡ cond b 0 14 →
+    n ≡ left-number f c
 unfolding left-number
 judged-form f c n b h l e q = rw (le-leb 1 c h, le-leb c most-entries l, e) q
 
@@ -73,15 +74,18 @@ module _ (f g : Frontier) (c : ℕ) where
   unfolding merge merge-number
   refused-right w q = rw (le-leb 1 c (w .at-least-one), le-leb c most-entries (w .at-most-sixteen), w .left, q)
 
-  pub accepted : 1 ≤ c → c ≤ most-entries → well-formed f ≡ true → well-formed g ≡ true → handed (joined (entries f) (entries g) (f .tainted || g .tainted) c) ≡ merge f g c
+  pub accepted : 1 ≤ c → c ≤ most-entries → well-formed f ≡ true → well-formed g ≡ true →
+      handed (joined (entries f) (entries g) (f .tainted || g .tainted) c) ≡ merge f g c
   unfolding merge merge-number
   accepted h l e q = rw (le-leb 1 c h, le-leb c most-entries l, e, q)
 
-  pub merged : (m : Merged) → Left-accepted → well-formed g ≡ true → m ≡ handed (joined (entries f) (entries g) (f .tainted || g .tainted) c) → m ≡ merge f g c
+  pub merged : (m : Merged) → Left-accepted → well-formed g ≡ true →
+      m ≡ handed (joined (entries f) (entries g) (f .tainted || g .tainted) c) → m ≡ merge f g c
   merged m w q e = e ∙ accepted (w .at-least-one) (w .at-most-sixteen) (w .left) q
 
   -- what the walk asks
-  pub joins : Left-accepted → well-formed g ≡ true → ((f .len ≤ most-entries) × (g .len ≤ most-entries)) × (((rising-from 0 (entries f) ≡ true) × (rising-from 0 (entries g) ≡ true)) × ((1 ≤ c) × (c ≤ most-entries)))
+  pub joins : Left-accepted → well-formed g ≡ true → ((f .len ≤ most-entries) × (g .len ≤ most-entries))
+      × (((rising-from 0 (entries f) ≡ true) × (rising-from 0 (entries g) ≡ true)) × ((1 ≤ c) × (c ≤ most-entries)))
   joins w q = let b = both-fit f g (w .left) q in (b .0, (b .1, (w .at-least-one, w .at-most-sixteen)))
 
   -- what number 0 tells
@@ -94,7 +98,8 @@ module _ (f g : Frontier) (c : ℕ) where
   pub accepted-by : merge-number f g c ≡ 0 → Accepted
   unfolding merge-number
   accepted-by e =
-      by-cases (leb 1 c) (λ a. by-cases (leb c most-entries) (λ b. by-cases (well-formed f) (λ p. by-cases (well-formed g)
+      by-cases (leb 1 c) (λ a. by-cases (leb c most-entries)
+      (λ b. by-cases (well-formed f) (λ p. by-cases (well-formed g)
       (λ q. record { at-least-one = leb-true 1 c a; at-most-sixteen = leb-true c most-entries b; left = p; right = q })
       (λ q. absurd (let z : 14 ≡ 0 = rw (a, b, p, q) at e in omega arith)))
       (λ p. absurd (let z : 14 ≡ 0 = rw (a, b, p) at e in omega arith)))
@@ -109,7 +114,8 @@ module _ (f g : Frontier) (c : ℕ) where
   frontier-right a = ap (λ (m : Merged). m .frontier) (sym (accepted (a .at-least-one) (a .at-most-sixteen) (a .left) (a .right)))
 
 -- WELL-FORMED
-pub joined-formed : (xs ys : List Entry) (t : Bool) (c : ℕ) → Sorted 0 xs → Sorted 0 ys → c ≤ most-entries → well-formed (joined xs ys t c) ≡ true
+pub joined-formed : (xs ys : List Entry) (t : Bool) (c : ℕ) → Sorted 0 xs → Sorted 0 ys → c ≤ most-entries →
+    well-formed (joined xs ys t c) ≡ true
 unfolding joined
 joined-formed xs ys t c s u h =
     well-formed-pack (cut c (union xs ys)) (t || ltb c (length (union xs ys))) (sorted-cut c 0 (union xs ys) (sorted-union 0 xs ys s u))

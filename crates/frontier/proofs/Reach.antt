@@ -1,4 +1,5 @@
--- The walk that judges whether one frontier reaches another: each axis of the right is looked up in the left, from the slot after the last
+-- The walk that judges whether one frontier reaches another: each axis of the right is looked up in the left, from the
+-- slot after the last
 -- one found. Assumes nothing.
 use mathlib.Core.Path.{_≡_, sym, ap, _∙_}
 use mathlib.Core.Bool.{true, false}
@@ -49,7 +50,8 @@ reach-none xa xe ya ye xn yn = record {
 }
 
 -- the lookup of y's next axis from slot i of x on
-module _ (xa xe ya ye : List ℕ) (xn yn i j : ℕ) (rx : rising-from 0 (slots xa xe xn 0) ≡ true) (ry : rising-from 0 (slots ya ye yn 0) ≡ true)
+module _ (xa xe ya ye : List ℕ) (xn yn i j : ℕ) (rx : rising-from 0 (slots xa xe xn 0) ≡ true)
+    (ry : rising-from 0 (slots ya ye yn 0) ≡ true)
     (w : Reach xa xe ya ye xn yn i j) (l : j < yn) (r : Found) (f : Found-from xa xe xn i (getD ya j 0) r) where
   right-at : Sorted (floor ya j) (slot ya ye j ∷ rest ya ye yn (j + 1))
   right-at = rw (rest-more ya ye yn j l) at (sorted-rest ya ye yn j (w .right-in) (sorted 0 (slots ya ye yn 0) ry))
@@ -57,13 +59,15 @@ module _ (xa xe ya ye : List ℕ) (xn yn i j : ℕ) (rx : rising-from 0 (slots x
   looked : find (getD ya j 0) (slots xa xe xn 0) ≡ r .answer
   unfolding slot
   looked =
-      sym (find-ahead xa xe xn (sorted 0 (slots xa xe xn 0) rx) (getD ya j 0) i (w .left-in) (omega (arith, w .level, right-at .0)))
+      sym (find-ahead xa xe xn (sorted 0 (slots xa xe xn 0) rx) (getD ya j 0) i (w .left-in)
+      (omega (arith, w .level, right-at .0)))
       ∙ sym (f .found rx)
 
   pub reach-absent : r .answer ≡ Absent → false ≡ reached (slots xa xe xn 0) (slots ya ye yn 0)
   reach-absent e = sym (reached-absent (slots xa xe xn 0) ya ye yn j l (looked ∙ e)) ∙ w .same
 
-  pub reach-short : (e : ℕ) → r .answer ≡ Listed e → e < getD ye j 0 → false ≡ reached (slots xa xe xn 0) (slots ya ye yn 0)
+  pub reach-short : (e : ℕ) → r .answer ≡ Listed e → e < getD ye j 0 →
+      false ≡ reached (slots xa xe xn 0) (slots ya ye yn 0)
   reach-short e q h = sym (reached-short (slots xa xe xn 0) ya ye yn j l e (looked ∙ q) h) ∙ w .same
 
   pub reach-more : (e : ℕ) → r .answer ≡ Listed e → getD ye j 0 ≤ e → Reach xa xe ya ye xn yn (r .at + 1) (j + 1)

@@ -55,10 +55,13 @@ module _ (f : Entry → Bool) (axes epochs kept at : List ℕ) (len : ℕ) where
   unfolding filter
   kept-next n i w h e = rw (rest-more axes epochs len i h, e) at (w .whole)
 
-  pub trim-room : (n i : ℕ) → Trim f axes epochs kept at len n i → i < len → f (slot axes epochs i) ≡ true → length (filter f (slots axes epochs len 0)) ≤ most-entries → n < most-entries
+  pub trim-room : (n i : ℕ) → Trim f axes epochs kept at len n i → i < len → f (slot axes epochs i) ≡ true →
+      length (filter f (slots axes epochs len 0)) ≤ most-entries → n < most-entries
   trim-room n i w h e l = omega (arith, rw (length-append, slots-length kept at n 0) at (ap length (kept-next n i w h e)))
 
-  pub trim-more : (n i : ℕ) → Trim f axes epochs kept at len n i → i < len → f (slot axes epochs i) ≡ true → n < most-entries → Trim f axes epochs (set kept n (getD axes i 0)) (set at n (getD epochs i 0)) len (n + 1) (i + 1)
+  pub trim-more : (n i : ℕ) → Trim f axes epochs kept at len n i → i < len → f (slot axes epochs i) ≡ true →
+      n < most-entries → Trim f axes epochs (set kept n (getD axes i 0)) (set at n (getD epochs i 0)) len (n + 1)
+      (i + 1)
   unfolding slot
   trim-more n i w h e r = record {
     sixteen-axes = length-set kept n (getD axes i 0) ∙ w .sixteen-axes;
@@ -68,7 +71,9 @@ module _ (f : Entry → Bool) (axes epochs kept at : List ℕ) (len : ℕ) where
     whole = rw (slots-put kept at n (getD axes i 0) (getD epochs i 0) (omega (arith, w .sixteen-axes)) (omega (arith, w .sixteen-epochs)), append-assoc) (kept-next n i w h e);
   }
 
-  pub trim-end : (n i : ℕ) (t : Bool) → Trim f axes epochs kept at len n i → len ≤ i → length (filter f (slots axes epochs len 0)) ≤ most-entries → record { axes = kept; epochs = at; len = n; tainted = t } ≡ pack (filter f (slots axes epochs len 0)) t
+  pub trim-end : (n i : ℕ) (t : Bool) → Trim f axes epochs kept at len n i → len ≤ i →
+      length (filter f (slots axes epochs len 0)) ≤ most-entries →
+      record { axes = kept; epochs = at; len = n; tainted = t } ≡ pack (filter f (slots axes epochs len 0)) t
   unfolding filter
   trim-end n i t w h l =
       let e : slots kept at n 0 ≡ filter f (slots axes epochs len 0) = sym (append-nil (slots kept at n 0)) ∙ (rw (rest-none axes epochs len i h) at (w .whole)) in
@@ -212,7 +217,9 @@ module _ (xs es : List ℕ) (n c : ℕ) where
   bounded-one b e h = cut-by-bound b c (slots xs es n 0) (omega arith)
 
 -- THE CUT of slots: what exceeds the bound fits, and is what the cut keeps
-pub cut-fits : (xs es : List ℕ) (n c : ℕ) (f : Entry → Bool) → rising-from 0 (slots xs es n 0) ≡ true → c ≤ most-entries → cut c (slots xs es n 0) ≡ filter f (slots xs es n 0) → length (filter f (slots xs es n 0)) ≤ most-entries
+pub cut-fits : (xs es : List ℕ) (n c : ℕ) (f : Entry → Bool) → rising-from 0 (slots xs es n 0) ≡ true →
+    c ≤ most-entries → cut c (slots xs es n 0) ≡ filter f (slots xs es n 0) →
+    length (filter f (slots xs es n 0)) ≤ most-entries
 cut-fits xs es n c f r h e =
     omega (arith, cut-length c 0 (slots xs es n 0) (sorted 0 (slots xs es n 0) r), ap length e)
 

@@ -35,7 +35,8 @@ row-formed len row = eqb (length row) most-entries && all-zero (drop len row)
 -- "At most sixteen entries (axis, epoch), axes rising, epochs above 0, slots past the length zero, and a taint flag"
 unfoldable pub well-formed : Frontier → Bool
 well-formed f =
-    leb (f .len) most-entries && (rising-from 0 (entries f) && (row-formed (f .len) (f .axes) && row-formed (f .len) (f .epochs)))
+    leb (f .len) most-entries &&
+    (rising-from 0 (entries f) && (row-formed (f .len) (f .axes) && row-formed (f .len) (f .epochs)))
 
 -- the frontier of at most sixteen entries
 unfoldable pub pack : List Entry → (tainted : Bool) → Frontier

@@ -36,16 +36,19 @@ Over full other = (axis : ℕ) → other axis ≤ full axis
 
 -- no epoch but the listed ones, and 1 under an axis of at most sixteen: so a map of 64-bit axes to 64-bit epochs
 abbrev pub Small : (f g : Frontier) → (full : ℕ → ℕ) → Type 0
-Small f g full = (axis : ℕ) → full axis ≤ max (max (epoch-at (entries f) axis) (epoch-at (entries g) axis)) (cond (leb axis most-entries) 1 0)
+Small f g full = (axis : ℕ) →
+    full axis ≤ max (max (epoch-at (entries f) axis) (epoch-at (entries g) axis)) (cond (leb axis most-entries) 1 0)
 
 -- LOOKUP
 
--- of a well-formed frontier the lookup gives every epoch listed under the axis, one or none; of any other, which the rules leave unspecified,
+-- of a well-formed frontier the lookup gives every epoch listed under the axis, one or none; of any other, which the
+-- rules leave unspecified,
 -- it gives, if anything, what is in a slot below the length, and nothing where that is over sixteen
 pub record Looked (f : Frontier) (axis : ℕ) (r : Lookup) : Type 0 where
   pub found : well-formed f ≡ true → r ≡ find axis (entries f)
   pub exactly : well-formed f ≡ true → values-of r ≡ epochs-under axis (entries f)
-  pub in-a-slot : (epoch : ℕ) → r ≡ Listed epoch → (i : ℕ) × (i < f .len) × (f .len ≤ most-entries) × (slot (f .axes) (f .epochs) i ≡ record { axis = axis; epoch = epoch })
+  pub in-a-slot : (epoch : ℕ) → r ≡ Listed epoch → (i : ℕ) × (i < f .len) × (f .len ≤ most-entries)
+      × (slot (f .axes) (f .epochs) i ≡ record { axis = axis; epoch = epoch })
 
 -- MERGE AND RAISE
 

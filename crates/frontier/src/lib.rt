@@ -34,8 +34,8 @@ pub enum Lookup {
     Absent,
 }
 
-// A merge's number and frontier: empty and untainted where the number is a refusal's. The frontier comes first, so that it is copied in
-// whole words.
+// A merge's number and frontier: empty and untainted where the number is a refusal's. The frontier comes first, so
+// that it is copied in whole words.
 pub struct Merged {
     pub frontier: Frontier,
     pub number: u32,
@@ -110,8 +110,8 @@ impl Frontier {
         )
     }
 
-    // One axis raised to an epoch: a merge with one entry, with the empty frontier for epoch 0. Where the axis is listed and the capacity
-    // holds every entry, that is the larger epoch stored in this copy.
+    // One axis raised to an epoch: a merge with one entry, with the empty frontier for epoch 0. Where the axis is
+    // listed and the capacity holds every entry, that is the larger epoch stored in this copy.
     pub fn raise(mut self, axis: u64, epoch: u64, capacity: u32) -> Merged
         ensures { λ r. ⌜ r ≡ raise self axis epoch capacity ⌝ }
         ensures { λ r. ⌜ Raise-right self axis epoch capacity r ⌝ }

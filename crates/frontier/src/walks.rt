@@ -13,7 +13,7 @@ ghost use lib.ListN.{length, getD, drop, take};
 ghost use Rattle.basics.specs.Lists.{filter};
 ghost use Rattle.frontier.specs.Entries.{most-entries, most-of-two, rising-from, union, exceeds, exceeding, cut};
 ghost use Rattle.frontier.specs.Frontiers.{slots, all-zero, well-formed, pack, handed, joined, merge, reached, answer, dominance};
-ghost use Rattle.frontier.specs.Walks.{rest, placed, skip-below, Found-from, leads, left-number};
+ghost use Rattle.frontier.specs.Walks.{rest, of-slots, All-slots, placed, skip-below, Found-from, leads, left-number};
 
 // The axes or the epochs of a frontier.
 pub type Slots = [u64; Frontier::SLOTS];
@@ -77,8 +77,8 @@ fn zero_from(row: &Slots, from: usize) -> bool
 
 // A frontier of these slots is well-formed.
 pub fn formed<'a>(axes: &'a Slots, epochs: &'a Slots, len: usize) -> bool
-    requires { ⌜ (length (now axes) ≡ most-entries) × (length (now epochs) ≡ most-entries) ⌝ }
-    ensures { λ r. ⌜ r ≡ well-formed (record { axes = now (axes .entry); epochs = now (epochs .entry); len = len; tainted = false }) ⌝ }
+    requires { ⌜ All-slots (now axes) (now epochs) ⌝ }
+    ensures { λ r. ⌜ r ≡ well-formed (of-slots (now (axes .entry)) (now (epochs .entry)) len false) ⌝ }
 {
     if Frontier::SLOTS < len {
         return false;
@@ -92,10 +92,10 @@ pub fn formed<'a>(axes: &'a Slots, epochs: &'a Slots, len: usize) -> bool
     zero_from(epochs, len)
 }
 
-// 15 for a capacity that is not 1 to 16, then 14 for slots that are not well-formed; 0 where a merge goes on.
+// 15 for a capacity out of its limits, then 14 for slots that are not well-formed; 0 where a merge goes on.
 pub fn judged<'a>(axes: &'a Slots, epochs: &'a Slots, len: usize, capacity: u32) -> u32
-    requires { ⌜ (length (now axes) ≡ most-entries) × (length (now epochs) ≡ most-entries) ⌝ }
-    ensures { λ r. ⌜ r ≡ left-number (record { axes = now (axes .entry); epochs = now (epochs .entry); len = len; tainted = false }) capacity ⌝ }
+    requires { ⌜ All-slots (now axes) (now epochs) ⌝ }
+    ensures { λ r. ⌜ r ≡ left-number (of-slots (now (axes .entry)) (now (epochs .entry)) len false) capacity ⌝ }
 {
     if capacity < Frontier::LEAST {
         return 15;
@@ -112,7 +112,8 @@ pub fn judged<'a>(axes: &'a Slots, epochs: &'a Slots, len: usize, capacity: u32)
 // The first slot from `from` on whose axis is not below the one sought, or the length.
 pub fn seek(axes: &Slots, len: usize, from: usize, axis: u64) -> usize
     requires { ⌜ (from ≤ len) × (len ≤ most-entries) ⌝ }
-    ensures { λ r. ⌜ (r ≤ len) × (r < len → axis ≤ getD (now (axes .entry)) r 0) × ((es : List ℕ) → rest (now (axes .entry)) es len r ≡ skip-below axis (rest (now (axes .entry)) es len from)) ⌝ }
+    ensures { λ r. ⌜ (r ≤ len) × (r < len → axis ≤ getD (now (axes .entry)) r 0) × ((es : List ℕ) →
+        rest (now (axes .entry)) es len r ≡ skip-below axis (rest (now (axes .entry)) es len from)) ⌝ }
 {
     let mut i = from;
     while i < len {
@@ -124,8 +125,8 @@ pub fn seek(axes: &Slots, len: usize, from: usize, axis: u64) -> usize
     i
 }
 
-// The lookup of an axis among the slots from `from` on: listed with its epoch, or absent. Slot `from` is looked at before the search, since
-// a walk over two frontiers mostly finds the axis there.
+// The lookup of an axis among the slots from `from` on: listed with its epoch, or absent. Slot `from` is looked at
+// before the search, since a walk over two frontiers mostly finds the axis there.
 pub fn lookup_from<'a>(
     axes: &'a Slots,
     epochs: &'a Slots,
@@ -213,8 +214,9 @@ pub fn dominance_of<'a>(
     yn: usize,
     yt: bool,
 ) -> Dominance
-    requires { ⌜ (length (now xa) ≡ most-entries) × (length (now xe) ≡ most-entries) × (length (now ya) ≡ most-entries) × (length (now ye) ≡ most-entries) ⌝ }
-    ensures { λ r. ⌜ r ≡ dominance (record { axes = now (xa .entry); epochs = now (xe .entry); len = xn; tainted = xt }) (record { axes = now (ya .entry); epochs = now (ye .entry); len = yn; tainted = yt }) ⌝ }
+    requires { ⌜ All-slots (now xa) (now xe) × All-slots (now ya) (now ye) ⌝ }
+    ensures { λ r. ⌜ r ≡ dominance (of-slots (now (xa .entry)) (now (xe .entry)) xn xt)
+        (of-slots (now (ya .entry)) (now (ye .entry)) yn yt) ⌝ }
 {
     if !formed(xa, xe, xn) {
         return Dominance::Refused(14);
@@ -326,7 +328,8 @@ pub fn join<'a>(
     requires { ⌜ (xn ≤ most-entries) × (yn ≤ most-entries) ⌝ }
     requires { ⌜ (rising-from 0 (slots (now xa) (now xe) xn 0) ≡ true) × (rising-from 0 (slots (now ya) (now ye) yn 0) ≡ true) ⌝ }
     requires { ⌜ (1 ≤ capacity) × (capacity ≤ most-entries) ⌝ }
-    ensures { λ r. ⌜ r ≡ handed (joined (slots (now (xa .entry)) (now (xe .entry)) xn 0) (slots (now (ya .entry)) (now (ye .entry)) yn 0) tainted capacity) ⌝ }
+    ensures { λ r. ⌜ r ≡ handed (joined (slots (now (xa .entry)) (now (xe .entry)) xn 0)
+        (slots (now (ya .entry)) (now (ye .entry)) yn 0) tainted capacity) ⌝ }
 {
     let mut axes = [0u64; Frontier::BOTH];
     let mut epochs = [0u64; Frontier::BOTH];
@@ -369,8 +372,9 @@ pub fn merged<'a>(
     yt: bool,
     capacity: u32,
 ) -> Merged
-    requires { ⌜ (length (now xa) ≡ most-entries) × (length (now xe) ≡ most-entries) × (length (now ya) ≡ most-entries) × (length (now ye) ≡ most-entries) ⌝ }
-    ensures { λ r. ⌜ r ≡ merge (record { axes = now (xa .entry); epochs = now (xe .entry); len = xn; tainted = xt }) (record { axes = now (ya .entry); epochs = now (ye .entry); len = yn; tainted = yt }) capacity ⌝ }
+    requires { ⌜ All-slots (now xa) (now xe) × All-slots (now ya) (now ye) ⌝ }
+    ensures { λ r. ⌜ r ≡ merge (of-slots (now (xa .entry)) (now (xe .entry)) xn xt)
+        (of-slots (now (ya .entry)) (now (ye .entry)) yn yt) capacity ⌝ }
 {
     let number = judged(xa, xe, xn, capacity);
     if number != 0 {
@@ -495,7 +499,8 @@ fn bound_of<'a>(axes: &'a [u64], epochs: &'a [u64], len: usize, capacity: usize)
 fn trim<'a>(axes: &'a [u64], epochs: &'a [u64], len: usize, bound: Entry) -> Merged
     requires { ⌜ (len ≤ length (now axes)) × (len ≤ length (now epochs)) ⌝ }
     requires { ⌜ length (filter (λ x. exceeds x bound) (slots (now axes) (now epochs) len 0)) ≤ most-entries ⌝ }
-    ensures { λ r. ⌜ r ≡ handed (pack (filter (λ x. exceeds x bound) (slots (now (axes .entry)) (now (epochs .entry)) len 0)) true) ⌝ }
+    ensures { λ r. ⌜ r ≡ handed (pack (filter (λ x. exceeds x bound)
+        (slots (now (axes .entry)) (now (epochs .entry)) len 0)) true) ⌝ }
 {
     let mut kept = [0u64; Frontier::SLOTS];
     let mut at = [0u64; Frontier::SLOTS];

@@ -22,5 +22,6 @@ mach-beside = LL.val N.the-type N′.the-laws
 pub spelt-is : (f : Frontier) (vs : List Val) → Is T.the-row f vs → Is T.the-row f (mach f ∷ [])
 spelt-is f vs is = subst (λ (us : List Val). Is T.the-row f us) (LL.tells T.the-type T′.the-laws f vs is) is
 
-pub beside-is : (f : Frontier) (n : ℕ) → Is T.the-row f (mach f ∷ []) → n < 2 ^ 32 → Is N.the-row (record { frontier = f; number = n }) (mach-beside (record { frontier = f; number = n }) ∷ [])
+pub beside-is : (f : Frontier) (n : ℕ) → Is T.the-row f (mach f ∷ []) → n < 2 ^ 32 →
+    Is N.the-row (record { frontier = f; number = n }) (mach-beside (record { frontier = f; number = n }) ∷ [])
 beside-is f n is fits = LL.owes N.the-type N′.the-laws (record { frontier = f; number = n }) (is, ((refl, fits), tt))

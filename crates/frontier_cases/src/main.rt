@@ -1,4 +1,5 @@
-// Frontiers through their form, the lookup of an axis and the changes in place, and two lent rows: what is answered, and what is stored then.
+// Frontiers through their form, the lookup of an axis and the changes in place, and two lent rows: what is answered,
+// and what is stored then.
 use frontier::Frontier;
 use frontier::Lookup;
 use frontier::Merged;

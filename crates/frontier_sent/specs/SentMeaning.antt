@@ -50,7 +50,8 @@ pub record Sent-means (p : Plan) (j capacity : ℕ) (f : Frontier) : Type 0 wher
   -- dominance of two frontiers of one plan tells whether an operation is the other or before it
   pub if-yes : (i c : ℕ) → i < count p → dominance f (sent p i c) ≡ Yes → (i ≡ j) ⊎ Before p i j
   pub if-no : (i c : ℕ) → i < count p → dominance f (sent p i c) ≡ No → (i ≡ j) ⊎ Before p i j → ⊥
-  pub exactly : capacity ≡ most-entries → (i : ℕ) → i < count p → (dominance f (sent p i most-entries) ≡ Yes) ↔ ((i ≡ j) ⊎ Before p i j)
+  pub exactly : capacity ≡ most-entries → (i : ℕ) → i < count p →
+      (dominance f (sent p i most-entries) ≡ Yes) ↔ ((i ≡ j) ⊎ Before p i j)
 
 -- which refusal is handed back, with its place; 01: "The plan's refusals come first, then 21, then 15."
 pub record Sent-number (check : Refusal) (p : Plan) (j capacity : ℕ) (r : Sent) : Type 0 where
@@ -58,8 +59,10 @@ pub record Sent-number (check : Refusal) (p : Plan) (j capacity : ℕ) (r : Sent
   -- 01: "21: question names no such operation, the number asked"
   pub no-operation : check .number ≡ 0 → count p ≤ j → (r .number ≡ 21) × (r .place ≡ j)
   -- 01: "15: frontier capacity not 1..16, 0"
-  pub no-capacity : check .number ≡ 0 → j < count p → (capacity < 1) ⊎ (most-entries < capacity) → (r .number ≡ 15) × (r .place ≡ 0)
-  pub answered : check .number ≡ 0 → j < count p → 1 ≤ capacity → capacity ≤ most-entries → (r .number ≡ 0) × (r .place ≡ 0)
+  pub no-capacity : check .number ≡ 0 → j < count p → (capacity < 1) ⊎ (most-entries < capacity) →
+      (r .number ≡ 15) × (r .place ≡ 0)
+  pub answered : check .number ≡ 0 → j < count p → 1 ≤ capacity → capacity ≤ most-entries →
+      (r .number ≡ 0) × (r .place ≡ 0)
   -- exactly if
   pub twenty-one : (r .number ≡ 21) ↔ ((check .number ≡ 0) × (count p ≤ j))
   pub fifteen : (r .number ≡ 15) ↔ ((check .number ≡ 0) × (j < count p) × ((capacity < 1) ⊎ (most-entries < capacity)))

@@ -1,4 +1,5 @@
--- The numbers of a well-formed frontier are read back as it, so that what a call hands back can be lent to the next. Assumes nothing.
+-- The numbers of a well-formed frontier are read back as it, so that what a call hands back can be lent to the next.
+-- Assumes nothing.
 use mathlib.Core.Path.{_≡_, refl, ap, _∙_}
 use mathlib.Core.Bool.{Bool, true, false, not, cond}
 use mathlib.Core.List.{List, [], _∷_, _++_, append-assoc}
@@ -15,7 +16,8 @@ use Rattle.frontier.proofs.Pack.{formed}
 use Rattle.lent.specs.Lent.{told-of, epochs-at, length-at, taint-at, over-long, frontier-of, list-of, merged-of}
 
 -- the numbers after the two rows
-module _ (axes epochs : List ℕ) (la : length axes ≡ most-entries) (le : length epochs ≡ most-entries) (len : ℕ) (t : Bool) where
+module _ (axes epochs : List ℕ) (la : length axes ≡ most-entries) (le : length epochs ≡ most-entries) (len : ℕ)
+    (t : Bool) where
   abbrev ns : List ℕ
   ns = axes ++ epochs ++ (len ∷ cond t 1 0 ∷ [])
 
@@ -33,7 +35,8 @@ module _ (axes epochs : List ℕ) (la : length axes ≡ most-entries) (le : leng
   taint-back false = refl
 
   axes-back : take most-entries ns ≡ axes
-  axes-back = take-append-le most-entries (axes ++ epochs) _ (omega (arith, la, le, length-append axes epochs)) ∙ take-at axes epochs most-entries la
+  axes-back = take-append-le most-entries (axes ++ epochs) _ (omega (arith, la, le, length-append axes epochs))
+      ∙ take-at axes epochs most-entries la
 
   epochs-back : take most-entries (drop epochs-at ns) ≡ epochs
   epochs-back =
@@ -47,7 +50,8 @@ module _ (axes epochs : List ℕ) (la : length axes ≡ most-entries) (le : leng
       λ i. record {
         axes = axes-back i;
         epochs = epochs-back i;
-        len = (ap (λ (k : ℕ). cond (ltb 1 k) over-long (getD ns length-at 0)) taint ∙ ap (λ (k : ℕ). cond (ltb 1 (cond t 1 0)) over-long k) (after 0) ∙ length-back t) i;
+        len = (ap (λ (k : ℕ). cond (ltb 1 k) over-long (getD ns length-at 0)) taint
+            ∙ ap (λ (k : ℕ). cond (ltb 1 (cond t 1 0)) over-long k) (after 0) ∙ length-back t) i;
         tainted = (ap (λ (k : ℕ). not (eqb k 0)) taint ∙ taint-back t) i;
       }
 

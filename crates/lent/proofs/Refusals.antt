@@ -19,14 +19,18 @@ pub first-fails : (a b : Bool) → a ≡ false → (a && b) ≡ false
 first-fails a b e = rw e
 
 -- a length over sixteen, or the one that is put in its place
-long : (taint len : ℕ) → (ltb most-entries len || ltb 1 taint) ≡ true → leb (cond (ltb 1 taint) over-long len) most-entries ≡ false
+long : (taint len : ℕ) → (ltb most-entries len || ltb 1 taint) ≡ true →
+    leb (cond (ltb 1 taint) over-long len) most-entries ≡ false
 long taint len o =
     by-cases (ltb 1 taint) (λ t. rw t)
-    (λ n. either (or-cases (ltb most-entries len) (ltb 1 taint) o) (λ t. rw n (lt-leb len most-entries (ltb-true most-entries len t))) (λ t. clash (ltb 1 taint) t n))
+    (λ n. either (or-cases (ltb most-entries len) (ltb 1 taint) o)
+    (λ t. rw n (lt-leb len most-entries (ltb-true most-entries len t))) (λ t. clash (ltb 1 taint) t n))
 
 pub oversized-formed : (ns : List ℕ) → oversized ns ≡ true → well-formed (frontier-of ns) ≡ false
 unfolding oversized frontier-of well-formed
-oversized-formed ns o = first-fails (leb (cond (ltb 1 (getD ns taint-at 0)) over-long (getD ns length-at 0)) most-entries) _ (long (getD ns taint-at 0) (getD ns length-at 0) o)
+oversized-formed ns o =
+    first-fails (leb (cond (ltb 1 (getD ns taint-at 0)) over-long (getD ns length-at 0)) most-entries) _
+    (long (getD ns taint-at 0) (getD ns length-at 0) o)
 
 -- the number of two frontiers, one of which is badly formed
 fourteen : (left right : Bool) → (left && right) ≡ false → _≡_ {A = ℕ} (cond left (cond right 0 14) 14) 14
@@ -34,7 +38,8 @@ fourteen true true e = absurd (false≢true (sym e))
 fourteen true false e = refl
 fourteen false right e = refl
 
-after-capacity : (capable left right : Bool) → (left && right) ≡ false → _≡_ {A = ℕ} (cond capable (cond left (cond right 0 14) 14) 15) (cond capable 14 15)
+after-capacity : (capable left right : Bool) → (left && right) ≡ false →
+    _≡_ {A = ℕ} (cond capable (cond left (cond right 0 14) 14) 15) (cond capable 14 15)
 after-capacity true left right e = fourteen left right e
 after-capacity false left right e = refl
 
@@ -51,7 +56,8 @@ module _ (f g : Frontier) (bad : (well-formed f && well-formed g) ≡ false) whe
   pub merge-refused : (capacity : ℕ) → merge f g capacity .number ≡ cond (capable capacity) 14 15
   unfolding merge merge-number
   merge-refused capacity =
-      given-back (merge-number f g capacity) (capable capacity) _ (after-capacity (capable capacity) (well-formed f) (well-formed g) bad)
+      given-back (merge-number f g capacity) (capable capacity) _
+      (after-capacity (capable capacity) (well-formed f) (well-formed g) bad)
 
 -- two lists of numbers, one of which is oversized
 pub either-oversized : (left right : List ℕ) → (oversized left || oversized right) ≡ true →

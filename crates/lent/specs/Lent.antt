@@ -1,4 +1,5 @@
--- What the numbers that a C caller lends mean: the three of `told`, and those of a frontier. Assumes nothing: these are definitions.
+-- What the numbers that a C caller lends mean: the three of `told`, and those of a frontier. Assumes nothing: these are
+-- definitions.
 -- The quoted sentences are those of the interface's request.
 use mathlib.Core.Path.{_≡_}
 use mathlib.Core.Bool.{Bool, true, not, cond, _||_}

@@ -76,7 +76,8 @@ fn row(numbers: &[u64], at: usize) -> [u64; Frontier::SLOTS]
 // The length, or one that is over long where the taint is above 1.
 fn length_of(numbers: &[u64]) -> usize
     requires { ⌜ length (now numbers) ≡ frontier-numbers ⌝ }
-    ensures { λ r. ⌜ r ≡ cond (ltb 1 (getD (now (numbers .entry)) taint-at 0)) over-long (getD (now (numbers .entry)) length-at 0) ⌝ }
+    ensures { λ r. ⌜ r ≡ cond (ltb 1 (getD (now (numbers .entry)) taint-at 0)) over-long
+        (getD (now (numbers .entry)) length-at 0) ⌝ }
 {
     if 1 < numbers[TAINT] {
         return OVER_LONG;

@@ -33,14 +33,16 @@ cast-numbers : tie.Need-cast-numbers
 cast-numbers c = search needs
 
 slice-write-numbers-2 : tie.Need-slice-write-numbers-2
-slice-write-numbers-2 c = omega (arith, length-set (c .before .before .put-row2 .last .1 .1 .0) length-at (start c .args .t1 .len))
+slice-write-numbers-2 c =
+    omega (arith, length-set (c .before .before .put-row2 .last .1 .1 .0) length-at (start c .args .t1 .len))
 
 same-length : tie.Need-same-length
 same-length c =
     let a = start c .args in
     let second = c .before .before .put-row2 in
     let first = c .before .before .before .before .before .before .before .before .before .put-row in
-    length-set (set (second .last .1 .1 .0) length-at (a .t1 .len)) taint-at _ ∙ length-set (second .last .1 .1 .0) length-at (a .t1 .len)
+    length-set (set (second .last .1 .1 .0) length-at (a .t1 .len)) taint-at _
+    ∙ length-set (second .last .1 .1 .0) length-at (a .t1 .len)
     ∙ ap length (second .ensures) ∙ length-sets (first .last .1 .1 .0) epochs-at (a .t1 .epochs)
     ∙ ap length (first .ensures) ∙ length-sets (a .numbers .now) 0 (a .t1 .axes)
 
@@ -50,8 +52,10 @@ returns c =
     let a = start c .args in
     let second = c .before .before .put-row2 in
     let first = c .before .before .before .before .before .before .before .before .before .put-row in
-    ap (λ (l : List ℕ). set (set l length-at (a .t1 .len)) taint-at (boolByte (a .t1 .tainted))) (second .ensures ∙ ap (λ (l : List ℕ). sets l epochs-at (a .t1 .epochs)) (first .ensures))
-    ∙ stored-whole (a .numbers .now) (a .t1 .axes) (a .t1 .epochs) (a .t1 .len ∷ boolByte (a .t1 .tainted) ∷ []) epochs-at length-at (search needs) (search needs) (search needs)
+    ap (λ (l : List ℕ). set (set l length-at (a .t1 .len)) taint-at (boolByte (a .t1 .tainted))) (second .ensures
+    ∙ ap (λ (l : List ℕ). sets l epochs-at (a .t1 .epochs)) (first .ensures))
+    ∙ stored-whole (a .numbers .now) (a .t1 .axes) (a .t1 .epochs)
+    (a .t1 .len ∷ boolByte (a .t1 .tainted) ∷ []) epochs-at length-at (search needs) (search needs) (search needs)
     ∙ ap (λ (k : ℕ). a .t1 .axes ++ a .t1 .epochs ++ (a .t1 .len ∷ k ∷ [])) (byte-of (a .t1 .tainted))
 
 pub put-spec : {M : Type 1} → statement M

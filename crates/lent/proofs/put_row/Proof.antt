@@ -12,7 +12,8 @@ use Rattle.lent.proofs.put_row.Statement.{statement}
 use Rattle.lent.proofs.put_row.Tie as tie
 
 abbrev Inv-loop : tie.InvT-loop
-Inv-loop row at numbers₀ i₀ numbers i = (i ≤ most-entries) × (numbers ≡ sets numbers₀ at (take i row)) × (length numbers ≡ length numbers₀)
+Inv-loop row at numbers₀ i₀ numbers i = (i ≤ most-entries) × (numbers ≡ sets numbers₀ at (take i row))
+    × (length numbers ≡ length numbers₀)
 
 abbrev μ-loop : tie.MeasureT-loop
 μ-loop row at numbers₀ i₀ numbers i = most-entries - i

@@ -41,8 +41,11 @@ loop-less c = search needs
 loop-again : tie.Need-loop-again Inv-loop μ-loop
 loop-again c =
     let l = c .before .before .loop in
-    let s = c .before .before .before in
-    (omega arith, copy-more (s .args .numbers .now) (s .args .at) most-entries (s .pre) (l .i) (l .r) (omega arith) (l .inv .1))
+    let s = c .before .before .before in (
+      omega arith,
+      copy-more (s .args .numbers .now) (s .args .at) most-entries (s .pre) (l .i) (l .r) (omega arith)
+          (l .inv .1),
+    )
 
 returns : tie.Need-returns Inv-loop μ-loop
 returns c =

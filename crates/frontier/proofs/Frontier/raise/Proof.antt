@@ -13,16 +13,25 @@ use Rattle.frontier.proofs.Frontier.raise.Statement.{statement}
 use Rattle.frontier.proofs.Frontier.raise.Tie as tie
 
 -- what the judgement of the left side tells: its form, and the capacity's
-fits : (c : tie.Else1) → ((c .before .before .before .before .before .args .t1 .len ≤ most-entries) × (rising-from 0 (entries (c .before .before .before .before .before .args .t1)) ≡ true))
-    × ((1 ≤ c .before .before .before .before .before .args .capacity) × (c .before .before .before .before .before .args .capacity ≤ most-entries))
+fits : (c : tie.Else1) →
+    ((c .before .before .before .before .before .args .t1 .len ≤ most-entries)
+    × (rising-from 0 (entries (c .before .before .before .before .before .args .t1)) ≡ true))
+    × ((1 ≤ c .before .before .before .before .before .args .capacity)
+    × (c .before .before .before .before .before .args .capacity ≤ most-entries))
 unfolding left-number well-formed entries
-fits c = raise-joins (c .before .before .before .before .before .args .t1) (c .before .before .before .before .before .args .axis) (c .before .before .before .before .before .args .epoch) _ _ (c .before .judged .ensures) (c .if1 .left)
+fits c = raise-joins (c .before .before .before .before .before .args .t1)
+    (c .before .before .before .before .before .args .axis) (c .before .before .before .before .before .args .epoch) _ _
+    (c .before .judged .ensures) (c .if1 .left)
 
 -- the slot where the axis is listed
 listed : (c : tie.After-answer) → c .before .before .lookup-from .result .at < most-entries
 listed c =
     let found = c .before .before in
-    omega (arith, found .lookup-from .ensures .in-slot _ (c .answer .given .1) .0, fits (found .before .before .before .before .before) .0 .0)
+    omega (
+      arith,
+      found .lookup-from .ensures .in-slot _ (c .answer .given .1) .0,
+      fits (found .before .before .before .before .before) .0 .0,
+    )
 
 judged-requires : tie.Need-judged-requires
 judged-requires c κs = search needs
@@ -34,7 +43,9 @@ returns : tie.Need-returns
 unfolding left-number well-formed entries
 returns c =
     let n = c .before .before .judged in
-    raise-all _ _ _ _ _ (c .refused .ensures ∙ raise-refused (c .before .before .before .before .before .before .args .t1) _ _ _ _ (n .ensures) (c .before .if1 .taken))
+    raise-all _ _ _ _ _ (c .refused .ensures
+    ∙ raise-refused (c .before .before .before .before .before .before .args .t1) _ _ _ _ (n .ensures)
+    (c .before .if1 .taken))
 
 lookup-from-requires : tie.Need-lookup-from-requires
 lookup-from-requires c κs = (search needs, fits (c .before .before .before .before) .0 .0)
@@ -57,7 +68,8 @@ returns-2 c =
     let found = c .before .before .before .before in
     let entry = found .before .before .before .before in
     raise-all _ _ _ _ _
-    (raise-stored (entry .before .before .before .before .before .before .args .t1) _ _ _ _ (entry .before .before .judged .ensures) (entry .before .if1 .left) _ _ _
+    (raise-stored (entry .before .before .before .before .before .before .args .t1) _ _ _ _
+    (entry .before .before .judged .ensures) (entry .before .if1 .left) _ _ _
     (found .lookup-from .ensures) (c .before .before .answer .given .1) (c .larger .ensures) (entry .if2 .taken))
 
 enum-told : tie.Need-enum-told
@@ -83,7 +95,8 @@ returns-3 : tie.Need-returns-3
 unfolding left-number well-formed entries
 returns-3 c =
     let judged = c .before .before .before .before .before .before .before in
-    raise-all _ _ _ _ _ (raise-joined (judged .before .before .before .before .before .args .t1) _ _ _ _ (judged .before .judged .ensures) (judged .if1 .left) _ (one-joined _ _ _ _ _ _ _ _ (c .join .ensures)))
+    raise-all _ _ _ _ _ (raise-joined (judged .before .before .before .before .before .args .t1) _ _ _ _
+    (judged .before .judged .ensures) (judged .if1 .left) _ (one-joined _ _ _ _ _ _ _ _ (c .join .ensures)))
 
 pub raise-spec : {M : Type 1} → statement M
 raise-spec =

@@ -5,16 +5,17 @@ use borrow.Author.Tests.{not-true, not-false}
 use borrow.Author.Needs.{needs}
 use Rattle.frontier.specs.declared.Frontier.{Frontier}
 use Rattle.frontier.specs.Frontiers.{entries, well-formed}
+use Rattle.frontier.specs.Walks.{of-slots}
 use Rattle.frontier.proofs.Pack.{both-fit}
 use Rattle.frontier.proofs.Dominates.{judged-left, judged-right, judged-answer}
 use Rattle.frontier.proofs.walks.dominance_of.Statement.{statement}
 use Rattle.frontier.proofs.walks.dominance_of.Tie as tie
 
 abbrev left-of : tie.Start → Frontier
-left-of s = record { axes = s .args .xa .now; epochs = s .args .xe .now; len = s .args .xn; tainted = s .args .xt }
+left-of s = of-slots (s .args .xa .now) (s .args .xe .now) (s .args .xn) (s .args .xt)
 
 abbrev right-of : tie.Start → Frontier
-right-of s = record { axes = s .args .ya .now; epochs = s .args .ye .now; len = s .args .yn; tainted = s .args .yt }
+right-of s = of-slots (s .args .ya .now) (s .args .ye .now) (s .args .yn) (s .args .yt)
 
 left-formed : (c : tie.Else1) → well-formed (left-of (c .before .before)) ≡ true
 unfolding well-formed entries
@@ -36,7 +37,8 @@ formed-requires-2 c κs = search needs
 
 returns-2 : tie.Need-returns-2
 unfolding well-formed entries
-returns-2 c = judged-right _ _ (left-formed (c .before .before)) (sym (c .before .formed2 .ensures) ∙ not-true _ (c .if2 .taken))
+returns-2 c = judged-right _ _ (left-formed (c .before .before)) (sym (c .before .formed2 .ensures)
+    ∙ not-true _ (c .if2 .taken))
 
 reaches-requires : tie.Need-reaches-requires
 unfolding entries
@@ -47,7 +49,8 @@ answer-of-requires c κs = search needs
 
 returns-3 : tie.Need-returns-3
 unfolding entries
-returns-3 c = judged-answer _ _ (c .answer-of .ensures) (c .before .reaches .ensures) (left-formed (c .before .before .before .before)) (right-formed (c .before .before))
+returns-3 c = judged-answer _ _ (c .answer-of .ensures) (c .before .reaches .ensures)
+    (left-formed (c .before .before .before .before)) (right-formed (c .before .before))
 
 pub dominance-of-spec : {M : Type 1} → statement M
 dominance-of-spec =

@@ -54,7 +54,11 @@ first-slots-requires-2 : tie.Need-first-slots-requires-2 Inv-loop μ-loop
 first-slots-requires-2 c κs = c .before .before .before .before .before .loop .inv .epochs-long
 
 returns : tie.Need-returns Inv-loop μ-loop
-returns c = ap handed (join-whole _ _ _ _ _ _ _ _ _ _ _ _ _ _ _ (c .before .before .before .before .before .before .loop .inv) (c .before .before .before .before .before .loop-test .left) (c .before .before .before .before .if1 .taken) (c .before .before .before .before .before .before .before .pre .1 .1 .1) (c .before .before .first-slots .ensures) (c .first-slots2 .ensures))
+returns c = ap handed
+    (join-whole _ _ _ _ _ _ _ _ _ _ _ _ _ _ _ (c .before .before .before .before .before .before .loop .inv)
+    (c .before .before .before .before .before .loop-test .left) (c .before .before .before .before .if1 .taken)
+    (c .before .before .before .before .before .before .before .pre .1 .1 .1) (c .before .before .first-slots .ensures)
+    (c .first-slots2 .ensures))
 
 slice-aggregate-bound-of : tie.Need-slice-aggregate-bound-of Inv-loop μ-loop
 slice-aggregate-bound-of c = search needs
@@ -77,7 +81,11 @@ trim-requires c κs =
     ((w .0, w .1), cut-fits _ _ _ _ _ (w .2) (c .before .before .before .before .before .before .before .before .pre .1 .1 .1) (c .before .before .bound-of .ensures))
 
 returns-2 : tie.Need-returns-2 Inv-loop μ-loop
-returns-2 c = cut-packed _ _ (c .trim .ensures) (c .before .before .before .bound-of .ensures) ∙ ap handed (join-packed _ _ _ _ _ _ _ _ _ _ _ _ _ (c .before .before .before .before .before .before .before .before .loop .inv) (c .before .before .before .before .before .before .before .loop-test .left) (c .before .before .before .before .before .before .if1 .left))
+returns-2 c = cut-packed _ _ (c .trim .ensures) (c .before .before .before .bound-of .ensures)
+    ∙ ap handed (join-packed _ _ _ _ _ _ _ _ _ _ _ _ _
+    (c .before .before .before .before .before .before .before .before .loop .inv)
+    (c .before .before .before .before .before .before .before .loop-test .left)
+    (c .before .before .before .before .before .before .if1 .left))
 
 pub join-spec : {M : Type 1} → statement M
 join-spec =

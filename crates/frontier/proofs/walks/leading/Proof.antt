@@ -50,9 +50,13 @@ add-t23 c = search needs
 returns-2 : tie.Need-returns-2
 returns-2 c =
     let p = c .before .before .before .before .before .before .before .pre in
-    let q = sym (c .before .before .answer .given .1) ∙ c .before .before .before .before .lookup-from .ensures .found (p .1 .0 .1) in
-    let l = listed-some _ _ _ _ _ _ q in
-    ((search needs, omega (arith, l), search needs), next-listed _ _ _ _ _ _ _ _ (p .1 .0 .0) (p .1 .0 .1) _ _ (c .larger .ensures) (p .0 .2) l (p .1 .1) q)
+    let q = sym (c .before .before .answer .given .1)
+    ∙ c .before .before .before .before .lookup-from .ensures .found (p .1 .0 .1) in
+    let l = listed-some _ _ _ _ _ _ q in (
+      (search needs, omega (arith, l), search needs),
+      next-listed _ _ _ _ _ _ _ _ (p .1 .0 .0) (p .1 .0 .1) _ _
+          (c .larger .ensures) (p .0 .2) l (p .1 .1) q,
+    )
 
 pub leading-spec : {M : Type 1} → statement M
 leading-spec =

@@ -5,18 +5,19 @@ use borrow.Author.Tests.{not-true, not-false}
 use borrow.Author.Needs.{needs}
 use Rattle.frontier.specs.declared.Frontier.{Frontier}
 use Rattle.frontier.specs.Frontiers.{entries, well-formed}
-use Rattle.frontier.specs.Walks.{left-number}
+use Rattle.frontier.specs.Walks.{of-slots, left-number}
 use Rattle.frontier.proofs.Merge.{Left-accepted, left-accepted, refused-first, refused-right, joins, merged}
 use Rattle.frontier.proofs.walks.merged.Statement.{statement}
 use Rattle.frontier.proofs.walks.merged.Tie as tie
 
 abbrev left-of : tie.Start → Frontier
-left-of s = record { axes = s .args .xa .now; epochs = s .args .xe .now; len = s .args .xn; tainted = s .args .xt }
+left-of s = of-slots (s .args .xa .now) (s .args .xe .now) (s .args .xn) (s .args .xt)
 
 abbrev right-of : tie.Start → Frontier
-right-of s = record { axes = s .args .ya .now; epochs = s .args .ye .now; len = s .args .yn; tainted = s .args .yt }
+right-of s = of-slots (s .args .ya .now) (s .args .ye .now) (s .args .yn) (s .args .yt)
 
-left-judged : (c : tie.Else1) → Left-accepted (left-of (c .before .before)) (right-of (c .before .before)) (c .before .before .args .capacity)
+left-judged : (c : tie.Else1) →
+    Left-accepted (left-of (c .before .before)) (right-of (c .before .before)) (c .before .before .args .capacity)
 unfolding left-number well-formed entries
 left-judged c = left-accepted _ _ _ _ (c .before .judged .ensures) (c .if1 .left)
 
@@ -32,7 +33,9 @@ refused-requires c κs = search needs
 
 returns : tie.Need-returns
 unfolding left-number well-formed entries
-returns c = c .refused .ensures ∙ refused-first (left-of (c .before .before .before)) _ _ _ (c .before .before .judged .ensures) (c .before .if1 .taken)
+returns c = c .refused .ensures
+    ∙ refused-first (left-of (c .before .before .before)) _ _ _ (c .before .before .judged .ensures)
+    (c .before .if1 .taken)
 
 formed-requires : tie.Need-formed-requires
 formed-requires c κs = search needs
@@ -42,7 +45,9 @@ refused-requires-2 c κs = search needs
 
 returns-2 : tie.Need-returns-2
 unfolding left-number well-formed entries
-returns-2 c = c .refused2 .ensures ∙ refused-right _ _ _ (left-judged (c .before .before .before)) (sym (c .before .before .formed .ensures) ∙ not-true _ (c .before .if2 .taken))
+returns-2 c = c .refused2 .ensures
+    ∙ refused-right _ _ _ (left-judged (c .before .before .before)) (sym (c .before .before .formed .ensures)
+    ∙ not-true _ (c .before .if2 .taken))
 
 join-requires : tie.Need-join-requires
 unfolding entries

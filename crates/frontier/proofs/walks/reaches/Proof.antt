@@ -33,7 +33,8 @@ enum-told c = search needs
 returns : tie.Need-returns Inv-loop μ-loop
 returns c =
     let at = c .before .before .before .before .before in
-    reach-absent _ _ _ _ _ _ _ _ (at .before .pre .1 .0) (at .before .pre .1 .1) (at .loop .inv) (c .before .before .before .before .loop-test .taken) _
+    reach-absent _ _ _ _ _ _ _ _ (at .before .pre .1 .0) (at .before .pre .1 .1) (at .loop .inv)
+    (c .before .before .before .before .loop-test .taken) _
     (c .before .before .lookup-from .ensures) (c .enum-told .given .1)
 
 mul-if1 : tie.Need-mul-if1 Inv-loop μ-loop
@@ -45,13 +46,21 @@ element-copy-out-if1 c = search needs
 returns-2 : tie.Need-returns-2 Inv-loop μ-loop
 returns-2 c =
     let at = c .before .before .before .before .before .before .before in
-    reach-short _ _ _ _ _ _ _ _ (at .before .before .pre .1 .0) (at .before .before .pre .1 .1) (at .before .loop .inv) (at .loop-test .taken) _
-    (c .before .before .before .before .before .lookup-from .ensures) _ (c .before .before .before .answer .given .1) (c .if1 .taken)
+    reach-short _ _ _ _ _ _ _ _ (at .before .before .pre .1 .0) (at .before .before .pre .1 .1) (at .before .loop .inv)
+    (at .loop-test .taken) _
+    (c .before .before .before .before .before .lookup-from .ensures) _ (c .before .before .before .answer .given .1)
+    (c .if1 .taken)
 
 add-i : tie.Need-add-i Inv-loop μ-loop
 add-i c =
     let at = c .before .before .before .before .before .before in
-    record { fits = omega (arith, at .lookup-from .ensures .in-slot _ (c .before .before .before .before .answer .given .1) .0, at .before .before .before .before .pre .0 .0) }
+    record {
+      fits = omega (
+        arith,
+        at .lookup-from .ensures .in-slot _ (c .before .before .before .before .answer .given .1) .0,
+        at .before .before .before .before .pre .0 .0,
+      );
+    }
 
 add-j : tie.Need-add-j Inv-loop μ-loop
 add-j c = search needs
@@ -62,8 +71,10 @@ loop-less c = search needs
 loop-again : tie.Need-loop-again Inv-loop μ-loop
 loop-again c =
     let at = c .before .before .before .before .before .before .before .before in
-    reach-more _ _ _ _ _ _ _ _ (at .before .before .pre .1 .0) (at .before .before .pre .1 .1) (at .before .loop .inv) (at .loop-test .taken) _
-    (c .before .before .before .before .before .before .lookup-from .ensures) _ (c .before .before .before .before .answer .given .1) (c .before .if1 .left)
+    reach-more _ _ _ _ _ _ _ _ (at .before .before .pre .1 .0) (at .before .before .pre .1 .1) (at .before .loop .inv)
+    (at .loop-test .taken) _
+    (c .before .before .before .before .before .before .lookup-from .ensures) _
+    (c .before .before .before .before .answer .given .1) (c .before .if1 .left)
 
 returns-3 : tie.Need-returns-3 Inv-loop μ-loop
 returns-3 c = reach-end _ _ _ _ _ _ _ _ (c .before .loop .inv) (c .loop-test .left)

@@ -10,7 +10,8 @@ use Rattle.frontier.proofs.walks.trim.Statement.{statement}
 use Rattle.frontier.proofs.walks.trim.Tie as tie
 
 abbrev Inv-loop : tie.InvT-loop
-Inv-loop axes epochs len bound kept₀ at₀ n₀ i₀ kept at n i = (i ≤ len) × Trim (λ x. exceeds x bound) axes epochs kept at len n i
+Inv-loop axes epochs len bound kept₀ at₀ n₀ i₀ kept at n i = (i ≤ len)
+    × Trim (λ x. exceeds x bound) axes epochs kept at len n i
 
 abbrev μ-loop : tie.MeasureT-loop
 μ-loop axes epochs len bound kept₀ at₀ n₀ i₀ kept at n i = len - i
@@ -71,7 +72,8 @@ unfolding slot
 loop-again-2 c = (search needs, trim-more _ _ _ _ _ _ _ _ (c .before .before .before .before .before .loop .inv .1) (c .before .before .before .before .loop-test .taken) (sym (c .before .above .ensures) ∙ not-false _ (c .if1 .left)) (room c))
 
 returns : tie.Need-returns Inv-loop μ-loop
-returns c = ap handed (trim-end _ _ _ _ _ _ _ _ _ (c .before .loop .inv .1) (c .loop-test .left) (c .before .before .before .before .pre .1))
+returns c = ap handed (trim-end _ _ _ _ _ _ _ _ _ (c .before .loop .inv .1) (c .loop-test .left)
+    (c .before .before .before .before .pre .1))
 
 pub trim-spec : {M : Type 1} → statement M
 trim-spec =
