@@ -1,12 +1,11 @@
 // The C interface, declared in include/cundvrest.h: each function lends what it is lent to a proved function and stores what comes back.
 ghost use mathlib.Core.Path.{_≡_};
-ghost use mathlib.Core.Bool.{true, _&&_, _||_};
-ghost use lib.Dec.{leb};
+ghost use mathlib.Core.Bool.{true, _||_};
 ghost use Rattle.plan_format.specs.Stored.{Read-says, Write-says};
 ghost use Rattle.plan_order.specs.Promise.{Checked};
 ghost use Rattle.questions.specs.Reuse.{Asked};
 ghost use Rattle.frontier_sent.specs.SentMeaning.{Frontier-right};
-ghost use Rattle.frontier.specs.Frontiers.{merge, raise, dominance};
+ghost use Rattle.frontier.specs.Frontiers.{capable, merge, raise, dominance};
 ghost use Rattle.frontier.specs.Meaning.{Merge-right, Raise-right, Dominance-means};
 ghost use Rattle.lent.specs.Lent.{told-of, frontier-of, oversized, Merge-says, merged-of, Oversized-refused, dominance-told, dominance-of};
 ghost use Rattle.cundvrest_c.specs.Sent.{Sent-says, sent-of};
@@ -66,7 +65,7 @@ pub extern "C" fn cundvrest_frontier(
     capacity: u32,
     table: &mut [u32],
     list: &mut [u32],
-    frontier: &mut [u64; 34],
+    frontier: &mut [u64; lent::NUMBERS],
     told: &mut [u64; 3],
 )
     ensures { λ _. ⌜ Frontier-right (now (plan .entry)) operation capacity (sent-of (now (told .exit)) (now (frontier .exit))) (now (table .entry)) (now (table .exit)) (now (list .entry)) (now (list .exit)) ⌝ }
@@ -79,15 +78,16 @@ pub extern "C" fn cundvrest_frontier(
 // The larger epoch of each axis, cut to the capacity.
 #[no_mangle]
 pub extern "C" fn cundvrest_merge(
-    left: &[u64; 34],
-    right: &[u64; 34],
+    left: &[u64; lent::NUMBERS],
+    right: &[u64; lent::NUMBERS],
     capacity: u32,
-    merged: &mut [u64; 34],
+    merged: &mut [u64; lent::NUMBERS],
     told: &mut [u64; 3],
 )
     ensures { λ _. ⌜ Merge-says (merge (frontier-of (now (left .entry))) (frontier-of (now (right .entry))) capacity) (now (told .exit)) (now (merged .exit)) ⌝ }
     ensures { λ _. ⌜ Merge-right (frontier-of (now (left .entry))) (frontier-of (now (right .entry))) capacity (merged-of (now (told .exit)) (now (merged .exit))) ⌝ }
-    ensures { λ _. ⌜ Oversized-refused (oversized (now (left .entry)) || oversized (now (right .entry))) (leb 1 capacity && leb capacity 16) (now (told .exit)) ⌝ }
+    ensures { λ _. ⌜ Oversized-refused (oversized (now (left .entry)) || oversized (now (right .entry)))
+        (capable capacity) (now (told .exit)) ⌝ }
 {
     let r = lent::frontier(left).merge(lent::frontier(right), capacity);
     lent::hand(r.number, 0, r.frontier, merged, told);
@@ -96,24 +96,28 @@ pub extern "C" fn cundvrest_merge(
 // One axis raised to an epoch.
 #[no_mangle]
 pub extern "C" fn cundvrest_raise(
-    old: &[u64; 34],
+    old: &[u64; lent::NUMBERS],
     axis: u64,
     epoch: u64,
     capacity: u32,
-    raised: &mut [u64; 34],
+    raised: &mut [u64; lent::NUMBERS],
     told: &mut [u64; 3],
 )
     ensures { λ _. ⌜ Merge-says (raise (frontier-of (now (old .entry))) axis epoch capacity) (now (told .exit)) (now (raised .exit)) ⌝ }
     ensures { λ _. ⌜ Raise-right (frontier-of (now (old .entry))) axis epoch capacity (merged-of (now (told .exit)) (now (raised .exit))) ⌝ }
-    ensures { λ _. ⌜ Oversized-refused (oversized (now (old .entry))) (leb 1 capacity && leb capacity 16) (now (told .exit)) ⌝ }
+    ensures { λ _. ⌜ Oversized-refused (oversized (now (old .entry))) (capable capacity) (now (told .exit)) ⌝ }
 {
     let r = lent::frontier(old).raise(axis, epoch, capacity);
     lent::hand(r.number, 0, r.frontier, raised, told);
 }
 
-// Whether the left frontier dominates the right one: 0 no, 1 yes, 2 unknown.
+// Whether the left frontier dominates the right one; the answer is the value of no, yes or unknown.
 #[no_mangle]
-pub extern "C" fn cundvrest_dominates(left: &[u64; 34], right: &[u64; 34], told: &mut [u64; 3])
+pub extern "C" fn cundvrest_dominates(
+    left: &[u64; lent::NUMBERS],
+    right: &[u64; lent::NUMBERS],
+    told: &mut [u64; 3],
+)
     ensures { λ _. ⌜ told-of (now (told .exit)) ≡ dominance-told (dominance (frontier-of (now (left .entry))) (frontier-of (now (right .entry)))) ⌝ }
     ensures { λ _. ⌜ Dominance-means (frontier-of (now (left .entry))) (frontier-of (now (right .entry))) (dominance-of (told-of (now (told .exit)))) ⌝ }
     ensures { λ _. ⌜ Oversized-refused (oversized (now (left .entry)) || oversized (now (right .entry))) true (now (told .exit)) ⌝ }

@@ -14,7 +14,7 @@ use Rattle.frontier.specs.declared.Lookup.{Lookup}
 use Rattle.frontier.specs.declared.Lookup.the-variants.{Listed, Absent}
 use Rattle.frontier.specs.declared.Dominance.{Dominance}
 use Rattle.frontier.specs.declared.Dominance.the-variants.{Yes, No, Unknown, Refused}
-use Rattle.frontier.specs.Entries.{Entry, find}
+use Rattle.frontier.specs.Entries.{Entry, most-entries, find}
 use Rattle.frontier.specs.Frontiers.{entries, well-formed, met, reached, answer, dominance-number, dominance, number-of}
 use Rattle.frontier.specs.Meaning.{epoch-of, epoch-at, Completion, Over, Dominance-means}
 use Rattle.frontier.proofs.Sorted.{Sorted, lower, epoch-here, epoch-there, epoch-none, epoch-below}
@@ -102,11 +102,11 @@ fresh-none b (x ∷ xs) s =
 one-at : (k a : ℕ) → ℕ
 one-at k a = cond (eqb k a) 1 0
 
-one-small : (k a : ℕ) → k ≤ 16 → one-at k a ≤ cond (leb a 16) 1 0
+one-small : (k a : ℕ) → k ≤ most-entries → one-at k a ≤ cond (leb a most-entries) 1 0
 unfolding one-at
 one-small k a h =
     by-cases (eqb k a)
-    (λ t. rw (t, le-leb a 16 (omega (arith, eqb-true k a t))) (le-refl 1))
+    (λ t. rw (t, le-leb a most-entries (omega (arith, eqb-true k a t))) (le-refl 1))
     (λ t. rw t zero-le)
 
 one-here : (k : ℕ) → one-at k k ≡ 1
@@ -134,7 +134,9 @@ module _ (f g : Frontier) where
     nor-yes = λ q. apart (Refused n) Unknown q (λ z. omega arith);
   }
 
-  answered : (all ft gt : Bool) → 0 ≡ dominance-number f g → Sorted 0 (entries f) → length (entries f) ≤ 16 → Sorted 0 (entries g) → reached (entries f) (entries g) ≡ all → f .tainted ≡ ft → g .tainted ≡ gt → Dominance-means f g (answer all ft gt)
+  answered : (all ft gt : Bool) → 0 ≡ dominance-number f g → Sorted 0 (entries f) → length (entries f) ≤ most-entries →
+      Sorted 0 (entries g) → reached (entries f) (entries g) ≡ all → f .tainted ≡ ft → g .tainted ≡ gt →
+      Dominance-means f g (answer all ft gt)
   unfolding answer number-of code
   answered true ft false n sf l s r p q = record {
     number = n;

@@ -10,11 +10,13 @@ use lib.Seq.{length-take-le}
 use borrow.Author.Tests.{eqb-true, eqb-false, ltb-true, ltb-false, leb-true, leb-false, le-leb, lt-ltb}
 use Rattle.basics.proofs.Tests.{by-cases, clash}
 use Rattle.frontier.specs.declared.Lookup.the-variants.{Listed, Absent}
-use Rattle.frontier.specs.Entries.{Entry, rising-from, union, cut}
+use Rattle.frontier.specs.Entries.{Entry, most-entries, most-of-two, rising-from, find, union, cut}
 use Rattle.frontier.specs.Frontiers.{slot, slots, all-zero, pack, joined}
-use Rattle.frontier.specs.Walks.{rest, floor, first-listed, leads}
+use Rattle.frontier.specs.Walks.{rest, floor, leads}
 use Rattle.frontier.proofs.Sorted.{Sorted, sorted, rising, sorted-union, lower, union-commutes, union-left, union-both}
 use Rattle.frontier.proofs.Slots.{rest-all, rest-more, rest-none, sorted-rest, slots-put, slots-length, zero-past, zero-first, slots-first}
+use Rattle.frontier.proofs.Cut.{find-below}
+use Rattle.frontier.proofs.Lookups.{absent-listed, same-epoch}
 use Rattle.frontier.proofs.Pack.{repack, all-zero-replicate}
 use Rattle.frontier.proofs.Merge.{joined-whole}
 
@@ -38,13 +40,11 @@ module _ (xa xe : List ℕ) (xn i : ℕ) where
       by-cases (ltb i xn) (λ l. ltb-true i xn l) (λ l. clash t e (q ∙ sym (leads-none ys (ltb-false i xn l))))
 
   -- and so does one that lists an axis
-  pub listed-some : (a e : ℕ) → Listed e ≡ first-listed a (rest xa xe xn i) → i < xn
-  unfolding first-listed
+  pub listed-some : (a e : ℕ) → Listed e ≡ find a (rest xa xe xn i) → i < xn
+  unfolding find
   listed-some a e q =
-      by-cases (ltb i xn) (λ t. ltb-true i xn t) (λ t. absurd (listed-absent (rw (rest-none xa xe xn i (ltb-false i xn t)) at q)))
-    where
-      listed-absent : {k : ℕ} → Listed k ≡ Absent → ⊥
-      listed-absent e = let z : _≡_ {A = ℕ} 0 1 = cc in omega arith
+      by-cases (ltb i xn) (λ t. ltb-true i xn t)
+      (λ t. absent-listed (sym (rw (rest-none xa xe xn i (ltb-false i xn t)) at q)))
 
 -- where one side does not lead, the other does, if anything is left
 leads-other : (xs ys : List Entry) → 0 < length xs + length ys → leads xs ys ≡ false → leads ys xs ≡ true
@@ -55,14 +55,27 @@ leads-other (x ∷ xs) [] h e = absurd (false≢true (sym e))
 leads-other (x ∷ xs) (y ∷ ys) h e = le-leb (y .axis) (x .axis) (omega (arith, leb-false (x .axis) (y .axis) e))
 
 -- an axis that leads and is absent on the other side lies below all of that side
-absent-below : (b : ℕ) (x : Entry) (xs ys : List Entry) → Sorted b ys → leads (x ∷ xs) ys ≡ true → Absent ≡ first-listed (x .axis) ys → Sorted (suc (x .axis)) ys
-unfolding leads first-listed
+absent-below : (b : ℕ) (x : Entry) (xs ys : List Entry) → Sorted b ys → leads (x ∷ xs) ys ≡ true →
+    Absent ≡ find (x .axis) ys → Sorted (suc (x .axis)) ys
+unfolding leads find
 absent-below b x xs [] s l e = tt
-absent-below b x xs (y ∷ ys) s l e =
-    (by-cases (eqb (y .axis) (x .axis)) (λ t. absurd (absent-listed (rw t at e))) (λ t. omega (arith, leb-true (x .axis) (y .axis) l, eqb-false (y .axis) (x .axis) t)), s .1, s .2)
-  where
-    absent-listed : {k : ℕ} → Absent ≡ Listed k → ⊥
-    absent-listed e = let z : _≡_ {A = ℕ} 0 1 = cc in omega arith
+absent-below b x xs (y ∷ ys) s l e = (
+  by-cases (eqb (y .axis) (x .axis)) (λ t. absent-listed (rw t at e))
+      (λ t. omega (arith, leb-true (x .axis) (y .axis) l, eqb-false (y .axis) (x .axis) t)),
+  s .1,
+  s .2,
+)
+
+-- and one that is listed there is its first
+listed-first : (b e : ℕ) (x : Entry) (xs : List Entry) (y : Entry) (ys : List Entry) → Sorted b (y ∷ ys) →
+    leads (x ∷ xs) (y ∷ ys) ≡ true → Listed e ≡ find (x .axis) (y ∷ ys) → (y .axis ≡ x .axis) × (e ≡ y .epoch)
+unfolding leads find
+listed-first b e x xs y ys s l q =
+    by-cases (eqb (y .axis) (x .axis))
+    (λ t. (eqb-true (y .axis) (x .axis) t, same-epoch (rw t at q)))
+    (λ t. absent-listed (sym
+    (find-below (suc (y .axis)) (x .axis) ys (s .2) (omega (arith, leb-true (x .axis) (y .axis) l)))
+    ∙ sym (rw t at q)))
 
 -- TWO FRONTIERS: x from slot i on and y from slot j on
 module _ (xa xe ya ye : List ℕ) (xn yn i j : ℕ) (rx : rising-from 0 (slots xa xe xn 0) ≡ true) (ry : rising-from 0 (slots ya ye yn 0) ≡ true) where
@@ -76,29 +89,28 @@ module _ (xa xe ya ye : List ℕ) (xn yn i j : ℕ) (rx : rising-from 0 (slots x
   right-at : j < yn → Sorted (floor ya j) (slot ya ye j ∷ rest ya ye yn (j + 1))
   right-at h = rw (rest-more ya ye yn j h) at (right-from (omega arith))
 
-  pub next-absent : i < xn → j ≤ yn → leads (rest xa xe xn i) (rest ya ye yn j) ≡ true → Absent ≡ first-listed (getD xa i 0) (rest ya ye yn j) → union (rest xa xe xn i) (rest ya ye yn j) ≡ slot xa xe i ∷ union (rest xa xe xn (i + 1)) (rest ya ye yn j)
+  pub next-absent : i < xn → j ≤ yn → leads (rest xa xe xn i) (rest ya ye yn j) ≡ true →
+      Absent ≡ find (getD xa i 0) (rest ya ye yn j) →
+      union (rest xa xe xn i) (rest ya ye yn j) ≡ slot xa xe i ∷ union (rest xa xe xn (i + 1)) (rest ya ye yn j)
   unfolding slot
   next-absent h l m e =
       rw (rest-more xa xe xn i h)
       (union-left (slot xa xe i) (rest xa xe xn (i + 1)) (rest ya ye yn j) (left-at h .2)
       (absent-below (floor ya j) (slot xa xe i) (rest xa xe xn (i + 1)) (rest ya ye yn j) (right-from l) (rw (rest-more xa xe xn i h) at m) e))
 
-  pub next-listed : (e m : ℕ) → m ≡ max (getD xe i 0) e → i < xn → j < yn → Listed e ≡ first-listed (getD xa i 0) (rest ya ye yn j) → union (rest xa xe xn i) (rest ya ye yn j) ≡ record { axis = getD xa i 0; epoch = m } ∷ union (rest xa xe xn (i + 1)) (rest ya ye yn (j + 1))
-  unfolding slot first-listed
-  next-listed e m g h l q =
-      let q′ = rw (rest-more ya ye yn j l) at q in
-      by-cases (eqb (getD ya j 0) (getD xa i 0))
-      (λ t. let same = eqb-true (getD ya j 0) (getD xa i 0) t in
-      rw (rest-more xa xe xn i h, rest-more ya ye yn j l, g, listed-same (rw t at q′))
-      (union-both (slot xa xe i) (slot ya ye j) (rest xa xe xn (i + 1)) (rest ya ye yn (j + 1)) (sym same) (right-at l .1) (left-at h .2)
-      (lower (suc (getD ya j 0)) (suc (getD xa i 0)) (rest ya ye yn (j + 1)) (omega arith) (right-at l .2))))
-      (λ t. absurd (listed-absent (rw t at q′)))
-    where
-      listed-same : {k m : ℕ} → Listed k ≡ Listed m → k ≡ m
-      listed-same e = cc
-
-      listed-absent : {k : ℕ} → Listed k ≡ Absent → ⊥
-      listed-absent e = let z : _≡_ {A = ℕ} 0 1 = cc in omega arith
+  pub next-listed : (e m : ℕ) → m ≡ max (getD xe i 0) e → i < xn → j < yn →
+      leads (rest xa xe xn i) (rest ya ye yn j) ≡ true → Listed e ≡ find (getD xa i 0) (rest ya ye yn j) →
+      union (rest xa xe xn i) (rest ya ye yn j) ≡ record { axis = getD xa i 0; epoch = m } ∷ union
+      (rest xa xe xn (i + 1)) (rest ya ye yn (j + 1))
+  unfolding slot
+  next-listed e m g h l t q =
+      let f = listed-first (floor ya j) e (slot xa xe i) (rest xa xe xn (i + 1)) (slot ya ye j) (rest ya ye yn (j + 1))
+      (right-at l)
+      (rw (rest-more xa xe xn i h, rest-more ya ye yn j l) at t) (rw (rest-more ya ye yn j l) at q) in
+      rw (rest-more xa xe xn i h, rest-more ya ye yn j l, g, f .1)
+      (union-both (slot xa xe i) (slot ya ye j) (rest xa xe xn (i + 1)) (rest ya ye yn (j + 1)) (sym (f .0))
+      (right-at l .1) (left-at h .2)
+      (lower (suc (getD ya j 0)) (suc (getD xa i 0)) (rest ya ye yn (j + 1)) (omega (arith, f .0)) (right-at l .2)))
 
   pub right-leads : (t : Bool) → i + j < xn + yn → i ≤ xn → j ≤ yn → t ≡ leads (rest xa xe xn i) (rest ya ye yn j) → t ≡ false → leads (rest ya ye yn j) (rest xa xe xn i) ≡ true
   right-leads t h l r q e =
@@ -120,36 +132,43 @@ pub record Join (xa xe ya ye axes epochs : List ℕ) (xn yn n i j : ℕ) : Type 
   pub left-in : i ≤ xn
   pub right-in : j ≤ yn
   pub few : n ≤ i + j
-  pub axes-32 : length axes ≡ 32
-  pub epochs-32 : length epochs ≡ 32
+  pub axes-long : length axes ≡ most-of-two
+  pub epochs-long : length epochs ≡ most-of-two
   pub zero-axes : all-zero (drop n axes) ≡ true
   pub zero-epochs : all-zero (drop n epochs) ≡ true
   pub whole : slots axes epochs n 0 ++ union (rest xa xe xn i) (rest ya ye yn j) ≡ union (slots xa xe xn 0) (slots ya ye yn 0)
 
 module _ (xa xe ya ye axes epochs : List ℕ) (xn yn : ℕ) where
-  pub join-none : axes ≡ replicate 32 0 → epochs ≡ replicate 32 0 → Join xa xe ya ye axes epochs xn yn 0 0 0
+  pub join-none : axes ≡ replicate most-of-two 0 → epochs ≡ replicate most-of-two 0 →
+      Join xa xe ya ye axes epochs xn yn 0 0 0
   unfolding slots Rattle.basics.specs.Lists.tabulate-from
   join-none p q = rw (p, q) (record {
     left-in = zero-le;
     right-in = zero-le;
     few = zero-le;
-    axes-32 = refl;
-    epochs-32 = refl;
-    zero-axes = all-zero-replicate 32;
-    zero-epochs = all-zero-replicate 32;
+    axes-long = refl;
+    epochs-long = refl;
+    zero-axes = all-zero-replicate most-of-two;
+    zero-epochs = all-zero-replicate most-of-two;
     whole = rw (rest-all xa xe xn, rest-all ya ye yn);
   })
 
-  pub join-more : (n i j a e p q : ℕ) → Join xa xe ya ye axes epochs xn yn n i j → n < 32 → p ≤ xn → q ≤ yn → i + j < p + q → union (rest xa xe xn i) (rest ya ye yn j) ≡ record { axis = a; epoch = e } ∷ union (rest xa xe xn p) (rest ya ye yn q) → Join xa xe ya ye (set axes n a) (set epochs n e) xn yn (n + 1) p q
+  pub join-more : (n i j a e p q : ℕ) → Join xa xe ya ye axes epochs xn yn n i j → n < most-of-two → p ≤ xn → q ≤ yn →
+      i + j < p + q → union (rest xa xe xn i) (rest ya ye yn j) ≡ record { axis = a; epoch = e } ∷ union
+      (rest xa xe xn p) (rest ya ye yn q) → Join xa xe ya ye (set axes n a) (set epochs n e) xn yn (n + 1) p q
   join-more n i j a e p q w h l r m step = record {
     left-in = l;
     right-in = r;
     few = omega (arith, w .few);
-    axes-32 = length-set axes n a ∙ w .axes-32;
-    epochs-32 = length-set epochs n e ∙ w .epochs-32;
-    zero-axes = zero-past axes n a (omega (arith, w .axes-32)) (w .zero-axes);
-    zero-epochs = zero-past epochs n e (omega (arith, w .epochs-32)) (w .zero-epochs);
-    whole = rw (slots-put axes epochs n a e (omega (arith, w .axes-32)) (omega (arith, w .epochs-32)), append-assoc, ← step) (w .whole);
+    axes-long = length-set axes n a ∙ w .axes-long;
+    epochs-long = length-set epochs n e ∙ w .epochs-long;
+    zero-axes = zero-past axes n a (omega (arith, w .axes-long)) (w .zero-axes);
+    zero-epochs = zero-past epochs n e (omega (arith, w .epochs-long)) (w .zero-epochs);
+    whole = rw (
+      slots-put axes epochs n a e (omega (arith, w .axes-long)) (omega (arith, w .epochs-long)),
+      append-assoc,
+      ← step,
+    ) (w .whole);
   }
 
   pub join-end : (n i j : ℕ) → Join xa xe ya ye axes epochs xn yn n i j → xn + yn ≤ i + j → slots axes epochs n 0 ≡ union (slots xa xe xn 0) (slots ya ye yn 0)
@@ -159,10 +178,12 @@ module _ (xa xe ya ye axes epochs : List ℕ) (xn yn : ℕ) where
       ∙ (rw (rest-none xa xe xn i (omega (arith, w .left-in, w .right-in)), rest-none ya ye yn j (omega (arith, w .left-in, w .right-in))) at (w .whole))
 
   -- the whole union, as eviction takes it
-  pub join-fits : (n i j : ℕ) → Join xa xe ya ye axes epochs xn yn n i j → xn + yn ≤ i + j → rising-from 0 (slots xa xe xn 0) ≡ true → rising-from 0 (slots ya ye yn 0) ≡ true → xn ≤ 16 → yn ≤ 16 → (n ≤ length axes) × (n ≤ length epochs) × (rising-from 0 (slots axes epochs n 0) ≡ true)
+  pub join-fits : (n i j : ℕ) → Join xa xe ya ye axes epochs xn yn n i j → xn + yn ≤ i + j →
+      rising-from 0 (slots xa xe xn 0) ≡ true → rising-from 0 (slots ya ye yn 0) ≡ true → xn ≤ most-entries →
+      yn ≤ most-entries → (n ≤ length axes) × (n ≤ length epochs) × (rising-from 0 (slots axes epochs n 0) ≡ true)
   join-fits n i j w h rx ry a b = (
-    omega (arith, w .few, w .left-in, w .right-in, w .axes-32),
-    omega (arith, w .few, w .left-in, w .right-in, w .epochs-32),
+    omega (arith, w .few, w .left-in, w .right-in, w .axes-long),
+    omega (arith, w .few, w .left-in, w .right-in, w .epochs-long),
     rw (join-end n i j w h) (rising 0 (union (slots xa xe xn 0) (slots ya ye yn 0))
         (sorted-union 0 (slots xa xe xn 0) (slots ya ye yn 0) (sorted 0 (slots xa xe xn 0) rx) (sorted 0 (slots ya ye yn 0) ry))),
   )
@@ -172,10 +193,14 @@ module _ (xa xe ya ye axes epochs : List ℕ) (xn yn : ℕ) where
   join-packed n i j c t w h l = rw (← join-end n i j w h, slots-length axes epochs n 0, lt-ltb c n l, or-true t)
 
   -- what the capacity holds is not cut: the first slots are the frontier
-  pub join-whole : (n i j c : ℕ) (t : Bool) (r q : List ℕ) → Join xa xe ya ye axes epochs xn yn n i j → xn + yn ≤ i + j → n ≤ c → c ≤ 16 → r ≡ take 16 axes → q ≡ take 16 epochs → record { axes = r; epochs = q; len = n; tainted = t } ≡ joined (slots xa xe xn 0) (slots ya ye yn 0) t c
+  pub join-whole : (n i j c : ℕ) (t : Bool) (r q : List ℕ) → Join xa xe ya ye axes epochs xn yn n i j →
+      xn + yn ≤ i + j → n ≤ c → c ≤ most-entries → r ≡ take most-entries axes → q ≡ take most-entries epochs →
+      record { axes = r; epochs = q; len = n; tainted = t } ≡ joined (slots xa xe xn 0) (slots ya ye yn 0) t c
   join-whole n i j c t r q w h l m e f =
-      let u = slots-first axes epochs 16 n (omega arith) ∙ join-end n i j w h in
-      rw (e, f) (repack (take 16 axes) (take 16 epochs) n t (omega arith) (length-take-le 16 axes (omega (arith, w .axes-32))) (length-take-le 16 epochs (omega (arith, w .epochs-32)))
-      (zero-first 16 n axes (w .zero-axes)) (zero-first 16 n epochs (w .zero-epochs))
+      let u = slots-first axes epochs most-entries n (omega arith) ∙ join-end n i j w h in
+      rw (e, f) (repack (take most-entries axes) (take most-entries epochs) n t (omega arith)
+      (length-take-le most-entries axes (omega (arith, w .axes-long)))
+      (length-take-le most-entries epochs (omega (arith, w .epochs-long)))
+      (zero-first most-entries n axes (w .zero-axes)) (zero-first most-entries n epochs (w .zero-epochs))
       ∙ ap (λ l. pack l t) u
       ∙ sym (joined-whole (slots xa xe xn 0) (slots ya ye yn 0) t c (omega (arith, ap length (join-end n i j w h), slots-length axes epochs n 0))))

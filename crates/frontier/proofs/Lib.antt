@@ -14,4 +14,5 @@ pub mod Associate
 pub mod Dominates
 pub mod Lookups
 pub mod Raising
+pub mod Raise
 pub mod Gathered

@@ -2,7 +2,7 @@
 use mathlib.Core.Path.{_≡_, refl, sym, ap, ap₂, _∙_}
 use mathlib.Core.Bool.{Bool, true, false, _||_, cond, or-true, or-false}
 use mathlib.Core.List.{List, []}
-use Prim.Native.Nat.{ℕ, _≤_, max}
+use Prim.Native.Nat.{ℕ, max}
 use native.Mathlib.Nat.{le-refl}
 use native.Mathlib.Omega.{arith}
 use lib.Dec.{ltb, eqb}
@@ -11,15 +11,14 @@ use borrow.Author.Tests.{ltb-true, ltb-false, lt-ltb, le-ltb, eqb-true, eqb-fals
 use Rattle.basics.proofs.Tests.{by-cases, clash}
 use Rattle.frontier.specs.declared.Frontier.{Frontier}
 use Rattle.frontier.specs.declared.Merged.{Merged}
-use Rattle.frontier.specs.Entries.{Entry, rising-from, find, union, cut}
-use Rattle.frontier.specs.Frontiers.{entries, well-formed, pack, refusal, joined, merge, one-entry, raise}
-use Rattle.frontier.specs.Walks.{left-number}
+use Rattle.frontier.specs.Entries.{Entry, find, union, cut}
+use Rattle.frontier.specs.Frontiers.{entries, well-formed, pack, joined, merge, one-entry, raise}
 use Rattle.frontier.specs.Meaning.{epoch-at, Completion, both, Merge-means, Merge-right, Raise-right}
 use Rattle.frontier.proofs.Sorted.{Sorted, epoch-here, epoch-there, epoch-none, epoch-union, sorted-union, union-commutes, union-associates}
 use Rattle.frontier.proofs.Cut.{cut-whole, cut-length, find-cut, epoch-cut}
 use Rattle.frontier.proofs.Pack.{entries-pack, sorted-entries}
 use Rattle.frontier.proofs.Associate.{cut-first, told-first, cut-fills}
-use Rattle.frontier.proofs.Merge.{Accepted, accepted, accepted-by, number-right, frontier-right, merge-formed, merge-commutes, joined-idempotent, joined-formed, refused-first, left-accepted, joins, merged, formed-one}
+use Rattle.frontier.proofs.Merge.{Accepted, accepted, accepted-by, number-right, frontier-right, merge-formed, merge-commutes, joined-idempotent, joined-formed}
 
 -- what `||` tells where it is false
 or-left-false : (a b : Bool) → (a || b) ≡ false → a ≡ false
@@ -169,20 +168,3 @@ raise-right f x e c r q =
 
 pub raise-all : (f : Frontier) (x e c : ℕ) (r : Merged) → r ≡ raise f x e c → (r ≡ raise f x e c) × Raise-right f x e c r
 raise-all f x e c r q = (q, raise-right f x e c r q)
-
--- RAISE AS THE CODE HAS IT
-module _ (f g : Frontier) (x e c : ℕ) where
-  pub raise-refused : (n : ℕ) → n ≡ left-number f c → (n ≡ 0 → ⊥) → refusal n ≡ raise f x e c
-  unfolding raise
-  raise-refused n p h = refused-first f (pack (one-entry x e) false) c n p h
-
-  pub raise-joins : (n : ℕ) → n ≡ left-number f c → n ≡ 0 → g ≡ pack (one-entry x e) false → ((f .len ≤ 16) × (g .len ≤ 16)) × (((rising-from 0 (entries f) ≡ true) × (rising-from 0 (entries g) ≡ true)) × ((1 ≤ c) × (c ≤ 16)))
-  raise-joins n p z q = joins f g c (left-accepted f g c n p z) (formed-one g x e q)
-
-  pub raise-joined : (n : ℕ) (m : Frontier) → n ≡ left-number f c → n ≡ 0 → g ≡ pack (one-entry x e) false → m ≡ joined (entries f) (entries g) (f .tainted) c → record { number = 0; frontier = m } ≡ raise f x e c
-  unfolding raise
-  raise-joined n m p z q j =
-      merged f g c m (left-accepted f g c n p z) (formed-one g x e q) (j ∙ ap (λ t. joined (entries f) (entries g) t c) untainted) ∙ ap (λ h. merge f h c) q
-    where
-      untainted : f .tainted ≡ (f .tainted || g .tainted)
-      untainted = sym (ap (λ (h : Frontier). f .tainted || h .tainted) q ∙ (unfold pack in (or-false (f .tainted))))

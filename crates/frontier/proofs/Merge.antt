@@ -2,18 +2,18 @@
 -- Assumes nothing.
 use mathlib.Core.Path.{_≡_, refl, sym, ap, _∙_}
 use mathlib.Core.Bool.{Bool, true, false, _&&_, _||_, cond, or-false}
-use mathlib.Core.List.{List, [], _∷_}
+use mathlib.Core.List.{List, []}
 use Prim.Native.Nat.{ℕ, _≤_, _<_, zero-le}
 use native.Mathlib.Nat.{le-refl}
 use native.Mathlib.Omega.{arith}
 use lib.Dec.{ltb, leb, eqb}
 use lib.ListN.{length}
-use borrow.Author.Tests.{leb-true, le-ltb, le-leb, lt-leb, eqb-true, eqb-false, eq-eqb, ne-eqb}
+use borrow.Author.Tests.{leb-true, le-ltb, le-leb, lt-leb, eqb-true, eqb-false}
 use Rattle.basics.proofs.Tests.{by-cases}
 use Rattle.frontier.specs.declared.Frontier.{Frontier}
 use Rattle.frontier.specs.declared.Merged.{Merged}
-use Rattle.frontier.specs.Entries.{Entry, rising-from, union, cut}
-use Rattle.frontier.specs.Frontiers.{entries, well-formed, pack, refusal, joined, merge-number, merge, one-entry}
+use Rattle.frontier.specs.Entries.{Entry, most-entries, rising-from, union, cut}
+use Rattle.frontier.specs.Frontiers.{entries, well-formed, pack, refusal, handed, joined, merge-number, merge, one-entry}
 use Rattle.frontier.specs.Walks.{left-number}
 use Rattle.frontier.proofs.Sorted.{Sorted, sorted-union, union-commutes, union-idempotent}
 use Rattle.frontier.proofs.Cut.{sorted-cut, cut-length, cut-whole}
@@ -21,14 +21,6 @@ use Rattle.frontier.proofs.Slots.{slots-length}
 use Rattle.frontier.proofs.Pack.{pack-entries, sorted-entries, well-formed-pack, both-fit}
 
 -- ONE ENTRY
-pub one-none : (a e : ℕ) → e ≡ 0 → [] ≡ one-entry a e
-unfolding one-entry
-one-none a e q = rw (eq-eqb e 0 q)
-
-pub one-some : (a e : ℕ) → (e ≡ 0 → ⊥) → pack (record { axis = a; epoch = e } ∷ []) false ≡ pack (one-entry a e) false
-unfolding one-entry
-one-some a e n = rw (ne-eqb e 0 n)
-
 pub sorted-one : (a e : ℕ) → Sorted 0 (one-entry a e)
 unfolding one-entry
 sorted-one a e = by-cases (eqb e 0) (λ t. rw t tt) (λ t. rw t (zero-le, omega (arith, eqb-false e 0 t), tt))
@@ -46,64 +38,69 @@ pub judged-small : (f : Frontier) (c : ℕ) → c < 1 → 15 ≡ left-number f c
 unfolding left-number
 judged-small f c h = rw (lt-leb 1 c h)
 
-pub judged-large : (f : Frontier) (c : ℕ) → 16 < c → 15 ≡ left-number f c
+pub judged-large : (f : Frontier) (c : ℕ) → most-entries < c → 15 ≡ left-number f c
 unfolding left-number
-judged-large f c h = rw (le-leb 1 c (omega arith), lt-leb c 16 h)
+judged-large f c h = rw (le-leb 1 c (omega arith), lt-leb c most-entries h)
 
-pub judged-form : (f : Frontier) (c n : ℕ) (b : Bool) → 1 ≤ c → c ≤ 16 → well-formed f ≡ b → n ≡ cond b 0 14 → n ≡ left-number f c
+pub judged-form : (f : Frontier) (c n : ℕ) (b : Bool) → 1 ≤ c → c ≤ most-entries → well-formed f ≡ b → n ≡ cond b 0 14 →
+    n ≡ left-number f c
 unfolding left-number
-judged-form f c n b h l e q = rw (le-leb 1 c h, le-leb c 16 l, e) q
+judged-form f c n b h l e q = rw (le-leb 1 c h, le-leb c most-entries l, e) q
 
 module _ (f g : Frontier) (c : ℕ) where
   pub refused-first : (n : ℕ) → n ≡ left-number f c → (n ≡ 0 → ⊥) → refusal n ≡ merge f g c
   unfolding merge merge-number left-number
   refused-first n e h =
-      by-cases (leb 1 c && leb c 16)
+      by-cases (leb 1 c && leb c most-entries)
       (λ t. by-cases (well-formed f) (λ p. absurd (h (rw (t, p) at e))) (λ p. let q : n ≡ 14 = rw (t, p) at e in rw (q, t, p)))
       (λ t. let q : n ≡ 15 = rw t at e in rw (q, t))
 
   -- what 0 for the left side tells
   pub record Left-accepted : Type 0 where
     pub at-least-one : 1 ≤ c
-    pub at-most-sixteen : c ≤ 16
+    pub at-most-sixteen : c ≤ most-entries
     pub left : well-formed f ≡ true
 
   pub left-accepted : (n : ℕ) → n ≡ left-number f c → n ≡ 0 → Left-accepted
   unfolding left-number
   left-accepted n e z =
-      by-cases (leb 1 c) (λ a. by-cases (leb c 16) (λ b. by-cases (well-formed f)
-      (λ p. record { at-least-one = leb-true 1 c a; at-most-sixteen = leb-true c 16 b; left = p })
+      by-cases (leb 1 c) (λ a. by-cases (leb c most-entries) (λ b. by-cases (well-formed f)
+      (λ p. record { at-least-one = leb-true 1 c a; at-most-sixteen = leb-true c most-entries b; left = p })
       (λ p. absurd (let q : n ≡ 14 = rw (a, b, p) at e in omega arith)))
       (λ b. absurd (let q : n ≡ 15 = rw (a, b) at e in omega arith)))
       (λ a. absurd (let q : n ≡ 15 = rw a at e in omega arith))
 
   pub refused-right : Left-accepted → well-formed g ≡ false → refusal 14 ≡ merge f g c
   unfolding merge merge-number
-  refused-right w q = rw (le-leb 1 c (w .at-least-one), le-leb c 16 (w .at-most-sixteen), w .left, q)
+  refused-right w q = rw (le-leb 1 c (w .at-least-one), le-leb c most-entries (w .at-most-sixteen), w .left, q)
 
-  pub accepted : 1 ≤ c → c ≤ 16 → well-formed f ≡ true → well-formed g ≡ true → record { number = 0; frontier = joined (entries f) (entries g) (f .tainted || g .tainted) c } ≡ merge f g c
+  pub accepted : 1 ≤ c → c ≤ most-entries → well-formed f ≡ true → well-formed g ≡ true →
+      handed (joined (entries f) (entries g) (f .tainted || g .tainted) c) ≡ merge f g c
   unfolding merge merge-number
-  accepted h l e q = rw (le-leb 1 c h, le-leb c 16 l, e, q)
+  accepted h l e q = rw (le-leb 1 c h, le-leb c most-entries l, e, q)
 
-  pub merged : (m : Frontier) → Left-accepted → well-formed g ≡ true → m ≡ joined (entries f) (entries g) (f .tainted || g .tainted) c → record { number = 0; frontier = m } ≡ merge f g c
-  merged m w q e = ap (λ (k : Frontier). record { number = 0; frontier = k }) e ∙ accepted (w .at-least-one) (w .at-most-sixteen) (w .left) q
+  pub merged : (m : Merged) → Left-accepted → well-formed g ≡ true →
+      m ≡ handed (joined (entries f) (entries g) (f .tainted || g .tainted) c) → m ≡ merge f g c
+  merged m w q e = e ∙ accepted (w .at-least-one) (w .at-most-sixteen) (w .left) q
 
   -- what the walk asks
-  pub joins : Left-accepted → well-formed g ≡ true → ((f .len ≤ 16) × (g .len ≤ 16)) × (((rising-from 0 (entries f) ≡ true) × (rising-from 0 (entries g) ≡ true)) × ((1 ≤ c) × (c ≤ 16)))
+  pub joins : Left-accepted → well-formed g ≡ true → ((f .len ≤ most-entries) × (g .len ≤ most-entries))
+      × (((rising-from 0 (entries f) ≡ true) × (rising-from 0 (entries g) ≡ true)) × ((1 ≤ c) × (c ≤ most-entries)))
   joins w q = let b = both-fit f g (w .left) q in (b .0, (b .1, (w .at-least-one, w .at-most-sixteen)))
 
   -- what number 0 tells
   pub record Accepted : Type 0 where
     pub at-least-one : 1 ≤ c
-    pub at-most-sixteen : c ≤ 16
+    pub at-most-sixteen : c ≤ most-entries
     pub left : well-formed f ≡ true
     pub right : well-formed g ≡ true
 
   pub accepted-by : merge-number f g c ≡ 0 → Accepted
   unfolding merge-number
   accepted-by e =
-      by-cases (leb 1 c) (λ a. by-cases (leb c 16) (λ b. by-cases (well-formed f) (λ p. by-cases (well-formed g)
-      (λ q. record { at-least-one = leb-true 1 c a; at-most-sixteen = leb-true c 16 b; left = p; right = q })
+      by-cases (leb 1 c) (λ a. by-cases (leb c most-entries)
+      (λ b. by-cases (well-formed f) (λ p. by-cases (well-formed g)
+      (λ q. record { at-least-one = leb-true 1 c a; at-most-sixteen = leb-true c most-entries b; left = p; right = q })
       (λ q. absurd (let z : 14 ≡ 0 = rw (a, b, p, q) at e in omega arith)))
       (λ p. absurd (let z : 14 ≡ 0 = rw (a, b, p) at e in omega arith)))
       (λ b. absurd (let z : 15 ≡ 0 = rw (a, b) at e in omega arith)))
@@ -117,7 +114,8 @@ module _ (f g : Frontier) (c : ℕ) where
   frontier-right a = ap (λ (m : Merged). m .frontier) (sym (accepted (a .at-least-one) (a .at-most-sixteen) (a .left) (a .right)))
 
 -- WELL-FORMED
-pub joined-formed : (xs ys : List Entry) (t : Bool) (c : ℕ) → Sorted 0 xs → Sorted 0 ys → c ≤ 16 → well-formed (joined xs ys t c) ≡ true
+pub joined-formed : (xs ys : List Entry) (t : Bool) (c : ℕ) → Sorted 0 xs → Sorted 0 ys → c ≤ most-entries →
+    well-formed (joined xs ys t c) ≡ true
 unfolding joined
 joined-formed xs ys t c s u h =
     well-formed-pack (cut c (union xs ys)) (t || ltb c (length (union xs ys))) (sorted-cut c 0 (union xs ys) (sorted-union 0 xs ys s u))

@@ -13,7 +13,7 @@ use borrow.Author.Tests.{leb-true, le-leb, eqb-true, eq-eqb}
 use Rattle.basics.specs.Lists.{tabulate-from}
 use Rattle.basics.proofs.Tests.{by-cases, clash, is-false, and-left, and-right, and-both}
 use Rattle.frontier.specs.declared.Frontier.{Frontier}
-use Rattle.frontier.specs.Entries.{Entry, rising-from}
+use Rattle.frontier.specs.Entries.{Entry, most-entries, rising-from}
 use Rattle.frontier.specs.Frontiers.{slot, slots, entries, all-zero, row-formed, well-formed, pack}
 use Rattle.frontier.proofs.Sorted.{Sorted, sorted, rising}
 use Rattle.frontier.proofs.Slots.{tabulate-shift, slots-length}
@@ -42,12 +42,15 @@ unfolding all-zero
 all-zero-replicate zero = refl
 all-zero-replicate (suc n) = all-zero-replicate n
 
-row-split : (n : ℕ) (row : List ℕ) → length row ≡ 16 → all-zero (drop n row) ≡ true → row ≡ take n row ++ replicate (16 - n) 0
+row-split : (n : ℕ) (row : List ℕ) → length row ≡ most-entries → all-zero (drop n row) ≡ true →
+    row ≡ take n row ++ replicate (most-entries - n) 0
 row-split n row l z =
     sym (take-append-drop n row) ∙ ap (λ t. take n row ++ t) (zeros (drop n row) z ∙ ap (λ k. replicate k 0) (length-drop n row ∙ ap (λ k. k - n) l))
 
 -- sixteen slots, zero past the length, are packed entries
-pub repack : (axes epochs : List ℕ) (n : ℕ) (t : Bool) → n ≤ 16 → length axes ≡ 16 → length epochs ≡ 16 → all-zero (drop n axes) ≡ true → all-zero (drop n epochs) ≡ true → record { axes = axes; epochs = epochs; len = n; tainted = t } ≡ pack (slots axes epochs n 0) t
+pub repack : (axes epochs : List ℕ) (n : ℕ) (t : Bool) → n ≤ most-entries → length axes ≡ most-entries →
+    length epochs ≡ most-entries → all-zero (drop n axes) ≡ true → all-zero (drop n epochs) ≡ true →
+    record { axes = axes; epochs = epochs; len = n; tainted = t } ≡ pack (slots axes epochs n 0) t
 unfolding pack slots slot
 repack axes epochs n t h la le za ze =
     λ i. record {
@@ -57,43 +60,50 @@ repack axes epochs n t h la le za ze =
       tainted = t;
     }
   where
-    row-of : (row : List ℕ) (f : Entry → ℕ) → length row ≡ 16 → all-zero (drop n row) ≡ true → map f (tabulate-from n 0 (slot axes epochs)) ≡ tabulate-from n 0 (λ k. getD row k 0) → row ≡ map f (tabulate-from n 0 (slot axes epochs)) ++ replicate (16 - length (tabulate-from n 0 (slot axes epochs))) 0
+    row-of : (row : List ℕ) (f : Entry → ℕ) → length row ≡ most-entries → all-zero (drop n row) ≡ true →
+        map f (tabulate-from n 0 (slot axes epochs)) ≡ tabulate-from n 0 (λ k. getD row k 0) →
+        row ≡ map f (tabulate-from n 0 (slot axes epochs)) ++ replicate
+        (most-entries - length (tabulate-from n 0 (slot axes epochs))) 0
     row-of row f l z e =
-        row-split n row l z ∙ ap₂ {C = List ℕ} (λ front k. front ++ replicate (16 - k) 0) (sym (e ∙ tabulate-row n row (omega arith))) (sym (slots-length axes epochs n 0))
+        row-split n row l z ∙ ap₂ {C = List ℕ} (λ front k. front ++ replicate (most-entries - k) 0)
+        (sym (e ∙ tabulate-row n row (omega arith))) (sym (slots-length axes epochs n 0))
 
 -- what a well-formed frontier has
 pub record Formed (f : Frontier) : Type 0 where
-  pub short : f .len ≤ 16
+  pub short : f .len ≤ most-entries
   pub rises : rising-from 0 (entries f) ≡ true
-  pub sixteen-axes : length (f .axes) ≡ 16
-  pub sixteen-epochs : length (f .epochs) ≡ 16
+  pub sixteen-axes : length (f .axes) ≡ most-entries
+  pub sixteen-epochs : length (f .epochs) ≡ most-entries
   pub zero-axes : all-zero (drop (f .len) (f .axes)) ≡ true
   pub zero-epochs : all-zero (drop (f .len) (f .epochs)) ≡ true
 
 pub formed : (f : Frontier) → well-formed f ≡ true → Formed f
 unfolding well-formed row-formed
 formed f e =
-    let p = and-right (leb (f .len) 16) _ e in
+    let p = and-right (leb (f .len) most-entries) _ e in
     let q = and-right (rising-from 0 (entries f)) _ p in
-    let x = and-left (eqb (length (f .axes)) 16 && all-zero (drop (f .len) (f .axes))) _ q in
-    let y = and-right (eqb (length (f .axes)) 16 && all-zero (drop (f .len) (f .axes))) _ q in
+    let x = and-left (eqb (length (f .axes)) most-entries && all-zero (drop (f .len) (f .axes))) _ q in
+    let y = and-right (eqb (length (f .axes)) most-entries && all-zero (drop (f .len) (f .axes))) _ q in
     record {
-      short = leb-true (f .len) 16 (and-left (leb (f .len) 16) _ e);
+      short = leb-true (f .len) most-entries (and-left (leb (f .len) most-entries) _ e);
       rises = and-left (rising-from 0 (entries f)) _ p;
-      sixteen-axes = eqb-true (length (f .axes)) 16 (and-left (eqb (length (f .axes)) 16) _ x);
-      sixteen-epochs = eqb-true (length (f .epochs)) 16 (and-left (eqb (length (f .epochs)) 16) _ y);
-      zero-axes = and-right (eqb (length (f .axes)) 16) _ x;
-      zero-epochs = and-right (eqb (length (f .epochs)) 16) _ y;
+      sixteen-axes = eqb-true (length (f .axes)) most-entries (and-left (eqb (length (f .axes)) most-entries) _ x);
+      sixteen-epochs = eqb-true (length (f .epochs)) most-entries
+          (and-left (eqb (length (f .epochs)) most-entries) _ y);
+      zero-axes = and-right (eqb (length (f .axes)) most-entries) _ x;
+      zero-epochs = and-right (eqb (length (f .epochs)) most-entries) _ y;
     }
 
 pub well : (f : Frontier) → Formed f → well-formed f ≡ true
 unfolding well-formed row-formed
 well f w =
-    and-both (leb (f .len) 16) _ (le-leb (f .len) 16 (w .short))
+    and-both (leb (f .len) most-entries) _ (le-leb (f .len) most-entries (w .short))
     (and-both (rising-from 0 (entries f)) _ (w .rises)
-    (and-both (eqb (length (f .axes)) 16 && all-zero (drop (f .len) (f .axes))) _
-    (and-both (eqb (length (f .axes)) 16) _ (eq-eqb (length (f .axes)) 16 (w .sixteen-axes)) (w .zero-axes))
-    (and-both (eqb (length (f .epochs)) 16) _ (eq-eqb (length (f .epochs)) 16 (w .sixteen-epochs)) (w .zero-epochs))))
+    (and-both (eqb (length (f .axes)) most-entries && all-zero (drop (f .len) (f .axes))) _
+    (and-both (eqb (length (f .axes)) most-entries) _ (eq-eqb (length (f .axes)) most-entries (w .sixteen-axes))
+    (w .zero-axes))
+    (and-both (eqb (length (f .epochs)) most-entries) _ (eq-eqb (length (f .epochs)) most-entries (w .sixteen-epochs))
+    (w .zero-epochs))))
 
 pub pack-entries : (f : Frontier) → well-formed f ≡ true → f ≡ pack (entries f) (f .tainted)
 unfolding entries
@@ -114,9 +124,10 @@ unpacked (x ∷ xs) ps qs =
 
 pub entries-pack : (xs : List Entry) (t : Bool) → entries (pack xs t) ≡ xs
 unfolding entries pack
-entries-pack xs t = unpacked xs (replicate (16 - length xs) 0) (replicate (16 - length xs) 0)
+entries-pack xs t = unpacked xs (replicate (most-entries - length xs) 0) (replicate (most-entries - length xs) 0)
 
-pub well-formed-pack : (xs : List Entry) (t : Bool) → Sorted 0 xs → length xs ≤ 16 → well-formed (pack xs t) ≡ true
+pub well-formed-pack : (xs : List Entry) (t : Bool) → Sorted 0 xs → length xs ≤ most-entries →
+    well-formed (pack xs t) ≡ true
 unfolding pack
 well-formed-pack xs t s h = well (pack xs t) (record {
   short = h;
@@ -127,14 +138,15 @@ well-formed-pack xs t s h = well (pack xs t) (record {
   zero-epochs = row-zero (λ e. e .epoch);
 })
   where
-    row-long : (f : Entry → ℕ) → length (map f xs ++ replicate (16 - length xs) 0) ≡ 16
+    row-long : (f : Entry → ℕ) → length (map f xs ++ replicate (most-entries - length xs) 0) ≡ most-entries
     row-long f = rw (length-append, length-map xs f, length-replicate) (omega arith)
 
-    row-zero : (f : Entry → ℕ) → all-zero (drop (length xs) (map f xs ++ replicate (16 - length xs) 0)) ≡ true
-    row-zero f = rw (drop-at (map f xs) (replicate (16 - length xs) 0) (length xs) (length-map xs f)) (all-zero-replicate (16 - length xs))
+    row-zero : (f : Entry → ℕ) → all-zero (drop (length xs) (map f xs ++ replicate (most-entries - length xs) 0)) ≡ true
+    row-zero f = rw (drop-at (map f xs) (replicate (most-entries - length xs) 0) (length xs) (length-map xs f))
+        (all-zero-replicate (most-entries - length xs))
 
 -- THE JUDGEMENT, in the order in which the code makes it
-pub not-short : (f : Frontier) → 16 < f .len → false ≡ well-formed f
+pub not-short : (f : Frontier) → most-entries < f .len → false ≡ well-formed f
 not-short f h = sym (is-false (well-formed f) (λ t. omega (arith, formed f t .short)))
 
 pub not-rising : (f : Frontier) → rising-from 0 (slots (f .axes) (f .epochs) (f .len) 0) ≡ false → false ≡ well-formed f
@@ -144,7 +156,9 @@ not-rising f e = sym (is-false (well-formed f) (λ t. clash _ (formed f t .rises
 pub not-zero : (f : Frontier) → all-zero (drop (f .len) (f .axes)) ≡ false → false ≡ well-formed f
 not-zero f e = sym (is-false (well-formed f) (λ t. clash _ (formed f t .zero-axes) e))
 
-pub judged : (f : Frontier) (r : Bool) → f .len ≤ 16 → length (f .axes) ≡ 16 → length (f .epochs) ≡ 16 → rising-from 0 (slots (f .axes) (f .epochs) (f .len) 0) ≡ true → all-zero (drop (f .len) (f .axes)) ≡ true → r ≡ all-zero (drop (f .len) (f .epochs)) → r ≡ well-formed f
+pub judged : (f : Frontier) (r : Bool) → f .len ≤ most-entries → length (f .axes) ≡ most-entries →
+    length (f .epochs) ≡ most-entries → rising-from 0 (slots (f .axes) (f .epochs) (f .len) 0) ≡ true →
+    all-zero (drop (f .len) (f .axes)) ≡ true → r ≡ all-zero (drop (f .len) (f .epochs)) → r ≡ well-formed f
 unfolding entries
 judged f r l a b s z e =
     by-cases (all-zero (drop (f .len) (f .epochs)))
@@ -152,5 +166,7 @@ judged f r l a b s z e =
     (λ t. e ∙ t ∙ sym (is-false (well-formed f) (λ u. clash _ (formed f u .zero-epochs) t)))
 
 -- two frontiers that the walks take
-pub both-fit : (f g : Frontier) → well-formed f ≡ true → well-formed g ≡ true → ((f .len ≤ 16) × (g .len ≤ 16)) × ((rising-from 0 (entries f) ≡ true) × (rising-from 0 (entries g) ≡ true))
+pub both-fit : (f g : Frontier) → well-formed f ≡ true → well-formed g ≡ true →
+    ((f .len ≤ most-entries) × (g .len ≤ most-entries))
+    × ((rising-from 0 (entries f) ≡ true) × (rising-from 0 (entries g) ≡ true))
 both-fit f g p q = ((formed f p .short, formed g q .short), (formed f p .rises, formed g q .rises))

@@ -10,7 +10,7 @@ use lib.Dec.{ltb, eqb}
 use lib.ListN.{length}
 use Rattle.basics.proofs.Tests.{by-cases}
 use Rattle.frontier.specs.declared.Frontier.{Frontier}
-use Rattle.frontier.specs.Entries.{Entry, put, union, cut}
+use Rattle.frontier.specs.Entries.{Entry, most-entries, put, union, cut}
 use Rattle.frontier.specs.Frontiers.{entries, pack, joined, merge, one-entry, gathered, raise}
 use Rattle.frontier.proofs.Sorted.{Sorted, sorted-union, union-associates, union-none}
 use Rattle.frontier.proofs.Pack.{entries-pack, well-formed-pack}
@@ -34,7 +34,9 @@ union-length [] ys = omega arith
 union-length (x ∷ xs) ys = omega (arith, union-length xs ys, put-length x (union xs ys))
 
 -- two packed lists that are not refused
-pub merge-packed : (xs ys : List Entry) (s t : Bool) (c : ℕ) → Sorted 0 xs → Sorted 0 ys → length xs ≤ 16 → length ys ≤ 16 → 1 ≤ c → c ≤ 16 → merge (pack xs s) (pack ys t) c ≡ record { number = 0; frontier = joined xs ys (s || t) c }
+pub merge-packed : (xs ys : List Entry) (s t : Bool) (c : ℕ) → Sorted 0 xs → Sorted 0 ys → length xs ≤ most-entries →
+    length ys ≤ most-entries → 1 ≤ c → c ≤ most-entries →
+    merge (pack xs s) (pack ys t) c ≡ record { number = 0; frontier = joined xs ys (s || t) c }
 merge-packed xs ys s t c p q l m h k =
     sym (accepted (pack xs s) (pack ys t) c h k (well-formed-pack xs s p l) (well-formed-pack ys t q m))
     ∙ ap (λ (f : Frontier). record { number = 0; frontier = f }) same
@@ -43,7 +45,8 @@ merge-packed xs ys s t c p q l m h k =
     same = rw (entries-pack xs s, entries-pack ys t, tainted-pack xs s, tainted-pack ys t)
 
 -- one axis raised, at a capacity that holds one more: nothing is cut
-pub raise-whole : (ys : List Entry) (t : Bool) (a e c : ℕ) → Sorted 0 ys → length ys < c → c ≤ 16 → raise (pack ys t) a e c ≡ record { number = 0; frontier = pack (union ys (one-entry a e)) t }
+pub raise-whole : (ys : List Entry) (t : Bool) (a e c : ℕ) → Sorted 0 ys → length ys < c → c ≤ most-entries →
+    raise (pack ys t) a e c ≡ record { number = 0; frontier = pack (union ys (one-entry a e)) t }
 unfolding raise
 raise-whole ys t a e c s h k =
     merge-packed ys (one-entry a e) t false c s (sorted-one a e) (omega arith) (omega (arith, short-one a e)) (omega arith) k
@@ -53,7 +56,7 @@ raise-whole ys t a e c s h k =
 -- raises one after the other, at capacity sixteen
 unfoldable pub raises : List Entry → Frontier → Frontier
 raises [] f = f
-raises (x ∷ xs) f = raises xs (raise f (x .axis) (x .epoch) 16 .frontier)
+raises (x ∷ xs) f = raises xs (raise f (x .axis) (x .epoch) most-entries .frontier)
 
 pub sorted-gathered : (xs : List Entry) → Sorted 0 (gathered xs)
 unfolding gathered
@@ -67,20 +70,27 @@ gathered-length (x ∷ xs) =
     omega (arith, union-length (one-entry (x .axis) (x .epoch)) (gathered xs), short-one (x .axis) (x .epoch), gathered-length xs)
 
 -- raises of at most sixteen entries gather their union
-pub raises-gather : (xs ys : List Entry) (t : Bool) → Sorted 0 ys → length ys + length xs ≤ 16 → raises xs (pack ys t) ≡ pack (union ys (gathered xs)) t
+pub raises-gather : (xs ys : List Entry) (t : Bool) → Sorted 0 ys → length ys + length xs ≤ most-entries →
+    raises xs (pack ys t) ≡ pack (union ys (gathered xs)) t
 unfolding raises gathered
 raises-gather [] ys t s h = ap (λ l. pack l t) (sym (union-none 0 ys s))
 raises-gather (x ∷ xs) ys t s h =
-    ap (λ (f : Frontier). raises xs f) (ap (λ (m : Rattle.frontier.specs.declared.Merged.Merged). m .frontier) (raise-whole ys t (x .axis) (x .epoch) 16 s (omega arith) (le-refl 16)))
+    ap (λ (f : Frontier). raises xs f) (ap (λ (m : Rattle.frontier.specs.declared.Merged.Merged). m .frontier)
+    (raise-whole ys t (x .axis) (x .epoch) most-entries s (omega arith) (le-refl most-entries)))
     ∙ raises-gather xs (union ys (one-entry (x .axis) (x .epoch))) t (sorted-union 0 ys (one-entry (x .axis) (x .epoch)) s (sorted-one (x .axis) (x .epoch)))
     (omega (arith, union-length ys (one-entry (x .axis) (x .epoch)), short-one (x .axis) (x .epoch)))
     ∙ ap (λ l. pack l t) (union-associates 0 ys (one-entry (x .axis) (x .epoch)) (gathered xs) s (sorted-one (x .axis) (x .epoch)) (sorted-gathered xs))
 
-pub raises-from-empty : (xs : List Entry) → length xs ≤ 16 → raises xs (pack [] false) ≡ pack (gathered xs) false
+pub raises-from-empty : (xs : List Entry) → length xs ≤ most-entries →
+    raises xs (pack [] false) ≡ pack (gathered xs) false
 raises-from-empty xs h = raises-gather xs [] false tt (omega arith) ∙ ap (λ l. pack l false) (unfold union in refl)
 
 -- cut to a capacity as a merge is: a merge with the empty frontier
-pub merge-empty : (ys : List Entry) (t : Bool) (c : ℕ) → Sorted 0 ys → length ys ≤ 16 → 1 ≤ c → c ≤ 16 → merge (pack ys t) (pack [] false) c ≡ record { number = 0; frontier = pack (cut c ys) (t || ltb c (length ys)) }
+pub merge-empty : (ys : List Entry) (t : Bool) (c : ℕ) → Sorted 0 ys → length ys ≤ most-entries → 1 ≤ c →
+    c ≤ most-entries → merge (pack ys t) (pack [] false) c ≡ record {
+      number = 0;
+      frontier = pack (cut c ys) (t || ltb c (length ys));
+    }
 merge-empty ys t c s h l k =
     merge-packed ys [] t false c s tt h zero-le l k ∙ ap (λ (f : Frontier). record { number = 0; frontier = f }) same
   where

@@ -11,7 +11,7 @@ use lib.Dec.{eqb}
 use lib.Seq.{getD-set-same, getD-set-other, getD-take, take-all, take-suc, take-suc-set, drop-cons, drop-set-lt}
 use Rattle.basics.specs.Lists.{tabulate-from}
 use Rattle.basics.proofs.Tests.{and-left, and-right, and-both}
-use Rattle.frontier.specs.Entries.{Entry}
+use Rattle.frontier.specs.Entries.{Entry, most-entries, most-of-two}
 use Rattle.frontier.specs.Frontiers.{slot, slots, all-zero}
 use Rattle.frontier.specs.Walks.{rest, floor}
 use Rattle.frontier.proofs.Sorted.{Sorted, same-entry}
@@ -111,9 +111,12 @@ slots-first xs es m n h =
     tabulate-same n 0 (slot (take m xs) (take m es)) (slot xs es) (λ k l p. same-entry (getD-take m xs k 0 (omega arith)) (getD-take m es k 0 (omega arith)))
 
 -- one slot more is copied
-pub take-copied : (to from : List ℕ) (i : ℕ) → length to ≡ 16 → length from ≡ 32 → i < 16 → take i to ≡ take i from → take (i + 1) (set to i (getD from i 0)) ≡ take (i + 1) from
+pub take-copied : (to from : List ℕ) (i : ℕ) → length to ≡ most-entries → length from ≡ most-of-two → i < most-entries →
+    take i to ≡ take i from → take (i + 1) (set to i (getD from i 0)) ≡ take (i + 1) from
 take-copied to from i p q h e =
     rw (add-one i) (take-suc-set to i (getD from i 0) (omega arith) ∙ ap (λ l. l ++ (getD from i 0 ∷ [])) e ∙ sym (take-suc from i 0 (omega arith)))
 
-pub first-copied : (to from : List ℕ) (i : ℕ) → i ≤ 16 → 16 ≤ i → length to ≡ 16 → take i to ≡ take i from → to ≡ take 16 from
-first-copied to from i h l e q = let z : i ≡ 16 = omega arith in sym (take-all 16 to (omega arith)) ∙ (rw z at q)
+pub first-copied : (to from : List ℕ) (i : ℕ) → i ≤ most-entries → most-entries ≤ i → length to ≡ most-entries →
+    take i to ≡ take i from → to ≡ take most-entries from
+first-copied to from i h l e q = let z : i ≡ most-entries = omega arith in sym (take-all most-entries to (omega arith))
+    ∙ (rw z at q)

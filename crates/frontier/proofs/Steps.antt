@@ -1,6 +1,6 @@
 -- The steps of the walks over slots. Assumes nothing.
 use mathlib.Core.Path.{_≡_, refl, sym, ap}
-use mathlib.Core.Bool.{true, false, _&&_, and-true, and-false}
+use mathlib.Core.Bool.{true, false, and-true, and-false}
 use mathlib.Core.List.{List}
 use Prim.Native.Nat.{ℕ, zero, suc, _+_, _-_, _≤_, _<_, zero-le}
 use native.Mathlib.Numerals.{add-one}
@@ -8,12 +8,11 @@ use native.Mathlib.Omega.{arith}
 use lib.Dec.{ltb, leb}
 use lib.ListN.{length, getD, drop}
 use lib.Seq.{drop-cons}
-use borrow.Author.Tests.{le-ltb, lt-ltb, le-leb, eq-eqb, ne-eqb}
+use borrow.Author.Tests.{le-ltb, lt-ltb, le-leb, ne-eqb}
 use Rattle.basics.proofs.Tests.{by-cases, and-left, and-right}
-use Rattle.frontier.specs.declared.Lookup.the-variants.{Listed, Absent}
 use Rattle.frontier.specs.Entries.{rising-from}
 use Rattle.frontier.specs.Frontiers.{slot, slots, all-zero}
-use Rattle.frontier.specs.Walks.{rest, floor, placed, skip-below, first-listed}
+use Rattle.frontier.specs.Walks.{rest, floor, placed, skip-below}
 use Rattle.frontier.proofs.Slots.{rest-all, rest-more, rest-none}
 
 -- FORM
@@ -71,7 +70,7 @@ pub zero-end : (row : List ℕ) (i : ℕ) → length row ≤ i → all-zero (dro
 unfolding all-zero
 zero-end row i h = rw (lib.ListN.drop-of-length-le row h)
 
--- LOOKUP
+-- THE SEARCH FOR AN AXIS
 module _ (xs es : List ℕ) (n i axis : ℕ) where
   pub skip-more : i < n → getD xs i 0 < axis → skip-below axis (rest xs es n i) ≡ skip-below axis (rest xs es n (i + 1))
   unfolding skip-below slot
@@ -84,15 +83,3 @@ module _ (xs es : List ℕ) (n i axis : ℕ) where
   pub skip-none : n ≤ i → rest xs es n i ≡ skip-below axis (rest xs es n i)
   unfolding skip-below
   skip-none h = rw (rest-none xs es n i h)
-
-  pub listed-none : n ≤ i → Absent ≡ first-listed axis (rest xs es n i)
-  unfolding first-listed
-  listed-none h = rw (rest-none xs es n i h)
-
-  pub listed-here : i < n → getD xs i 0 ≡ axis → Listed (getD es i 0) ≡ first-listed axis (rest xs es n i)
-  unfolding first-listed slot
-  listed-here h e = rw (rest-more xs es n i h, eq-eqb (getD xs i 0) axis e)
-
-  pub listed-other : i < n → (getD xs i 0 ≡ axis → ⊥) → Absent ≡ first-listed axis (rest xs es n i)
-  unfolding first-listed slot
-  listed-other h e = rw (rest-more xs es n i h, ne-eqb (getD xs i 0) axis e)

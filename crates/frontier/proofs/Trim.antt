@@ -10,10 +10,10 @@ use borrow.Author.Tests.{eqb-true, eqb-false}
 use lib.ListN.{length, getD, drop, set, length-append, length-set, replicate}
 use Rattle.basics.specs.Lists.{tabulate-from}
 use Rattle.basics.proofs.Tests.{by-cases, clash, is-false, either}
-use Rattle.frontier.specs.declared.Frontier.{Frontier}
+use Rattle.frontier.specs.declared.Merged.{Merged}
 use Rattle.basics.specs.Lists.{filter}
-use Rattle.frontier.specs.Entries.{Entry, rising-from, exceeds, exceeding, cut}
-use Rattle.frontier.specs.Frontiers.{slot, slots, all-zero, pack}
+use Rattle.frontier.specs.Entries.{Entry, most-entries, rising-from, exceeds, exceeding, cut}
+use Rattle.frontier.specs.Frontiers.{slot, slots, all-zero, pack, handed}
 use Rattle.frontier.specs.Walks.{rest}
 use Rattle.frontier.proofs.Sorted.{sorted}
 use Rattle.frontier.proofs.Exceeds.{exceeds-chain, exceeds-not-itself, exceeds-not-top}
@@ -24,20 +24,20 @@ use Rattle.frontier.proofs.Evict.{exceeding-over, exceeding-none, bound
 
 -- THE COPY: what is kept so far, and what is kept of the rest, is all that is kept
 pub record Trim (f : Entry → Bool) (axes epochs kept at : List ℕ) (len n i : ℕ) : Type 0 where
-  pub sixteen-axes : length kept ≡ 16
-  pub sixteen-epochs : length at ≡ 16
+  pub sixteen-axes : length kept ≡ most-entries
+  pub sixteen-epochs : length at ≡ most-entries
   pub zero-axes : all-zero (drop n kept) ≡ true
   pub zero-epochs : all-zero (drop n at) ≡ true
   pub whole : slots kept at n 0 ++ filter f (rest axes epochs len i) ≡ filter f (slots axes epochs len 0)
 
 module _ (f : Entry → Bool) (axes epochs kept at : List ℕ) (len : ℕ) where
-  pub trim-none : kept ≡ replicate 16 0 → at ≡ replicate 16 0 → Trim f axes epochs kept at len 0 0
+  pub trim-none : kept ≡ replicate most-entries 0 → at ≡ replicate most-entries 0 → Trim f axes epochs kept at len 0 0
   unfolding slots tabulate-from
   trim-none p q = rw (p, q) (record {
     sixteen-axes = refl;
     sixteen-epochs = refl;
-    zero-axes = all-zero-replicate 16;
-    zero-epochs = all-zero-replicate 16;
+    zero-axes = all-zero-replicate most-entries;
+    zero-epochs = all-zero-replicate most-entries;
     whole = ap (filter f) (rest-all axes epochs len);
   })
 
@@ -55,10 +55,13 @@ module _ (f : Entry → Bool) (axes epochs kept at : List ℕ) (len : ℕ) where
   unfolding filter
   kept-next n i w h e = rw (rest-more axes epochs len i h, e) at (w .whole)
 
-  pub trim-room : (n i : ℕ) → Trim f axes epochs kept at len n i → i < len → f (slot axes epochs i) ≡ true → length (filter f (slots axes epochs len 0)) ≤ 16 → n < 16
+  pub trim-room : (n i : ℕ) → Trim f axes epochs kept at len n i → i < len → f (slot axes epochs i) ≡ true →
+      length (filter f (slots axes epochs len 0)) ≤ most-entries → n < most-entries
   trim-room n i w h e l = omega (arith, rw (length-append, slots-length kept at n 0) at (ap length (kept-next n i w h e)))
 
-  pub trim-more : (n i : ℕ) → Trim f axes epochs kept at len n i → i < len → f (slot axes epochs i) ≡ true → n < 16 → Trim f axes epochs (set kept n (getD axes i 0)) (set at n (getD epochs i 0)) len (n + 1) (i + 1)
+  pub trim-more : (n i : ℕ) → Trim f axes epochs kept at len n i → i < len → f (slot axes epochs i) ≡ true →
+      n < most-entries → Trim f axes epochs (set kept n (getD axes i 0)) (set at n (getD epochs i 0)) len (n + 1)
+      (i + 1)
   unfolding slot
   trim-more n i w h e r = record {
     sixteen-axes = length-set kept n (getD axes i 0) ∙ w .sixteen-axes;
@@ -68,7 +71,9 @@ module _ (f : Entry → Bool) (axes epochs kept at : List ℕ) (len : ℕ) where
     whole = rw (slots-put kept at n (getD axes i 0) (getD epochs i 0) (omega (arith, w .sixteen-axes)) (omega (arith, w .sixteen-epochs)), append-assoc) (kept-next n i w h e);
   }
 
-  pub trim-end : (n i : ℕ) (t : Bool) → Trim f axes epochs kept at len n i → len ≤ i → length (filter f (slots axes epochs len 0)) ≤ 16 → record { axes = kept; epochs = at; len = n; tainted = t } ≡ pack (filter f (slots axes epochs len 0)) t
+  pub trim-end : (n i : ℕ) (t : Bool) → Trim f axes epochs kept at len n i → len ≤ i →
+      length (filter f (slots axes epochs len 0)) ≤ most-entries →
+      record { axes = kept; epochs = at; len = n; tainted = t } ≡ pack (filter f (slots axes epochs len 0)) t
   unfolding filter
   trim-end n i t w h l =
       let e : slots kept at n 0 ≡ filter f (slots axes epochs len 0) = sym (append-nil (slots kept at n 0)) ∙ (rw (rest-none axes epochs len i h) at (w .whole)) in
@@ -212,9 +217,11 @@ module _ (xs es : List ℕ) (n c : ℕ) where
   bounded-one b e h = cut-by-bound b c (slots xs es n 0) (omega arith)
 
 -- THE CUT of slots: what exceeds the bound fits, and is what the cut keeps
-pub cut-fits : (xs es : List ℕ) (n c : ℕ) (f : Entry → Bool) → rising-from 0 (slots xs es n 0) ≡ true → c ≤ 16 → cut c (slots xs es n 0) ≡ filter f (slots xs es n 0) → length (filter f (slots xs es n 0)) ≤ 16
+pub cut-fits : (xs es : List ℕ) (n c : ℕ) (f : Entry → Bool) → rising-from 0 (slots xs es n 0) ≡ true →
+    c ≤ most-entries → cut c (slots xs es n 0) ≡ filter f (slots xs es n 0) →
+    length (filter f (slots xs es n 0)) ≤ most-entries
 cut-fits xs es n c f r h e =
     omega (arith, cut-length c 0 (slots xs es n 0) (sorted 0 (slots xs es n 0) r), ap length e)
 
-pub cut-packed : {r : Frontier} (ys zs : List Entry) (t u : Bool) → r ≡ pack ys t → zs ≡ ys → t ≡ u → r ≡ pack zs u
-cut-packed ys zs t u e q w = e ∙ ap (λ l. pack l t) (sym q) ∙ ap (pack zs) w
+pub cut-packed : {r : Merged} (ys zs : List Entry) → r ≡ handed (pack ys true) → zs ≡ ys → r ≡ handed (pack zs true)
+cut-packed ys zs e q = e ∙ ap (λ l. handed (pack l true)) (sym q)

@@ -1,12 +1,20 @@
 -- Lists of entries (axis, epoch): their form, lookup, union with the larger epoch, and the cut to a capacity. Assumes nothing: these are definitions.
 use mathlib.Core.Bool.{Bool, true, _&&_, _||_, cond}
 use mathlib.Core.List.{List, [], _∷_}
-use Prim.Native.Nat.{ℕ, suc, _+_, max}
+use Prim.Native.Nat.{ℕ, suc, _+_, _*_, max}
 use lib.Dec.{ltb, leb, eqb}
 use Rattle.basics.specs.Lists.{filter}
 pub use Rattle.frontier.specs.declared.Entry.{Entry}
 use Rattle.frontier.specs.declared.Lookup.{Lookup}
 use Rattle.frontier.specs.declared.Lookup.the-variants.{Listed, Absent}
+
+-- the most entries of a frontier: it has as many slots, and no capacity is larger
+abbrev pub most-entries : ℕ
+most-entries = 16
+
+-- the most entries of a union: all of two frontiers
+abbrev pub most-of-two : ℕ
+most-of-two = 2 * most-entries
 
 -- "axes rising, epochs above 0": the first axis is at least `least`, each later one above the one before it
 unfoldable pub rising-from : (least : ℕ) → List Entry → Bool

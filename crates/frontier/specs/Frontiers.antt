@@ -11,9 +11,9 @@ use Rattle.frontier.specs.declared.Lookup.{Lookup}
 use Rattle.frontier.specs.declared.Lookup.the-variants.{Listed, Absent}
 use Rattle.frontier.specs.declared.Dominance.{Dominance}
 use Rattle.frontier.specs.declared.Dominance.the-variants.{Yes, No, Unknown, Refused}
-use Rattle.frontier.specs.Entries.{Entry, rising-from, find, union, cut}
+use Rattle.frontier.specs.Entries.{Entry, most-entries, rising-from, find, union, cut}
 
--- what stands in slot i
+-- what slot i holds
 unfoldable pub slot : (axes epochs : List ℕ) → ℕ → Entry
 slot axes epochs i = record { axis = getD axes i 0; epoch = getD epochs i 0 }
 
@@ -30,18 +30,19 @@ all-zero (x ∷ xs) = eqb x 0 && all-zero xs
 
 -- sixteen slots, "slots past the length zero"
 unfoldable pub row-formed : (len : ℕ) → List ℕ → Bool
-row-formed len row = eqb (length row) 16 && all-zero (drop len row)
+row-formed len row = eqb (length row) most-entries && all-zero (drop len row)
 
 -- "At most sixteen entries (axis, epoch), axes rising, epochs above 0, slots past the length zero, and a taint flag"
 unfoldable pub well-formed : Frontier → Bool
 well-formed f =
-    leb (f .len) 16 && (rising-from 0 (entries f) && (row-formed (f .len) (f .axes) && row-formed (f .len) (f .epochs)))
+    leb (f .len) most-entries &&
+    (rising-from 0 (entries f) && (row-formed (f .len) (f .axes) && row-formed (f .len) (f .epochs)))
 
 -- the frontier of at most sixteen entries
 unfoldable pub pack : List Entry → (tainted : Bool) → Frontier
 pack xs tainted = record {
-  axes = map (λ x. x .axis) xs ++ replicate (16 - length xs) 0;
-  epochs = map (λ x. x .epoch) xs ++ replicate (16 - length xs) 0;
+  axes = map (λ x. x .axis) xs ++ replicate (most-entries - length xs) 0;
+  epochs = map (λ x. x .epoch) xs ++ replicate (most-entries - length xs) 0;
   len = length xs;
   tainted = tainted;
 }
@@ -54,15 +55,23 @@ refusal number = record { number = number; frontier = pack [] false }
 unfoldable pub joined : (xs ys : List Entry) → (tainted : Bool) → (capacity : ℕ) → Frontier
 joined xs ys tainted capacity = pack (cut capacity (union xs ys)) (tainted || ltb capacity (length (union xs ys)))
 
+-- a capacity is at least 1, and at most as many as a frontier has entries
+abbrev pub capable : (capacity : ℕ) → Bool
+capable capacity = leb 1 capacity && leb capacity most-entries
+
 -- "Check 15 first, then 14 for the left, then the right"
 unfoldable pub merge-number : (f g : Frontier) → (capacity : ℕ) → ℕ
 merge-number f g capacity =
-    cond (leb 1 capacity && leb capacity 16) (cond (well-formed f) (cond (well-formed g) 0 14) 14) 15
+    cond (capable capacity) (cond (well-formed f) (cond (well-formed g) 0 14) 14) 15
+
+-- a merge that is not refused
+abbrev pub handed : Frontier → Merged
+handed f = record { number = 0; frontier = f }
 
 unfoldable pub merge : (f g : Frontier) → (capacity : ℕ) → Merged
 merge f g capacity =
     cond (eqb (merge-number f g capacity) 0)
-    (record { number = 0; frontier = joined (entries f) (entries g) (f .tainted || g .tainted) capacity })
+    (handed (joined (entries f) (entries g) (f .tainted || g .tainted) capacity))
     (refusal (merge-number f g capacity))
 
 -- "Raising an axis is a merge with one entry, and with the empty frontier for epoch 0"
@@ -102,9 +111,13 @@ dominance f g =
     cond (eqb (dominance-number f g) 0) (answer (reached (entries f) (entries g)) (f .tainted) (g .tainted))
     (Refused (dominance-number f g))
 
--- 01's number of each answer: 0 for an answer, the refusal's number in its stead
-unfoldable pub number-of : Dominance → ℕ
-number-of Yes = 0
-number-of No = 0
-number-of Unknown = 0
-number-of (Refused n) = n
+-- the numbers of an answer: a refusal's number, 0 for none, and the value of the answer, 0 beside a refusal
+pub record Numbers : Type 0 where
+  pub number : ℕ
+  pub value : ℕ
+
+unfoldable pub number-of : Dominance → Numbers
+number-of No = record { number = 0; value = 0 }
+number-of Yes = record { number = 0; value = 1 }
+number-of Unknown = record { number = 0; value = 2 }
+number-of (Refused n) = record { number = n; value = 0 }

@@ -12,12 +12,12 @@ use Rattle.frontier.specs.declared.Lookup.{Lookup}
 use Rattle.frontier.specs.declared.Lookup.the-variants.{Listed, Absent}
 use Rattle.frontier.specs.declared.Dominance.{Dominance}
 use Rattle.frontier.specs.declared.Dominance.the-variants.{Yes, No, Unknown}
-use Rattle.frontier.specs.Entries.{Entry, find, values-of, epochs-under, union, exceeding}
+use Rattle.frontier.specs.Entries.{Entry, most-entries, find, values-of, epochs-under, union, exceeding}
 use Rattle.frontier.specs.Frontiers.{slot, entries, well-formed, pack, one-entry, merge, dominance-number, number-of}
 
 -- COMPLETIONS
 
--- the epoch that a lookup stands for: an absent axis lies at 0, below every entry's epoch
+-- the epoch of a lookup: an absent axis is at 0, below every entry's epoch
 unfoldable pub epoch-of : Lookup → ℕ
 epoch-of (Listed e) = e
 epoch-of Absent = 0
@@ -36,16 +36,19 @@ Over full other = (axis : ℕ) → other axis ≤ full axis
 
 -- no epoch but the listed ones, and 1 under an axis of at most sixteen: so a map of 64-bit axes to 64-bit epochs
 abbrev pub Small : (f g : Frontier) → (full : ℕ → ℕ) → Type 0
-Small f g full = (axis : ℕ) → full axis ≤ max (max (epoch-at (entries f) axis) (epoch-at (entries g) axis)) (cond (leb axis 16) 1 0)
+Small f g full = (axis : ℕ) →
+    full axis ≤ max (max (epoch-at (entries f) axis) (epoch-at (entries g) axis)) (cond (leb axis most-entries) 1 0)
 
 -- LOOKUP
 
--- of a well-formed frontier the lookup gives every epoch listed under the axis, one or none; of any other, which the rules leave free, it
--- gives, if anything, what stands in a slot below the length, and nothing where that is over sixteen
+-- of a well-formed frontier the lookup gives every epoch listed under the axis, one or none; of any other, which the
+-- rules leave unspecified,
+-- it gives, if anything, what is in a slot below the length, and nothing where that is over sixteen
 pub record Looked (f : Frontier) (axis : ℕ) (r : Lookup) : Type 0 where
   pub found : well-formed f ≡ true → r ≡ find axis (entries f)
   pub exactly : well-formed f ≡ true → values-of r ≡ epochs-under axis (entries f)
-  pub in-a-slot : (epoch : ℕ) → r ≡ Listed epoch → (i : ℕ) × (i < f .len) × (f .len ≤ 16) × (slot (f .axes) (f .epochs) i ≡ record { axis = axis; epoch = epoch })
+  pub in-a-slot : (epoch : ℕ) → r ≡ Listed epoch → (i : ℕ) × (i < f .len) × (f .len ≤ most-entries)
+      × (slot (f .axes) (f .epochs) i ≡ record { axis = axis; epoch = epoch })
 
 -- MERGE AND RAISE
 
@@ -92,7 +95,7 @@ pub record Raise-right (f : Frontier) (axis epoch capacity : ℕ) (r : Merged) :
 
 -- yes: every completion of f dominates every completion of g. no: none does. unknown: there are completions of both kinds
 pub record Dominance-means (f g : Frontier) (r : Dominance) : Type 0 where
-  pub number : number-of r ≡ dominance-number f g
+  pub number : number-of r .number ≡ dominance-number f g
   pub if-yes : r ≡ Yes → (full other : ℕ → ℕ) → Completion f full → Completion g other → Over full other
   pub if-no : r ≡ No → (full other : ℕ → ℕ) → Completion f full → Completion g other → Over full other → ⊥
   pub if-unknown : r ≡ Unknown → (full : ℕ → ℕ) × (other : ℕ → ℕ) × Completion f full × Completion g other × Small f g full × Small f g other × Over full other

@@ -1,16 +1,17 @@
 // Sparse frontiers: vector clocks of at most sixteen entries (axis, epoch), with lookup, merge, raise and dominance.
 mod walks; // walks over the lent slots of one or two frontiers
 
+use walks::dominance_of;
 use walks::formed;
 use walks::join;
 use walks::judged;
-use walks::listed_at;
-use walks::reaches;
-use walks::seek;
+use walks::larger;
+use walks::lookup_from;
+use walks::merged;
 ghost use mathlib.Core.Path.{_≡_};
 ghost use mathlib.Core.Bool.{false};
 ghost use mathlib.Core.List.{[]};
-ghost use Rattle.frontier.specs.Frontiers.{well-formed, pack, refusal, one-entry, merge, raise, answer, dominance};
+ghost use Rattle.frontier.specs.Frontiers.{well-formed, pack, refusal, merge, raise, dominance};
 ghost use Rattle.frontier.specs.Meaning.{Looked, Merge-right, Raise-right, Dominance-means};
 
 // Slot i holds the entry (axes[i], epochs[i]) for i below len; the slots past len are zero. A tainted frontier may have lost entries.
@@ -33,10 +34,11 @@ pub enum Lookup {
     Absent,
 }
 
-// A merge's number and frontier: empty and untainted where the number is a refusal's.
+// A merge's number and frontier: empty and untainted where the number is a refusal's. The frontier comes first, so
+// that it is copied in whole words.
 pub struct Merged {
-    pub number: u32,
     pub frontier: Frontier,
+    pub number: u32,
 }
 
 // Whether one frontier dominates another, or the refusal's number.
@@ -51,8 +53,13 @@ impl Frontier {
     // The slots of a frontier.
     pub const SLOTS: usize = 16;
 
-    // The largest capacity.
+    // The smallest and the largest capacity.
+    pub const LEAST: u32 = 1;
+
     pub const MOST: u32 = Self::SLOTS as u32;
+
+    // The most entries of a union: all of two frontiers.
+    pub const BOTH: usize = 2 * Self::SLOTS;
 
     // The empty untainted frontier.
     pub fn empty() -> Self
@@ -81,8 +88,8 @@ impl Frontier {
         if Self::SLOTS < len {
             return Lookup::Absent;
         }
-        let at = seek(&self.axes, len, 0, axis);
-        listed_at(&self.axes, &self.epochs, len, at, axis)
+        let found = lookup_from(&self.axes, &self.epochs, len, 0, axis);
+        found.answer
     }
 
     // The larger epoch of each axis, cut to the capacity.
@@ -90,53 +97,56 @@ impl Frontier {
         ensures { λ r. ⌜ r ≡ merge self other capacity ⌝ }
         ensures { λ r. ⌜ Merge-right self other capacity r ⌝ }
     {
-        let number = judged(&self.axes, &self.epochs, self.len, capacity);
-        if number != 0 {
-            return refused(number);
-        }
-        if !formed(&other.axes, &other.epochs, other.len) {
-            return refused(14);
-        }
-        let frontier = join(
+        merged(
             &self.axes,
             &self.epochs,
             self.len,
+            self.tainted,
             &other.axes,
             &other.epochs,
             other.len,
-            capacity as usize,
-            self.tainted | other.tainted,
-        );
-        Merged {
-            number: 0,
-            frontier,
-        }
+            other.tainted,
+            capacity,
+        )
     }
 
-    // One axis raised to an epoch: a merge with one entry, with the empty frontier for epoch 0. That side is well-formed and is not judged.
-    pub fn raise(self, axis: u64, epoch: u64, capacity: u32) -> Merged
+    // One axis raised to an epoch: a merge with one entry, with the empty frontier for epoch 0. Where the axis is
+    // listed and the capacity holds every entry, that is the larger epoch stored in this copy.
+    pub fn raise(mut self, axis: u64, epoch: u64, capacity: u32) -> Merged
         ensures { λ r. ⌜ r ≡ raise self axis epoch capacity ⌝ }
         ensures { λ r. ⌜ Raise-right self axis epoch capacity r ⌝ }
     {
-        let number = judged(&self.axes, &self.epochs, self.len, capacity);
+        let len = self.len;
+        let number = judged(&self.axes, &self.epochs, len, capacity);
         if number != 0 {
             return refused(number);
         }
-        let other = Self::one(axis, epoch);
-        let frontier = join(
+        if len <= capacity as usize {
+            let found = lookup_from(&self.axes, &self.epochs, len, 0, axis);
+            let answer = found.answer;
+            if let Lookup::Listed(old) = answer {
+                let at = found.at;
+                self.epochs[at] = larger(old, epoch);
+                return Merged {
+                    number: 0,
+                    frontier: self,
+                };
+            }
+        }
+        let mut axes = [0u64; Self::SLOTS];
+        let mut epochs = [0u64; Self::SLOTS];
+        axes[0] = axis;
+        epochs[0] = epoch;
+        join(
             &self.axes,
             &self.epochs,
-            self.len,
-            &other.axes,
-            &other.epochs,
-            other.len,
+            len,
+            &axes,
+            &epochs,
+            (epoch != 0) as usize,
             capacity as usize,
             self.tainted,
-        );
-        Merged {
-            number: 0,
-            frontier,
-        }
+        )
     }
 
     // Whether every entry of the other is reached, as far as the taints let it be known.
@@ -144,40 +154,16 @@ impl Frontier {
         ensures { λ r. ⌜ r ≡ dominance self other ⌝ }
         ensures { λ r. ⌜ Dominance-means self other r ⌝ }
     {
-        if !formed(&self.axes, &self.epochs, self.len) {
-            return Dominance::Refused(14);
-        }
-        if !formed(&other.axes, &other.epochs, other.len) {
-            return Dominance::Refused(14);
-        }
-        let reached = reaches(
+        dominance_of(
             &self.axes,
             &self.epochs,
             self.len,
+            self.tainted,
             &other.axes,
             &other.epochs,
             other.len,
-        );
-        answer_of(reached, self.tainted, other.tainted)
-    }
-
-    // The frontier of one entry; of none for epoch 0.
-    fn one(axis: u64, epoch: u64) -> Self
-        ensures { λ r. ⌜ r ≡ pack (one-entry axis epoch) false ⌝ }
-    {
-        if epoch == 0 {
-            return Self::empty();
-        }
-        let mut axes = [0u64; Self::SLOTS];
-        let mut epochs = [0u64; Self::SLOTS];
-        axes[0] = axis;
-        epochs[0] = epoch;
-        Self {
-            axes,
-            epochs,
-            len: 1,
-            tainted: false,
-        }
+            other.tainted,
+        )
     }
 }
 
@@ -189,20 +175,4 @@ fn refused(number: u32) -> Merged
         number,
         frontier: Frontier::empty(),
     }
-}
-
-// All reached is yes, unless the other lost entries; not all reached is no, unless this one did.
-fn answer_of(reached: bool, tainted: bool, other: bool) -> Dominance
-    ensures { λ r. ⌜ r ≡ answer reached tainted other ⌝ }
-{
-    if reached {
-        if other {
-            return Dominance::Unknown;
-        }
-        return Dominance::Yes;
-    }
-    if tainted {
-        return Dominance::Unknown;
-    }
-    Dominance::No
 }

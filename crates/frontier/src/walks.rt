@@ -1,16 +1,19 @@
 // Walks over the lent slots of one frontier or two: form, lookup, reach, union and cut.
+use crate::Dominance;
 use crate::Entry;
 use crate::Frontier;
 use crate::Lookup;
+use crate::Merged;
+use crate::refused;
 ghost use mathlib.Core.Path.{_≡_};
 ghost use mathlib.Core.Bool.{true, false, cond};
 ghost use mathlib.Core.List.{List, _∷_};
 ghost use Prim.Native.Nat.{ℕ, _+_, _≤_, _<_, max};
-ghost use lib.ListN.{length, drop, take};
+ghost use lib.ListN.{length, getD, drop, take};
 ghost use Rattle.basics.specs.Lists.{filter};
-ghost use Rattle.frontier.specs.Entries.{rising-from, union, exceeds, exceeding, cut};
-ghost use Rattle.frontier.specs.Frontiers.{slots, all-zero, well-formed, pack, joined, reached};
-ghost use Rattle.frontier.specs.Walks.{rest, placed, skip-below, first-listed, leads, left-number};
+ghost use Rattle.frontier.specs.Entries.{most-entries, most-of-two, rising-from, union, exceeds, exceeding, cut};
+ghost use Rattle.frontier.specs.Frontiers.{slots, all-zero, well-formed, pack, handed, joined, merge, reached, answer, dominance};
+ghost use Rattle.frontier.specs.Walks.{rest, of-slots, All-slots, placed, skip-below, Found-from, leads, left-number};
 
 // The axes or the epochs of a frontier.
 pub type Slots = [u64; Frontier::SLOTS];
@@ -22,9 +25,15 @@ pub struct Step {
     pub right: usize,
 }
 
+// What a lookup says of an axis, and the slot at which the search for it ended.
+pub struct Found {
+    pub answer: Lookup,
+    pub at: usize,
+}
+
 // Slot i has an epoch above 0, and its axis is above that of the slot before.
 fn in_place<'a>(axes: &'a Slots, epochs: &'a Slots, i: usize) -> bool
-    requires { ⌜ i < 16 ⌝ }
+    requires { ⌜ i < most-entries ⌝ }
     ensures { λ r. ⌜ r ≡ placed (now (axes .entry)) (now (epochs .entry)) i ⌝ }
 {
     if epochs[i] == 0 {
@@ -38,7 +47,7 @@ fn in_place<'a>(axes: &'a Slots, epochs: &'a Slots, i: usize) -> bool
 
 // The axes rise and the epochs are above 0.
 fn rising<'a>(axes: &'a Slots, epochs: &'a Slots, len: usize) -> bool
-    requires { ⌜ len ≤ 16 ⌝ }
+    requires { ⌜ len ≤ most-entries ⌝ }
     ensures { λ r. ⌜ r ≡ rising-from 0 (slots (now (axes .entry)) (now (epochs .entry)) len 0) ⌝ }
 {
     let mut i: usize = 0;
@@ -53,7 +62,7 @@ fn rising<'a>(axes: &'a Slots, epochs: &'a Slots, len: usize) -> bool
 
 // Every slot from `from` on is zero.
 fn zero_from(row: &Slots, from: usize) -> bool
-    requires { ⌜ length (now row) ≡ 16 ⌝ }
+    requires { ⌜ length (now row) ≡ most-entries ⌝ }
     ensures { λ r. ⌜ r ≡ all-zero (drop from (now (row .entry))) ⌝ }
 {
     let mut i = from;
@@ -68,8 +77,8 @@ fn zero_from(row: &Slots, from: usize) -> bool
 
 // A frontier of these slots is well-formed.
 pub fn formed<'a>(axes: &'a Slots, epochs: &'a Slots, len: usize) -> bool
-    requires { ⌜ (length (now axes) ≡ 16) × (length (now epochs) ≡ 16) ⌝ }
-    ensures { λ r. ⌜ r ≡ well-formed (record { axes = now (axes .entry); epochs = now (epochs .entry); len = len; tainted = false }) ⌝ }
+    requires { ⌜ All-slots (now axes) (now epochs) ⌝ }
+    ensures { λ r. ⌜ r ≡ well-formed (of-slots (now (axes .entry)) (now (epochs .entry)) len false) ⌝ }
 {
     if Frontier::SLOTS < len {
         return false;
@@ -83,12 +92,12 @@ pub fn formed<'a>(axes: &'a Slots, epochs: &'a Slots, len: usize) -> bool
     zero_from(epochs, len)
 }
 
-// 15 for a capacity that is not 1 to 16, then 14 for slots that are not well-formed; 0 where a merge goes on.
+// 15 for a capacity out of its limits, then 14 for slots that are not well-formed; 0 where a merge goes on.
 pub fn judged<'a>(axes: &'a Slots, epochs: &'a Slots, len: usize, capacity: u32) -> u32
-    requires { ⌜ (length (now axes) ≡ 16) × (length (now epochs) ≡ 16) ⌝ }
-    ensures { λ r. ⌜ r ≡ left-number (record { axes = now (axes .entry); epochs = now (epochs .entry); len = len; tainted = false }) capacity ⌝ }
+    requires { ⌜ All-slots (now axes) (now epochs) ⌝ }
+    ensures { λ r. ⌜ r ≡ left-number (of-slots (now (axes .entry)) (now (epochs .entry)) len false) capacity ⌝ }
 {
-    if capacity < 1 {
+    if capacity < Frontier::LEAST {
         return 15;
     }
     if Frontier::MOST < capacity {
@@ -102,8 +111,9 @@ pub fn judged<'a>(axes: &'a Slots, epochs: &'a Slots, len: usize, capacity: u32)
 
 // The first slot from `from` on whose axis is not below the one sought, or the length.
 pub fn seek(axes: &Slots, len: usize, from: usize, axis: u64) -> usize
-    requires { ⌜ (from ≤ len) × (len ≤ 16) ⌝ }
-    ensures { λ r. ⌜ (r ≤ len) × ((es : List ℕ) → rest (now (axes .entry)) es len r ≡ skip-below axis (rest (now (axes .entry)) es len from)) ⌝ }
+    requires { ⌜ (from ≤ len) × (len ≤ most-entries) ⌝ }
+    ensures { λ r. ⌜ (r ≤ len) × (r < len → axis ≤ getD (now (axes .entry)) r 0) × ((es : List ℕ) →
+        rest (now (axes .entry)) es len r ≡ skip-below axis (rest (now (axes .entry)) es len from)) ⌝ }
 {
     let mut i = from;
     while i < len {
@@ -115,18 +125,36 @@ pub fn seek(axes: &Slots, len: usize, from: usize, axis: u64) -> usize
     i
 }
 
-// What slot `at` says of an axis: its epoch, if the slot is of that axis.
-pub fn listed_at<'a>(axes: &'a Slots, epochs: &'a Slots, len: usize, at: usize, axis: u64) -> Lookup
-    requires { ⌜ len ≤ 16 ⌝ }
-    ensures { λ r. ⌜ r ≡ first-listed axis (rest (now (axes .entry)) (now (epochs .entry)) len at) ⌝ }
+// The lookup of an axis among the slots from `from` on: listed with its epoch, or absent. Slot `from` is looked at
+// before the search, since a walk over two frontiers mostly finds the axis there.
+pub fn lookup_from<'a>(
+    axes: &'a Slots,
+    epochs: &'a Slots,
+    len: usize,
+    from: usize,
+    axis: u64,
+) -> Found
+    requires { ⌜ (from ≤ len) × (len ≤ most-entries) ⌝ }
+    ensures { λ r. ⌜ Found-from (now (axes .entry)) (now (epochs .entry)) len from axis r ⌝ }
 {
-    if len <= at {
-        return Lookup::Absent;
+    let mut at = from;
+    if from < len {
+        if axes[from] < axis {
+            at = seek(axes, len, from + 1, axis);
+        }
     }
-    if axes[at] == axis {
-        return Lookup::Listed(epochs[at]);
+    if at < len {
+        if axes[at] == axis {
+            return Found {
+                answer: Lookup::Listed(epochs[at]),
+                at,
+            };
+        }
     }
-    Lookup::Absent
+    Found {
+        answer: Lookup::Absent,
+        at,
+    }
 }
 
 // Every entry of y is reached by x. An axis that x lacks is not.
@@ -138,29 +166,70 @@ pub fn reaches<'a>(
     ye: &'a Slots,
     yn: usize,
 ) -> bool
-    requires { ⌜ (xn ≤ 16) × (yn ≤ 16) ⌝ }
+    requires { ⌜ (xn ≤ most-entries) × (yn ≤ most-entries) ⌝ }
     requires { ⌜ (rising-from 0 (slots (now xa) (now xe) xn 0) ≡ true) × (rising-from 0 (slots (now ya) (now ye) yn 0) ≡ true) ⌝ }
     ensures { λ r. ⌜ r ≡ reached (slots (now (xa .entry)) (now (xe .entry)) xn 0) (slots (now (ya .entry)) (now (ye .entry)) yn 0) ⌝ }
 {
     let mut i: usize = 0;
     let mut j: usize = 0;
     while j < yn {
-        let axis = ya[j];
-        i = seek(xa, xn, i, axis);
-        let Lookup::Listed(epoch) = listed_at(xa, xe, xn, i, axis) else {
+        let found = lookup_from(xa, xe, xn, i, ya[j]);
+        let answer = found.answer;
+        let Lookup::Listed(epoch) = answer else {
             return false;
         };
         if epoch < ye[j] {
             return false;
         }
+        i = found.at + 1;
         j += 1;
     }
     true
 }
 
+// All reached is yes, unless the other lost entries; not all reached is no, unless this one did.
+fn answer_of(reached: bool, tainted: bool, other: bool) -> Dominance
+    ensures { λ r. ⌜ r ≡ answer reached tainted other ⌝ }
+{
+    if reached {
+        if other {
+            return Dominance::Unknown;
+        }
+        return Dominance::Yes;
+    }
+    if tainted {
+        return Dominance::Unknown;
+    }
+    Dominance::No
+}
+
+// Whether x dominates y: 14 for x, then for y; else by what is reached and the taints.
+pub fn dominance_of<'a>(
+    xa: &'a Slots,
+    xe: &'a Slots,
+    xn: usize,
+    xt: bool,
+    ya: &'a Slots,
+    ye: &'a Slots,
+    yn: usize,
+    yt: bool,
+) -> Dominance
+    requires { ⌜ All-slots (now xa) (now xe) × All-slots (now ya) (now ye) ⌝ }
+    ensures { λ r. ⌜ r ≡ dominance (of-slots (now (xa .entry)) (now (xe .entry)) xn xt)
+        (of-slots (now (ya .entry)) (now (ye .entry)) yn yt) ⌝ }
+{
+    if !formed(xa, xe, xn) {
+        return Dominance::Refused(14);
+    }
+    if !formed(ya, ye, yn) {
+        return Dominance::Refused(14);
+    }
+    answer_of(reaches(xa, xe, xn, ya, ye, yn), xt, yt)
+}
+
 // The next axis of the union of x from slot i and y from slot j is x's: y has none, or none that is smaller.
 fn leads_at<'a>(xa: &'a Slots, xn: usize, i: usize, ya: &'a Slots, yn: usize, j: usize) -> bool
-    requires { ⌜ (xn ≤ 16) × (yn ≤ 16) ⌝ }
+    requires { ⌜ (xn ≤ most-entries) × (yn ≤ most-entries) ⌝ }
     ensures { λ r. ⌜ ((xe ye : List ℕ) → r ≡ leads (rest (now (xa .entry)) xe xn i) (rest (now (ya .entry)) ye yn j)) ⌝ }
 {
     if xn <= i {
@@ -183,7 +252,7 @@ fn leading<'a>(
     yn: usize,
     j: usize,
 ) -> Step
-    requires { ⌜ (xn ≤ 16) × (yn ≤ 16) × (i < xn) × (j ≤ yn) ⌝ }
+    requires { ⌜ (xn ≤ most-entries) × (yn ≤ most-entries) × (i < xn) × (j ≤ yn) ⌝ }
     requires { ⌜ (rising-from 0 (slots (now xa) (now xe) xn 0) ≡ true) × (rising-from 0 (slots (now ya) (now ye) yn 0) ≡ true) ⌝ }
     requires { ⌜ leads (rest (now xa) (now xe) xn i) (rest (now ya) (now ye) yn j) ≡ true ⌝ }
     ensures { λ s. ⌜ (s .left ≤ xn) × (s .right ≤ yn) × (i + j < s .left + s .right) ⌝ }
@@ -191,7 +260,9 @@ fn leading<'a>(
 {
     let axis = xa[i];
     let epoch = xe[i];
-    let Lookup::Listed(other) = listed_at(ya, ye, yn, j, axis) else {
+    let found = lookup_from(ya, ye, yn, j, axis);
+    let answer = found.answer;
+    let Lookup::Listed(other) = answer else {
         return Step {
             entry: Entry { axis, epoch },
             left: i + 1,
@@ -219,7 +290,7 @@ fn next<'a>(
     yn: usize,
     j: usize,
 ) -> Step
-    requires { ⌜ (xn ≤ 16) × (yn ≤ 16) × (i ≤ xn) × (j ≤ yn) × (i + j < xn + yn) ⌝ }
+    requires { ⌜ (xn ≤ most-entries) × (yn ≤ most-entries) × (i ≤ xn) × (j ≤ yn) × (i + j < xn + yn) ⌝ }
     requires { ⌜ (rising-from 0 (slots (now xa) (now xe) xn 0) ≡ true) × (rising-from 0 (slots (now ya) (now ye) yn 0) ≡ true) ⌝ }
     ensures { λ s. ⌜ (s .left ≤ xn) × (s .right ≤ yn) × (i + j < s .left + s .right) ⌝ }
     ensures { λ s. ⌜ union (rest (now (xa .entry)) (now (xe .entry)) xn i) (rest (now (ya .entry)) (now (ye .entry)) yn j) ≡ s .entry ∷ union (rest (now (xa .entry)) (now (xe .entry)) xn (s .left)) (rest (now (ya .entry)) (now (ye .entry)) yn (s .right)) ⌝ }
@@ -237,7 +308,7 @@ fn next<'a>(
 }
 
 // The larger of two epochs.
-fn larger(a: u64, b: u64) -> u64
+pub fn larger(a: u64, b: u64) -> u64
     ensures { λ r. ⌜ r ≡ max a b ⌝ }
 {
     if a < b { b } else { a }
@@ -253,14 +324,15 @@ pub fn join<'a>(
     yn: usize,
     capacity: usize,
     tainted: bool,
-) -> Frontier
-    requires { ⌜ (xn ≤ 16) × (yn ≤ 16) ⌝ }
+) -> Merged
+    requires { ⌜ (xn ≤ most-entries) × (yn ≤ most-entries) ⌝ }
     requires { ⌜ (rising-from 0 (slots (now xa) (now xe) xn 0) ≡ true) × (rising-from 0 (slots (now ya) (now ye) yn 0) ≡ true) ⌝ }
-    requires { ⌜ (1 ≤ capacity) × (capacity ≤ 16) ⌝ }
-    ensures { λ r. ⌜ r ≡ joined (slots (now (xa .entry)) (now (xe .entry)) xn 0) (slots (now (ya .entry)) (now (ye .entry)) yn 0) tainted capacity ⌝ }
+    requires { ⌜ (1 ≤ capacity) × (capacity ≤ most-entries) ⌝ }
+    ensures { λ r. ⌜ r ≡ handed (joined (slots (now (xa .entry)) (now (xe .entry)) xn 0)
+        (slots (now (ya .entry)) (now (ye .entry)) yn 0) tainted capacity) ⌝ }
 {
-    let mut axes = [0u64; 32];
-    let mut epochs = [0u64; 32];
+    let mut axes = [0u64; Frontier::BOTH];
+    let mut epochs = [0u64; Frontier::BOTH];
     let mut n: usize = 0;
     let mut i: usize = 0;
     let mut j: usize = 0;
@@ -273,21 +345,51 @@ pub fn join<'a>(
         j = s.right;
     }
     if n <= capacity {
-        return Frontier {
+        let frontier = Frontier {
             axes: first_slots(&axes),
             epochs: first_slots(&epochs),
             len: n,
             tainted,
         };
+        return Merged {
+            number: 0,
+            frontier,
+        };
     }
     let bound = bound_of(&axes, &epochs, n, capacity);
-    trim(&axes, &epochs, n, bound, true)
+    trim(&axes, &epochs, n, bound)
+}
+
+// The merge of x and y: 15, then 14 for x, then for y; else their union, cut to the capacity.
+pub fn merged<'a>(
+    xa: &'a Slots,
+    xe: &'a Slots,
+    xn: usize,
+    xt: bool,
+    ya: &'a Slots,
+    ye: &'a Slots,
+    yn: usize,
+    yt: bool,
+    capacity: u32,
+) -> Merged
+    requires { ⌜ All-slots (now xa) (now xe) × All-slots (now ya) (now ye) ⌝ }
+    ensures { λ r. ⌜ r ≡ merge (of-slots (now (xa .entry)) (now (xe .entry)) xn xt)
+        (of-slots (now (ya .entry)) (now (ye .entry)) yn yt) capacity ⌝ }
+{
+    let number = judged(xa, xe, xn, capacity);
+    if number != 0 {
+        return refused(number);
+    }
+    if !formed(ya, ye, yn) {
+        return refused(14);
+    }
+    join(xa, xe, xn, ya, ye, yn, capacity as usize, xt | yt)
 }
 
 // The first sixteen slots.
-fn first_slots(row: &[u64; 32]) -> Slots
-    requires { ⌜ length (now row) ≡ 32 ⌝ }
-    ensures { λ r. ⌜ r ≡ take 16 (now (row .entry)) ⌝ }
+fn first_slots(row: &[u64; Frontier::BOTH]) -> Slots
+    requires { ⌜ length (now row) ≡ most-of-two ⌝ }
+    ensures { λ r. ⌜ r ≡ take most-entries (now (row .entry)) ⌝ }
 {
     let mut first = [0u64; Frontier::SLOTS];
     let mut i: usize = 0;
@@ -393,11 +495,12 @@ fn bound_of<'a>(axes: &'a [u64], epochs: &'a [u64], len: usize, capacity: usize)
     lost
 }
 
-// The entries above the bound, as a frontier.
-fn trim<'a>(axes: &'a [u64], epochs: &'a [u64], len: usize, bound: Entry, tainted: bool) -> Frontier
+// The entries above the bound, as a frontier that has lost the others.
+fn trim<'a>(axes: &'a [u64], epochs: &'a [u64], len: usize, bound: Entry) -> Merged
     requires { ⌜ (len ≤ length (now axes)) × (len ≤ length (now epochs)) ⌝ }
-    requires { ⌜ length (filter (λ x. exceeds x bound) (slots (now axes) (now epochs) len 0)) ≤ 16 ⌝ }
-    ensures { λ r. ⌜ r ≡ pack (filter (λ x. exceeds x bound) (slots (now (axes .entry)) (now (epochs .entry)) len 0)) tainted ⌝ }
+    requires { ⌜ length (filter (λ x. exceeds x bound) (slots (now axes) (now epochs) len 0)) ≤ most-entries ⌝ }
+    ensures { λ r. ⌜ r ≡ handed (pack (filter (λ x. exceeds x bound)
+        (slots (now (axes .entry)) (now (epochs .entry)) len 0)) true) ⌝ }
 {
     let mut kept = [0u64; Frontier::SLOTS];
     let mut at = [0u64; Frontier::SLOTS];
@@ -414,10 +517,14 @@ fn trim<'a>(axes: &'a [u64], epochs: &'a [u64], len: usize, bound: Entry, tainte
         at[n] = epoch;
         n += 1;
     }
-    Frontier {
+    let frontier = Frontier {
         axes: kept,
         epochs: at,
         len: n,
-        tainted,
+        tainted: true,
+    };
+    Merged {
+        number: 0,
+        frontier,
     }
 }

@@ -1,6 +1,6 @@
 -- The frontier sent out for an operation of a plan (01, "Sparse frontiers"). Assumes nothing: these are definitions.
 use mathlib.Core.Path.{_≡_}
-use mathlib.Core.Bool.{false, _&&_, cond}
+use mathlib.Core.Bool.{false, cond}
 use mathlib.Core.List.{List, []}
 use Prim.Native.Nat.{ℕ}
 use lib.Dec.{ltb, leb}
@@ -8,7 +8,7 @@ use lib.ListN.{length, getD}
 use Rattle.basics.specs.Lists.{tabulate-from}
 use Rattle.frontier.specs.declared.Entry.{Entry}
 use Rattle.frontier.specs.Entries.{cut}
-use Rattle.frontier.specs.Frontiers.{pack, gathered}
+use Rattle.frontier.specs.Frontiers.{pack, capable, gathered}
 use Rattle.frontier.specs.declared.Frontier.{Frontier}
 use Rattle.plan_format.specs.Refusal.{Refusal, refusal, none-given, given, or-else}
 use Rattle.plan_format.specs.Plan.{Plan, count, queues}
@@ -36,7 +36,7 @@ sent p j c = cut-to c (sent-entries p j)
 -- 01: "21: question names no such operation, the number asked. 15: frontier capacity not 1..16, 0"; "then 21, then 15"
 unfoldable pub sent-refusal : Plan → (j capacity : ℕ) → Refusal
 sent-refusal p j c =
-    or-else (cond (leb (count p) j) (refusal 21 j) none-given) (cond (leb 1 c && leb c 16) none-given (refusal 15 0))
+    or-else (cond (leb (count p) j) (refusal 21 j) none-given) (cond (capable c) none-given (refusal 15 0))
 
 -- 01: "The plan's refusals come first, then 21, then 15."; "12, 13, 15 and 21 leave the rows and the run there"
 unfoldable pub sent-outcome : (bytes : List ℕ) → (j capacity table list : ℕ) → Outcome

@@ -7,7 +7,7 @@ use mathlib.Core.List.{List, []}
 use Prim.Native.Nat.{ℕ, _≤_, _<_, min}
 use lib.Dec.{ltb}
 use lib.ListN.{length, getD}
-use Rattle.frontier.specs.Entries.{find, exceeding}
+use Rattle.frontier.specs.Entries.{most-entries, find, exceeding}
 use Rattle.frontier.specs.Frontiers.{entries, well-formed, pack, merge, dominance}
 use Rattle.frontier.specs.Meaning.{Completion, epoch-at, listed-if}
 use Rattle.frontier.specs.declared.Frontier.{Frontier}
@@ -41,7 +41,7 @@ pub record Sent-means (p : Plan) (j capacity : ℕ) (f : Frontier) : Type 0 wher
   pub listed : (axis e : ℕ) → (find axis (sent-entries p j) ≡ Listed e) ↔ ((0 < e) × ((q : ℕ) × In-row p j axis e q))
   -- 01: "cut to a capacity as a merge is": a merge of the whole with the empty frontier. An entry stays exactly if fewer than the capacity
   -- exceed it, and as many stay as it holds
-  pub as-merged : merge (sent p j 16) (pack [] false) capacity ≡ record { number = 0; frontier = f }
+  pub as-merged : merge (sent p j most-entries) (pack [] false) capacity ≡ record { number = 0; frontier = f }
   pub stays : (axis : ℕ) → find axis (entries f) ≡ listed-if (λ x. ltb (exceeding x (sent-entries p j)) capacity) axis (find axis (sent-entries p j))
   pub fills : length (entries f) ≡ min capacity (length (sent-entries p j))
   -- tainted exactly if something was cut
@@ -52,7 +52,8 @@ pub record Sent-means (p : Plan) (j capacity : ℕ) (f : Frontier) : Type 0 wher
   -- dominance of two frontiers of one plan tells whether an operation is the other or before it
   pub if-yes : (i c : ℕ) → i < count p → dominance f (sent p i c) ≡ Yes → (i ≡ j) ⊎ Before p i j
   pub if-no : (i c : ℕ) → i < count p → dominance f (sent p i c) ≡ No → (i ≡ j) ⊎ Before p i j → ⊥
-  pub exactly : capacity ≡ 16 → (i : ℕ) → i < count p → (dominance f (sent p i 16) ≡ Yes) ↔ ((i ≡ j) ⊎ Before p i j)
+  pub exactly : capacity ≡ most-entries → (i : ℕ) → i < count p →
+      (dominance f (sent p i most-entries) ≡ Yes) ↔ ((i ≡ j) ⊎ Before p i j)
 
 -- which refusal is handed back, with its place; 01: "The plan's refusals come first, then 21, then 15."
 pub record Sent-number (check : Refusal) (p : Plan) (j capacity : ℕ) (r : Sent) : Type 0 where
@@ -60,12 +61,14 @@ pub record Sent-number (check : Refusal) (p : Plan) (j capacity : ℕ) (r : Sent
   -- 01: "21: question names no such operation, the number asked"
   pub no-operation : check .number ≡ 0 → count p ≤ j → (r .number ≡ 21) × (r .place ≡ j)
   -- 01: "15: frontier capacity not 1..16, 0"
-  pub no-capacity : check .number ≡ 0 → j < count p → (capacity < 1) ⊎ (16 < capacity) → (r .number ≡ 15) × (r .place ≡ 0)
-  pub answered : check .number ≡ 0 → j < count p → 1 ≤ capacity → capacity ≤ 16 → (r .number ≡ 0) × (r .place ≡ 0)
+  pub no-capacity : check .number ≡ 0 → j < count p → (capacity < 1) ⊎ (most-entries < capacity) →
+      (r .number ≡ 15) × (r .place ≡ 0)
+  pub answered : check .number ≡ 0 → j < count p → 1 ≤ capacity → capacity ≤ most-entries →
+      (r .number ≡ 0) × (r .place ≡ 0)
   -- exactly if
   pub twenty-one : (r .number ≡ 21) ↔ ((check .number ≡ 0) × (count p ≤ j))
-  pub fifteen : (r .number ≡ 15) ↔ ((check .number ≡ 0) × (j < count p) × ((capacity < 1) ⊎ (16 < capacity)))
-  pub zero : (r .number ≡ 0) ↔ ((check .number ≡ 0) × (j < count p) × (1 ≤ capacity) × (capacity ≤ 16))
+  pub fifteen : (r .number ≡ 15) ↔ ((check .number ≡ 0) × (j < count p) × ((capacity < 1) ⊎ (most-entries < capacity)))
+  pub zero : (r .number ≡ 0) ↔ ((check .number ≡ 0) × (j < count p) × (1 ≤ capacity) × (capacity ≤ most-entries))
   pub only : None-or sent-gives (r .number)
   -- 01: "A refusal hands back an empty untainted frontier"
   pub refused : (r .number ≡ 0 → ⊥) → r .frontier ≡ pack [] false

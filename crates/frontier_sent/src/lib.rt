@@ -13,8 +13,9 @@ ghost use mathlib.Core.Bool.{false};
 ghost use mathlib.Core.List.{[]};
 ghost use Prim.Native.Nat.{_+_, _*_, _≤_};
 ghost use lib.ListN.{length};
+ghost use Rattle.frontier.specs.Entries.{most-entries};
 ghost use Rattle.frontier.specs.Frontiers.{pack, gathered};
-ghost use Rattle.plan_format.specs.Sizes.{row-width};
+ghost use Rattle.plan_format.specs.Sizes.{most-queues, row-width};
 ghost use Rattle.plan_format.specs.Plan.{Plan};
 ghost use Rattle.frontier_sent.specs.Sent.{cut-to};
 ghost use Rattle.frontier_sent.specs.SentMeaning.{Frontier-right};
@@ -66,14 +67,14 @@ pub fn frontier_of(
 
 // The question on a plan that passes, by its counts, its axes and its rows in the table.
 fn answer(c: Counted, head: &HeadNumbers, table: &[u32], operation: u32, capacity: u32) -> Sent
-    requires { ⌜ (c .queues ≤ 16) × (row-width * c .operations ≤ length (now table)) ⌝ }
+    requires { ⌜ (c .queues ≤ most-queues) × (row-width * c .operations ≤ length (now table)) ⌝ }
     ensures { λ r. ⌜ ((p : Plan) → Sent-given p c (now (head .entry)) (now (table .entry)) → Sent-tells p operation capacity r) ⌝ }
 {
     let j = operation as usize;
     if c.operations <= j {
         return refused(21, operation as u64);
     }
-    if capacity < 1 {
+    if capacity < Frontier::LEAST {
         return refused(15, 0);
     }
     if Frontier::MOST < capacity {
@@ -100,7 +101,7 @@ fn refused(number: u32, place: u64) -> Sent
 
 // The row that begins at `first` in the table, under the axes, cut to a capacity as a merge is.
 fn send(head: &HeadNumbers, table: &[u32], queues: usize, first: usize, capacity: u32) -> Frontier
-    requires { ⌜ (queues ≤ 16) × (first + queues ≤ length (now table)) × (1 ≤ capacity) × (capacity ≤ 16) ⌝ }
+    requires { ⌜ (queues ≤ most-queues) × (first + queues ≤ length (now table)) × (1 ≤ capacity) × (capacity ≤ most-entries) ⌝ }
     ensures { λ r. ⌜ r ≡ cut-to capacity (gathered (row-in (now (head .entry)) (now (table .entry)) first queues 0)) ⌝ }
 {
     let whole = gather(head, table, queues, first);
@@ -110,7 +111,7 @@ fn send(head: &HeadNumbers, table: &[u32], queues: usize, first: usize, capacity
 
 // One axis raised after the other: no capacity cuts sixteen.
 fn gather(head: &HeadNumbers, table: &[u32], queues: usize, first: usize) -> Frontier
-    requires { ⌜ (queues ≤ 16) × (first + queues ≤ length (now table)) ⌝ }
+    requires { ⌜ (queues ≤ most-queues) × (first + queues ≤ length (now table)) ⌝ }
     ensures { λ r. ⌜ r ≡ pack (gathered (row-in (now (head .entry)) (now (table .entry)) first queues 0)) false ⌝ }
 {
     let mut f = Frontier::empty();

@@ -1,23 +1,17 @@
 -- What merge, raise and dominance tell and store, from what the proved functions answer of the frontiers that were lent. Assumes nothing.
-use mathlib.Core.Path.{_≡_, refl, sym, ap, _∙_, subst}
-use mathlib.Core.Bool.{true, false, _&&_, _||_}
-use mathlib.Core.List.{List, []}
+use mathlib.Core.Path.{_≡_, sym, ap, _∙_, subst}
+use mathlib.Core.Bool.{true, false, _||_}
+use mathlib.Core.List.{List}
 use Prim.Native.Nat.{ℕ}
-use native.Mathlib.Omega.{arith}
-use lib.Dec.{leb, eqb}
-use borrow.Author.Tests.{eqb-true, eqb-false}
-use Rattle.basics.proofs.Tests.{by-cases}
 use Rattle.plan_format.specs.declared.Told.{Told}
 use Rattle.frontier.specs.declared.Frontier.{Frontier}
 use Rattle.frontier.specs.declared.Merged.{Merged}
 use Rattle.frontier.specs.declared.Dominance.{Dominance}
-use Rattle.frontier.specs.declared.Dominance.the-variants.{Yes, No, Unknown, Refused}
-use Rattle.frontier.specs.Frontiers.{well-formed, pack, one-entry, merge, raise, dominance, number-of}
+use Rattle.frontier.specs.Frontiers.{well-formed, pack, capable, one-entry, merge, raise, dominance}
 use Rattle.frontier.specs.Meaning.{Merge-right, Raise-right, Dominance-means}
-use Rattle.frontier.proofs.Pack.{well-formed-pack}
 use Rattle.lent.specs.Lent.{told-of, frontier-of, list-of, oversized, Merge-says, merged-of, Oversized-refused, dominance-told, dominance-of}
 use Rattle.lent.proofs.Told.{dominance-back}
-use Rattle.lent.proofs.Frontiers.{frontier-back, merged-back}
+use Rattle.lent.proofs.Frontiers.{merged-back}
 use Rattle.lent.proofs.Refusals.{first-fails, oversized-formed, either-oversized, dominance-fourteen, merge-refused}
 
 module _ (m n : Merged) (told frontier : List ℕ) (s : Merge-says m told frontier) (same : m ≡ n) where
@@ -37,7 +31,7 @@ module _ (left right : List ℕ) (capacity : ℕ) (m : Merged) (told frontier : 
   pub merge-answered : (f g : Frontier) → f ≡ frontier-of left → g ≡ frontier-of right → m ≡ merge f g capacity → Merge-right f g capacity m →
       Merge-says (merge (frontier-of left) (frontier-of right) capacity) told frontier
       × (Merge-right (frontier-of left) (frontier-of right) capacity (merged-of told frontier)
-      × Oversized-refused (oversized left || oversized right) (leb 1 capacity && leb capacity 16) told)
+      × Oversized-refused (oversized left || oversized right) (capable capacity) told)
   merge-answered f g ef eg em right-of =
       let e : m ≡ merge (frontier-of left) (frontier-of right) capacity = rw (← ef, ← eg) em in
       let h : Merge-right (frontier-of left) (frontier-of right) capacity m = rw (← ef, ← eg) right-of in (
@@ -52,7 +46,7 @@ module _ (old : List ℕ) (axis epoch capacity : ℕ) (m : Merged) (told frontie
   pub raise-answered : (f : Frontier) → f ≡ frontier-of old → m ≡ raise f axis epoch capacity → Raise-right f axis epoch capacity m →
       Merge-says (raise (frontier-of old) axis epoch capacity) told frontier
       × (Raise-right (frontier-of old) axis epoch capacity (merged-of told frontier)
-      × Oversized-refused (oversized old) (leb 1 capacity && leb capacity 16) told)
+      × Oversized-refused (oversized old) (capable capacity) told)
   unfolding raise
   raise-answered f ef em right-of =
       let e : m ≡ raise (frontier-of old) axis epoch capacity = rw (← ef) em in
@@ -64,13 +58,6 @@ module _ (old : List ℕ) (axis epoch capacity : ℕ) (m : Merged) (told frontie
               ∙ merge-refused (frontier-of old) (pack (one-entry axis epoch) false) (first-fails _ _ (oversized-formed old o)) capacity,
         ),
       )
-
-told-number : (r : Dominance) → dominance-told r .number ≡ number-of r
-unfolding dominance-told number-of
-told-number Yes = refl
-told-number No = refl
-told-number Unknown = refl
-told-number (Refused n) = refl
 
 module _ (left right : List ℕ) (r : Dominance) (told : List ℕ) (e : told-of told ≡ dominance-told r) where
   pub dominance-answered : (f g : Frontier) → f ≡ frontier-of left → g ≡ frontier-of right → r ≡ dominance f g → Dominance-means f g r →
@@ -85,7 +72,7 @@ module _ (left right : List ℕ) (r : Dominance) (told : List ℕ) (e : told-of 
         (
           subst (λ (k : Dominance). Dominance-means (frontier-of left) (frontier-of right) k)
               (d ∙ sym (ap dominance-of t ∙ dominance-back (frontier-of left) (frontier-of right))) h,
-          λ o. ap (λ (k : Told). k .number) e ∙ told-number r ∙ h .number
+          λ o. ap (λ (k : Told). k .number) e ∙ h .number
               ∙ dominance-fourteen (frontier-of left) (frontier-of right) (either-oversized left right o),
         ),
       )

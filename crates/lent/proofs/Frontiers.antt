@@ -1,5 +1,6 @@
--- The 34 numbers of a well-formed frontier stand for it, so that what a call hands back can be lent to the next. Assumes nothing.
-use mathlib.Core.Path.{_≡_, refl, sym, ap, _∙_, subst}
+-- The numbers of a well-formed frontier are read back as it, so that what a call hands back can be lent to the next.
+-- Assumes nothing.
+use mathlib.Core.Path.{_≡_, refl, ap, _∙_}
 use mathlib.Core.Bool.{Bool, true, false, not, cond}
 use mathlib.Core.List.{List, [], _∷_, _++_, append-assoc}
 use Prim.Native.Nat.{ℕ, _+_}
@@ -9,21 +10,23 @@ use lib.ListN.{length, getD, take, drop, length-append}
 use lib.Seq.{take-append-le, take-at, drop-at, getD-append-add}
 use Rattle.frontier.specs.declared.Frontier.{Frontier}
 use Rattle.frontier.specs.declared.Merged.{Merged}
+use Rattle.frontier.specs.Entries.{most-entries}
 use Rattle.frontier.specs.Frontiers.{well-formed}
 use Rattle.frontier.proofs.Pack.{formed}
-use Rattle.lent.specs.Lent.{told-of, frontier-of, list-of, merged-of}
+use Rattle.lent.specs.Lent.{told-of, epochs-at, length-at, taint-at, over-long, frontier-of, list-of, merged-of}
 
--- the numbers behind the two rows
-module _ (axes epochs : List ℕ) (la : length axes ≡ 16) (le : length epochs ≡ 16) (len : ℕ) (t : Bool) where
+-- the numbers after the two rows
+module _ (axes epochs : List ℕ) (la : length axes ≡ most-entries) (le : length epochs ≡ most-entries) (len : ℕ)
+    (t : Bool) where
   abbrev ns : List ℕ
   ns = axes ++ epochs ++ (len ∷ cond t 1 0 ∷ [])
 
-  behind : (k : ℕ) → getD ns (32 + k) 0 ≡ getD (len ∷ cond t 1 0 ∷ []) k 0
-  behind k =
-      let e : 32 + k ≡ length (axes ++ epochs) + k = omega (arith, la, le, length-append axes epochs) in
+  after : (k : ℕ) → getD ns (length-at + k) 0 ≡ getD (len ∷ cond t 1 0 ∷ []) k 0
+  after k =
+      let e : length-at + k ≡ length (axes ++ epochs) + k = omega (arith, la, le, length-append axes epochs) in
       ap (λ (i : ℕ). getD ns i 0) e ∙ getD-append-add (axes ++ epochs) (len ∷ cond t 1 0 ∷ []) k 0
 
-  length-back : (b : Bool) → cond (ltb 1 (cond b 1 0)) 17 len ≡ len
+  length-back : (b : Bool) → cond (ltb 1 (cond b 1 0)) over-long len ≡ len
   length-back true = refl
   length-back false = refl
 
@@ -31,22 +34,24 @@ module _ (axes epochs : List ℕ) (la : length axes ≡ 16) (le : length epochs 
   taint-back true = refl
   taint-back false = refl
 
-  axes-back : take 16 ns ≡ axes
-  axes-back = take-append-le 16 (axes ++ epochs) _ (omega (arith, la, le, length-append axes epochs)) ∙ take-at axes epochs 16 la
+  axes-back : take most-entries ns ≡ axes
+  axes-back = take-append-le most-entries (axes ++ epochs) _ (omega (arith, la, le, length-append axes epochs))
+      ∙ take-at axes epochs most-entries la
 
-  epochs-back : take 16 (drop 16 ns) ≡ epochs
+  epochs-back : take most-entries (drop epochs-at ns) ≡ epochs
   epochs-back =
-      ap (λ (l : List ℕ). take 16 (drop 16 l)) (append-assoc axes epochs _)
-      ∙ ap (λ (l : List ℕ). take 16 l) (drop-at axes _ 16 la) ∙ take-at epochs _ 16 le
+      ap (λ (l : List ℕ). take most-entries (drop epochs-at l)) (append-assoc axes epochs _)
+      ∙ ap (λ (l : List ℕ). take most-entries l) (drop-at axes _ most-entries la) ∙ take-at epochs _ most-entries le
 
   numbers-back : frontier-of ns ≡ record { axes = axes; epochs = epochs; len = len; tainted = t }
   unfolding frontier-of
   numbers-back =
-      let taint : getD ns 33 0 ≡ cond t 1 0 = behind 1 in
+      let taint : getD ns taint-at 0 ≡ cond t 1 0 = after 1 in
       λ i. record {
         axes = axes-back i;
         epochs = epochs-back i;
-        len = (ap (λ (k : ℕ). cond (ltb 1 k) 17 (getD ns 32 0)) taint ∙ ap (λ (k : ℕ). cond (ltb 1 (cond t 1 0)) 17 k) (behind 0) ∙ length-back t) i;
+        len = (ap (λ (k : ℕ). cond (ltb 1 k) over-long (getD ns length-at 0)) taint
+            ∙ ap (λ (k : ℕ). cond (ltb 1 (cond t 1 0)) over-long k) (after 0) ∙ length-back t) i;
         tainted = (ap (λ (k : ℕ). not (eqb k 0)) taint ∙ taint-back t) i;
       }
 

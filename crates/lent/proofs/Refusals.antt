@@ -1,4 +1,4 @@
--- A length over 16 or a taint above 1 is refused as badly formed. Assumes nothing.
+-- A length over sixteen or a taint above 1 is refused as badly formed. Assumes nothing.
 use mathlib.Core.Path.{_≡_, refl, sym}
 use mathlib.Core.Bool.{Bool, true, false, _&&_, _||_, cond}
 use mathlib.Core.List.{List}
@@ -10,22 +10,27 @@ use borrow.Author.Tests.{ltb-true, lt-leb}
 use Rattle.basics.proofs.Tests.{by-cases, clash, either, or-cases}
 use Rattle.frontier.specs.declared.Frontier.{Frontier}
 use Rattle.frontier.specs.declared.Merged.{Merged}
-use Rattle.frontier.specs.Frontiers.{well-formed, merge-number, merge, refusal, dominance-number}
-use Rattle.lent.specs.Lent.{frontier-of, oversized}
+use Rattle.frontier.specs.Entries.{most-entries}
+use Rattle.frontier.specs.Frontiers.{well-formed, capable, merge-number, merge, refusal, dominance-number}
+use Rattle.lent.specs.Lent.{length-at, taint-at, over-long, frontier-of, oversized}
 
 -- a first test that fails
 pub first-fails : (a b : Bool) → a ≡ false → (a && b) ≡ false
 first-fails a b e = rw e
 
--- a length over 16, whatever stands for it
-long : (taint len : ℕ) → (ltb 16 len || ltb 1 taint) ≡ true → leb (cond (ltb 1 taint) 17 len) 16 ≡ false
+-- a length over sixteen, or the one that is put in its place
+long : (taint len : ℕ) → (ltb most-entries len || ltb 1 taint) ≡ true →
+    leb (cond (ltb 1 taint) over-long len) most-entries ≡ false
 long taint len o =
     by-cases (ltb 1 taint) (λ t. rw t)
-    (λ n. either (or-cases (ltb 16 len) (ltb 1 taint) o) (λ t. rw n (lt-leb len 16 (ltb-true 16 len t))) (λ t. clash (ltb 1 taint) t n))
+    (λ n. either (or-cases (ltb most-entries len) (ltb 1 taint) o)
+    (λ t. rw n (lt-leb len most-entries (ltb-true most-entries len t))) (λ t. clash (ltb 1 taint) t n))
 
 pub oversized-formed : (ns : List ℕ) → oversized ns ≡ true → well-formed (frontier-of ns) ≡ false
 unfolding oversized frontier-of well-formed
-oversized-formed ns o = first-fails (leb (cond (ltb 1 (getD ns 33 0)) 17 (getD ns 32 0)) 16) _ (long (getD ns 33 0) (getD ns 32 0) o)
+oversized-formed ns o =
+    first-fails (leb (cond (ltb 1 (getD ns taint-at 0)) over-long (getD ns length-at 0)) most-entries) _
+    (long (getD ns taint-at 0) (getD ns length-at 0) o)
 
 -- the number of two frontiers, one of which is badly formed
 fourteen : (left right : Bool) → (left && right) ≡ false → _≡_ {A = ℕ} (cond left (cond right 0 14) 14) 14
@@ -33,9 +38,10 @@ fourteen true true e = absurd (false≢true (sym e))
 fourteen true false e = refl
 fourteen false right e = refl
 
-behind-capacity : (capable left right : Bool) → (left && right) ≡ false → _≡_ {A = ℕ} (cond capable (cond left (cond right 0 14) 14) 15) (cond capable 14 15)
-behind-capacity true left right e = fourteen left right e
-behind-capacity false left right e = refl
+after-capacity : (capable left right : Bool) → (left && right) ≡ false →
+    _≡_ {A = ℕ} (cond capable (cond left (cond right 0 14) 14) 15) (cond capable 14 15)
+after-capacity true left right e = fourteen left right e
+after-capacity false left right e = refl
 
 given-back : (n : ℕ) (capable : Bool) (m : Merged) → n ≡ cond capable 14 15 → cond (eqb n 0) m (refusal n) .number ≡ cond capable 14 15
 unfolding refusal
@@ -47,11 +53,11 @@ module _ (f g : Frontier) (bad : (well-formed f && well-formed g) ≡ false) whe
   unfolding dominance-number
   dominance-fourteen = fourteen (well-formed f) (well-formed g) bad
 
-  pub merge-refused : (capacity : ℕ) → merge f g capacity .number ≡ cond (leb 1 capacity && leb capacity 16) 14 15
+  pub merge-refused : (capacity : ℕ) → merge f g capacity .number ≡ cond (capable capacity) 14 15
   unfolding merge merge-number
   merge-refused capacity =
-      let capable = leb 1 capacity && leb capacity 16 in
-      given-back (merge-number f g capacity) capable _ (behind-capacity capable (well-formed f) (well-formed g) bad)
+      given-back (merge-number f g capacity) (capable capacity) _
+      (after-capacity (capable capacity) (well-formed f) (well-formed g) bad)
 
 -- two lists of numbers, one of which is oversized
 pub either-oversized : (left right : List ℕ) → (oversized left || oversized right) ≡ true →

@@ -1,8 +1,7 @@
 -- Rows of numbers copied out of a list and stored into one. Assumes nothing.
 use mathlib.Core.Path.{_≡_, refl, sym, ap, _∙_}
 use mathlib.Core.List.{List, [], _∷_, _++_, append-nil}
-use Prim.Native.Nat.{ℕ, suc, _+_, _≤_, _<_}
-use native.Mathlib.Nat.{zero-add}
+use Prim.Native.Nat.{ℕ, _+_, _≤_, _<_}
 use native.Mathlib.Numerals.{add-one}
 use native.Mathlib.Omega.{arith}
 use lib.ListN.{length, getD, set, take, drop, replicate, length-append, length-drop, length-replicate, drop-of-length-le}
@@ -49,7 +48,7 @@ module _ (l : List ℕ) (at : ℕ) (row : List ℕ) where
       ∙ sets-append (take i row) l (getD row i 0 ∷ []) at
       ∙ ap (λ (xs : List ℕ). sets l at xs) (sym (take-suc row i 0 b) ∙ ap (λ (k : ℕ). take k row) (sym (add-one i)))
 
--- two rows and what is behind them, over a whole list
+-- two rows and what comes after them, over a whole list
 pub stored-whole : (l xs ys zs : List ℕ) (n m : ℕ) → length xs ≡ n → length xs + length ys ≡ m → length l ≡ length xs + length ys + length zs →
     sets (sets (sets l 0 xs) n ys) m zs ≡ xs ++ ys ++ zs
 stored-whole l xs ys zs n m en em el =

@@ -1,16 +1,19 @@
--- What the numbers that a C caller lends stand for: the three of `told`, and the 34 of a frontier. Assumes nothing: these are definitions.
+-- What the numbers that a C caller lends mean: the three of `told`, and those of a frontier. Assumes nothing: these are
+-- definitions.
 -- The quoted sentences are those of the interface's request.
 use mathlib.Core.Path.{_≡_}
 use mathlib.Core.Bool.{Bool, true, not, cond, _||_}
 use mathlib.Core.List.{List, [], _∷_, _++_}
-use Prim.Native.Nat.{ℕ, zero, suc}
-use lib.Dec.{ltb, leb, eqb}
+use Prim.Native.Nat.{ℕ, zero, suc, _+_}
+use lib.Dec.{ltb, eqb}
 use lib.ListN.{getD, take, drop}
 use Rattle.plan_format.specs.declared.Told.{Told}
 use Rattle.frontier.specs.declared.Frontier.{Frontier}
 use Rattle.frontier.specs.declared.Merged.{Merged}
 use Rattle.frontier.specs.declared.Dominance.{Dominance}
 use Rattle.frontier.specs.declared.Dominance.the-variants.{Yes, No, Unknown, Refused}
+use Rattle.frontier.specs.Entries.{most-entries}
+use Rattle.frontier.specs.Frontiers.{number-of}
 
 -- ---- TOLD
 -- "`told` is number, place, answer"
@@ -18,23 +21,41 @@ unfoldable pub told-of : List ℕ → Told
 told-of ns = record { number = getD ns 0 0; place = getD ns 1 0; answer = getD ns 2 0 }
 
 -- ---- FRONTIERS
+-- where the numbers of a frontier are: the axes come first, then the epochs, the length and the taint
+abbrev pub epochs-at : ℕ
+epochs-at = most-entries
+
+abbrev pub length-at : ℕ
+length-at = epochs-at + most-entries
+
+abbrev pub taint-at : ℕ
+taint-at = length-at + 1
+
+-- how many they are
+abbrev pub frontier-numbers : ℕ
+frontier-numbers = taint-at + 1
+
+-- a length that no well-formed frontier has
+abbrev pub over-long : ℕ
+over-long = most-entries + 1
+
 -- "a frontier: 16 axes, 16 epochs, length, taint (0 or 1)"; "A frontier whose length is over 16 or whose taint is above 1 is badly formed (14)":
--- the struct has no taint above 1, so that a length over 16 stands for it
+-- the struct has no taint above 1, so a length over 16 is put in its place
 unfoldable pub frontier-of : List ℕ → Frontier
 frontier-of ns = record {
-  axes = take 16 ns;
-  epochs = take 16 (drop 16 ns);
-  len = cond (ltb 1 (getD ns 33 0)) 17 (getD ns 32 0);
-  tainted = not (eqb (getD ns 33 0) 0);
+  axes = take most-entries ns;
+  epochs = take most-entries (drop epochs-at ns);
+  len = cond (ltb 1 (getD ns taint-at 0)) over-long (getD ns length-at 0);
+  tainted = not (eqb (getD ns taint-at 0) 0);
 }
 
--- the 34 numbers of a frontier
+-- the numbers of a frontier
 unfoldable pub list-of : Frontier → List ℕ
 list-of f = f .axes ++ f .epochs ++ (f .len ∷ cond (f .tainted) 1 0 ∷ [])
 
 -- "length is over 16 or whose taint is above 1"
 unfoldable pub oversized : List ℕ → Bool
-oversized ns = ltb 16 (getD ns 32 0) || ltb 1 (getD ns 33 0)
+oversized ns = ltb most-entries (getD ns length-at 0) || ltb 1 (getD ns taint-at 0)
 
 -- a frontier beside its number and place, with nothing to answer
 abbrev pub Handed : (number place : ℕ) → Frontier → (told frontier : List ℕ) → Type 0
@@ -49,17 +70,14 @@ Merge-says m told frontier = Handed (m .number) 0 (m .frontier) told frontier
 unfoldable pub merged-of : (told frontier : List ℕ) → Merged
 merged-of told frontier = record { number = told-of told .number; frontier = frontier-of frontier }
 
--- "is badly formed (14)", behind 15
+-- "is badly formed (14)", after 15
 abbrev pub Oversized-refused : (oversized capable : Bool) → (told : List ℕ) → Type 0
 Oversized-refused over capable told = over ≡ true → told-of told .number ≡ cond capable 14 15
 
 -- ---- DOMINANCE
--- "answer: 0 no, 1 yes, 2 unknown"; 01: "for dominance the number stands instead of the three answers"
-unfoldable pub dominance-told : Dominance → Told
-dominance-told No = record { number = 0; place = 0; answer = 0 }
-dominance-told Yes = record { number = 0; place = 0; answer = 1 }
-dominance-told Unknown = record { number = 0; place = 0; answer = 2 }
-dominance-told (Refused n) = record { number = n; place = 0; answer = 0 }
+-- the number and the value of an answer, with no place
+abbrev pub dominance-told : Dominance → Told
+dominance-told r = record { number = number-of r .number; place = 0; answer = number-of r .value }
 
 -- what a caller reads there
 unfoldable pub answer-read : ℕ → Dominance

@@ -1,4 +1,4 @@
--- Two lent rows of epochs. Assumes nothing: these are definitions.
+-- Two lent rows of the table that a check leaves. Assumes nothing: these are definitions.
 use mathlib.Core.Path.{_≡_}
 use mathlib.Core.Bool.{Bool, true, false, _&&_, cond}
 use mathlib.Core.List.{List, [], _∷_}

@@ -1,6 +1,6 @@
 -- `dominance` meets its contract: arm by arm. Assumes nothing.
 use borrow.Author.Needs.{needs}
-use Rattle.lent.specs.Lent.{dominance-told}
+use Rattle.frontier.specs.Frontiers.{number-of}
 use Rattle.lent.proofs.dominance.Statement.{statement}
 use Rattle.lent.proofs.dominance.Tie as tie
 
@@ -17,19 +17,19 @@ enum-known-r : tie.Need-enum-known-r
 enum-known-r c = search needs
 
 returns : tie.Need-returns
-unfolding dominance-told
+unfolding number-of
 returns c = rw (c .enum-told .given .1)
 
 returns-2 : tie.Need-returns-2
-unfolding dominance-told
+unfolding number-of
 returns-2 c = rw (c .enum-told2 .given .1)
 
 returns-3 : tie.Need-returns-3
-unfolding dominance-told
+unfolding number-of
 returns-3 c = rw (c .enum-told3 .given .1)
 
 returns-4 : tie.Need-returns-4
-unfolding dominance-told
+unfolding number-of
 returns-4 c = rw (c .before .r .given .1)
 
 pub dominance-spec : {M : Type 1} → statement M

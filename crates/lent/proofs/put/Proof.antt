@@ -1,4 +1,4 @@
--- `put` meets its contract: two rows, the length and the taint make all 34 numbers. Assumes nothing.
+-- `put` meets its contract: two rows, the length and the taint make all the numbers. Assumes nothing.
 use native.Mathlib.Omega.{arith}
 use mathlib.Core.Path.{_≡_, refl, ap, _∙_}
 use mathlib.Core.Bool.{Bool, true, false, cond}
@@ -8,7 +8,7 @@ use mir.Val.{boolByte}
 use lib.ListN.{length, set, length-set}
 use lib.Seq.{sets, length-sets}
 use borrow.Author.Needs.{needs}
-use Rattle.lent.specs.Lent.{list-of}
+use Rattle.lent.specs.Lent.{epochs-at, length-at, taint-at, list-of}
 use Rattle.lent.proofs.Rows.{stored-whole}
 use Rattle.lent.proofs.put.Statement.{statement}
 use Rattle.lent.proofs.put.Tie as tie
@@ -33,15 +33,17 @@ cast-numbers : tie.Need-cast-numbers
 cast-numbers c = search needs
 
 slice-write-numbers-2 : tie.Need-slice-write-numbers-2
-slice-write-numbers-2 c = omega (arith, length-set (c .before .before .put-row2 .last .1 .1 .0) 32 (start c .args .t1 .len))
+slice-write-numbers-2 c =
+    omega (arith, length-set (c .before .before .put-row2 .last .1 .1 .0) length-at (start c .args .t1 .len))
 
 same-length : tie.Need-same-length
 same-length c =
     let a = start c .args in
     let second = c .before .before .put-row2 in
     let first = c .before .before .before .before .before .before .before .before .before .put-row in
-    length-set (set (second .last .1 .1 .0) 32 (a .t1 .len)) 33 _ ∙ length-set (second .last .1 .1 .0) 32 (a .t1 .len)
-    ∙ ap length (second .ensures) ∙ length-sets (first .last .1 .1 .0) 16 (a .t1 .epochs)
+    length-set (set (second .last .1 .1 .0) length-at (a .t1 .len)) taint-at _
+    ∙ length-set (second .last .1 .1 .0) length-at (a .t1 .len)
+    ∙ ap length (second .ensures) ∙ length-sets (first .last .1 .1 .0) epochs-at (a .t1 .epochs)
     ∙ ap length (first .ensures) ∙ length-sets (a .numbers .now) 0 (a .t1 .axes)
 
 returns : tie.Need-returns
@@ -50,8 +52,10 @@ returns c =
     let a = start c .args in
     let second = c .before .before .put-row2 in
     let first = c .before .before .before .before .before .before .before .before .before .put-row in
-    ap (λ (l : List ℕ). set (set l 32 (a .t1 .len)) 33 (boolByte (a .t1 .tainted))) (second .ensures ∙ ap (λ (l : List ℕ). sets l 16 (a .t1 .epochs)) (first .ensures))
-    ∙ stored-whole (a .numbers .now) (a .t1 .axes) (a .t1 .epochs) (a .t1 .len ∷ boolByte (a .t1 .tainted) ∷ []) 16 32 (search needs) (search needs) (search needs)
+    ap (λ (l : List ℕ). set (set l length-at (a .t1 .len)) taint-at (boolByte (a .t1 .tainted))) (second .ensures
+    ∙ ap (λ (l : List ℕ). sets l epochs-at (a .t1 .epochs)) (first .ensures))
+    ∙ stored-whole (a .numbers .now) (a .t1 .axes) (a .t1 .epochs)
+    (a .t1 .len ∷ boolByte (a .t1 .tainted) ∷ []) epochs-at length-at (search needs) (search needs) (search needs)
     ∙ ap (λ (k : ℕ). a .t1 .axes ++ a .t1 .epochs ++ (a .t1 .len ∷ k ∷ [])) (byte-of (a .t1 .tainted))
 
 pub put-spec : {M : Type 1} → statement M

@@ -6,15 +6,17 @@ use native.Mathlib.Omega.{arith}
 use lib.ListN.{length, getD, take, length-set}
 use lib.Seq.{sets, take-all}
 use borrow.Author.Needs.{needs}
+use Rattle.frontier.specs.Entries.{most-entries}
 use Rattle.lent.proofs.Rows.{store-none, store-more}
 use Rattle.lent.proofs.put_row.Statement.{statement}
 use Rattle.lent.proofs.put_row.Tie as tie
 
 abbrev Inv-loop : tie.InvT-loop
-Inv-loop row at numbers₀ i₀ numbers i = (i ≤ 16) × (numbers ≡ sets numbers₀ at (take i row)) × (length numbers ≡ length numbers₀)
+Inv-loop row at numbers₀ i₀ numbers i = (i ≤ most-entries) × (numbers ≡ sets numbers₀ at (take i row))
+    × (length numbers ≡ length numbers₀)
 
 abbrev μ-loop : tie.MeasureT-loop
-μ-loop row at numbers₀ i₀ numbers i = 16 - i
+μ-loop row at numbers₀ i₀ numbers i = most-entries - i
 
 loop-holds : tie.Need-loop-holds Inv-loop μ-loop
 loop-holds c = (omega arith, store-none (c .args .numbers .now) (c .args .at) (c .args .row .now), refl)

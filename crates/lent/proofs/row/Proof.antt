@@ -3,18 +3,19 @@ use mathlib.Core.Path.{_≡_}
 use Prim.Native.Nat.{_-_, _≤_}
 use native.Mathlib.Omega.{arith}
 use borrow.Author.Needs.{needs}
+use Rattle.frontier.specs.Entries.{most-entries}
 use Rattle.lent.proofs.Rows.{copied, copy-none, copy-more, copy-all}
 use Rattle.lent.proofs.row.Statement.{statement}
 use Rattle.lent.proofs.row.Tie as tie
 
 abbrev Inv-loop : tie.InvT-loop
-Inv-loop numbers at r₀ i₀ r i = (i ≤ 16) × (r ≡ copied numbers at 16 i)
+Inv-loop numbers at r₀ i₀ r i = (i ≤ most-entries) × (r ≡ copied numbers at most-entries i)
 
 abbrev μ-loop : tie.MeasureT-loop
-μ-loop numbers at r₀ i₀ r i = 16 - i
+μ-loop numbers at r₀ i₀ r i = most-entries - i
 
 loop-holds : tie.Need-loop-holds Inv-loop μ-loop
-loop-holds c = (omega arith, copy-none (c .args .numbers .now) (c .args .at) 16 (c .pre))
+loop-holds c = (omega arith, copy-none (c .args .numbers .now) (c .args .at) most-entries (c .pre))
 
 add-r : tie.Need-add-r Inv-loop μ-loop
 add-r c = search needs
@@ -40,14 +41,17 @@ loop-less c = search needs
 loop-again : tie.Need-loop-again Inv-loop μ-loop
 loop-again c =
     let l = c .before .before .loop in
-    let s = c .before .before .before in
-    (omega arith, copy-more (s .args .numbers .now) (s .args .at) 16 (s .pre) (l .i) (l .r) (omega arith) (l .inv .1))
+    let s = c .before .before .before in (
+      omega arith,
+      copy-more (s .args .numbers .now) (s .args .at) most-entries (s .pre) (l .i) (l .r) (omega arith)
+          (l .inv .1),
+    )
 
 returns : tie.Need-returns Inv-loop μ-loop
 returns c =
     let l = c .before .loop in
     let s = c .before .before in
-    copy-all (s .args .numbers .now) (s .args .at) 16 (s .pre) (l .i) (l .r) (omega arith) (l .inv .1)
+    copy-all (s .args .numbers .now) (s .args .at) most-entries (s .pre) (l .i) (l .r) (omega arith) (l .inv .1)
 
 pub row-spec : {M : Type 1} → statement M
 row-spec =

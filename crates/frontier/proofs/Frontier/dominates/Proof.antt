@@ -1,55 +1,14 @@
--- `dominates` meets its contract: the judgements in their order, then what the walk reached. Assumes nothing.
-use mathlib.Core.Path.{_≡_, sym, _∙_}
-use mathlib.Core.Bool.{true}
-use borrow.Author.Tests.{not-true, not-false}
+-- `dominates` meets its contract: by what it calls. Assumes nothing.
 use borrow.Author.Needs.{needs}
-use Rattle.frontier.specs.Frontiers.{entries, well-formed}
-use Rattle.frontier.proofs.Pack.{both-fit}
-use Rattle.frontier.proofs.Dominates.{judged-left, judged-right, judged-answer, dominates-all}
+use Rattle.frontier.proofs.Dominates.{dominates-all}
 use Rattle.frontier.proofs.Frontier.dominates.Statement.{statement}
 use Rattle.frontier.proofs.Frontier.dominates.Tie as tie
 
-left-formed : (c : tie.Else1) → well-formed (c .before .before .before .before .before .args .t1) ≡ true
-unfolding well-formed entries
-left-formed c = sym (c .before .formed .ensures) ∙ not-false _ (c .if1 .left)
-
-right-formed : (c : tie.Else2) → well-formed (c .before .before .before .before .before .before .before .before .before .before .args .t2) ≡ true
-unfolding well-formed entries
-right-formed c = sym (c .before .formed2 .ensures) ∙ not-false _ (c .if2 .left)
-
-formed-requires : tie.Need-formed-requires
-formed-requires c κs = search needs
+dominance-of-requires : tie.Need-dominance-of-requires
+dominance-of-requires c κs = search needs
 
 returns : tie.Need-returns
-unfolding well-formed entries
-returns c = dominates-all _ _ _ (judged-left _ _ (sym (c .before .formed .ensures) ∙ not-true _ (c .if1 .taken)))
-
-formed-requires-2 : tie.Need-formed-requires-2
-formed-requires-2 c κs = search needs
-
-returns-2 : tie.Need-returns-2
-unfolding well-formed entries
-returns-2 c = dominates-all _ _ _ (judged-right _ _ (left-formed (c .before .before .before .before .before)) (sym (c .before .formed2 .ensures) ∙ not-true _ (c .if2 .taken)))
-
-reaches-requires : tie.Need-reaches-requires
-unfolding entries
-reaches-requires c κs = both-fit _ _ (left-formed (c .before .before .before .before .before .before .before .before .before .before .before)) (right-formed (c .before .before .before .before .before .before))
-
-answer-of-requires : tie.Need-answer-of-requires
-answer-of-requires c κs = search needs
-
-returns-3 : tie.Need-returns-3
-unfolding entries
-returns-3 c = dominates-all _ _ _ (judged-answer _ _ (c .answer-of .ensures) (c .before .reaches .ensures) (left-formed (c .before .before .before .before .before .before .before .before .before .before .before .before .before)) (right-formed (c .before .before .before .before .before .before .before .before)))
+returns c = dominates-all _ _ _ (c .dominance-of .ensures)
 
 pub dominates-spec : {M : Type 1} → statement M
-dominates-spec =
-    tie.close
-    (tie.spec
-    formed-requires
-    returns
-    formed-requires-2
-    returns-2
-    reaches-requires
-    answer-of-requires
-    returns-3)
+dominates-spec = tie.close (tie.spec dominance-of-requires returns)

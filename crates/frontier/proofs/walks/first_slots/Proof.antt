@@ -3,15 +3,16 @@ use Prim.Native.Nat.{_-_, _≤_}
 use mathlib.Core.Path.{_≡_, refl}
 use lib.ListN.{length, take}
 use borrow.Author.Needs.{needs}
+use Rattle.frontier.specs.Entries.{most-entries}
 use Rattle.frontier.proofs.Slots.{take-copied, first-copied}
 use Rattle.frontier.proofs.walks.first_slots.Statement.{statement}
 use Rattle.frontier.proofs.walks.first_slots.Tie as tie
 
 abbrev Inv-loop : tie.InvT-loop
-Inv-loop row first₀ i₀ first i = (i ≤ 16) × (length first ≡ 16) × (take i first ≡ take i row)
+Inv-loop row first₀ i₀ first i = (i ≤ most-entries) × (length first ≡ most-entries) × (take i first ≡ take i row)
 
 abbrev μ-loop : tie.MeasureT-loop
-μ-loop row first₀ i₀ first i = 16 - i
+μ-loop row first₀ i₀ first i = most-entries - i
 
 loop-holds : tie.Need-loop-holds Inv-loop μ-loop
 loop-holds c = (search needs, refl, refl)

@@ -1,7 +1,8 @@
 -- `join` meets its contract: the loop's invariant is `Join`: what is written so far, and the union of what is left, are the whole union; then the cut by the bound. Assumes nothing.
 use Prim.Native.Nat.{_+_, _-_}
-use mathlib.Core.Path.{refl, _∙_}
+use mathlib.Core.Path.{refl, ap, _∙_}
 use borrow.Author.Needs.{needs}
+use Rattle.frontier.specs.Frontiers.{handed}
 use Rattle.frontier.proofs.Join.{Join, join-none, join-more, join-fits, join-packed, join-whole}
 use Rattle.frontier.proofs.Trim.{cut-fits, cut-packed}
 use Rattle.frontier.proofs.walks.join.Statement.{statement}
@@ -47,13 +48,17 @@ loop-again : tie.Need-loop-again Inv-loop μ-loop
 loop-again c = join-more _ _ _ _ _ _ _ _ _ _ _ _ _ _ _ (c .before .before .loop .inv) (search needs) (c .next .ensures .0 .0) (c .next .ensures .0 .1) (c .next .ensures .0 .2) (c .next .ensures .1)
 
 first-slots-requires : tie.Need-first-slots-requires Inv-loop μ-loop
-first-slots-requires c κs = c .before .before .before .loop .inv .axes-32
+first-slots-requires c κs = c .before .before .before .loop .inv .axes-long
 
 first-slots-requires-2 : tie.Need-first-slots-requires-2 Inv-loop μ-loop
-first-slots-requires-2 c κs = c .before .before .before .before .before .loop .inv .epochs-32
+first-slots-requires-2 c κs = c .before .before .before .before .before .loop .inv .epochs-long
 
 returns : tie.Need-returns Inv-loop μ-loop
-returns c = join-whole _ _ _ _ _ _ _ _ _ _ _ _ _ _ _ (c .before .before .before .before .before .before .loop .inv) (c .before .before .before .before .before .loop-test .left) (c .before .before .before .before .if1 .taken) (c .before .before .before .before .before .before .before .pre .1 .1 .1) (c .before .before .first-slots .ensures) (c .first-slots2 .ensures)
+returns c = ap handed
+    (join-whole _ _ _ _ _ _ _ _ _ _ _ _ _ _ _ (c .before .before .before .before .before .before .loop .inv)
+    (c .before .before .before .before .before .loop-test .left) (c .before .before .before .before .if1 .taken)
+    (c .before .before .before .before .before .before .before .pre .1 .1 .1) (c .before .before .first-slots .ensures)
+    (c .first-slots2 .ensures))
 
 slice-aggregate-bound-of : tie.Need-slice-aggregate-bound-of Inv-loop μ-loop
 slice-aggregate-bound-of c = search needs
@@ -76,7 +81,11 @@ trim-requires c κs =
     ((w .0, w .1), cut-fits _ _ _ _ _ (w .2) (c .before .before .before .before .before .before .before .before .pre .1 .1 .1) (c .before .before .bound-of .ensures))
 
 returns-2 : tie.Need-returns-2 Inv-loop μ-loop
-returns-2 c = cut-packed _ _ _ _ (c .trim .ensures) (c .before .before .before .bound-of .ensures) refl ∙ join-packed _ _ _ _ _ _ _ _ _ _ _ _ _ (c .before .before .before .before .before .before .before .before .loop .inv) (c .before .before .before .before .before .before .before .loop-test .left) (c .before .before .before .before .before .before .if1 .left)
+returns-2 c = cut-packed _ _ (c .trim .ensures) (c .before .before .before .bound-of .ensures)
+    ∙ ap handed (join-packed _ _ _ _ _ _ _ _ _ _ _ _ _
+    (c .before .before .before .before .before .before .before .before .loop .inv)
+    (c .before .before .before .before .before .before .before .loop-test .left)
+    (c .before .before .before .before .before .before .if1 .left))
 
 pub join-spec : {M : Type 1} → statement M
 join-spec =

@@ -19,36 +19,44 @@ mul-epoch c = search needs
 element-copy-out-epoch : tie.Need-element-copy-out-epoch
 element-copy-out-epoch c = search needs
 
-listed-at-requires : tie.Need-listed-at-requires
-listed-at-requires c κs = search needs
+lookup-from-requires : tie.Need-lookup-from-requires
+lookup-from-requires c κs = search needs
 
-enum-known-other : tie.Need-enum-known-other
-enum-known-other c = search needs
+enum-known-answer : tie.Need-enum-known-answer
+enum-known-answer c = search needs
 
 enum-told : tie.Need-enum-told
 enum-told c = search needs
 
-add-t20 : tie.Need-add-t20
-add-t20 c = search needs
+add-t21 : tie.Need-add-t21
+add-t21 c = search needs
 
 returns : tie.Need-returns
 unfolding slot
-returns c = (search needs, next-absent _ _ _ _ _ _ _ _ (c .before .before .before .before .before .pre .1 .0 .0) (c .before .before .before .before .before .pre .1 .0 .1) (search needs) (search needs) (c .before .before .before .before .before .pre .1 .1) (sym (c .enum-told .given .1) ∙ c .before .before .listed-at .ensures))
+returns c =
+    let p = c .before .before .before .before .before .pre in
+    let q = sym (c .enum-told .given .1) ∙ c .before .before .lookup-from .ensures .found (p .1 .0 .1) in
+    (search needs, next-absent _ _ _ _ _ _ _ _ (p .1 .0 .0) (p .1 .0 .1) (p .0 .2) (p .0 .3) (p .1 .1) q)
 
 larger-requires : tie.Need-larger-requires
 larger-requires c κs = search needs
 
-add-t12 : tie.Need-add-t12
-add-t12 c = search needs
+add-t14 : tie.Need-add-t14
+add-t14 c = search needs
 
-add-t22 : tie.Need-add-t22
-add-t22 c = search needs
+add-t23 : tie.Need-add-t23
+add-t23 c = search needs
 
 returns-2 : tie.Need-returns-2
 returns-2 c =
-    let q = sym (c .before .before .other .given .1) ∙ c .before .before .before .before .listed-at .ensures in
-    let l = listed-some _ _ _ _ _ _ q in
-    ((search needs, omega (arith, l), search needs), next-listed _ _ _ _ _ _ _ _ (c .before .before .before .before .before .before .before .pre .1 .0 .0) (c .before .before .before .before .before .before .before .pre .1 .0 .1) _ _ (c .larger .ensures) (search needs) l q)
+    let p = c .before .before .before .before .before .before .before .pre in
+    let q = sym (c .before .before .answer .given .1)
+    ∙ c .before .before .before .before .lookup-from .ensures .found (p .1 .0 .1) in
+    let l = listed-some _ _ _ _ _ _ q in (
+      (search needs, omega (arith, l), search needs),
+      next-listed _ _ _ _ _ _ _ _ (p .1 .0 .0) (p .1 .0 .1) _ _
+          (c .larger .ensures) (p .0 .2) l (p .1 .1) q,
+    )
 
 pub leading-spec : {M : Type 1} → statement M
 leading-spec =
@@ -58,12 +66,12 @@ leading-spec =
     element-copy-out-axis
     mul-epoch
     element-copy-out-epoch
-    listed-at-requires
-    enum-known-other
+    lookup-from-requires
+    enum-known-answer
     enum-told
-    add-t20
+    add-t21
     returns
     larger-requires
-    add-t12
-    add-t22
+    add-t14
+    add-t23
     returns-2)

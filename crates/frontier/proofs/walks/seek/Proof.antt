@@ -2,6 +2,7 @@
 use Prim.Native.Nat.{ℕ, _-_, _≤_}
 use mathlib.Core.Path.{_≡_, refl, sym, _∙_}
 use mathlib.Core.List.{List}
+use native.Mathlib.Omega.{arith}
 use borrow.Author.Needs.{needs}
 use Rattle.frontier.specs.Walks.{rest, skip-below}
 use Rattle.frontier.proofs.Steps.{skip-more, skip-stop, skip-none}
@@ -24,7 +25,12 @@ element-copy-out-if1 : tie.Need-element-copy-out-if1 Inv-loop μ-loop
 element-copy-out-if1 c = search needs
 
 returns : tie.Need-returns Inv-loop μ-loop
-returns c = (search needs, λ es. skip-stop _ es _ _ _ (c .before .before .loop-test .taken) (c .if1 .taken) ∙ c .before .before .before .loop .inv .1 es)
+returns c = (
+  search needs,
+  λ l. c .if1 .taken,
+  λ es. skip-stop _ es _ _ _ (c .before .before .loop-test .taken)
+      (c .if1 .taken) ∙ c .before .before .before .loop .inv .1 es,
+)
 
 add-i : tie.Need-add-i Inv-loop μ-loop
 add-i c = search needs
@@ -36,7 +42,11 @@ loop-again : tie.Need-loop-again Inv-loop μ-loop
 loop-again c = (search needs, λ es. sym (skip-more _ es _ _ _ (c .before .before .loop-test .taken) (c .if1 .left)) ∙ c .before .before .before .loop .inv .1 es)
 
 returns-2 : tie.Need-returns-2 Inv-loop μ-loop
-returns-2 c = (search needs, λ es. skip-none _ es _ _ _ (c .loop-test .left) ∙ c .before .loop .inv .1 es)
+returns-2 c = (
+  search needs,
+  λ l. absurd (omega (arith, c .loop-test .left)),
+  λ es. skip-none _ es _ _ _ (c .loop-test .left) ∙ c .before .loop .inv .1 es,
+)
 
 pub seek-spec : {M : Type 1} → statement M
 seek-spec =

@@ -1,22 +1,23 @@
 -- `trim` meets its contract: the loop's invariant is `Trim`: what is kept so far, and what is kept of the rest, is all that is kept. Assumes nothing.
 use Prim.Native.Nat.{_-_, _≤_, _<_}
-use mathlib.Core.Path.{refl, sym, _∙_}
+use mathlib.Core.Path.{refl, sym, ap, _∙_}
 use borrow.Author.Tests.{not-true, not-false}
 use borrow.Author.Needs.{needs}
-use Rattle.frontier.specs.Entries.{exceeds}
-use Rattle.frontier.specs.Frontiers.{slot}
+use Rattle.frontier.specs.Entries.{most-entries, exceeds}
+use Rattle.frontier.specs.Frontiers.{slot, handed}
 use Rattle.frontier.proofs.Trim.{Trim, trim-none, trim-skip, trim-room, trim-more, trim-end}
 use Rattle.frontier.proofs.walks.trim.Statement.{statement}
 use Rattle.frontier.proofs.walks.trim.Tie as tie
 
 abbrev Inv-loop : tie.InvT-loop
-Inv-loop axes epochs len bound tainted kept₀ at₀ n₀ i₀ kept at n i = (i ≤ len) × Trim (λ x. exceeds x bound) axes epochs kept at len n i
+Inv-loop axes epochs len bound kept₀ at₀ n₀ i₀ kept at n i = (i ≤ len)
+    × Trim (λ x. exceeds x bound) axes epochs kept at len n i
 
 abbrev μ-loop : tie.MeasureT-loop
-μ-loop axes epochs len bound tainted kept₀ at₀ n₀ i₀ kept at n i = len - i
+μ-loop axes epochs len bound kept₀ at₀ n₀ i₀ kept at n i = len - i
 
 -- there is room for one more that is kept
-room : (c : tie.Else1 Inv-loop μ-loop) → c .before .before .before .before .before .loop .n < 16
+room : (c : tie.Else1 Inv-loop μ-loop) → c .before .before .before .before .before .loop .n < most-entries
 unfolding slot
 room c = trim-room _ _ _ _ _ _ _ _ (c .before .before .before .before .before .loop .inv .1) (c .before .before .before .before .loop-test .taken) (sym (c .before .above .ensures) ∙ not-false _ (c .if1 .left)) (c .before .before .before .before .before .before .before .before .pre .1)
 
@@ -71,7 +72,8 @@ unfolding slot
 loop-again-2 c = (search needs, trim-more _ _ _ _ _ _ _ _ (c .before .before .before .before .before .loop .inv .1) (c .before .before .before .before .loop-test .taken) (sym (c .before .above .ensures) ∙ not-false _ (c .if1 .left)) (room c))
 
 returns : tie.Need-returns Inv-loop μ-loop
-returns c = trim-end _ _ _ _ _ _ _ _ _ (c .before .loop .inv .1) (c .loop-test .left) (c .before .before .before .before .pre .1)
+returns c = ap handed (trim-end _ _ _ _ _ _ _ _ _ (c .before .loop .inv .1) (c .loop-test .left)
+    (c .before .before .before .before .pre .1))
 
 pub trim-spec : {M : Type 1} → statement M
 trim-spec =

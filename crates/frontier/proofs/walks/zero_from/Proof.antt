@@ -4,6 +4,7 @@ use native.Mathlib.Omega.{arith}
 use mathlib.Core.Path.{_≡_, refl, sym, _∙_}
 use lib.ListN.{drop}
 use borrow.Author.Needs.{needs}
+use Rattle.frontier.specs.Entries.{most-entries}
 use Rattle.frontier.specs.Frontiers.{all-zero}
 use Rattle.frontier.proofs.Steps.{zero-more, zero-stop, zero-end}
 use Rattle.frontier.proofs.walks.zero_from.Statement.{statement}
@@ -13,7 +14,7 @@ abbrev Inv-loop : tie.InvT-loop
 Inv-loop row from i₀ i = all-zero (drop i row) ≡ all-zero (drop from row)
 
 abbrev μ-loop : tie.MeasureT-loop
-μ-loop row from i₀ i = 16 - i
+μ-loop row from i₀ i = most-entries - i
 
 loop-holds : tie.Need-loop-holds Inv-loop μ-loop
 loop-holds c = refl

@@ -1,7 +1,7 @@
 -- `answer_of` meets its contract: by the two tests. Assumes nothing.
 use Rattle.frontier.specs.Frontiers.{answer}
-use Rattle.frontier.proofs.answer_of.Statement.{statement}
-use Rattle.frontier.proofs.answer_of.Tie as tie
+use Rattle.frontier.proofs.walks.answer_of.Statement.{statement}
+use Rattle.frontier.proofs.walks.answer_of.Tie as tie
 
 returns : tie.Need-returns
 unfolding answer
