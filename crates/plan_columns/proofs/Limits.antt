@@ -1,30 +1,27 @@
 -- The limits of a plan that the reader does not refuse. Assumes nothing.
 use mathlib.Core.Path.{_≡_}
 use mathlib.Core.List.{List}
-use Prim.Native.Nat.{ℕ, _≤_}
-use lib.ListN.{length}
-use Rattle.plan_format.specs.Form.{first-form}
+use Prim.Native.Nat.{ℕ}
 use Rattle.plan_format.specs.Stored.{scanned, plan-in}
-use Rattle.plan_format.proofs.Plans.{scanned-shape}
-use Rattle.plan_format.proofs.Shape.{Shaped}
+use Rattle.plan_format.specs.Limits.{Limits as Within-limits}
+use Rattle.plan_format.specs.Plan.{count, queues}
+use Rattle.plan_format.proofs.Plans.{scanned-limits}
+use Rattle.plan_format.proofs.Positions.{in-range, few-waits, few-signals, few-marks}
 use Rattle.plan_columns.specs.Shown.{Limits}
 
 module _ (bs : List ℕ) (clean : scanned bs .fault .number ≡ 0) where
-  pub shape : Shaped first-form (plan-in bs)
-  shape = scanned-shape bs clean
-
-  pub few-semaphores : length (plan-in bs .owners) ≤ 64
-  unfolding first-form
-  few-semaphores = shape .few-semaphores
+  within : Within-limits (plan-in bs)
+  within = scanned-limits bs clean
 
   pub limits : Limits (plan-in bs)
+  unfolding queues count
   limits = record {
-    few-queues = shape .few-queues;
-    few-semaphores = few-semaphores;
-    few-buffers = shape .few-buffers;
-    few-operations = shape .few-operations;
-    in-range = shape .in-range;
-    few-waits = λ i l. shape .few i l .waits;
-    few-signals = λ i l. shape .few i l .signals;
-    few-marks = λ i l. shape .few i l .marks;
+    few-queues = within .few-queues;
+    few-semaphores = within .few-semaphores;
+    few-buffers = within .few-buffers;
+    few-operations = within .few-operations;
+    in-range = in-range within;
+    few-waits = few-waits within;
+    few-signals = few-signals within;
+    few-marks = few-marks within;
   }
