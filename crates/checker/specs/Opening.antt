@@ -3,11 +3,11 @@ use mathlib.Core.Path.{_≡_}
 use mathlib.Core.List.{List}
 use Prim.Native.Nat.{ℕ, _<_}
 use lib.ListN.{length}
+use Rattle.plan_format.specs.Limits.{Limits}
 use Rattle.plan_format.specs.Plan.{Plan, count, queues}
 use Rattle.plan_format.specs.Sound.{Sound}
 use Rattle.plan_order.specs.Check.{order-refusal}
 use Rattle.plan_columns.specs.Columns.{Head-column, Queue-column, Signal-columns, Mark-columns, Source-column, Row-columns}
-use Rattle.plan_columns.specs.Shown.{Limits}
 use Rattle.checker.specs.declared.Counted.{Counted}
 use Rattle.checker.specs.declared.Opened.{Opened}
 

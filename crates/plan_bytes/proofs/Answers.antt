@@ -1,4 +1,4 @@
--- What a writing to the end answers: a refusal on the way, numbers behind the end, or a whole plan. Assumes nothing.
+-- What a writing to the end answers: a refusal on the way, numbers after the end, or a whole plan. Assumes nothing.
 use mathlib.Core.Path.{_≡_, refl, sym, ap, _∙_, subst}
 use mathlib.Core.List.{List}
 use Prim.Native.Nat.{ℕ, _≤_, _<_}
@@ -6,6 +6,7 @@ use native.Mathlib.Omega.{arith}
 use lib.ListN.{length, take, drop, length-drop}
 use lib.Seq.{length-take-le}
 use borrow.Author.Tests.{eqb-false, ne-eqb}
+use Rattle.plan_format.specs.Sizes.{plan-bytes}
 use Rattle.plan_format.specs.Refusal.{refusal, none-given, given}
 use Rattle.plan_format.specs.Grammar.{numbers, Scan, scan, ended, Spelling}
 use Rattle.plan_format.specs.Form.{first-form, scanned-by}
@@ -14,14 +15,17 @@ use Rattle.plan_format.specs.declared.Told.{Told}
 use Rattle.plan_format.proofs.Answers.{ended-none, ended-more}
 use Rattle.plan_format.proofs.Faults.{ended-stays}
 use Rattle.plan_bytes.specs.declared.cursor.Cursor.{Cursor}
-use Rattle.plan_bytes.specs.Writing.{fault-of, here, spelling, Plan-written, Bytes-written}
+use Rattle.plan_bytes.specs.Writing.{fault-of, here, spelling, point-most, operation-most, front-most}
+use Rattle.plan_bytes.specs.Writing.{Plan-written, Bytes-written}
 use Rattle.plan_bytes.proofs.Fields.{here-given, here-clean, fault-number}
 
-listed-is : {xs : List ℕ} {c : Cursor} {bytes : List ℕ} → Plan-written xs c bytes → listed xs ≡ ended (here xs c)
+listed-is : {xs : List ℕ} {c : Cursor} {bytes : List ℕ} → Plan-written first-form xs c bytes →
+    listed xs ≡ ended (here xs c)
 unfolding listed scanned-by first-form numbers
 listed-is p = ap ended (p .read)
 
-spelled-is : {xs : List ℕ} {c : Cursor} {bytes : List ℕ} → Plan-written xs c bytes → c .number ≡ 0 → spelled xs ≡ take (c .put) bytes
+spelled-is : {xs : List ℕ} {c : Cursor} {bytes : List ℕ} → Plan-written first-form xs c bytes → c .number ≡ 0 →
+    spelled xs ≡ take (c .put) bytes
 unfolding spelled first-form spelling
 spelled-is p z = ap (λ (s : Spelling). s .made) (p .spell z)
 
@@ -32,7 +36,12 @@ fault-place : (c : Cursor) → (c .number ≡ 0 → ⊥) → fault-of c .place �
 unfolding fault-of refusal
 fault-place c z = rw (ne-eqb (c .number) 0 z)
 
-module _ {xs : List ℕ} {c : Cursor} {bytes : List ℕ} (p : Plan-written xs c bytes) (long : length bytes ≡ 63686) where
+module _ {xs : List ℕ} {c : Cursor} {bytes : List ℕ} (p : Plan-written first-form xs c bytes)
+    (long : length bytes ≡ plan-bytes) where
+  few : c .put ≤ plan-bytes
+  unfolding front-most operation-most point-most first-form
+  few = omega (arith, p .few)
+
   -- a refusal on the way
   pub written-refused : (c .number ≡ 0 → ⊥) → Bytes-written xs (record { number = c .number; place = c .at; answer = 0 }) bytes
   unfolding here scan
@@ -46,7 +55,7 @@ module _ {xs : List ℕ} {c : Cursor} {bytes : List ℕ} (p : Plan-written xs c 
         long = long;
       }
 
-  -- numbers behind the last section
+  -- numbers after the last section
   pub written-more : c .number ≡ 0 → c .at < length xs → Bytes-written xs (record { number = 3; place = c .at; answer = 0 }) bytes
   unfolding scan refusal given
   written-more z h =
@@ -65,7 +74,8 @@ module _ {xs : List ℕ} {c : Cursor} {bytes : List ℕ} (p : Plan-written xs c 
   pub written-whole : c .number ≡ 0 → length xs ≤ c .at → Bytes-written xs (record { number = c .number; place = 0; answer = c .put }) bytes
   unfolding scan none-given given
   written-whole z h =
-      let l : length (spelled xs) ≡ c .put = ap length (spelled-is p z) ∙ length-take-le (c .put) bytes (omega (arith, p .few)) in
+      let l : length (spelled xs) ≡ c .put = ap length (spelled-is p z)
+      ∙ length-take-le (c .put) bytes (omega (arith, few)) in
       record {
         told =
             tells xs (scan (drop (c .at) xs) (c .at) (take (c .at) xs) none-given)
@@ -73,6 +83,6 @@ module _ {xs : List ℕ} {c : Cursor} {bytes : List ℕ} (p : Plan-written xs c 
             ∙ ended-none (drop (c .at) xs) (c .at) (take (c .at) xs) (length-drop (c .at) xs ∙ omega arith))
             (record { number = z; place = refl; answer-is = sym l });
         bytes = λ e. ap (λ (n : ℕ). take n bytes) l ∙ sym (spelled-is p z);
-        few = p .few;
+        few = few;
         long = long;
       }

@@ -10,10 +10,11 @@ use lib.ListN.{length, getD, take, drop}
 use borrow.Author.Tests.{eqb-true, eqb-false}
 use Rattle.basics.proofs.Tests.{by-cases}
 use Rattle.plan_format.specs.Refusal.{given}
-use Rattle.plan_format.specs.Grammar.{Grammar, seq, counted, nothing, numbers, Scan, scan, times, count-check, read-by, Spelling, spell-field, spell-by}
-use Rattle.plan_format.specs.Sections.{limited}
+use Rattle.plan_format.specs.Grammar.{Grammar, seq, counted, numbers, Scan, scan, times, count-check, read-by, Spelling}
+use Rattle.plan_format.specs.Grammar.{spell-field, spell-by}
+use Rattle.plan_format.specs.Sections.{repeat, limited}
 use Rattle.plan_format.proofs.Faults.{read-stays}
-use Rattle.plan_format.proofs.Repeats.{repeat, read-counted, repeat-stops, field-same, times-last}
+use Rattle.plan_format.proofs.Repeats.{read-counted, repeat-stops, field-same, times-last}
 use Rattle.plan_format.proofs.Counts.{count-limited}
 use Rattle.plan_bytes.specs.declared.cursor.Cursor.{Cursor}
 use Rattle.plan_bytes.specs.Writing.{fault-of, here, spelling, Writes, Limited}
@@ -44,11 +45,6 @@ module _ {xs : List ℕ} {c d r : Cursor} {bytes bytes₁ bytes₂ : List ℕ} w
   pub writes-more : {g : Grammar} {m : ℕ} (i : ℕ) → Writes (repeat i g) (m * i) xs c bytes d bytes₁ → Writes g m xs d bytes₁ r bytes₂ → Writes (repeat (i + 1) g) (m * (i + 1)) xs c bytes r bytes₂
   unfolding repeat
   writes-more {g} {m} i p q = rw (add-one i, mul-suc m i) (writes-seq p q)
-
--- nothing
-pub writes-nothing : {xs : List ℕ} {c : Cursor} {bytes : List ℕ} → c .at ≤ length xs → Writes nothing 0 xs c bytes c bytes
-unfolding read-by spell-by
-writes-nothing h = record { read = refl; spell = λ e. refl; inside = h; few = omega arith; as-long = refl }
 
 -- none of a thing
 pub writes-none : (g : Grammar) (m : ℕ) (xs : List ℕ) (c : Cursor) (bytes : List ℕ) → c .at ≤ length xs → Writes (repeat 0 g) (m * 0) xs c bytes c bytes

@@ -3,12 +3,14 @@
 use mathlib.Core.Path.{_≡_}
 use mathlib.Core.Bool.{cond}
 use mathlib.Core.List.{List, [], _++_}
-use Prim.Native.Nat.{ℕ, _+_, _-_, _≤_}
+use Prim.Native.Nat.{ℕ, _+_, _-_, _*_, _≤_}
 use lib.Dec.{eqb}
 use lib.ListN.{length, getD, take, drop}
+use Rattle.plan_format.specs.Sizes.{most-queues, most-buffers, most-operations, most-waits, most-signals, most-marks}
+use Rattle.plan_format.specs.Sizes.{plan-bytes}
 use Rattle.plan_format.specs.Refusal.{Refusal, refusal, none-given}
 use Rattle.plan_format.specs.Grammar.{Grammar, field, digits, numbers, Scan, scan, last-got, read-by, Spelling, spell-by}
-use Rattle.plan_format.specs.Form.{first-form, plan-grammar}
+use Rattle.plan_format.specs.Form.{Form, plan-grammar}
 use Rattle.plan_format.specs.Stored.{listed, spelled, Tells}
 use Rattle.plan_format.specs.declared.Told.{Told}
 use Rattle.plan_format.specs.Sections.{limited}
@@ -24,7 +26,7 @@ here xs c = scan (drop (c .at) xs) (c .at) (take (c .at) xs) (fault-of c)
 unfoldable pub spelling : (xs : List ℕ) → Cursor → (bytes : List ℕ) → Spelling
 spelling xs c bytes = record { left = drop (c .at) xs; made = take (c .put) bytes }
 
--- a cursor that stands in the list, with room for so many bytes more
+-- a cursor that is inside the list, with room for so many bytes more
 pub record Room (many : ℕ) (xs : List ℕ) (c : Cursor) (bytes : List ℕ) : Type 0 where
   pub inside : c .at ≤ length xs
   pub room : c .put + many ≤ length bytes
@@ -49,17 +51,27 @@ pub record Limited (width limit over : ℕ) (xs : List ℕ) (c : Cursor) (bytes 
   pub value-read : r .number ≡ 0 → getD (drop (c .at) xs) 0 0 ≡ r .value
   pub value-below : r .value ≤ limit - 1
 
--- the whole list was read and spelled, but for its end
-pub record Plan-written (xs : List ℕ) (r : Cursor) (bytes-now : List ℕ) : Type 0 where
-  pub read : read-by numbers (plan-grammar first-form) (scan xs 0 [] none-given) ≡ here xs r
-  pub spell : r .number ≡ 0 → spell-by (plan-grammar first-form) (record { left = xs; made = [] }) ≡ spelling xs r bytes-now
+-- the most bytes of a point, of an operation and of the three sections before the operations
+unfoldable pub point-most : Form → ℕ
+point-most F = F .semaphore-width + 8
+
+unfoldable pub operation-most : Form → ℕ
+operation-most F = 1 + ((1 + point-most F * most-waits) + ((1 + point-most F * most-signals) + (1 + 3 * most-marks)))
+
+unfoldable pub front-most : Form → ℕ
+front-most F = (1 + 8 * most-queues) + (F .semaphore-width + 1 * F .semaphores-most) + (2 + 4 * most-buffers)
+
+-- the whole list was read and spelled, but for its end; the lead bytes are not among the bytes
+pub record Plan-written (F : Form) (xs : List ℕ) (r : Cursor) (bytes-now : List ℕ) : Type 0 where
+  pub read : read-by numbers (plan-grammar F) (scan xs 0 [] none-given) ≡ here xs r
+  pub spell : r .number ≡ 0 → spell-by (plan-grammar F) (record { left = xs; made = [] }) ≡ spelling xs r bytes-now
   pub inside : r .at ≤ length xs
-  pub few : r .put ≤ 63686
+  pub few : r .put ≤ front-most F + (2 + operation-most F * most-operations)
 
 -- 01: "The writer takes such a list and refuses by 1 to 5"; the answer is the length in bytes; past it, and on a refusal, the
--- bytes are free
+-- bytes are unspecified
 pub record Bytes-written (xs : List ℕ) (r : Told) (bytes-now : List ℕ) : Type 0 where
   pub told : Tells (listed xs .fault) (length (spelled xs)) r
   pub bytes : r .number ≡ 0 → take (length (spelled xs)) bytes-now ≡ spelled xs
-  pub few : r .answer ≤ 63686
-  pub long : length bytes-now ≡ 63686
+  pub few : r .answer ≤ plan-bytes
+  pub long : length bytes-now ≡ plan-bytes

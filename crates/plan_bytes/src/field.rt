@@ -1,4 +1,4 @@
-// Fields: the number at a cursor is judged, and its bytes are put behind those before it. A cursor with a refusal keeps it and its place.
+// Fields: the number at a cursor is judged, and its bytes are put after those before it. A cursor with a refusal keeps it and its place.
 use crate::cursor::Cursor;
 use crate::digits;
 ghost use Prim.Native.Nat.{_≤_};

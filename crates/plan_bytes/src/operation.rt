@@ -1,15 +1,29 @@
 // Operations: a queue, waits, signals and marks.
 use crate::cursor::Cursor;
 use crate::field;
+use plan_format::limits::MOST_MARKS;
+use plan_format::limits::MOST_OPERATIONS;
+use plan_format::limits::MOST_SIGNALS;
+use plan_format::limits::MOST_WAITS;
 ghost use Prim.Native.Nat.{_+_, _*_};
+ghost use Rattle.plan_format.specs.Sizes.{most-operations, most-marks, block-bytes};
 ghost use Rattle.plan_format.specs.Grammar.{counted};
 ghost use Rattle.plan_format.specs.Sections.{point-below, mark-below, operation-below};
 ghost use Rattle.plan_bytes.specs.Writing.{Room, Writes};
 
+// What an operation has at most, and the least counts that are too many.
+const WAITS: u64 = MOST_WAITS as u64;
+
+const SIGNALS: u64 = MOST_SIGNALS as u64;
+
+const TOO_MANY_MARKS: u64 = MOST_MARKS as u64 + 1;
+
+const TOO_MANY_OPERATIONS: u64 = MOST_OPERATIONS as u64 + 1;
+
 // A wait or a signal: a semaphore and a value.
 fn point(numbers: &[u64], c: Cursor, semaphores: u64, bytes: &mut [u8]) -> Cursor
     requires { ⌜ Room 9 (now numbers) c (now bytes) ⌝ }
-    ensures { λ r. ⌜ Writes (point-below semaphores) 9 (now (numbers .entry)) c (now (bytes .entry)) r (now (bytes .exit)) ⌝ }
+    ensures { λ r. ⌜ Writes (point-below 1 semaphores) 9 (now (numbers .entry)) c (now (bytes .entry)) r (now (bytes .exit)) ⌝ }
 {
     let semaphore = field::byte(numbers, c, semaphores, 4, bytes);
     field::point_value(numbers, semaphore, bytes)
@@ -18,7 +32,7 @@ fn point(numbers: &[u64], c: Cursor, semaphores: u64, bytes: &mut [u8]) -> Curso
 // The waits or the signals: a count, at most `most`, and the points.
 fn points(numbers: &[u64], c: Cursor, most: u64, semaphores: u64, bytes: &mut [u8]) -> Cursor
     requires { ⌜ Room (1 + 9 * most) (now numbers) c (now bytes) ⌝ }
-    ensures { λ r. ⌜ Writes (counted 0 most 1 (point-below semaphores)) (1 + 9 * most) (now (numbers .entry)) c (now (bytes .entry)) r (now (bytes .exit)) ⌝ }
+    ensures { λ r. ⌜ Writes (counted 0 most 1 (point-below 1 semaphores)) (1 + 9 * most) (now (numbers .entry)) c (now (bytes .entry)) r (now (bytes .exit)) ⌝ }
 {
     let start = field::byte(numbers, c, most + 1, 2, bytes);
     let count = start.value;
@@ -43,12 +57,12 @@ fn mark(numbers: &[u64], c: Cursor, buffers: u64, bytes: &mut [u8]) -> Cursor
     field::byte(numbers, buffer, 2, 4, bytes)
 }
 
-// The marks: a count, at most four, and the marks.
+// The marks: a count and the marks.
 fn marks(numbers: &[u64], c: Cursor, buffers: u64, bytes: &mut [u8]) -> Cursor
-    requires { ⌜ Room 13 (now numbers) c (now bytes) ⌝ }
-    ensures { λ r. ⌜ Writes (counted 0 4 1 (mark-below buffers)) 13 (now (numbers .entry)) c (now (bytes .entry)) r (now (bytes .exit)) ⌝ }
+    requires { ⌜ Room (1 + 3 * most-marks) (now numbers) c (now bytes) ⌝ }
+    ensures { λ r. ⌜ Writes (counted 0 most-marks 1 (mark-below buffers)) (1 + 3 * most-marks) (now (numbers .entry)) c (now (bytes .entry)) r (now (bytes .exit)) ⌝ }
 {
-    let start = field::byte(numbers, c, 5, 2, bytes);
+    let start = field::byte(numbers, c, TOO_MANY_MARKS, 2, bytes);
     let count = start.value;
     let mut m = start;
     let mut i: u64 = 0;
@@ -71,12 +85,12 @@ fn operation(
     buffers: u64,
     bytes: &mut [u8],
 ) -> Cursor
-    requires { ⌜ Room 61 (now numbers) c (now bytes) ⌝ }
-    ensures { λ r. ⌜ Writes (operation-below queues semaphores buffers) 61 (now (numbers .entry)) c (now (bytes .entry)) r (now (bytes .exit)) ⌝ }
+    requires { ⌜ Room block-bytes (now numbers) c (now bytes) ⌝ }
+    ensures { λ r. ⌜ Writes (operation-below 1 queues semaphores buffers) block-bytes (now (numbers .entry)) c (now (bytes .entry)) r (now (bytes .exit)) ⌝ }
 {
     let queue = field::byte(numbers, c, queues, 4, bytes);
-    let waits = points(numbers, queue, 3, semaphores, bytes);
-    let signals = points(numbers, waits, 2, semaphores, bytes);
+    let waits = points(numbers, queue, WAITS, semaphores, bytes);
+    let signals = points(numbers, waits, SIGNALS, semaphores, bytes);
     marks(numbers, signals, buffers, bytes)
 }
 
@@ -89,10 +103,10 @@ pub fn operations(
     buffers: u64,
     bytes: &mut [u8],
 ) -> Cursor
-    requires { ⌜ Room 62466 (now numbers) c (now bytes) ⌝ }
-    ensures { λ r. ⌜ Writes (counted 0 1024 2 (operation-below queues semaphores buffers)) 62466 (now (numbers .entry)) c (now (bytes .entry)) r (now (bytes .exit)) ⌝ }
+    requires { ⌜ Room (2 + block-bytes * most-operations) (now numbers) c (now bytes) ⌝ }
+    ensures { λ r. ⌜ Writes (counted 0 most-operations 2 (operation-below 1 queues semaphores buffers)) (2 + block-bytes * most-operations) (now (numbers .entry)) c (now (bytes .entry)) r (now (bytes .exit)) ⌝ }
 {
-    let start = field::pair(numbers, c, 1025, 2, bytes);
+    let start = field::pair(numbers, c, TOO_MANY_OPERATIONS, 2, bytes);
     let count = start.value;
     let mut o = start;
     let mut i: u64 = 0;

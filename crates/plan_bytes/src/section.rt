@@ -2,19 +2,31 @@
 use crate::cursor::Cursor;
 use crate::field;
 use crate::operation;
+use plan_format::limits::MOST_BUFFERS;
+use plan_format::limits::MOST_QUEUES;
+use plan_format::limits::MOST_SEMAPHORES;
 ghost use mathlib.Core.Path.{_≡_};
-ghost use Prim.Native.Nat.{_≤_};
+ghost use Prim.Native.Nat.{_+_, _*_, _≤_};
 ghost use lib.ListN.{length, getD};
+ghost use Rattle.plan_format.specs.Sizes.{most-queues, most-semaphores, most-buffers, plan-bytes};
+ghost use Rattle.plan_format.specs.Form.{first-form};
 ghost use Rattle.plan_format.specs.Grammar.{counted, field};
 ghost use Rattle.plan_format.specs.Sections.{axis-field, size-field, limited};
 ghost use Rattle.plan_bytes.specs.Writing.{Room, Writes, Plan-written};
 
+// The least counts that are too many.
+const TOO_MANY_QUEUES: u64 = MOST_QUEUES as u64 + 1;
+
+const TOO_MANY_SEMAPHORES: u64 = MOST_SEMAPHORES as u64 + 1;
+
+const TOO_MANY_BUFFERS: u64 = MOST_BUFFERS as u64 + 1;
+
 // The section of queues.
 fn axes(numbers: &[u64], c: Cursor, bytes: &mut [u8]) -> Cursor
-    requires { ⌜ Room 129 (now numbers) c (now bytes) ⌝ }
-    ensures { λ r. ⌜ Writes (counted 0 16 1 axis-field) 129 (now (numbers .entry)) c (now (bytes .entry)) r (now (bytes .exit)) ⌝ }
+    requires { ⌜ Room (1 + 8 * most-queues) (now numbers) c (now bytes) ⌝ }
+    ensures { λ r. ⌜ Writes (counted 0 most-queues 1 axis-field) (1 + 8 * most-queues) (now (numbers .entry)) c (now (bytes .entry)) r (now (bytes .exit)) ⌝ }
 {
-    let start = field::byte(numbers, c, 17, 2, bytes);
+    let start = field::byte(numbers, c, TOO_MANY_QUEUES, 2, bytes);
     let count = start.value;
     let mut a = start;
     let mut i: u64 = 0;
@@ -30,10 +42,10 @@ fn axes(numbers: &[u64], c: Cursor, bytes: &mut [u8]) -> Cursor
 
 // The section of semaphores.
 fn owners(numbers: &[u64], c: Cursor, queues: u64, bytes: &mut [u8]) -> Cursor
-    requires { ⌜ Room 65 (now numbers) c (now bytes) ⌝ }
-    ensures { λ r. ⌜ Writes (counted 0 64 1 (field 1 (limited queues 4))) 65 (now (numbers .entry)) c (now (bytes .entry)) r (now (bytes .exit)) ⌝ }
+    requires { ⌜ Room (1 + most-semaphores) (now numbers) c (now bytes) ⌝ }
+    ensures { λ r. ⌜ Writes (counted 0 most-semaphores 1 (field 1 (limited queues 4))) (1 + most-semaphores) (now (numbers .entry)) c (now (bytes .entry)) r (now (bytes .exit)) ⌝ }
 {
-    let start = field::byte(numbers, c, 65, 2, bytes);
+    let start = field::byte(numbers, c, TOO_MANY_SEMAPHORES, 2, bytes);
     let count = start.value;
     let mut o = start;
     let mut i: u64 = 0;
@@ -49,10 +61,10 @@ fn owners(numbers: &[u64], c: Cursor, queues: u64, bytes: &mut [u8]) -> Cursor
 
 // The section of buffers.
 fn sizes(numbers: &[u64], c: Cursor, bytes: &mut [u8]) -> Cursor
-    requires { ⌜ Room 1026 (now numbers) c (now bytes) ⌝ }
-    ensures { λ r. ⌜ Writes (counted 0 256 2 size-field) 1026 (now (numbers .entry)) c (now (bytes .entry)) r (now (bytes .exit)) ⌝ }
+    requires { ⌜ Room (2 + 4 * most-buffers) (now numbers) c (now bytes) ⌝ }
+    ensures { λ r. ⌜ Writes (counted 0 most-buffers 2 size-field) (2 + 4 * most-buffers) (now (numbers .entry)) c (now (bytes .entry)) r (now (bytes .exit)) ⌝ }
 {
-    let start = field::pair(numbers, c, 257, 2, bytes);
+    let start = field::pair(numbers, c, TOO_MANY_BUFFERS, 2, bytes);
     let count = start.value;
     let mut b = start;
     let mut i: u64 = 0;
@@ -73,10 +85,10 @@ fn entry(numbers: &[u64], i: usize) -> u64
     if i < numbers.len() { numbers[i] } else { 0 }
 }
 
-// The four sections; a count stands in front of its section.
+// The four sections; a count comes before its section.
 pub fn sections(numbers: &[u64], bytes: &mut [u8]) -> Cursor
-    requires { ⌜ 63686 ≤ length (now bytes) ⌝ }
-    ensures { λ r. ⌜ Plan-written (now (numbers .entry)) r (now (bytes .exit)) ⌝ }
+    requires { ⌜ plan-bytes ≤ length (now bytes) ⌝ }
+    ensures { λ r. ⌜ Plan-written first-form (now (numbers .entry)) r (now (bytes .exit)) ⌝ }
 {
     let start = Cursor {
         number: 0,

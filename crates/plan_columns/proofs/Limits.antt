@@ -1,43 +1,32 @@
--- The limits of a plan that the reader does not refuse. Assumes nothing.
+-- The limits of a plan that the reader does not refuse, and what they give with none of refusals 6 to 8. Assumes nothing.
 use mathlib.Core.Path.{_≡_}
 use mathlib.Core.List.{List}
 use Prim.Native.Nat.{ℕ, _≤_}
-use lib.ListN.{length}
-use Rattle.plan_format.specs.Form.{first-form}
-use Rattle.plan_format.specs.Plan.{Plan}
+use Rattle.plan_format.specs.Sizes.{most-queues, most-operations}
+use Rattle.plan_format.specs.Limits.{Limits}
+use Rattle.plan_format.specs.Plan.{Plan, count, queues}
 use Rattle.plan_format.specs.Sound.{Sound, rules-refusal}
 use Rattle.plan_format.specs.Stored.{scanned, plan-in}
-use Rattle.plan_format.proofs.Plans.{scanned-shape}
-use Rattle.plan_format.proofs.Shape.{Shaped}
-use Rattle.plan_columns.specs.Shown.{Limits}
+use Rattle.plan_format.proofs.Plans.{scanned-limits}
+use Rattle.plan_format.proofs.Positions.{in-range}
 
-module _ (bs : List ℕ) (clean : scanned bs .fault .number ≡ 0) where
-  pub shape : Shaped first-form (plan-in bs)
-  shape = scanned-shape bs clean
+pub limits : (bs : List ℕ) → scanned bs .fault .number ≡ 0 → Limits (plan-in bs)
+limits bs clean = scanned-limits bs clean
 
-  pub few-semaphores : length (plan-in bs .owners) ≤ 64
-  unfolding first-form
-  few-semaphores = shape .few-semaphores
+pub few-operations : {p : Plan} → Limits p → count p ≤ most-operations
+unfolding count
+few-operations l = l .few-operations
 
-  pub limits : Limits (plan-in bs)
-  limits = record {
-    few-queues = shape .few-queues;
-    few-semaphores = few-semaphores;
-    few-buffers = shape .few-buffers;
-    few-operations = shape .few-operations;
-    axes-distinct = shape .axes-distinct;
-    in-range = shape .in-range;
-    few-waits = λ i l. shape .few i l .waits;
-    few-signals = λ i l. shape .few i l .signals;
-    few-marks = λ i l. shape .few i l .marks;
-  }
+pub few-queues : {p : Plan} → Limits p → queues p ≤ most-queues
+unfolding queues
+few-queues l = l .few-queues
 
--- a plan within the limits with none of refusals 6 to 8
 pub limits-sound : {p : Plan} → Limits p → rules-refusal p .number ≡ 0 → Sound p
+unfolding queues count
 limits-sound l rules = record {
   few-queues = l .few-queues;
   few-operations = l .few-operations;
   axes-distinct = l .axes-distinct;
-  in-range = l .in-range;
+  in-range = in-range l;
   rules = rules;
 }

@@ -11,8 +11,11 @@ use Rattle.plan_format.specs.Form.{first-form}
 use Rattle.plan_format.specs.Plan.{Point, Operation, Plan, empty-operation, count, op, operations-in}
 use Rattle.plan_order.specs.Precedence.{Signal, plan-signals}
 use Rattle.plan_columns.specs.Columns.{Columns, no-point, no-signal, Marked, no-mark, plan-marks, Queue-column, wait-at, Wait-columns, Signal-columns, Mark-columns}
-use Rattle.plan_columns.specs.Shown.{Limits, Columns-of}
+use Rattle.plan_format.specs.Limits.{Limits}
+use Rattle.plan_format.proofs.Positions.{in-range, few-waits as few-waits-of, few-signals as few-signals-of, few-marks as few-marks-of}
+use Rattle.plan_columns.specs.Shown.{Columns-of}
 use Rattle.plan_columns.specs.Filling.{Part, parts, queue-part, wait-semaphore-part, wait-value-part, signal-semaphore-part, signal-value-part, signal-operation-part, mark-part, mark-operation-part}
+use Rattle.plan_columns.proofs.Limits.{few-queues, few-operations}
 use Rattle.plan_columns.proofs.Operations.{Fits, here, operations-long}
 use Rattle.plan_columns.proofs.Lists.{joined, joined-few, joined-long, joined-at, parts-map, signals-long, marked-long, three-waits, its-signals, its-marks, code-of, signals-joined, marks-joined, queue-same, wait-semaphore-same, wait-value-same, signal-semaphore-same, signal-value-same, signal-operation-same, mark-same, mark-operation-same}
 use Rattle.plan_columns.proofs.Parts.{Column, column-end, column-count, Filling}
@@ -46,12 +49,12 @@ module _ (p : Plan) (limits : Limits p) (X : List ℕ) (n first : ℕ) (stand : 
 
   plan-fits : (j : ℕ) → j < count p → Fits (op p j)
   plan-fits j l =
-      let r = limits .in-range j l in
+      let r = in-range limits j l in
       record {
-        queue = omega (arith, r .queue, limits .few-queues);
-        waits = limits .few-waits j l;
-        signals = omega (arith, limits .few-signals j l);
-        marks = omega (arith, limits .few-marks j l);
+        queue = omega (arith, r .queue, few-queues limits);
+        waits = few-waits-of limits j l;
+        signals = omega (arith, few-signals-of limits j l);
+        marks = omega (arith, few-marks-of limits j l);
         wait-semaphores = λ k b. omega (arith, r .waits k b, limits .few-semaphores);
         signal-semaphores = λ k b. omega (arith, r .signals k b, limits .few-semaphores);
         buffers = λ k b. omega (arith, r .marks k b, limits .few-buffers);
@@ -76,7 +79,7 @@ module _ (p : Plan) (limits : Limits p) (X : List ℕ) (n first : ℕ) (stand : 
         let long = joined-long of 1 (λ i o. refl) 0 (p .operations) in
         let e : 1 * j + 0 ≡ j = omega arith in
         column-shows done (b .queues) (λ o. o .queue) empty-operation (joined of 0 (p .operations)) (says (queue-part X) (λ o. o .queue) of (λ i at f. queue-same X i at f)) refl
-        (omega (arith, long, limits .few-operations)) j (omega (arith, long))
+        (omega (arith, long, few-operations limits)) j (omega (arith, long))
         ∙ ap (λ (o : Operation). o .queue) (subst (λ (z : ℕ). getD (joined of 0 (p .operations)) z empty-operation ≡ getD (p .operations) j empty-operation) e
         (joined-at of 1 (λ i o. refl) 0 (p .operations) j 0 empty-operation l (omega arith)))
 
@@ -88,13 +91,13 @@ module _ (p : Plan) (limits : Limits p) (X : List ℕ) (n first : ℕ) (stand : 
         let even : (i : ℕ) (o : Operation) → length (three-waits i o) ≡ 3 = λ i o. tabulate-length (λ j. getD (o .waits) j no-point) 3 0 in
         let long = joined-long three-waits 3 even 0 (p .operations) in
         let o = getD (p .operations) j empty-operation in
-        column-shows done c h no-point (joined three-waits 0 (p .operations)) s z (omega (arith, long, limits .few-operations)) (3 * j + k) (omega (arith, long))
+        column-shows done c h no-point (joined three-waits 0 (p .operations)) s z (omega (arith, long, few-operations limits)) (3 * j + k) (omega (arith, long))
         ∙ ap h (joined-at three-waits 3 even 0 (p .operations) j k no-point l u ∙ tabulate-at (λ j. getD (o .waits) j no-point) 3 0 k no-point u
         ∙ ap (λ (z : ℕ). getD (o .waits) z no-point) (let e : 0 + k ≡ k = omega arith in e))
 
     waits-shown : Wait-columns p (cs .wait-semaphore) (cs .wait-value)
     waits-shown = record {
-      few = limits .few-waits;
+      few = few-waits-of limits;
       semaphores = wait-shown (λ x. x .semaphore) refl (says (wait-semaphore-part X) (λ x. x .semaphore) three-waits (λ i at f. wait-semaphore-same X i at f)) (b .wait-semaphores);
       values = wait-shown (λ x. x .value) refl (says (wait-value-part X) (λ x. x .value) three-waits (λ i at f. wait-value-same X i at f)) (b .wait-values);
     }
@@ -109,8 +112,8 @@ module _ (p : Plan) (limits : Limits p) (X : List ℕ) (n first : ℕ) (stand : 
         omega (
           arith,
           ap (λ (z : List Signal). length z) all-signals,
-          limits .few-operations,
-          joined-few its-signals 2 0 (p .operations) (λ j l. omega (arith, signals-long (0 + j) 0 (op p j .signals), limits .few-signals j l)),
+          few-operations limits,
+          joined-few its-signals 2 0 (p .operations) (λ j l. omega (arith, signals-long (0 + j) 0 (op p j .signals), few-signals-of limits j l)),
         )
 
     signals-says : (f : Part) (h : Signal → ℕ) → ((i at : ℕ) → Fits (here X at) → f i at ≡ map h (its-signals i (here X at))) →
@@ -141,8 +144,8 @@ module _ (p : Plan) (limits : Limits p) (X : List ℕ) (n first : ℕ) (stand : 
         omega (
           arith,
           ap (λ (z : List Marked). length z) all-marks,
-          limits .few-operations,
-          joined-few its-marks 4 0 (p .operations) (λ j l. omega (arith, marked-long (0 + j) (op p j .marks), limits .few-marks j l)),
+          few-operations limits,
+          joined-few its-marks 4 0 (p .operations) (λ j l. omega (arith, marked-long (0 + j) (op p j .marks), few-marks-of limits j l)),
         )
 
     marks-says : (f : Part) (h : Marked → ℕ) → ((i at : ℕ) → Fits (here X at) → f i at ≡ map h (its-marks i (here X at))) →

@@ -1,19 +1,26 @@
 -- What is handed back: the end of a reading, and the refusal, the answer and the room for numbers or bytes made. Assumes nothing.
 use mathlib.Core.Path.{_≡_, refl, sym, _∙_, subst}
-use mathlib.Core.Bool.{false, cond}
-use mathlib.Core.List.{List}
+use mathlib.Core.Bool.{false, _||_, cond}
+use mathlib.Core.List.{List, [], _∷_}
 use Prim.Native.Nat.{ℕ, _≤_, _<_}
 use native.Mathlib.Omega.{arith}
+use lib.Dec.{eqb}
 use lib.ListN.{length}
 use borrow.Author.Tests.{lt-ltb, le-ltb, eq-eqb, ne-eqb}
 use Rattle.basics.specs.Lists.{in-front}
+use Rattle.basics.proofs.Tests.{by-cases}
 use Rattle.plan_format.specs.Refusal.{Refusal, refusal, none-given, given, or-else}
-use Rattle.plan_format.specs.Grammar.{scan, refused, ended}
+use Rattle.plan_format.specs.Grammar.{Scan, scan, refused, ended}
 use Rattle.plan_format.specs.Stored.{room-for, Tells, Fills}
 use Rattle.plan_format.specs.declared.Told.{Told}
 use Rattle.plan_format.proofs.Judged.{other-given, zero-not-given}
 
 -- ---- the end of a reading
+-- 3 for a single byte that is left, at that byte
+byte-left : ended (scan (9 ∷ []) 6 [] none-given) ≡ scan (9 ∷ []) 6 [] (refusal 3 6)
+unfolding ended scan refused given none-given
+byte-left = refl
+
 pub ended-none : (rest : List ℕ) (at : ℕ) (got : List ℕ) → length rest ≡ 0 → ended (scan rest at got none-given) ≡ scan rest at got none-given
 unfolding ended scan given none-given
 ended-none rest at got e = rw (eq-eqb (length rest) 0 e)
@@ -21,6 +28,11 @@ ended-none rest at got e = rw (eq-eqb (length rest) 0 e)
 pub ended-more : (rest : List ℕ) (at : ℕ) (got : List ℕ) → (length rest ≡ 0 → ⊥) → ended (scan rest at got none-given) ≡ scan rest at got (refusal 3 at)
 unfolding ended scan given none-given refused
 ended-more rest at got z = rw (ne-eqb (length rest) 0 z)
+
+-- what was got stays
+pub ended-got : (s : Scan) → ended s .got ≡ s .got
+unfolding ended refused scan
+ended-got s = by-cases (given (s .fault) || eqb (length (s .rest)) 0) (λ t. rw t) (λ f. rw f)
 
 -- ---- into the room
 -- the refusal that stands for a reading's and the room's

@@ -1,7 +1,7 @@
 -- The search for an axis in a list, from a position on. Assumes nothing.
-use mathlib.Core.Path.{_≡_, sym, _∙_}
+use mathlib.Core.Path.{_≡_, refl, sym, _∙_}
 use mathlib.Core.Bool.{Bool, true, false, _||_}
-use mathlib.Core.List.{List}
+use mathlib.Core.List.{List, [], _∷_}
 use Prim.Native.Nat.{ℕ, _+_, _≤_, _<_}
 use native.Mathlib.Numerals.{add-one}
 use lib.Dec.{eqb}
@@ -10,6 +10,11 @@ use lib.Seq.{drop-cons}
 use borrow.Author.Tests.{eq-eqb, ne-eqb}
 use Rattle.basics.specs.Lists.{member}
 use Rattle.plan_format.specs.Form.{new-axis}
+
+-- 5 for an axis that is there already, after the count
+axis-twice : new-axis (2 ∷ 7 ∷ []) 7 ≡ 5
+unfolding new-axis member
+axis-twice = refl
 
 module _ (list : List ℕ) (v i : ℕ) where
   step : i < length list → member v (drop i list) ≡ (eqb (getD list i 0) v || member v (drop (i + 1) list))

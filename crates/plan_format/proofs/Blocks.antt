@@ -2,15 +2,15 @@
 use mathlib.Core.Path.{_≡_, ap, subst}
 use mathlib.Core.Bool.{Bool, true, false, cond}
 use mathlib.Core.List.{List, [], _∷_, _++_, append-assoc, append-nil}
-use Prim.Native.Nat.{ℕ, suc, _≤_, _<_}
+use Prim.Native.Nat.{ℕ, _≤_, _<_}
 use native.Mathlib.Omega.{arith}
 use lib.Dec.{ltb}
 use lib.ListN.{length}
 use borrow.Author.Tests.{ltb-true, lt-ltb}
 use Rattle.basics.proofs.Tests.{by-cases}
-use Rattle.plan_format.specs.Grammar.{field, nothing}
-use Rattle.plan_format.specs.Form.{Form, queue-count, semaphore-count, buffer-count, any-number, below, a-queue, a-semaphore, a-buffer, a-kind, point, mark, part, operation}
-use Rattle.plan_format.specs.Plan.{heading}
+use Rattle.plan_format.specs.Sizes.{most-waits, most-signals, most-marks}
+use Rattle.plan_format.specs.Form.{Form, queue-count, semaphore-count, buffer-count, any-number, below, a-queue}
+use Rattle.plan_format.specs.Form.{a-semaphore, a-buffer, a-kind, point, mark, operation}
 use Rattle.plan_format.proofs.Parses.{Spelt, Many, Parses}
 use Rattle.plan_format.proofs.Entries.{Pairs, listing, many-pairs}
 
@@ -21,9 +21,8 @@ Points s = Pairs (λ v. v < s) (λ _. Unit {0})
 abbrev pub Marks : (b k : ℕ) → List ℕ → Type 0
 Marks b = Pairs (λ v. v < b) (λ v. v < 2)
 
-pub record Block (F : Form) (q s b : ℕ) (xs : List ℕ) : Type 0 where
+pub record Block (q s b : ℕ) (xs : List ℕ) : Type 0 where
   pub queue : ℕ
-  pub part : List ℕ
   pub waits : ℕ
   pub signals : ℕ
   pub marks : ℕ
@@ -31,14 +30,13 @@ pub record Block (F : Form) (q s b : ℕ) (xs : List ℕ) : Type 0 where
   pub ss : List ℕ
   pub ms : List ℕ
   pub queue-in : queue < q
-  pub part-long : suc (length part) ≡ heading
-  pub few-waits : waits ≤ 3
-  pub few-signals : signals ≤ 2
-  pub few-marks : marks ≤ 4
+  pub few-waits : waits ≤ most-waits
+  pub few-signals : signals ≤ most-signals
+  pub few-marks : marks ≤ most-marks
   pub waited : Points s waits ws
   pub signalled : Points s signals ss
   pub marked : Marks b marks ms
-  pub numbers-are : xs ≡ queue ∷ (part ++ (waits ∷ (ws ++ (signals ∷ (ss ++ (marks ∷ ms))))))
+  pub numbers-are : xs ≡ queue ∷ (waits ∷ (ws ++ (signals ∷ (ss ++ (marks ∷ ms)))))
 
 -- the counts that the numbers read so far begin with
 pub record Counts (q s b : ℕ) (got : List ℕ) : Type 0 where
@@ -65,16 +63,12 @@ pub passes-below : (l v n : ℕ) → l ≡ n → v < n → below l v ≡ 0
 unfolding below
 passes-below l v n e h = rw (e, lt-ltb v n h)
 
-glued : (pt : List ℕ) {vs v₁ v₂ v₃ v₄ v₅ v₆ v₇ ws ss ms : List ℕ} {q w s m : ℕ} →
-    vs ≡ v₁ ++ v₂ → v₁ ≡ q ∷ [] → v₂ ≡ pt ++ v₃ → v₃ ≡ v₄ ++ v₅ → v₄ ≡ w ∷ ws → v₅ ≡ v₆ ++ v₇ → v₆ ≡ s ∷ ss → v₇ ≡ m ∷ ms →
-    vs ≡ q ∷ (pt ++ (w ∷ (ws ++ (s ∷ (ss ++ (m ∷ ms))))))
-glued pt a b c d e f g h = cc
+glued : {vs v₁ v₂ v₃ v₄ v₅ v₆ ws ss ms : List ℕ} {q w s m : ℕ} →
+    vs ≡ v₁ ++ v₂ → v₁ ≡ q ∷ [] → v₂ ≡ v₃ ++ v₄ → v₃ ≡ w ∷ ws → v₄ ≡ v₅ ++ v₆ → v₅ ≡ s ∷ ss → v₆ ≡ m ∷ ms →
+    vs ≡ q ∷ (w ∷ (ws ++ (s ∷ (ss ++ (m ∷ ms)))))
+glued a b c d e f g = cc
 
 module _ (D : Spelt) where
-  part-heads : (got vs ds : List ℕ) → Parses D part got vs ds → suc (length vs) ≡ heading
-  unfolding part heading
-  part-heads got vs ds p = ap (λ z. suc (length z)) (p .numbers-are)
-
   module _ (F : Form) (q s b : ℕ) where
     pub is-queue : (got : List ℕ) (v : ℕ) → Kept q s b got → a-queue got v ≡ 0 → v < q
     unfolding a-queue
@@ -101,27 +95,23 @@ module _ (D : Spelt) where
     unfolding mark
     are-marks = many-pairs D (Kept q s b) (kept-more q s b) (λ v. v < b) (λ v. v < 2) 2 1 a-buffer a-kind is-buffer is-kind
 
-    pub operation-block : (got vs ds : List ℕ) → Kept q s b got → Parses D (operation F) got vs ds → Block F q s b vs
+    pub operation-block : (got vs ds : List ℕ) → Kept q s b got → Parses D (operation F) got vs ds → Block q s b vs
     unfolding operation
     operation-block got vs ds g p =
         let p₁ = p .second in
         let p₂ = p₁ .second in
-        let p₃ = p₂ .second in
         let got₁ = got ++ p .vs₁ in
         let got₂ = got₁ ++ p₁ .vs₁ in
         let got₃ = got₂ ++ p₂ .vs₁ in
-        let got₄ = got₃ ++ p₃ .vs₁ in
         let g₁ = kept-more q s b got (p .vs₁) g in
         let g₂ = kept-more q s b got₁ (p₁ .vs₁) g₁ in
         let g₃ = kept-more q s b got₂ (p₂ .vs₁) g₂ in
-        let g₄ = kept-more q s b got₃ (p₃ .vs₁) g₃ in
-        let cw = listing D 0 3 1 (Parses D (point F)) got₂ (p₂ .vs₁) (p₂ .ds₁) (p₂ .first) in
-        let cs = listing D 0 2 1 (Parses D (point F)) got₃ (p₃ .vs₁) (p₃ .ds₁) (p₃ .first) in
-        let cm = listing D 0 4 1 (Parses D mark) got₄ (p₃ .vs₂) (p₃ .ds₂) (p₃ .second) in
+        let cw = listing D 0 most-waits 1 (Parses D (point F)) got₁ (p₁ .vs₁) (p₁ .ds₁) (p₁ .first) in
+        let cs = listing D 0 most-signals 1 (Parses D (point F)) got₂ (p₂ .vs₁) (p₂ .ds₁) (p₂ .first) in
+        let cm = listing D 0 most-marks 1 (Parses D mark) got₃ (p₂ .vs₂) (p₂ .ds₂) (p₂ .second) in
         let o = p .first in
         record {
           queue = o .number;
-          part = p₁ .vs₁;
           waits = cw .count;
           signals = cs .count;
           marks = cm .count;
@@ -129,16 +119,19 @@ module _ (D : Spelt) where
           ss = cs .entries;
           ms = cm .entries;
           queue-in = is-queue got (o .number) g (o .holds .passes);
-          part-long = part-heads got₁ (p₁ .vs₁) (p₁ .ds₁) (p₁ .first);
           few-waits = cw .most;
           few-signals = cs .most;
           few-marks = cm .most;
-          waited = are-points (cw .count) (got₂ ++ (cw .count ∷ [])) (cw .entries) (cw .spelling) (kept-more q s b got₂ (cw .count ∷ []) g₂)
+          waited = are-points (cw .count) (got₁ ++ (cw .count ∷ [])) (cw .entries) (cw .spelling)
+              (kept-more q s b got₁ (cw .count ∷ []) g₁)
               (cw .many);
-          signalled = are-points (cs .count) (got₃ ++ (cs .count ∷ [])) (cs .entries) (cs .spelling) (kept-more q s b got₃ (cs .count ∷ []) g₃)
+          signalled = are-points (cs .count) (got₂ ++ (cs .count ∷ [])) (cs .entries) (cs .spelling)
+              (kept-more q s b got₂ (cs .count ∷ []) g₂)
               (cs .many);
-          marked = are-marks (cm .count) (got₄ ++ (cm .count ∷ [])) (cm .entries) (cm .spelling) (kept-more q s b got₄ (cm .count ∷ []) g₄)
+          marked = are-marks (cm .count) (got₃ ++ (cm .count ∷ [])) (cm .entries) (cm .spelling)
+              (kept-more q s b got₃ (cm .count ∷ []) g₃)
               (cm .many);
-          numbers-are = glued (p₁ .vs₁) (p .numbers-are) (o .holds .numbers-are) (p₁ .numbers-are) (p₂ .numbers-are) (cw .numbers-are)
-              (p₃ .numbers-are) (cs .numbers-are) (cm .numbers-are);
+          numbers-are = glued (p .numbers-are) (o .holds .numbers-are) (p₁ .numbers-are) (cw .numbers-are)
+              (p₂ .numbers-are)
+              (cs .numbers-are) (cm .numbers-are);
         }

@@ -10,13 +10,15 @@ use lib.ListN.{length, getD, take, length-append, length-take}
 use lib.Seq.{getD-take}
 use borrow.Author.Tests.{lt-ltb, le-ltb, ltb-true, ltb-false}
 use Rattle.basics.proofs.Tests.{by-cases}
+use Rattle.plan_format.specs.Sizes.{most-operations}
 use Rattle.plan_format.specs.Grammar.{field, counted, count-check}
-use Rattle.plan_format.specs.Form.{first-form, queue-count, semaphore-count, buffer-count, below, a-queue, a-semaphore, a-buffer, a-kind, point, mark, part, operation}
+use Rattle.plan_format.specs.Form.{Form, queue-count, semaphore-count, buffer-count, below, a-queue, a-semaphore}
+use Rattle.plan_format.specs.Form.{a-buffer, a-kind, point, mark, operation}
 use Rattle.plan_format.specs.Sections.{limited, point-below, mark-below, operation-below}
 use Rattle.plan_format.proofs.Seams.{at-seam}
 use Rattle.plan_format.proofs.Blocks.{Kept}
 use Rattle.plan_format.proofs.Sections.{header-kept}
-use Rattle.plan_format.proofs.Alike.{Alike, field-alike, seq-alike, counted-alike, nothing-alike}
+use Rattle.plan_format.proofs.Alike.{Alike, field-alike, seq-alike, counted-alike}
 
 -- a count's check is a limit
 pub count-limited : (most v : ℕ) → count-check 0 most v ≡ cond (ltb v (most + 1)) 0 2
@@ -31,24 +33,34 @@ number-at nums k i front v rest e l =
     sym (getD-take k nums i 0 (omega (arith, length-take k nums, ap length e, length-append front (v ∷ rest))))
     ∙ at-seam (take k nums) front rest v i e l
 
--- the grammars of the sections, with the counts known
-pub owners-alike : (got : List ℕ) (q : ℕ) → ((rest : List ℕ) → queue-count (got ++ rest) ≡ q) → Alike got (counted 0 64 1 (field 1 a-queue)) (counted 0 64 1 (field 1 (limited q 4)))
-unfolding a-queue below limited
-owners-alike got q e = counted-alike (field-alike (λ rest v. ap (λ (n : ℕ). cond (ltb v n) 0 4) (e rest)))
+-- ---- the grammars of the sections, with the counts known
+module _ (F : Form) where
+  pub owners-alike : (got : List ℕ) (q : ℕ) → ((rest : List ℕ) → queue-count (got ++ rest) ≡ q) →
+      Alike got (counted (F .semaphores-least) (F .semaphores-most) (F .semaphore-width) (field 1 a-queue))
+      (counted (F .semaphores-least) (F .semaphores-most) (F .semaphore-width) (field 1 (limited q 4)))
+  unfolding a-queue below limited
+  owners-alike got q e = counted-alike (field-alike (λ rest v. ap (λ (n : ℕ). cond (ltb v n) 0 4) (e rest)))
 
-pub operation-alike : {got : List ℕ} {q m b : ℕ} → Kept q m b got → Alike got (operation first-form) (operation-below q m b)
-unfolding operation operation-below point point-below mark mark-below part first-form a-queue a-semaphore a-buffer a-kind below limited
-operation-alike {got} {q} {m} {b} k =
-    let limit : (f : List ℕ → ℕ) (n : ℕ) → ((rest : List ℕ) → f (got ++ rest) ≡ n) → (rest : List ℕ) (v : ℕ) → _≡_ {A = ℕ} (cond (ltb v (f (got ++ rest))) 0 4) (cond (ltb v n) 0 4) = λ f n e rest v. ap (λ (x : ℕ). cond (ltb v x) 0 4) (e rest) in
-    let points = seq-alike (field-alike (limit semaphore-count m (λ rest. k rest .semaphores))) (field-alike (λ rest v. refl)) in
-    seq-alike (field-alike (limit queue-count q (λ rest. k rest .queues)))
-    (seq-alike nothing-alike
-    (seq-alike (counted-alike points)
-    (seq-alike (counted-alike points)
-    (counted-alike (seq-alike (field-alike (limit buffer-count b (λ rest. k rest .buffers))) (field-alike (λ rest v. refl)))))))
+  pub operation-alike : {got : List ℕ} {q m b : ℕ} → Kept q m b got →
+      Alike got (operation F) (operation-below (F .semaphore-width) q m b)
+  unfolding operation operation-below point point-below mark mark-below a-queue a-semaphore a-buffer a-kind below
+      limited
+  operation-alike {got} {q} {m} {b} k =
+      let limit : (f : List ℕ → ℕ) (n : ℕ) → ((rest : List ℕ) → f (got ++ rest) ≡ n) → (rest : List ℕ) (v : ℕ) →
+      _≡_ {A = ℕ} (cond (ltb v (f (got ++ rest))) 0 4) (cond (ltb v n) 0 4) =
+      λ f n e rest v. ap (λ (x : ℕ). cond (ltb v x) 0 4) (e rest) in
+      let points = seq-alike (field-alike (limit semaphore-count m (λ rest. k rest .semaphores)))
+      (field-alike (λ rest v. refl)) in
+      seq-alike (field-alike (limit queue-count q (λ rest. k rest .queues)))
+      (seq-alike (counted-alike points)
+      (seq-alike (counted-alike points)
+      (counted-alike (seq-alike (field-alike (limit buffer-count b (λ rest. k rest .buffers)))
+      (field-alike (λ rest v. refl))))))
 
-pub operations-alike : {got : List ℕ} {q m b : ℕ} → Kept q m b got → Alike got (counted 0 1024 2 (operation first-form)) (counted 0 1024 2 (operation-below q m b))
-operations-alike k = counted-alike (operation-alike k)
+  pub operations-alike : {got : List ℕ} {q m b : ℕ} → Kept q m b got →
+      Alike got (counted 0 most-operations 2 (operation F))
+      (counted 0 most-operations 2 (operation-below (F .semaphore-width) q m b))
+  operations-alike k = counted-alike (operation-alike k)
 
 -- the counts that three sections begin with
 pub counts-of : {got₁ got₂ got₃ : List ℕ} {q m b : ℕ} (axes owners sizes : List ℕ) → got₁ ≡ q ∷ axes → got₂ ≡ got₁ ++ (m ∷ owners) → got₃ ≡ got₂ ++ (b ∷ sizes) → length axes ≡ q → length owners ≡ m → length sizes ≡ b → Kept q m b got₃

@@ -8,10 +8,15 @@ use lib.ListN.{length, getD, take}
 use Rattle.basics.specs.Lists.{member}
 use Rattle.basics.proofs.Tests.{is-false}
 use Rattle.basics.proofs.Places.{take-place}
+use Rattle.plan_format.specs.Sizes.{most-queues, most-semaphores, most-buffers}
 use Rattle.plan_format.specs.Grammar.{Check, digits}
-use Rattle.plan_format.specs.Form.{first-form, queue-count, semaphore-count, buffer-count, any-number, new-axis, a-queue, a-semaphore, a-buffer, a-kind, point, mark, part, operation, plan-grammar}
+use Rattle.plan_format.specs.Form.{first-form, queue-count, semaphore-count, buffer-count, any-number, new-axis}
+use Rattle.plan_format.specs.Form.{a-queue, a-semaphore, a-buffer, a-kind, point, mark, operation, plan-grammar}
 use Rattle.plan_format.specs.Plan.{Point, Mark, Operation, Plan}
-use Rattle.plan_format.specs.Limits.{Each, Point-within, Mark-within, Operation-within, Within, counted-numbers, one-number, point-numbers, mark-numbers, operation-numbers, numbers-of, counted-bytes, point-bytes, mark-bytes, operation-bytes, bytes-of}
+use Rattle.plan_format.specs.Limits.{Each, In-bytes, Point-within, Mark-within, Operation-within, Within}
+use Rattle.plan_format.specs.Limits.{counted-numbers, one-number, point-numbers, mark-numbers, operation-numbers}
+use Rattle.plan_format.specs.Limits.{numbers-of, counted-bytes, point-bytes, mark-bytes, operation-bytes}
+use Rattle.plan_format.specs.Limits.{bytes-of}
 use Rattle.plan_format.proofs.Parses.{Takes, Exact, Then, Many, Field, Counted, Parses}
 use Rattle.plan_format.proofs.Fields.{count-passes}
 use Rattle.plan_format.proofs.Entries.{Row, row-head, row-tail}
@@ -71,8 +76,8 @@ module _ {A : Type 0} (G : List ℕ → Type 0) (stays : (got vs : List ℕ) →
   list-of xs got k c e = counted-of P f g got xs c (many-of xs (got ++ (length xs ∷ [])) (stays got (length xs ∷ []) k) e)
 
 -- ---- operations
-module _ (q s b : ℕ) (lq : q ≤ 16) (ls : s ≤ 64) (lb : b ≤ 256) where
-  point-of : (got : List ℕ) (x : Point) → Kept q s b got → Point-within s x →
+module _ (q s b : ℕ) (lq : q ≤ most-queues) (ls : s ≤ most-semaphores) (lb : b ≤ most-buffers) where
+  point-of : (got : List ℕ) (x : Point) → Kept q s b got → Point-within In-bytes s x →
       Parses Exact (point first-form) got (point-numbers x) (point-bytes x)
   unfolding point first-form point-numbers point-bytes a-semaphore any-number
   point-of got x k e =
@@ -89,13 +94,15 @@ module _ (q s b : ℕ) (lq : q ≤ 16) (ls : s ≤ 64) (lb : b ≤ 256) where
       (passes-below (buffer-count got) (m .buffer) b (kept-now q s b got k .buffers) (e .buffer)))
       (field-of 1 a-kind (got ++ (m .buffer ∷ [])) (m .kind) (omega (arith, e .kind)) (passes-below 2 (m .kind) 2 refl (omega (arith, e .kind))))
 
-  points-of : {l m w : ℕ} (xs : List Point) (got : List ℕ) → Kept q s b got → Counts-to l m w (length xs) → Each (Point-within s) xs →
+  points-of : {l m w : ℕ} (xs : List Point) (got : List ℕ) → Kept q s b got → Counts-to l m w (length xs) →
+      Each (Point-within In-bytes s) xs →
       Counted Exact l m w (Parses Exact (point first-form)) got (counted-numbers point-numbers xs) (counted-bytes w point-bytes xs)
-  points-of = list-of (Kept q s b) (kept-more q s b) (Point-within s) (Parses Exact (point first-form)) point-numbers point-bytes point-of
+  points-of = list-of (Kept q s b) (kept-more q s b) (Point-within In-bytes s) (Parses Exact (point first-form))
+      point-numbers point-bytes point-of
 
-  operation-of : (got : List ℕ) (o : Operation) → Kept q s b got → Operation-within q s b o →
+  operation-of : (got : List ℕ) (o : Operation) → Kept q s b got → Operation-within In-bytes q s b o →
       Parses Exact (operation first-form) got (operation-numbers o) (operation-bytes o)
-  unfolding operation part first-form operation-numbers operation-bytes a-queue
+  unfolding operation first-form operation-numbers operation-bytes a-queue
   operation-of got o k e =
       let ws = counted-numbers point-numbers (o .waits) in
       let ss = counted-numbers point-numbers (o .signals) in
@@ -104,22 +111,22 @@ module _ (q s b : ℕ) (lq : q ≤ 16) (ls : s ≤ 64) (lb : b ≤ 256) where
       let ss′ = counted-bytes 1 point-bytes (o .signals) in
       let ms′ = counted-bytes 1 mark-bytes (o .marks) in
       let got₁ = got ++ (o .queue ∷ []) in
-      let got₂ = (got₁ ++ []) ++ ws in
-      let k₁ = kept-more q s b got₁ [] (kept-more q s b got (o .queue ∷ []) k) in
-      let k₂ = kept-more q s b (got₁ ++ []) ws k₁ in
+      let got₂ = got₁ ++ ws in
+      let k₁ = kept-more q s b got (o .queue ∷ []) k in
+      let k₂ = kept-more q s b got₁ ws k₁ in
       let k₃ = kept-more q s b got₂ ss k₂ in
       then-of got (o .queue ∷ []) (ws ++ (ss ++ ms)) (digits 1 (o .queue)) (ws′ ++ (ss′ ++ ms′))
       (field-of 1 a-queue got (o .queue) (omega (arith, e .queue, lq))
       (passes-below (queue-count got) (o .queue) q (kept-now q s b got k .queues) (e .queue)))
-      (then-of got₁ [] (ws ++ (ss ++ ms)) [] (ws′ ++ (ss′ ++ ms′)) (record { numbers-are = refl; bytes-are = refl })
-      (then-of (got₁ ++ []) ws (ss ++ ms) ws′ (ss′ ++ ms′)
-      (points-of (o .waits) (got₁ ++ []) k₁
+      (then-of got₁ ws (ss ++ ms) ws′ (ss′ ++ ms′)
+      (points-of (o .waits) got₁ k₁
       (record { least = omega arith; most = omega (arith, e .few-waits); fits = omega (arith, e .few-waits) }) (e .waits))
       (then-of got₂ ss ms ss′ ms′
       (points-of (o .signals) got₂ k₂
       (record { least = omega arith; most = omega (arith, e .few-signals); fits = omega (arith, e .few-signals) }) (e .signals))
       (list-of (Kept q s b) (kept-more q s b) (Mark-within b) (Parses Exact mark) mark-numbers mark-bytes mark-of (o .marks) (got₂ ++ ss) k₃
-      (record { least = omega arith; most = omega (arith, e .few-marks); fits = omega (arith, e .few-marks) }) (e .marks)))))
+      (record { least = omega arith; most = omega (arith, e .few-marks); fits = omega (arith, e .few-marks) })
+      (e .marks))))
 
 -- ---- sections of single fields
 row-of : (w : ℕ) (c : Check) (got vs : List ℕ) → Row c got (length vs) vs → Each (λ v. v < 256 ^ w) vs →
@@ -148,7 +155,8 @@ Queues q got = (more : List ℕ) → queue-count (got ++ more) ≡ q
 pub queues-stay : (q : ℕ) (got vs : List ℕ) → Queues q got → Queues q (got ++ vs)
 queues-stay q got vs k more = rw append-assoc (k (vs ++ more))
 
-owner-of : (q : ℕ) → q ≤ 16 → (got : List ℕ) (v : ℕ) → Queues q got → v < q → Field Exact 1 a-queue got (one-number v) (digits 1 v)
+owner-of : (q : ℕ) → q ≤ most-queues → (got : List ℕ) (v : ℕ) → Queues q got → v < q →
+    Field Exact 1 a-queue got (one-number v) (digits 1 v)
 unfolding a-queue one-number
 owner-of q l got v k h = field-of 1 a-queue got v (omega (arith, l, h)) (passes-below (queue-count got) v q (rw append-nil at (k [])) h)
 
@@ -186,7 +194,7 @@ plan-parses p e =
     (record { least = omega arith; most = omega (arith, e .few-buffers); fits = omega (arith, e .few-buffers) }) (e .sizes))
     (counted-of O operation-numbers operation-bytes got₃ (p .operations)
     (record { least = omega arith; most = omega (arith, e .few-operations); fits = omega (arith, e .few-operations) })
-    (many-of (Kept q s b) (kept-more q s b) (Operation-within q s b) O operation-numbers operation-bytes
+    (many-of (Kept q s b) (kept-more q s b) (Operation-within In-bytes q s b) O operation-numbers operation-bytes
     (operation-of q s b (e .few-queues) (e .few-semaphores) (e .few-buffers)) (p .operations) (got₃ ++ (n ∷ []))
     (sections-kept q s b (p .axes) (p .owners) (p .sizes) refl refl refl v₁ v₂ v₃ n (section (p .axes)) (section (p .owners)) (section (p .sizes)))
     (e .operations)))))

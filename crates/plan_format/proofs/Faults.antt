@@ -1,11 +1,18 @@
 -- After a fault nothing is read: a reading that ends without a fault began without one. Assumes nothing.
 use mathlib.Core.Path.{_≡_, refl, sym, ap, _∙_}
 use mathlib.Core.Bool.{true}
+use mathlib.Core.List.{[], _∷_}
 use Prim.Native.Nat.{ℕ, zero, suc}
 use Rattle.basics.proofs.Tests.{by-cases, clash}
-use Rattle.plan_format.specs.Refusal.{given}
-use Rattle.plan_format.specs.Grammar.{Grammar, field, seq, counted, nothing, Source, Scan, read-field, times, count-check, read-by, ended}
+use Rattle.plan_format.specs.Refusal.{refusal, given}
+use Rattle.plan_format.specs.Grammar.{Grammar, field, seq, counted, nothing, Source, bytes, Scan, scan}
+use Rattle.plan_format.specs.Grammar.{read-field, times, count-check, read-by, ended}
 use Rattle.plan_format.proofs.Judged.{zero-not-given, not-given-zero}
+
+-- of two faults the first is told
+first-told : read-field bytes 1 (λ _. 4) (scan (9 ∷ []) 6 [] (refusal 2 3)) ≡ scan (9 ∷ []) 6 [] (refusal 2 3)
+unfolding read-field scan given refusal
+first-told = refl
 
 pub times-stays {ℓ} : {A : Type ℓ} (k : ℕ) (f : A → A) (a : A) → f a ≡ a → times k f a ≡ a
 unfolding times

@@ -9,10 +9,15 @@ use lib.ListN.{length, take, drop}
 use borrow.Author.Tests.{ltb-false, le-ltb, eqb-true, eqb-false, eq-eqb}
 use Rattle.basics.proofs.Tests.{by-cases, is-true}
 use Rattle.plan_format.specs.Refusal.{refusal}
-use Rattle.plan_format.specs.Grammar.{Source, Scan, scan, refused, field-number, read-field, count-check}
+use Rattle.plan_format.specs.Grammar.{Source, bytes, Scan, scan, refused, field-number, read-field, count-check}
 use Rattle.plan_format.proofs.Judged.{zero-not-given}
 use Rattle.plan_format.proofs.Faults.{field-began}
 use Rattle.plan_format.proofs.Parses.{Spelt}
+
+-- 1 for a field that the bytes end in, whatever it holds
+cut-short : field-number bytes 2 (λ _. 4) (0 ∷ []) ≡ 1
+unfolding field-number bytes
+cut-short = refl
 
 -- a source shows the numbers vs, spelled as the bytes ds, in a way of its own, and reads back what it shows
 pub record Lawful (S : Source) (D : Spelt) : Type 1 where

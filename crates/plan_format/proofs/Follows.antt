@@ -6,7 +6,8 @@ use native.Mathlib.Omega.{arith}
 use lib.ListN.{length, getD, length-append}
 use Rattle.plan_format.specs.Grammar.{Check, field, counted, Source, Scan, scan, read-field, last-got, count-check, read-by}
 use Rattle.plan_format.proofs.Fields.{field-done}
-use Rattle.plan_format.proofs.Repeats.{repeat, read-counted}
+use Rattle.plan_format.specs.Sections.{repeat}
+use Rattle.plan_format.proofs.Repeats.{read-counted}
 use Rattle.plan_format.proofs.Seams.{last-snoc}
 
 -- what follows `s` in `t`, where `t` has no fault

@@ -12,7 +12,9 @@ use Rattle.basics.specs.Lists.{member, all-below, tabulate-from}
 use Rattle.basics.proofs.Tests.{by-cases, and-left, and-right}
 use Rattle.plan_format.specs.Refusal.{none-given}
 use Rattle.plan_format.specs.Grammar.{Grammar, counted, scan}
-use Rattle.plan_format.specs.Form.{first-form, queue-count, semaphore-count, buffer-count, any-number, below, new-axis, a-queue, a-semaphore, a-buffer, a-kind, point, mark, part, operation, plan-grammar}
+use Rattle.plan_format.specs.Form.{first-form, queue-count, semaphore-count, buffer-count, any-number, below}
+use Rattle.plan_format.specs.Form.{new-axis, a-queue, a-semaphore, a-buffer, a-kind, point, mark, operation}
+use Rattle.plan_format.specs.Form.{plan-grammar}
 use Rattle.plan_format.specs.Stored.{listed, spelled}
 use Rattle.plan_format.proofs.Parses.{Takes, Exact, Nothing, Then, Field, Counted, Parses}
 use Rattle.plan_format.proofs.Entries.{Row}
@@ -85,21 +87,21 @@ pairs-list g n m entry l got k =
     (entries K (kept-more 16 64 256) (Parses Exact g) n pair entry m (got ++ (m ∷ [])) (kept-more 16 64 256 got (m ∷ []) k))
 
 operation-entry : (got : List ℕ) → K got → Spells-in (Parses Exact (operation first-form)) 61 got largest-operation
-unfolding operation part first-form largest-operation a-queue
+unfolding operation first-form largest-operation a-queue
 operation-entry got k =
     let P = Parses Exact (counted 0 3 1 (point first-form)) in
     let Q = Parses Exact (counted 0 2 1 (point first-form)) in
     let R = Parses Exact (counted 0 4 1 mark) in
     let got₁ = got ++ (0 ∷ []) in
-    let got₂ = (got₁ ++ []) ++ filled 3 in
-    let k₁ = kept-more 16 64 256 got₁ [] (kept-more 16 64 256 got (0 ∷ []) k) in
-    let k₂ = kept-more 16 64 256 (got₁ ++ []) (filled 3) k₁ in
-    after (Field Exact 1 a-queue) (Then Nothing (Then P (Then Q R))) 1 60 got (0 ∷ []) (filled 3 ++ (filled 2 ++ filled 4))
+    let got₂ = got₁ ++ filled 3 in
+    let k₁ = kept-more 16 64 256 got (0 ∷ []) k in
+    let k₂ = kept-more 16 64 256 got₁ (filled 3) k₁ in
+    after (Field Exact 1 a-queue) (Then P (Then Q R)) 1 60 got (0 ∷ []) (filled 3 ++ (filled 2 ++ filled 4))
     (a-field 1 a-queue got 0 (lit< tt) (passes-below (queue-count got) 0 16 (kept-now 16 64 256 got k .queues) (lit< tt)))
-    (after Nothing (Then P (Then Q R)) 0 60 got₁ [] (filled 3 ++ (filled 2 ++ filled 4)) (no-more Nothing got₁)
-    (after P (Then Q R) 28 32 (got₁ ++ []) (filled 3) (filled 2 ++ filled 4) (pairs-list (point first-form) 9 3 point-entry (lit< tt) (got₁ ++ []) k₁)
+    (after P (Then Q R) 28 32 got₁ (filled 3) (filled 2 ++ filled 4)
+    (pairs-list (point first-form) 9 3 point-entry (lit< tt) got₁ k₁)
     (after Q R 19 13 got₂ (filled 2) (filled 4) (pairs-list (point first-form) 9 2 point-entry (lit< tt) got₂ k₂)
-    (pairs-list mark 3 4 mark-entry (lit< tt) (got₂ ++ filled 2) (kept-more 16 64 256 got₂ (filled 2) k₂)))))
+    (pairs-list mark 3 4 mark-entry (lit< tt) (got₂ ++ filled 2) (kept-more 16 64 256 got₂ (filled 2) k₂))))
 
 -- ---- the whole
 -- the queues are known from the first number on

@@ -16,11 +16,11 @@ pub mod Pairs
 pub mod Blocks
 pub mod Operations
 pub mod Sections
-pub mod Shape
-pub mod Plans
 pub mod PlanNumbers
 pub mod EveryPlan
 pub mod OnlyPlans
+pub mod Positions
+pub mod Plans
 pub mod Taking
 pub mod Sizes
 pub mod Making
@@ -33,6 +33,7 @@ pub mod RulesFirst
 pub mod RulesMeaning
 pub mod ChecksMeaning
 pub mod RoomMeaning
+pub mod RoundTripRoom
 pub mod Stopping
 pub mod ReadingMeaning
 pub mod Repeats

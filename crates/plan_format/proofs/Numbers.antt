@@ -11,7 +11,9 @@ use Rattle.basics.proofs.Tests.{either}
 use Rattle.plan_format.specs.Refusal.{Refusal, refusal, none-given, given, or-else}
 use Rattle.plan_format.specs.RefusalNumbers.{None-or, reading-numbers, rule-numbers, plan-gives}
 use Rattle.plan_format.specs.Grammar.{Grammar, field, seq, counted, nothing, Source, Scan, bytes, numbers, scan, refused, field-number, read-field, last-got, times, count-check, read-by, ended}
-use Rattle.plan_format.specs.Form.{first-form, queue-count, semaphore-count, buffer-count, any-number, below, new-axis, a-queue, a-semaphore, a-buffer, a-kind, point, mark, part, operation, plan-grammar, scanned-by}
+use Rattle.plan_format.specs.Form.{first-form, queue-count, semaphore-count, buffer-count, any-number, below}
+use Rattle.plan_format.specs.Form.{new-axis, a-queue, a-semaphore, a-buffer, a-kind, point, mark, operation}
+use Rattle.plan_format.specs.Form.{plan-grammar, scanned-by}
 use Rattle.plan_format.specs.Stored.{scanned, listed, plan-in, plan-refusal}
 use Rattle.plan_format.specs.Sound.{rules-refusal}
 use Rattle.plan_format.specs.Meaning.{Fields-answer, first-of, rest-of, Sections-answer, Plan-refusal-means}
@@ -87,12 +89,21 @@ unfolding point a-semaphore
 point-four = ((λ g v. below-four (semaphore-count g) v), any-none)
 
 pub sections-answer : Sections-answer
-unfolding plan-grammar operation part mark first-form new-axis a-queue a-buffer a-kind
+unfolding plan-grammar operation mark first-form new-axis a-queue a-buffer a-kind
 sections-answer =
     let queue : (g : List ℕ) (v : ℕ) → Or-none 4 (below (queue-count g) v) = λ g v. below-four (queue-count g) v in
     record {
       axes = λ g v. cond-has (Or-none 5) (member v (drop 1 g)) 5 0 (inr refl) (inl refl);
-      others = (queue, (any-none, (queue, (tt, (point-four, (point-four, ((λ g v. below-four (buffer-count g) v), (λ g v. below-four 2 v))))))));
+      others = (
+        queue,
+        (
+          any-none,
+          (
+            queue,
+            (point-four, (point-four, ((λ g v. below-four (buffer-count g) v), (λ g v. below-four 2 v)))),
+          ),
+        ),
+      );
     }
 
 abbrev Of-a-reading : ℕ → Type 0

@@ -5,50 +5,51 @@ use Prim.Native.Nat.{ℕ, zero, suc, _+_, _*_}
 use native.Mathlib.Omega.{arith}
 use lib.ListN.{length, getD, drop, length-append}
 use lib.Seq.{drop-at}
-use Rattle.plan_format.specs.Form.{Form}
 use Rattle.plan_format.specs.Plan.{Operation, points-in, marks-in, heading, operation-in, operation-long, operations-in}
 use Rattle.plan_format.proofs.Pairs.{points-front, marks-front}
 use Rattle.plan_format.proofs.Seams.{at-seam, after-seam}
 use Rattle.plan_format.proofs.Blocks.{Block}
 
 -- ---- one operation
-module _ (F : Form) (q : ℕ) (part : List ℕ) (w s m : ℕ) (ws ss ms : List ℕ) (lp : suc (length part) ≡ heading) (lw : length ws ≡ 2 * w)
-    (ls : length ss ≡ 2 * s)
-    (lm : length ms ≡ 2 * m) (rest : List ℕ) where
+module _ (q w s m : ℕ) (ws ss ms : List ℕ) (lw : length ws ≡ 2 * w) (ls : length ss ≡ 2 * s) (lm : length ms ≡ 2 * m)
+    (rest : List ℕ) where
   unfoldable pub block : List ℕ
-  block = q ∷ (part ++ (w ∷ (ws ++ (s ∷ (ss ++ (m ∷ ms))))))
+  block = q ∷ (w ∷ (ws ++ (s ∷ (ss ++ (m ∷ ms)))))
 
   unfoldable pub whole : List ℕ
   whole = block ++ rest
 
-  split-w : whole ≡ (q ∷ part) ++ (w ∷ (ws ++ (s ∷ (ss ++ (m ∷ (ms ++ rest))))))
+  split-w : whole ≡ (q ∷ []) ++ (w ∷ (ws ++ (s ∷ (ss ++ (m ∷ (ms ++ rest))))))
   unfolding whole block
   split-w = simp append-assoc
 
-  split-s : whole ≡ (q ∷ (part ++ (w ∷ ws))) ++ (s ∷ (ss ++ (m ∷ (ms ++ rest))))
+  split-s : whole ≡ (q ∷ (w ∷ ws)) ++ (s ∷ (ss ++ (m ∷ (ms ++ rest))))
   unfolding whole block
   split-s = simp append-assoc
 
-  split-m : whole ≡ (q ∷ (part ++ (w ∷ (ws ++ (s ∷ ss))))) ++ (m ∷ (ms ++ rest))
+  split-m : whole ≡ (q ∷ (w ∷ (ws ++ (s ∷ ss)))) ++ (m ∷ (ms ++ rest))
   unfolding whole block
   split-m = simp append-assoc
 
-  at-w : getD whole (heading) 0 ≡ w
-  at-w = at-seam whole (q ∷ part) (ws ++ (s ∷ (ss ++ (m ∷ (ms ++ rest))))) w (heading) split-w lp
+  at-w : getD whole heading 0 ≡ w
+  unfolding heading
+  at-w = at-seam whole (q ∷ []) (ws ++ (s ∷ (ss ++ (m ∷ (ms ++ rest))))) w heading split-w refl
 
   at-s : getD whole (heading + 1 + 2 * w) 0 ≡ s
-  at-s = at-seam whole (q ∷ (part ++ (w ∷ ws))) (ss ++ (m ∷ (ms ++ rest))) s (heading + 1 + 2 * w) split-s (simp length-append (omega arith))
+  unfolding heading
+  at-s = at-seam whole (q ∷ (w ∷ ws)) (ss ++ (m ∷ (ms ++ rest))) s (heading + 1 + 2 * w) split-s (omega arith)
 
   at-m : getD whole (heading + 2 + 2 * w + 2 * s) 0 ≡ m
-  at-m = at-seam whole (q ∷ (part ++ (w ∷ (ws ++ (s ∷ ss))))) (ms ++ rest) m (heading + 2 + 2 * w + 2 * s) split-m
+  unfolding heading
+  at-m = at-seam whole (q ∷ (w ∷ (ws ++ (s ∷ ss)))) (ms ++ rest) m (heading + 2 + 2 * w + 2 * s) split-m
       (simp length-append (omega arith))
 
   pub long-is : operation-long whole ≡ length block
-  unfolding operation-long block
+  unfolding operation-long heading block
   long-is = rw (at-w, at-s, at-m) (simp length-append (omega arith))
 
   pub operation-is : operation-in whole ≡ record { queue = q; waits = points-in w ws; signals = points-in s ss; marks = marks-in m ms }
-  unfolding operation-in
+  unfolding operation-in heading
   operation-is =
       rw (
         at-q,
@@ -67,43 +68,43 @@ module _ (F : Form) (q : ℕ) (part : List ℕ) (w s m : ℕ) (ws ss ms : List �
       at-q = ap (λ z. getD z 0 0) split-w
 
       to-w : drop (heading + 1) whole ≡ ws ++ (s ∷ (ss ++ (m ∷ (ms ++ rest))))
-      to-w = after-seam whole (q ∷ part) (ws ++ (s ∷ (ss ++ (m ∷ (ms ++ rest))))) w (heading + 1) split-w (omega arith)
+      to-w = after-seam whole (q ∷ []) (ws ++ (s ∷ (ss ++ (m ∷ (ms ++ rest))))) w (heading + 1) split-w (omega arith)
 
       to-s : drop (heading + 2 + 2 * w) whole ≡ ss ++ (m ∷ (ms ++ rest))
-      to-s = after-seam whole (q ∷ (part ++ (w ∷ ws))) (ss ++ (m ∷ (ms ++ rest))) s (heading + 2 + 2 * w) split-s (simp length-append (omega arith))
+      to-s = after-seam whole (q ∷ (w ∷ ws)) (ss ++ (m ∷ (ms ++ rest))) s (heading + 2 + 2 * w) split-s (omega arith)
 
       to-m : drop (heading + 3 + 2 * w + 2 * s) whole ≡ ms ++ rest
-      to-m = after-seam whole (q ∷ (part ++ (w ∷ (ws ++ (s ∷ ss))))) (ms ++ rest) m (heading + 3 + 2 * w + 2 * s) split-m
+      to-m = after-seam whole (q ∷ (w ∷ (ws ++ (s ∷ ss)))) (ms ++ rest) m (heading + 3 + 2 * w + 2 * s) split-m
           (simp length-append (omega arith))
 
-module _ (F : Form) (q s b : ℕ) where
-  abbrev pub operation-of : (xs : List ℕ) → Block F q s b xs → Operation
+module _ (q s b : ℕ) where
+  abbrev pub operation-of : (xs : List ℕ) → Block q s b xs → Operation
   operation-of xs k = record {
     queue = k .queue;
     waits = points-in (k .waits) (k .ws);
     signals = points-in (k .signals) (k .ss);
-    marks = marks-in
-        (k .marks) (k .ms);
+    marks = marks-in (k .marks) (k .ms);
   }
 
-  pub block-long : (xs rest : List ℕ) → Block F q s b xs → operation-long (xs ++ rest) ≡ length xs
+  pub block-long : (xs rest : List ℕ) → Block q s b xs → operation-long (xs ++ rest) ≡ length xs
   unfolding whole block
   block-long xs rest k =
-      rw (k .numbers-are) (long-is F (k .queue) (k .part) (k .waits) (k .signals) (k .marks) (k .ws) (k .ss) (k .ms) (k .part-long) (k .waited .long)
+      rw (k .numbers-are) (long-is (k .queue) (k .waits) (k .signals) (k .marks) (k .ws) (k .ss) (k .ms)
+      (k .waited .long)
       (k .signalled .long) (k .marked .long) rest)
 
-  pub block-operation : (xs rest : List ℕ) (k : Block F q s b xs) → operation-in (xs ++ rest) ≡ operation-of xs k
+  pub block-operation : (xs rest : List ℕ) (k : Block q s b xs) → operation-in (xs ++ rest) ≡ operation-of xs k
   unfolding whole block
   block-operation xs rest k =
       ap (λ z. operation-in (z ++ rest)) (k .numbers-are)
-      ∙ operation-is F (k .queue) (k .part) (k .waits) (k .signals) (k .marks) (k .ws) (k .ss) (k .ms) (k .part-long) (k .waited .long)
+      ∙ operation-is (k .queue) (k .waits) (k .signals) (k .marks) (k .ws) (k .ss) (k .ms) (k .waited .long)
       (k .signalled .long) (k .marked .long) rest
 
   -- ---- blocks in a row
   pub record Block-then (More : List ℕ → Type 0) (xs : List ℕ) : Type 0 where
     pub block : List ℕ
     pub rest : List ℕ
-    pub first : Block F q s b block
+    pub first : Block q s b block
     pub more : More rest
     pub numbers-are : xs ≡ block ++ rest
 
@@ -111,7 +112,8 @@ module _ (F : Form) (q s b : ℕ) where
   Blocks zero xs = xs ≡ []
   Blocks (suc n) xs = Block-then (Blocks n) xs
 
-  block-then : (n : ℕ) (xs rest : List ℕ) (k : Block F q s b xs) → operations-in (suc n) (xs ++ rest) ≡ operation-of xs k ∷ operations-in n rest
+  block-then : (n : ℕ) (xs rest : List ℕ) (k : Block q s b xs) →
+      operations-in (suc n) (xs ++ rest) ≡ operation-of xs k ∷ operations-in n rest
   unfolding operations-in
   block-then n xs rest k =
       ap₂ {C = List Operation} (λ x y. x ∷ operations-in n y) (block-operation xs rest k)
@@ -131,7 +133,7 @@ module _ (F : Form) (q s b : ℕ) where
       ∙ ap (λ z. operation-of (k .block) (k .first) ∷ z) (operations-front n (k .rest) rest (k .more))
       ∙ sym (operations-cons n xs k)
 
-pub operations-long : (F : Form) (n : ℕ) (xs : List ℕ) → length (operations-in n xs) ≡ n
+pub operations-long : (n : ℕ) (xs : List ℕ) → length (operations-in n xs) ≡ n
 unfolding operations-in
-operations-long F zero xs = refl
-operations-long F (suc n) xs = ap suc (operations-long F n (drop (operation-long xs) xs))
+operations-long zero xs = refl
+operations-long (suc n) xs = ap suc (operations-long n (drop (operation-long xs) xs))

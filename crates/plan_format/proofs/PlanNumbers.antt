@@ -5,8 +5,8 @@ use Prim.Native.Nat.{ℕ, _*_}
 use native.Mathlib.Omega.{arith}
 use lib.ListN.{length, length-append}
 use lib.Seq.{drop-at}
-use Rattle.plan_format.specs.Form.{first-form}
-use Rattle.plan_format.specs.Plan.{Point, Mark, Operation, Plan, points-in, marks-in, heading, operation-in, operation-long, operations-in, plan-of}
+use Rattle.plan_format.specs.Plan.{Point, Mark, Operation, Plan, points-in, marks-in, operation-in}
+use Rattle.plan_format.specs.Plan.{operation-long, operations-in, plan-of}
 use Rattle.plan_format.specs.Limits.{counted-numbers, one-number, point-numbers, mark-numbers, operation-numbers, numbers-of}
 use Rattle.plan_format.proofs.Operations.{block, whole, long-is, operation-is}
 use Rattle.plan_format.proofs.Sections as sections
@@ -38,17 +38,21 @@ marks-back (x ∷ xs) = ap (λ z. x ∷ z) (marks-back xs)
 -- ---- operations
 module _ (o : Operation) (rest : List ℕ) where
   operation-goes : operation-long (operation-numbers o ++ rest) ≡ length (operation-numbers o)
-  unfolding operation-numbers counted-numbers block whole heading
+  unfolding operation-numbers counted-numbers block whole
   operation-goes =
-      long-is first-form (o .queue) [] (length (o .waits)) (length (o .signals)) (length (o .marks)) (flatMap point-numbers (o .waits))
-      (flatMap point-numbers (o .signals)) (flatMap mark-numbers (o .marks)) refl (points-long (o .waits)) (points-long (o .signals))
+      long-is (o .queue) (length (o .waits)) (length (o .signals)) (length (o .marks))
+      (flatMap point-numbers (o .waits))
+      (flatMap point-numbers (o .signals)) (flatMap mark-numbers (o .marks)) (points-long (o .waits))
+      (points-long (o .signals))
       (marks-long (o .marks)) rest
 
   operation-back : operation-in (operation-numbers o ++ rest) ≡ o
-  unfolding operation-numbers counted-numbers block whole heading
+  unfolding operation-numbers counted-numbers block whole
   operation-back =
-      operation-is first-form (o .queue) [] (length (o .waits)) (length (o .signals)) (length (o .marks)) (flatMap point-numbers (o .waits))
-      (flatMap point-numbers (o .signals)) (flatMap mark-numbers (o .marks)) refl (points-long (o .waits)) (points-long (o .signals))
+      operation-is (o .queue) (length (o .waits)) (length (o .signals)) (length (o .marks))
+      (flatMap point-numbers (o .waits))
+      (flatMap point-numbers (o .signals)) (flatMap mark-numbers (o .marks)) (points-long (o .waits))
+      (points-long (o .signals))
       (marks-long (o .marks)) rest
       ∙ rw (points-back (o .waits), points-back (o .signals), marks-back (o .marks))
 
@@ -75,5 +79,6 @@ plan-back p =
     let b = length (p .sizes) in
     let n = length (p .operations) in
     rw (ones (p .axes), ones (p .owners), ones (p .sizes))
-    (sections.plan-at first-form q s b n (p .axes) (p .owners) (p .sizes) (flatMap operation-numbers (p .operations)) refl refl refl
+    (sections.plan-at q s b n (p .axes) (p .owners) (p .sizes) (flatMap operation-numbers (p .operations)) refl refl
+    refl
     ∙ rw (operations-back (p .operations)))

@@ -7,7 +7,9 @@ use lib.Dec.{eqb}
 use borrow.Author.Tests.{eqb-true, eqb-false}
 use Rattle.basics.proofs.Tests.{by-cases}
 use Rattle.plan_format.specs.Refusal.{given}
-use Rattle.plan_format.specs.Grammar.{Grammar, seq, counted, nothing, Source, Scan, field-number, read-field, last-got, times, count-check, read-by}
+use Rattle.plan_format.specs.Grammar.{Grammar, counted, Source, Scan, field-number, read-field, last-got, times}
+use Rattle.plan_format.specs.Grammar.{count-check, read-by}
+use Rattle.plan_format.specs.Sections.{repeat}
 use Rattle.plan_format.proofs.Judged.{not-given-zero}
 use Rattle.plan_format.proofs.Faults.{read-stays}
 
@@ -15,11 +17,6 @@ pub times-last : {A : Type 0} (k : ℕ) (f : A → A) (s : A) → times k f (f s
 unfolding times
 times-last zero f s = refl
 times-last (suc k) f s = times-last k f (f s)
-
--- so many of a thing
-unfoldable pub repeat : ℕ → Grammar → Grammar
-repeat zero g = nothing
-repeat (suc n) g = seq (repeat n g) g
 
 module _ (S : Source) where
   pub read-repeat : (n : ℕ) (g : Grammar) (s : Scan) → read-by S (repeat n g) s ≡ times n (λ u. read-by S g u) s

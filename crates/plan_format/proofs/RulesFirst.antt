@@ -13,12 +13,19 @@ use borrow.Author.Tests.{ltb-true, ltb-false, leb-true, leb-false, lt-ltb, eqb-t
 use Rattle.basics.proofs.Tests.{by-cases, clash, and-right, and-both, or-cases, or-left, or-right, either}
 use Rattle.plan_format.specs.Refusal.{Refusal, refusal, none-given}
 use Rattle.plan_format.specs.Plan.{Point, Operation, Plan, empty-operation, op}
-use Rattle.plan_format.specs.Sound.{highest-in, highest, owns, signals-number, signals-refusal, too-high, any-too-high, waits-refusal}
+use Rattle.plan_format.specs.Sound.{highest-in, highest, is-queue, owns, signals-number, signals-refusal}
+use Rattle.plan_format.specs.Sound.{too-high, any-too-high, waits-refusal}
 use Rattle.plan_format.specs.Meaning.{signal-at, wait-at, Is-signal, Owned, Rising, First, Bad-owner, Not-rising, Signals-good, Too-high}
 use Rattle.plan_format.proofs.Heights.{begins, ends, owns-means, Over, over-in, in-over, over-highest, highest-over, over-taken, taken-over, all-taken, taken-all, highest-more}
 
 abbrev pub no-point : Point
 no-point = record { semaphore = 0; value = 0 }
+
+-- 7 for a first signal of 0, by the queue that owns the semaphore
+zero-signal : signals-number (record { axes = 9 ∷ []; owners = 0 ∷ []; sizes = []; operations = [] }) 0 [] []
+    (no-point ∷ []) ≡ 7
+unfolding signals-number owns is-queue highest highest-in
+zero-signal = refl
 
 module _ (p : Plan) where
   abbrev Good : (i k : ℕ) → Type 0

@@ -5,6 +5,7 @@ use Prim.Native.Nat.{ℕ, zero, suc, _+_, _≤_}
 use native.Mathlib.Omega.{arith}
 use lib.ListN.{length, getD, take, drop, length-append}
 use lib.Seq.{take-at}
+use Rattle.plan_format.specs.Sizes.{most-queues, most-buffers, most-operations}
 use Rattle.plan_format.specs.Form.{Form, queue-count, semaphore-count, buffer-count, any-number, new-axis, a-queue, operation, plan-grammar}
 use Rattle.plan_format.specs.Plan.{Plan, operations-in, plan-of}
 use Rattle.plan_format.proofs.Parses.{Spelt, Many, Field, Parses}
@@ -22,15 +23,15 @@ pub record Sections (F : Form) (xs : List ℕ) : Type 0 where
   pub owners : List ℕ
   pub sizes : List ℕ
   pub blocks : List ℕ
-  pub few-queues : queues ≤ 16
+  pub few-queues : queues ≤ most-queues
   pub least-semaphores : F .semaphores-least ≤ semaphores
   pub few-semaphores : semaphores ≤ F .semaphores-most
-  pub few-buffers : buffers ≤ 256
-  pub few-operations : operations ≤ 1024
+  pub few-buffers : buffers ≤ most-buffers
+  pub few-operations : operations ≤ most-operations
   pub axes-row : Row new-axis (queues ∷ []) queues axes
   pub owners-row : Row a-queue (queues ∷ (axes ++ (semaphores ∷ []))) semaphores owners
   pub sizes-long : length sizes ≡ buffers
-  pub blocks-are : Blocks F queues semaphores buffers operations blocks
+  pub blocks-are : Blocks queues semaphores buffers operations blocks
   pub numbers-are : xs ≡ queues ∷ (axes ++ (semaphores ∷ (owners ++ (buffers ∷ (sizes ++ (operations ∷ blocks))))))
 
 -- the four counts, each at its place
@@ -42,7 +43,7 @@ pub record Counts-at (xs : List ℕ) (q s b n : ℕ) : Type 0 where
 
 -- ---- from a parse
 many-blocks : (D : Spelt) (F : Form) (q s b n : ℕ) (got vs ds : List ℕ) → Kept q s b got → Many (Parses D (operation F)) n got vs ds →
-    Blocks F q s b n vs
+    Blocks q s b n vs
 many-blocks D F q s b zero got vs ds k p = p .numbers-are
 many-blocks D F q s b (suc n) got vs ds k p = record {
   block = p .vs₁;
@@ -88,11 +89,11 @@ module _ (D : Spelt) (F : Form) where
       let p₂ = p₁ .second in
       let got₂ = p .vs₁ ++ p₁ .vs₁ in
       let got₃ = got₂ ++ p₂ .vs₁ in
-      let c₁ = listing D 0 16 1 (Field D 8 new-axis) [] (p .vs₁) (p .ds₁) (p .first) in
+      let c₁ = listing D 0 most-queues 1 (Field D 8 new-axis) [] (p .vs₁) (p .ds₁) (p .first) in
       let c₂ = listing D (F .semaphores-least) (F .semaphores-most) (F .semaphore-width) (Field D 1 a-queue) (p .vs₁) (p₁ .vs₁) (p₁ .ds₁)
       (p₁ .first) in
-      let c₃ = listing D 0 256 2 (Field D 4 any-number) got₂ (p₂ .vs₁) (p₂ .ds₁) (p₂ .first) in
-      let c₄ = listing D 0 1024 2 (Parses D (operation F)) got₃ (p₂ .vs₂) (p₂ .ds₂) (p₂ .second) in
+      let c₃ = listing D 0 most-buffers 2 (Field D 4 any-number) got₂ (p₂ .vs₁) (p₂ .ds₁) (p₂ .first) in
+      let c₄ = listing D 0 most-operations 2 (Parses D (operation F)) got₃ (p₂ .vs₂) (p₂ .ds₂) (p₂ .second) in
       let q = c₁ .count in
       let s = c₂ .count in
       let b = c₃ .count in
@@ -124,7 +125,13 @@ module _ (D : Spelt) (F : Form) where
       }
 
 -- ---- the plan
-module _ (F : Form) (q s b n : ℕ) (axes owners sizes blocks : List ℕ) (la : length axes ≡ q) (lo : length owners ≡ s) (lb : length sizes ≡ b) where
+-- the owners come right after their count
+two-owners : plan-of (0 ∷ 2 ∷ 5 ∷ 6 ∷ 0 ∷ 0 ∷ []) .owners ≡ 5 ∷ 6 ∷ []
+unfolding plan-of
+two-owners = refl
+
+module _ (q s b n : ℕ) (axes owners sizes blocks : List ℕ) (la : length axes ≡ q) (lo : length owners ≡ s)
+    (lb : length sizes ≡ b) where
   unfoldable pub whole : List ℕ
   whole = q ∷ (axes ++ (s ∷ (owners ++ (b ∷ (sizes ++ (n ∷ blocks))))))
 
@@ -169,17 +176,19 @@ module _ (F : Form) (q s b n : ℕ) (axes owners sizes blocks : List ℕ) (la : 
       to-blocks = after-seam whole (q ∷ (axes ++ (s ∷ (owners ++ (b ∷ sizes))))) blocks n (4 + q + s + b) seam-n (simp length-append (omega arith))
 
 -- the plan of sections that are as long as their counts say
-pub plan-whole : (F : Form) (q s b n : ℕ) (axes owners sizes blocks : List ℕ) → length axes ≡ q → length owners ≡ s → length sizes ≡ b →
+pub plan-whole : (q s b n : ℕ) (axes owners sizes blocks : List ℕ) → length axes ≡ q → length owners ≡ s →
+    length sizes ≡ b →
     plan-of (q ∷ (axes ++ (s ∷ (owners ++ (b ∷ (sizes ++ (n ∷ blocks))))))) ≡ record { axes = axes; owners = owners; sizes = sizes; operations = operations-in n blocks }
 unfolding whole
-plan-whole F q s b n axes owners sizes blocks la lo lb = plan-at F q s b n axes owners sizes blocks la lo lb
+plan-whole q s b n axes owners sizes blocks la lo lb = plan-at q s b n axes owners sizes blocks la lo lb
 
 pub plan-is : (F : Form) (xs : List ℕ) (c : Sections F xs) →
     plan-of xs ≡ record { axes = c .axes; owners = c .owners; sizes = c .sizes; operations = operations-in (c .operations) (c .blocks) }
 unfolding whole
 plan-is F xs c =
     ap (λ z. plan-of z) (c .numbers-are)
-    ∙ plan-at F (c .queues) (c .semaphores) (c .buffers) (c .operations) (c .axes) (c .owners) (c .sizes) (c .blocks) (c .axes-row .long)
+    ∙ plan-at (c .queues) (c .semaphores) (c .buffers) (c .operations) (c .axes) (c .owners) (c .sizes) (c .blocks)
+    (c .axes-row .long)
     (c .owners-row .long) (c .sizes-long)
 
 -- ---- whatever follows the numbers, counts and plan are the same
@@ -191,15 +200,17 @@ module _ (F : Form) (xs rest : List ℕ) (c : Sections F xs) where
   unfolding whole
   counts-front =
       subst (λ z. Counts-at z (c .queues) (c .semaphores) (c .buffers) (c .operations)) (sym longer)
-      (counts-at F (c .queues) (c .semaphores) (c .buffers) (c .operations) (c .axes) (c .owners) (c .sizes) (c .blocks ++ rest) (c .axes-row .long)
+      (counts-at (c .queues) (c .semaphores) (c .buffers) (c .operations) (c .axes) (c .owners) (c .sizes)
+      (c .blocks ++ rest) (c .axes-row .long)
       (c .owners-row .long) (c .sizes-long))
 
   pub plan-front : plan-of (xs ++ rest) ≡ plan-of xs
   unfolding whole
   plan-front =
       ap (λ z. plan-of z) longer
-      ∙ plan-at F (c .queues) (c .semaphores) (c .buffers) (c .operations) (c .axes) (c .owners) (c .sizes) (c .blocks ++ rest) (c .axes-row .long)
+      ∙ plan-at (c .queues) (c .semaphores) (c .buffers) (c .operations) (c .axes) (c .owners) (c .sizes)
+      (c .blocks ++ rest) (c .axes-row .long)
       (c .owners-row .long) (c .sizes-long)
       ∙ ap {B = Plan} (λ z. record { axes = c .axes; owners = c .owners; sizes = c .sizes; operations = z })
-      (operations-front F (c .queues) (c .semaphores) (c .buffers) (c .operations) (c .blocks) rest (c .blocks-are))
+      (operations-front (c .queues) (c .semaphores) (c .buffers) (c .operations) (c .blocks) rest (c .blocks-are))
       ∙ sym (plan-is F xs c)

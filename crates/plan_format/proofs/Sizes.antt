@@ -5,8 +5,9 @@ use Prim.Native.Nat.{ℕ, suc, _+_, _*_, _≤_, zero-le}
 use native.Mathlib.Nat.{le-refl, suc-mul, mul-le-mul-right}
 use native.Mathlib.Omega.{arith}
 use lib.ListN.{length, length-append, length-drop}
+use Rattle.plan_format.specs.Sizes.{plan-numbers, plan-bytes}
 use Rattle.plan_format.specs.Grammar.{Check, Grammar, field, seq, counted, nothing, bytes, numbers, count-check, most-bytes, most-numbers}
-use Rattle.plan_format.specs.Form.{Form, first-form, point, mark, part, operation, plan-grammar, scanned-by, spelled-by}
+use Rattle.plan_format.specs.Form.{Form, first-form, point, mark, operation, plan-grammar, scanned-by, spelled-by}
 use Rattle.plan_format.specs.Stored.{scanned, listed, spelled}
 use Rattle.plan_format.proofs.Bytes.{length-digits}
 use Rattle.plan_format.proofs.Parses.{Takes, _⊆_, Spelt, Exact, Loose, Nothing, Then, Holds, Parses, then-first, parsed-give}
@@ -119,29 +120,31 @@ module _ (F : Form) (xs : List ℕ) (e : scanned-by numbers F xs .fault .number 
 
 -- ---- the first form; 01: "The longest operation takes 61 bytes, the longest plan 63,686", "at most 22,868"
 pub longest-operation : most-bytes (operation first-form) ≡ 61
-unfolding most-bytes operation point mark part first-form
+unfolding most-bytes operation point mark first-form
 longest-operation = refl
 
 pub longest-plan : most-bytes (plan-grammar first-form) ≡ 63686
-unfolding most-bytes plan-grammar operation point mark part first-form
+unfolding most-bytes plan-grammar operation point mark first-form
 longest-plan = refl
 
 pub most-plan-numbers : most-numbers (plan-grammar first-form) ≡ 22868
-unfolding most-numbers plan-grammar operation point mark part first-form
+unfolding most-numbers plan-grammar operation point mark first-form
 most-plan-numbers = refl
 
 no-lead : length (first-form .lead) ≡ 0
 unfolding first-form
 no-lead = refl
 
-pub scanned-sizes : (bs : List ℕ) → scanned bs .fault .number ≡ 0 → (length bs ≤ 63686) × (length (scanned bs .got) ≤ 22868)
+pub scanned-sizes : (bs : List ℕ) → scanned bs .fault .number ≡ 0 →
+    (length bs ≤ plan-bytes) × (length (scanned bs .got) ≤ plan-numbers)
 unfolding scanned
 scanned-sizes bs e = (
   omega (arith, no-lead, longest-plan, read-bytes-most first-form bs e),
   rw most-plan-numbers at (read-numbers-most first-form bs e),
 )
 
-pub listed-sizes : (xs : List ℕ) → listed xs .fault .number ≡ 0 → (length xs ≤ 22868) × (length (spelled xs) ≤ 63686)
+pub listed-sizes : (xs : List ℕ) → listed xs .fault .number ≡ 0 →
+    (length xs ≤ plan-numbers) × (length (spelled xs) ≤ plan-bytes)
 unfolding listed spelled
 listed-sizes xs e = (
   rw most-plan-numbers at (taken-numbers-most first-form xs e),

@@ -8,7 +8,7 @@ use native.Mathlib.Omega.{arith}
 use lib.Dec.{lit<}
 use lib.ListN.{getD}
 use Rattle.plan_format.specs.Grammar.{Check, Grammar, field, seq, counted, nothing, count-check}
-use Rattle.plan_format.specs.Form.{first-form, point, mark, part, operation, plan-grammar}
+use Rattle.plan_format.specs.Form.{first-form, point, mark, operation, plan-grammar}
 use Rattle.plan_format.specs.Stored.{all-bytes, scanned, listed}
 use Rattle.plan_format.proofs.Parses.{Takes, _⊆_, Exact, Nothing, Then, Holds, Parses, then-first, parsed-give}
 use Rattle.plan_format.proofs.RoundTrip.{bytes-read, numbers-read}
@@ -68,7 +68,7 @@ module _ (n : ℕ) where
   parsed-small g z got vs ds p = small g got vs ds p z
 
 first-narrow : Narrow 8 (plan-grammar first-form)
-unfolding plan-grammar operation point mark part first-form
+unfolding plan-grammar operation point mark first-form
 first-narrow = omega arith
 
 pub scanned-small : (bs : List ℕ) → all-bytes bs ≡ true → scanned bs .fault .number ≡ 0 → (i : ℕ) → getD (scanned bs .got) i 0 < 2 ^ 64

@@ -12,7 +12,8 @@ use lib.ListN.{length, getD, drop}
 use Rattle.basics.specs.Lists.{member}
 use Rattle.plan_format.specs.Sizes.{most-queues, most-semaphores, most-buffers, most-operations, most-waits, most-signals, most-marks}
 use Rattle.plan_format.specs.Refusal.{none-given}
-use Rattle.plan_format.specs.Grammar.{Check, Grammar, field, seq, counted, nothing, Source, Scan, scan, read-by, ended, spell-by}
+use Rattle.plan_format.specs.Grammar.{Check, Grammar, field, seq, counted, Source, Scan, scan, read-by, ended}
+use Rattle.plan_format.specs.Grammar.{spell-by}
 
 -- what tells one stored form from another: the bytes in front, the width of a semaphore's position and of the semaphore count, the
 -- limits of that count
@@ -68,13 +69,11 @@ point F = seq (field (F .semaphore-width) a-semaphore) (field 8 any-number)
 unfoldable pub mark : Grammar
 mark = seq (field 2 a-buffer) (field 1 a-kind)
 
-unfoldable pub part : Grammar
-part = nothing
-
 -- 01: "An operation: queue (1 byte); wait count (1 byte, 0..3) ..; signal count (1 byte, 0..2) ..; mark count (1 byte, 0..4)"
 unfoldable pub operation : Form → Grammar
 operation F =
-    seq (field 1 a-queue) (seq part (seq (counted 0 most-waits 1 (point F)) (seq (counted 0 most-signals 1 (point F)) (counted 0 most-marks 1 mark))))
+    seq (field 1 a-queue)
+    (seq (counted 0 most-waits 1 (point F)) (seq (counted 0 most-signals 1 (point F)) (counted 0 most-marks 1 mark)))
 
 unfoldable pub plan-grammar : Form → Grammar
 plan-grammar F =
@@ -82,7 +81,7 @@ plan-grammar F =
     (seq (counted (F .semaphores-least) (F .semaphores-most) (F .semaphore-width) (field 1 a-queue))
     (seq (counted 0 most-buffers 2 (field 4 any-number)) (counted 0 most-operations 2 (operation F))))
 
--- reading a whole plan: from behind the lead byte to the end
+-- reading a whole plan: from after the lead byte to the end
 unfoldable pub scanned-by : Source → Form → List ℕ → Scan
 scanned-by S F xs =
     let k = S .leads * length (F .lead) in ended (read-by S (plan-grammar F) (scan (drop k xs) k [] none-given))

@@ -12,10 +12,20 @@ abbrev pub Each : {A : Type 0} → (A → Type 0) → List A → Type 0
 Each P [] = Unit {0}
 Each P (x ∷ xs) = P x × Each P xs
 
+-- what is asked of an axis, a size and a value, which have no limit but the bytes of their field
+abbrev pub Fits : Type 1
+Fits = (width v : ℕ) → Type 0
+
+abbrev pub In-bytes : Fits
+In-bytes w v = v < 256 ^ w
+
+abbrev pub Unbounded : Fits
+Unbounded w v = Unit {0}
+
 -- 01: "each wait a semaphore (1 byte) and a value (8 bytes)", "A signal of 2^64−1 is allowed"
-pub record Point-within (semaphores : ℕ) (x : Point) : Type 0 where
+pub record Point-within (fits : Fits) (semaphores : ℕ) (x : Point) : Type 0 where
   pub semaphore : x .semaphore < semaphores
-  pub value : x .value < 2 ^ 64
+  pub value : fits 8 (x .value)
 
 -- 01: "each mark a buffer (2 bytes) and a kind (1 byte: 0 use, 1 free)"
 pub record Mark-within (buffers : ℕ) (m : Mark) : Type 0 where
@@ -23,27 +33,36 @@ pub record Mark-within (buffers : ℕ) (m : Mark) : Type 0 where
   pub kind : m .kind ≤ 1
 
 -- 01: "An operation: queue (1 byte); wait count (1 byte, 0..3) ..; signal count (1 byte, 0..2) ..; mark count (1 byte, 0..4)"
-pub record Operation-within (queues semaphores buffers : ℕ) (o : Operation) : Type 0 where
+pub record Operation-within (fits : Fits) (queues semaphores buffers : ℕ) (o : Operation) : Type 0 where
   pub queue : o .queue < queues
   pub few-waits : length (o .waits) ≤ most-waits
-  pub waits : Each (Point-within semaphores) (o .waits)
+  pub waits : Each (Point-within fits semaphores) (o .waits)
   pub few-signals : length (o .signals) ≤ most-signals
-  pub signals : Each (Point-within semaphores) (o .signals)
+  pub signals : Each (Point-within fits semaphores) (o .signals)
   pub few-marks : length (o .marks) ≤ most-marks
   pub marks : Each (Mark-within buffers) (o .marks)
 
 -- 01: "queues, 0..16: axis, 8 bytes, all distinct", "semaphores, 0..64: owner: a queue", "buffers, 0..256: size in bytes, 4 bytes, any number",
 -- "operations, 0..1,024"
-pub record Within (p : Plan) : Type 0 where
+pub record Plan-within (fits : Fits) (p : Plan) : Type 0 where
   pub few-queues : length (p .axes) ≤ most-queues
-  pub axes : Each (λ a. a < 2 ^ 64) (p .axes)
+  pub axes : Each (fits 8) (p .axes)
   pub axes-distinct : (i k : ℕ) → i < k → k < length (p .axes) → getD (p .axes) i 0 ≡ getD (p .axes) k 0 → ⊥
   pub few-semaphores : length (p .owners) ≤ most-semaphores
   pub owners : Each (λ q. q < length (p .axes)) (p .owners)
   pub few-buffers : length (p .sizes) ≤ most-buffers
-  pub sizes : Each (λ n. n < 2 ^ 32) (p .sizes)
+  pub sizes : Each (fits 4) (p .sizes)
   pub few-operations : length (p .operations) ≤ most-operations
-  pub operations : Each (Operation-within (length (p .axes)) (length (p .owners)) (length (p .sizes))) (p .operations)
+  pub operations : Each (Operation-within fits (length (p .axes)) (length (p .owners)) (length (p .sizes)))
+      (p .operations)
+
+-- a plan that can be stored
+abbrev pub Within : Plan → Type 0
+Within = Plan-within In-bytes
+
+-- its counts and positions alone
+abbrev pub Limits : Plan → Type 0
+Limits = Plan-within Unbounded
 
 -- ---- 01: "A read plan is a list of numbers, one for each field in stored order, counts included"
 unfoldable pub counted-numbers : {A : Type 0} → (entry : A → List ℕ) → List A → List ℕ

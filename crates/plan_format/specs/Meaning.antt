@@ -5,13 +5,14 @@ use mathlib.Core.Bool.{true, false}
 use mathlib.Core.Logic.{_⊎_, _↔_}
 use mathlib.Core.List.{List, [], _∷_, _++_}
 use Prim.Native.Nat.{ℕ, zero, suc, _+_, _≤_, _<_}
-use lib.ListN.{length, getD, drop}
-use Rattle.plan_format.specs.Refusal.{Refusal}
+use lib.ListN.{length, getD, take, drop}
+use Rattle.plan_format.specs.Refusal.{Refusal, none-given}
 use Rattle.plan_format.specs.RefusalNumbers.{None-or, reading-numbers, rule-numbers, plan-gives}
-use Rattle.plan_format.specs.Grammar.{Grammar, field, seq, counted, nothing, Source, Scan, count-check}
+use Rattle.plan_format.specs.Grammar.{Grammar, field, seq, counted, nothing, Source, Scan, scan, count-check}
 use Rattle.plan_format.specs.Form.{first-form, plan-grammar, any-number, new-axis, a-queue, a-semaphore, a-buffer, a-kind, queue-count, semaphore-count, buffer-count}
-use Rattle.plan_format.specs.Plan.{Point, Plan, op}
-use Rattle.plan_format.specs.Stored.{scanned, plan-in}
+use Rattle.plan_format.specs.Plan.{Point, Plan, op, plan-of}
+use Rattle.plan_format.specs.Limits.{Within, numbers-of, bytes-of}
+use Rattle.plan_format.specs.Stored.{scanned, listed, plan-in, spelled}
 use Rattle.plan_format.specs.declared.Told.{Told}
 
 -- the number and the place of a refusal
@@ -222,3 +223,19 @@ pub record Filled (new : List ℕ) (r : Told) (room room-now : List ℕ) : Type 
   pub long : r .number ≡ 0 → length room-now ≡ length room
   pub holds : r .number ≡ 0 → (k : ℕ) → k < length new → getD room-now k 0 ≡ getD new k 0
   pub past : r .number ≡ 0 → (k : ℕ) → length new ≤ k → getD room-now k 0 ≡ getD room k 0
+
+-- what was read: the numbers of a plan within the limits, which the writer takes, and from which it writes the very
+-- bytes
+pub record Read-means (bytes : List ℕ) (r : Told) (room room-now : List ℕ) : Type 0 where
+  pub filled : Filled (scanned bytes .got) r room room-now
+  pub within : r .number ≡ 0 → Within (plan-in bytes)
+  pub numbers : r .number ≡ 0 → take (r .answer) room-now ≡ numbers-of (plan-in bytes)
+  pub taken : r .number ≡ 0 → listed (take (r .answer) room-now) .fault ≡ none-given
+  pub written-back : r .number ≡ 0 → spelled (take (r .answer) room-now) ≡ bytes
+
+-- what was written: the bytes of a plan within the limits, from which the reader reads the very numbers, to the end
+pub record Write-means (numbers : List ℕ) (r : Told) (room room-now : List ℕ) : Type 0 where
+  pub filled : Filled (spelled numbers) r room room-now
+  pub within : r .number ≡ 0 → Within (plan-of numbers)
+  pub bytes : r .number ≡ 0 → take (r .answer) room-now ≡ bytes-of (plan-of numbers)
+  pub read-back : r .number ≡ 0 → scanned (take (r .answer) room-now) ≡ scan [] (r .answer) numbers none-given

@@ -1,14 +1,19 @@
 -- The grammars of the sections once the counts are known: each check has the limit that it asks for.
 -- Assumes nothing: these are definitions.
 use mathlib.Core.Bool.{cond}
-use Prim.Native.Nat.{ℕ}
+use Prim.Native.Nat.{ℕ, zero, suc}
 use lib.Dec.{ltb}
 use Rattle.plan_format.specs.Sizes.{most-waits, most-signals, most-marks}
-use Rattle.plan_format.specs.Grammar.{Check, Grammar, field, seq, counted}
-use Rattle.plan_format.specs.Form.{any-number, new-axis, part}
+use Rattle.plan_format.specs.Grammar.{Check, Grammar, field, seq, counted, nothing}
+use Rattle.plan_format.specs.Form.{any-number, new-axis}
 
 unfoldable pub limited : (limit over : ℕ) → Check
 limited l n g v = cond (ltb v l) 0 n
+
+-- so many of a thing
+unfoldable pub repeat : ℕ → Grammar → Grammar
+repeat zero g = nothing
+repeat (suc n) g = seq (repeat n g) g
 
 unfoldable pub axis-field : Grammar
 axis-field = field 8 new-axis
@@ -16,13 +21,15 @@ axis-field = field 8 new-axis
 unfoldable pub size-field : Grammar
 size-field = field 4 any-number
 
-unfoldable pub point-below : (semaphores : ℕ) → Grammar
-point-below m = seq (field 1 (limited m 4)) (field 8 any-number)
+-- a semaphore's position has as many bytes as the form says
+unfoldable pub point-below : (width semaphores : ℕ) → Grammar
+point-below w m = seq (field w (limited m 4)) (field 8 any-number)
 
 unfoldable pub mark-below : (buffers : ℕ) → Grammar
 mark-below b = seq (field 2 (limited b 4)) (field 1 (limited 2 4))
 
-unfoldable pub operation-below : (queues semaphores buffers : ℕ) → Grammar
-operation-below q m b =
+unfoldable pub operation-below : (width queues semaphores buffers : ℕ) → Grammar
+operation-below w q m b =
     seq (field 1 (limited q 4))
-    (seq part (seq (counted 0 most-waits 1 (point-below m)) (seq (counted 0 most-signals 1 (point-below m)) (counted 0 most-marks 1 (mark-below b)))))
+    (seq (counted 0 most-waits 1 (point-below w m))
+    (seq (counted 0 most-signals 1 (point-below w m)) (counted 0 most-marks 1 (mark-below b))))

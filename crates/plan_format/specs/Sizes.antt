@@ -48,7 +48,7 @@ table-numbers = row-width * most-operations
 abbrev pub list-numbers : ℕ
 list-numbers = 2 * most-operations
 
--- the most numbers before the operations, of one operation and of a plan; the most bytes of a plan
+-- the most numbers before the operations, of one operation and of a plan
 abbrev pub head-numbers : ℕ
 head-numbers = 4 + most-queues + most-semaphores + most-buffers
 
@@ -58,8 +58,15 @@ block-numbers = 4 + 2 * (most-waits + most-signals + most-marks)
 abbrev pub plan-numbers : ℕ
 plan-numbers = head-numbers + most-operations * block-numbers
 
+-- and the most bytes, each count, position and number in the bytes of its field
+abbrev pub head-bytes : ℕ
+head-bytes = 6 + 8 * most-queues + most-semaphores + 4 * most-buffers
+
+abbrev pub block-bytes : ℕ
+block-bytes = 4 + 9 * (most-waits + most-signals) + 3 * most-marks
+
 abbrev pub plan-bytes : ℕ
-plan-bytes = 63686
+plan-bytes = head-bytes + most-operations * block-bytes
 
 -- the number that stands for no operation
 abbrev pub no-operation : ℕ

@@ -33,14 +33,19 @@ pub const TABLE_NUMBERS: usize = ROW_WIDTH * MOST_OPERATIONS;
 
 pub const LIST_NUMBERS: usize = 2 * MOST_OPERATIONS;
 
-// The most numbers before the operations, of one operation and of a plan; the most bytes of a plan.
+// The most numbers before the operations, of one operation and of a plan.
 pub const HEAD_NUMBERS: usize = 4 + MOST_QUEUES + MOST_SEMAPHORES + MOST_BUFFERS;
 
 pub const BLOCK_NUMBERS: usize = 4 + 2 * (MOST_WAITS + MOST_SIGNALS + MOST_MARKS);
 
 pub const PLAN_NUMBERS: usize = HEAD_NUMBERS + MOST_OPERATIONS * BLOCK_NUMBERS;
 
-pub const PLAN_BYTES: usize = 63686;
+// And the most bytes, each count, position and number in the bytes of its field.
+pub const HEAD_BYTES: usize = 6 + 8 * MOST_QUEUES + MOST_SEMAPHORES + 4 * MOST_BUFFERS;
+
+pub const BLOCK_BYTES: usize = 4 + 9 * (MOST_WAITS + MOST_SIGNALS) + 3 * MOST_MARKS;
+
+pub const PLAN_BYTES: usize = HEAD_BYTES + MOST_OPERATIONS * BLOCK_BYTES;
 
 // Room for the numbers of one operation, with its counts cut to their bits.
 pub const WINDOW: usize = 32;

@@ -1,11 +1,10 @@
-// A reader that holds the bytes of a stored plan and its place in them: thin functions over it, and one above them with plain parameters.
+// A reader that holds the bytes of a stored plan and its place in them, and is handed on from the head to the operations: thin functions over it,
+// and one above them with plain parameters.
 use plan_format::Told;
-use plan_numbers::rule::Field;
-use plan_numbers::rule::Rule;
+use plan_reader::Heading;
 ghost use mathlib.Core.Path.{_≡_};
-ghost use lib.ListN.{drop};
 ghost use Rattle.plan_format.specs.Stored.{Read-says};
-ghost use Rattle.plan_numbers.specs.Judging.{field-read};
+ghost use Rattle.plan_reader.specs.Rest.{Heading-told, Rest-says};
 
 // The bytes of a plan, lent, and a place in them.
 pub struct Reader<'a> {
@@ -20,30 +19,35 @@ pub fn new<'a>(src: &'a [u8]) -> Reader<'a>
     Reader { src, at: 0 }
 }
 
-// The field at the reader's place.
-pub fn next_field<'a>(r: Reader<'a>, rule: Rule) -> Field
-    ensures { λ f. ⌜ f ≡ field-read (now (r .entry .src)) (r .entry .at) rule ⌝ }
+// The head of the plan that begins at the reader's place.
+pub fn head<'a>(r: Reader<'a>) -> Heading
+    ensures { λ h. ⌜ Heading-told (now (r .entry .src)) (r .entry .at) h ⌝ }
 {
-    plan_numbers::rule::field_at(r.src, r.at, rule)
+    plan_reader::read_heading(r.src, r.at)
 }
 
-// The reader handed on, at another place of the same bytes.
-pub fn moved<'a>(r: Reader<'a>, at: usize) -> Reader<'a>
-    ensures { λ q. ⌜ (q .src ≡ r .entry .src) × (q .at ≡ at) ⌝ }
+// The reader handed on, to where its head ends.
+pub fn moved<'a>(r: Reader<'a>, h: Heading) -> Reader<'a>
+    ensures { λ q. ⌜ (q .src ≡ r .entry .src) × (q .at ≡ h .head .at) ⌝ }
 {
-    Reader { src: r.src, at }
+    Reader {
+        src: r.src,
+        at: h.head.at,
+    }
 }
 
-// The plan that stands from the reader's place on, its places counted from there.
-pub fn read_whole<'a>(r: Reader<'a>, room: &mut [u64]) -> Told
-    ensures { λ t. ⌜ Read-says (drop (r .entry .at) (now (r .entry .src))) t (now (room .entry)) (now (room .exit)) ⌝ }
+// The plan whose head was read, its operations from the reader's place on.
+pub fn rest<'a>(r: Reader<'a>, h: Heading, room: &mut [u64]) -> Told
+    ensures { λ t. ⌜ Rest-says (now (r .entry .src)) (r .entry .at) h t (now (room .entry)) (now (room .exit)) ⌝ }
 {
-    plan_reader::read_from(r.src, r.at, room)
+    plan_reader::read_rest(r.src, r.at, h, room)
 }
 
-// A plan read through the struct. Callers need no struct.
+// A plan read through the struct: its head, and from there on its operations. Callers need no struct.
 pub fn read_held(plan: &[u8], room: &mut [u64]) -> Told
     ensures { λ t. ⌜ Read-says (now (plan .entry)) t (now (room .entry)) (now (room .exit)) ⌝ }
 {
-    read_whole(new(plan), room)
+    let r = new(plan);
+    let h = head(r);
+    rest(moved(r, h), h, room)
 }

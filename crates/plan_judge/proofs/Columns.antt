@@ -7,9 +7,10 @@ use Rattle.plan_format.specs.Sizes.{most-operations}
 use Rattle.plan_format.specs.Plan.{Plan}
 use Rattle.plan_format.specs.Sound.{Sound}
 use Rattle.plan_format.specs.declared.Told.{Told}
+use Rattle.plan_format.proofs.Positions.{in-range, few-waits}
 use Rattle.plan_order.specs.Runs.{standard}
 use Rattle.plan_columns.specs.Columns.{Columns}
-use Rattle.plan_columns.proofs.Limits.{limits-sound}
+use Rattle.plan_columns.proofs.Limits.{few-operations, limits-sound}
 use Rattle.plan_rules.specs.declared.Signalled.{Signalled}
 use Rattle.plan_rules.specs.Walks.{Signals-given, Judged}
 use Rattle.plan_waits.specs.Waits.{Waits-given}
@@ -21,7 +22,7 @@ module _ {p : Plan} {n signals : ℕ} {owner queue wsem wval ssem sval sop : Lis
   pub signals-given : Signals-given p signals owner queue ssem sval sop
   signals-given = record {
     few-owners = g .limits .few-semaphores;
-    in-range = g .limits .in-range;
+    in-range = in-range (g .limits);
     owners-shown = g .owners-shown;
     queues-shown = g .queues-shown;
     signals-shown = g .signals-shown;
@@ -30,9 +31,9 @@ module _ {p : Plan} {n signals : ℕ} {owner queue wsem wval ssem sval sop : Lis
   pub waits-given : {j : Signalled} → Judged p j → j .number ≡ 0 → Waits-given p n signals ssem sval sop wsem wval (j .last)
   waits-given j z = record {
     operations = g .many;
-    few = subst (λ (k : ℕ). k ≤ most-operations) (g .many) (g .limits .few-operations);
+    few = subst (λ (k : ℕ). k ≤ most-operations) (g .many) (few-operations (g .limits));
     few-owners = g .limits .few-semaphores;
-    in-range = g .limits .in-range;
+    in-range = in-range (g .limits);
     rules = sym (j .number) ∙ z;
     signals-shown = g .signals-shown;
     waits-shown = g .waits-shown;
@@ -67,13 +68,13 @@ module _ {p : Plan} {n marks : ℕ} {queue source mark mop : List ℕ} (g : Orde
   order-sound = limits-sound (g .limits) (g .rules)
 
   pub order-few : n ≤ most-operations
-  order-few = subst (λ (k : ℕ). k ≤ most-operations) (g .many) (g .limits .few-operations)
+  order-few = subst (λ (k : ℕ). k ≤ most-operations) (g .many) (few-operations (g .limits))
 
   pub run-given : Run-given p n queue source
   run-given = record {
     sound = order-sound;
     many = g .many;
-    few-waits = g .limits .few-waits;
+    few-waits = few-waits (g .limits);
     queues = g .queues-shown;
     sources = g .sources-shown;
   }

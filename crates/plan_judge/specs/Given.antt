@@ -4,13 +4,14 @@ use mathlib.Core.List.{List}
 use Prim.Native.Nat.{ℕ, _≤_}
 use lib.ListN.{length}
 use Rattle.plan_format.specs.Sizes.{most-buffers}
+use Rattle.plan_format.specs.Limits.{Limits}
 use Rattle.plan_format.specs.Plan.{Plan, count}
 use Rattle.plan_format.specs.Sound.{Sound, rules-refusal}
 use Rattle.plan_format.specs.Stored.{Tells}
 use Rattle.plan_format.specs.declared.Told.{Told}
 use Rattle.plan_order.specs.Runs.{standard}
 use Rattle.plan_columns.specs.Columns.{Columns, Owner-column, Queue-column, Wait-columns, Signal-columns, Mark-columns, Source-column}
-use Rattle.plan_columns.specs.Shown.{Limits, Columns-of}
+use Rattle.plan_columns.specs.Shown.{Columns-of}
 use Rattle.plan_run.specs.Run.{Rows-of}
 
 -- the columns of a plan within the limits

@@ -7,8 +7,8 @@ use lib.Dec.{eqb}
 use lib.ListN.{drop}
 use Rattle.basics.proofs.Tests.{by-cases}
 use Rattle.plan_format.specs.Refusal.{given}
-use Rattle.plan_format.specs.Grammar.{Check, Grammar, field, seq, counted, nothing, Source, Scan, scan, refused, field-number, read-field, last-got, times, count-check, read-by}
-use Rattle.plan_format.specs.Form.{first-form, any-number, part}
+use Rattle.plan_format.specs.Grammar.{Check, Grammar, field, seq, counted, Source, Scan, scan, refused, field-number, read-field, last-got, times, count-check, read-by}
+use Rattle.plan_format.specs.Form.{any-number}
 use Rattle.plan_format.specs.Sections.{limited, point-below, mark-below, operation-below}
 use Rattle.plan_format.proofs.Judged.{not-given-zero}
 use Rattle.plan_format.proofs.Fields.{field-done}
@@ -23,7 +23,6 @@ pub data Blind : Grammar → Type 0 where
   field-blind : {w : ℕ} {c : Check} → ((got more : List ℕ) (v : ℕ) → c got v ≡ c more v) → Blind (field w c)
   seq-blind : {g h : Grammar} → Blind g → Blind h → Blind (seq g h)
   counted-blind : {l m w : ℕ} {g : Grammar} → Blind g → Blind (counted l m w g)
-  nothing-blind : Blind nothing
 
 module _ (S : Source) (front : List ℕ) where
   field-after : (w : ℕ) (c : ℕ → ℕ) (s : Scan) → read-field S w c (after front s) ≡ after front (read-field S w c s)
@@ -68,14 +67,12 @@ module _ (S : Source) (front : List ℕ) where
       let t = read-field S w c s in
       ap (λ (z : Scan). cond (given (z .fault)) z (times (last-got z) (λ u. read-by S g u) z)) (field-after w c s)
       ∙ counted-after t (λ u. read-by S g u) (times-after (λ u. read-by S g u) (blind-read p)) (last-after w c s)
-  blind-read nothing-blind s = refl
 
-pub operation-blind : (q m b : ℕ) → Blind (operation-below q m b)
-unfolding operation-below point-below mark-below part first-form limited any-number
-operation-blind q m b =
+pub operation-blind : (width q m b : ℕ) → Blind (operation-below width q m b)
+unfolding operation-below point-below mark-below limited any-number
+operation-blind width q m b =
     let points = seq-blind (field-blind (λ _ _ _. refl)) (field-blind (λ _ _ _. refl)) in
     seq-blind (field-blind (λ _ _ _. refl))
-    (seq-blind nothing-blind
     (seq-blind (counted-blind points)
     (seq-blind (counted-blind points)
-    (counted-blind (seq-blind (field-blind (λ _ _ _. refl)) (field-blind (λ _ _ _. refl)))))))
+    (counted-blind (seq-blind (field-blind (λ _ _ _. refl)) (field-blind (λ _ _ _. refl))))))

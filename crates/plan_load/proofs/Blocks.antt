@@ -7,7 +7,7 @@ use lib.ListN.{length, getD, drop, replicate, length-replicate}
 use lib.Seq.{drop-append-seam}
 use Rattle.plan_format.specs.Refusal.{none-given}
 use Rattle.plan_format.specs.Grammar.{bytes, Scan, scan, read-by}
-use Rattle.plan_format.specs.Form.{first-form, operation}
+use Rattle.plan_format.specs.Form.{Form, operation}
 use Rattle.plan_format.specs.Plan.{points-in, marks-in}
 use Rattle.plan_format.specs.Sections.{operation-below}
 use Rattle.plan_format.proofs.Alike.{alike-read}
@@ -33,20 +33,25 @@ front-kept q m b =
 same-back : (front xs ys : List ℕ) → front ++ xs ≡ front ++ ys → xs ≡ ys
 same-back front xs ys e = sym (drop-append-seam front xs) ∙ ap (λ (l : List ℕ). drop (length front) l) e ∙ drop-append-seam front ys
 
-pub block-read : (q m b : ℕ) (rest : List ℕ) (place : ℕ) (t : Scan) → read-by bytes (operation-below q m b) (scan rest place [] none-given) ≡ t → t .fault .number ≡ 0 →
-    Block first-form q m b (t .got)
+-- a form by the width of a semaphore's position, which is all that an operation has of it
+abbrev of-width : ℕ → Form
+of-width w = record { lead = []; semaphore-width = w; semaphores-least = 0; semaphores-most = 0 }
+
+pub block-read : (width q m b : ℕ) (rest : List ℕ) (place : ℕ) (t : Scan) →
+    read-by bytes (operation-below width q m b) (scan rest place [] none-given) ≡ t → t .fault .number ≡ 0 → Block q m b (t .got)
 unfolding after scan loose-bytes
-block-read q m b rest place t e clean =
+block-read width q m b rest place t e clean =
+    let F = of-width width in
     let front = any-front q m b in
     let s = scan rest place [] none-given in
     let u = after front s in
     let kept = front-kept q m b in
-    let whole : read-by bytes (operation first-form) u ≡ after front t =
-    alike-read bytes front (operation-alike kept) u ([], refl) ∙ blind-read bytes front (operation-blind q m b) s ∙ ap (after front) e in
-    let took = sound bytes Loose loose-bytes (operation first-form) u tt (ap (λ (z : Scan). z .fault .number) whole ∙ clean) in
+    let whole : read-by bytes (operation F) u ≡ after front t =
+    alike-read bytes front (operation-alike F kept) u ([], refl) ∙ blind-read bytes front (operation-blind width q m b) s ∙ ap (after front) e in
+    let took = sound bytes Loose loose-bytes (operation F) u tt (ap (λ (z : Scan). z .fault .number) whole ∙ clean) in
     let got : (front ++ []) ++ took .vs ≡ front ++ t .got = ap (λ (z : Scan). z .got) (sym (took .result) ∙ whole) in
     let same : took .vs ≡ t .got = same-back front (took .vs) (t .got) (ap (λ (l : List ℕ). l ++ took .vs) (sym (append-nil front)) ∙ got) in
-    subst (Block first-form q m b) same (operation-block Loose first-form q m b (front ++ []) (took .vs) (took .ds) (kept-more q m b front [] kept) (took .parsed))
+    subst (Block q m b) same (operation-block Loose F q m b (front ++ []) (took .vs) (took .ds) (kept-more q m b front [] kept) (took .parsed))
 
 -- the limits of a plan's counts
 pub record Small (q m b : ℕ) : Type 0 where
@@ -54,7 +59,7 @@ pub record Small (q m b : ℕ) : Type 0 where
   pub few-semaphores : m ≤ 64
   pub few-buffers : b ≤ 256
 
-pub block-fits : {q m b : ℕ} {xs : List ℕ} → Small q m b → (k : Block first-form q m b xs) → Fits (operation-of first-form q m b xs k)
+pub block-fits : {q m b : ℕ} {xs : List ℕ} → Small q m b → (k : Block q m b xs) → Fits (operation-of q m b xs k)
 block-fits {q} {m} {b} small k =
     let waits = points-long (k .waits) (k .ws) in
     let signals = points-long (k .signals) (k .ss) in

@@ -7,7 +7,6 @@ use native.Mathlib.Omega.{arith}
 use lib.ListN.{length, take, drop, length-append, length-take, take-append-drop}
 use Rattle.plan_format.specs.Refusal.{Refusal, none-given}
 use Rattle.plan_format.specs.Grammar.{bytes, Scan, scan, times, read-by}
-use Rattle.plan_format.specs.Form.{first-form}
 use Rattle.plan_format.specs.Sections.{operation-below}
 use Rattle.plan_format.proofs.Blocks.{Block}
 use Rattle.plan_format.proofs.Repeats.{times-last}
@@ -15,21 +14,22 @@ use Rattle.plan_columns.specs.Columns.{Columns}
 use Rattle.plan_columns.specs.Filling.{next-at, signal-count, mark-count, Added}
 use Rattle.plan_columns.proofs.Parts.{Filling, filling-none, filling-next}
 use Rattle.plan_numbers.specs.declared.Head.{Head}
-use Rattle.plan_numbers.specs.declared.cursor.Cursor.{Cursor}
-use Rattle.plan_numbers.specs.Reading.{fault-of, here, head-cursor, Operation-read}
+use Rattle.plan_numbers.specs.declared.End.{End}
+use Rattle.plan_numbers.specs.Reading.{fault-of, here, head-cursor, operation-scan, end-cursor, Operation-read}
 use Rattle.plan_numbers.proofs.Fields.{here-clean}
 use Rattle.plan_load.proofs.Blind.{after, blind-read, operation-blind}
 use Rattle.plan_load.proofs.Blocks.{Small, block-read}
 use Rattle.plan_load.proofs.Windows.{added-among}
 
-abbrev pub step : Head → Scan → Scan
-step h s = read-by bytes (operation-below (h .queues) (h .semaphores) (h .buffers)) s
+-- one operation more is read, a semaphore's position having so many bytes
+abbrev pub step : (width : ℕ) → Head → Scan → Scan
+step width h s = read-by bytes (operation-below width (h .queues) (h .semaphores) (h .buffers)) s
 
--- i operations behind a head's numbers are read, up to a place of the bytes, and stand in the columns
-pub record Load (bs : List ℕ) (h : Head) (nums : List ℕ) (cs₀ cs : Columns)
+-- i operations after a head's numbers are read, up to a place of the bytes, and stand in the columns
+pub record Load (width : ℕ) (bs : List ℕ) (h : Head) (nums : List ℕ) (cs₀ cs : Columns)
     (i at signals marks : ℕ) : Type 0 where
   pub blocks : List ℕ
-  pub read : times i (step h) (here bs (head-cursor h) nums) ≡ scan (drop at bs) at (take (h .got) nums ++ blocks) none-given
+  pub read : times i (step width h) (here bs (head-cursor h) nums) ≡ scan (drop at bs) at (take (h .got) nums ++ blocks) none-given
   pub inside : at ≤ length bs
   pub few : length blocks ≤ 22 * i
   pub filled : Small (h .queues) (h .semaphores) (h .buffers) → (more : List ℕ) →
@@ -49,39 +49,37 @@ pub few-more : {window : List ℕ} {i signals marks next signals′ marks′ : �
 few-more {window} a = (omega (arith, a .more-signals, few-signals window), omega (arith, a .more-marks, few-marks window))
 
 -- ---- one operation in a window
-module _ (q m b : ℕ) (bs : List ℕ) (at : ℕ) (w w-now : List ℕ) (r : Cursor) (o : Operation-read q m b bs at w r w-now) (inside : at ≤ length bs) where
-  in-window : read-by bytes (operation-below q m b) (scan (drop at bs) at [] none-given) ≡ here bs r w-now
-  unfolding Operation-read here fault-of
+module _ (width q m b : ℕ) (bs : List ℕ) (at : ℕ) (w-now : List ℕ) (r : End) (o : Operation-read width q m b bs at r w-now) (inside : at ≤ length bs) where
+  in-window : read-by bytes (operation-below width q m b) (scan (drop at bs) at [] none-given) ≡ here bs (end-cursor r) w-now
+  unfolding operation-scan here fault-of
   in-window =
       let same : min at (length bs) ≡ at = omega arith in
-      subst (λ (a : ℕ). read-by bytes (operation-below q m b) (scan (drop a bs) a [] none-given) ≡ here bs r w-now) same (o .read)
+      subst (λ (a : ℕ). read-by bytes (operation-below width q m b) (scan (drop a bs) a [] none-given) ≡ here bs (end-cursor r) w-now) same (o .read)
 
-  -- the same behind other numbers
-  pub among : (front : List ℕ) → read-by bytes (operation-below q m b) (scan (drop at bs) at front none-given) ≡ scan (drop (r .at) bs) (r .at) (front ++ take (r .got) w-now) (fault-of r)
-  unfolding after scan here
+  -- the same after other numbers
+  pub among : (front : List ℕ) → read-by bytes (operation-below width q m b) (scan (drop at bs) at front none-given) ≡ scan (drop (r .at) bs) (r .at) (front ++ take (r .got) w-now) (fault-of (end-cursor r))
+  unfolding after scan here end-cursor
   among front =
-      ap (λ (l : List ℕ). read-by bytes (operation-below q m b) (scan (drop at bs) at l none-given)) (sym (append-nil front))
-      ∙ blind-read bytes front (operation-blind q m b) (scan (drop at bs) at [] none-given)
+      ap (λ (l : List ℕ). read-by bytes (operation-below width q m b) (scan (drop at bs) at l none-given)) (sym (append-nil front))
+      ∙ blind-read bytes front (operation-blind width q m b) (scan (drop at bs) at [] none-given)
       ∙ ap (after front) in-window
 
   pub goes-on : r .at ≤ length bs
-  unfolding Operation-read
   goes-on = o .inside
 
   pub few-numbers : length (take (r .got) w-now) ≤ 22
-  unfolding Operation-read
   few-numbers = omega (arith, o .few, length-take (r .got) w-now)
 
-  pub whole-block : r .number ≡ 0 → Block first-form q m b (take (r .got) w-now)
-  unfolding here scan none-given
-  whole-block z = block-read q m b (drop at bs) at (here bs r w-now) in-window (ap (λ (s : Scan). s .fault .number) (here-clean bs r w-now z))
+  pub whole-block : r .number ≡ 0 → Block q m b (take (r .got) w-now)
+  unfolding here scan none-given end-cursor
+  whole-block z = block-read width q m b (drop at bs) at (here bs (end-cursor r) w-now) in-window (ap (λ (s : Scan). s .fault .number) (here-clean bs (end-cursor r) w-now z))
 
-pub clean-fault : (r : Cursor) → r .number ≡ 0 → fault-of r ≡ none-given
-unfolding fault-of
+pub clean-fault : (r : End) → r .number ≡ 0 → fault-of (end-cursor r) ≡ none-given
+unfolding fault-of end-cursor
 clean-fault r z = rw z
 
 -- ---- operation after operation
-module _ (bs : List ℕ) (h : Head) (nums : List ℕ) (cs₀ : Columns) where
+module _ (width : ℕ) (bs : List ℕ) (h : Head) (nums : List ℕ) (cs₀ : Columns) where
   abbrev heading : List ℕ
   heading = take (h .got) nums
 
@@ -89,7 +87,7 @@ module _ (bs : List ℕ) (h : Head) (nums : List ℕ) (cs₀ : Columns) where
   Filled all more cs i at signals marks =
       Filling (all ++ more) (h .operations) (length heading) cs₀ cs i at signals marks
 
-  pub load-none : h .number ≡ 0 → h .at ≤ length bs → Load bs h nums cs₀ cs₀ 0 (h .at) 0 0
+  pub load-none : h .number ≡ 0 → h .at ≤ length bs → Load width bs h nums cs₀ cs₀ 0 (h .at) 0 0
   unfolding times head-cursor
   load-none z inside = record {
     blocks = [];
@@ -100,35 +98,35 @@ module _ (bs : List ℕ) (h : Head) (nums : List ℕ) (cs₀ : Columns) where
   }
 
   module _ {cs : Columns} {i at signals marks : ℕ}
-      (l : Load bs h nums cs₀ cs i at signals marks) (on : i < h .operations)
-      (w w-now : List ℕ) (r : Cursor) (o : Operation-read (h .queues) (h .semaphores) (h .buffers) bs at w r w-now) where
+      (l : Load width bs h nums cs₀ cs i at signals marks) (on : i < h .operations)
+      (w-now : List ℕ) (r : End) (o : Operation-read width (h .queues) (h .semaphores) (h .buffers) bs at r w-now) where
     -- one more is read, or refused
-    pub read-next : times (i + 1) (step h) (here bs (head-cursor h) nums) ≡ scan (drop (r .at) bs) (r .at) ((heading ++ l .blocks) ++ take (r .got) w-now) (fault-of r)
+    pub read-next : times (i + 1) (step width h) (here bs (head-cursor h) nums) ≡ scan (drop (r .at) bs) (r .at) ((heading ++ l .blocks) ++ take (r .got) w-now) (fault-of (end-cursor r))
     unfolding times
     read-next =
-        ap (λ (k : ℕ). times k (step h) (here bs (head-cursor h) nums)) (add-one i)
-        ∙ times-last i (step h) (here bs (head-cursor h) nums)
-        ∙ ap (step h) (l .read)
-        ∙ among (h .queues) (h .semaphores) (h .buffers) bs at w w-now r o (l .inside) (heading ++ l .blocks)
+        ap (λ (k : ℕ). times k (step width h) (here bs (head-cursor h) nums)) (add-one i)
+        ∙ times-last i (step width h) (here bs (head-cursor h) nums)
+        ∙ ap (step width h) (l .read)
+        ∙ among width (h .queues) (h .semaphores) (h .buffers) bs at w-now r o (l .inside) (heading ++ l .blocks)
 
     pub load-next : {cs′ : Columns} {signals′ marks′ : ℕ} → r .number ≡ 0 →
         Added w-now i 0 signals marks cs cs′ (next-at w-now 0) signals′ marks′ →
-        Load bs h nums cs₀ cs′ (i + 1) (r .at) signals′ marks′
+        Load width bs h nums cs₀ cs′ (i + 1) (r .at) signals′ marks′
     load-next {cs′} {signals′} {marks′} z a =
         let block = take (r .got) w-now in
         let junk = drop (r .got) w-now in
         let front = heading ++ l .blocks in
-        let k = whole-block (h .queues) (h .semaphores) (h .buffers) bs at w w-now r o (l .inside) z in
+        let k = whole-block width (h .queues) (h .semaphores) (h .buffers) bs at w-now r o (l .inside) z in
         let same : front ++ block ≡ heading ++ (l .blocks ++ block) = append-assoc heading (l .blocks) block in
         record {
           blocks = l .blocks ++ block;
           read = read-next ∙ ap (λ (f : Refusal). scan (drop (r .at) bs) (r .at) (front ++ block) f) (clean-fault r z) ∙ ap (λ (x : List ℕ). scan (drop (r .at) bs) (r .at) x none-given) same;
-          inside = goes-on (h .queues) (h .semaphores) (h .buffers) bs at w w-now r o (l .inside);
-          few = omega (arith, l .few, length-append (l .blocks) block, few-numbers (h .queues) (h .semaphores) (h .buffers) bs at w w-now r o (l .inside));
+          inside = goes-on width (h .queues) (h .semaphores) (h .buffers) bs at w-now r o (l .inside);
+          few = omega (arith, l .few, length-append (l .blocks) block, few-numbers width (h .queues) (h .semaphores) (h .buffers) bs at w-now r o (l .inside));
           filled = λ small more.
               let window = subst (λ (x : List ℕ). Added x i 0 signals marks cs cs′ (next-at x 0) signals′ marks′) (sym (take-append-drop (r .got) w-now)) a in
-              let behind = filling-next (l .filled small (block ++ more)) on (added-among small front block more junk k window) in
+              let next = filling-next (l .filled small (block ++ more)) on (added-among small front block more junk k window) in
               subst (λ (x : List ℕ). Filled x more cs′ (i + 1) (length x) signals′ marks′) same
               (subst (λ (x : List ℕ). Filling x (h .operations) (length heading) cs₀ cs′ (i + 1) (length (front ++ block)) signals′ marks′)
-              (sym (append-assoc front block more)) behind);
+              (sym (append-assoc front block more)) next);
         }

@@ -20,18 +20,27 @@ use Rattle.plan_format.proofs.Repeats.{read-repeat, repeat-stops}
 use Rattle.plan_format.proofs.Seams.{after-seam}
 use Rattle.plan_format.proofs.Sections.{plan-whole}
 use Rattle.plan_columns.specs.Columns.{Columns, Head-column}
-use Rattle.plan_columns.proofs.Limits.{shape, few-semaphores, limits}
+use Rattle.plan_columns.proofs.Limits.{limits}
 use Rattle.plan_columns.proofs.Plans.{filling-end}
 use Rattle.plan_numbers.specs.declared.Head.{Head}
+use Rattle.plan_numbers.specs.declared.End.{End}
 use Rattle.plan_numbers.specs.declared.cursor.Cursor.{Cursor}
-use Rattle.plan_numbers.specs.Reading.{fault-of, here, head-cursor, Plan-read, Numbers-read, Heading, Head-read, Operation-read}
+use Rattle.plan_numbers.specs.Reading.{fault-of, here, head-cursor, front-numbers, Plan-read, Numbers-read, Heading, Head-read, end-cursor, Operation-read}
 use Rattle.plan_numbers.proofs.Answers.{read-refused, read-more, read-whole}
 use Rattle.plan_numbers.proofs.Fields.{here-given}
 use Rattle.plan_load.specs.Loading.{Loads}
 use Rattle.plan_load.proofs.Blocks.{Small}
 use Rattle.plan_load.proofs.Loading.{step, Load, read-next, goes-on, few-numbers}
 
--- a cursor behind all numbers, which stand in front of the most that a plan has
+-- the operations of a head, wherever their numbers go, make the plan
+plan-by : {bs : List ℕ} {h : Head} {nums : List ℕ} → Head-read bs h nums → (r : Cursor) (all : List ℕ) →
+    times (h .operations) (step 1 h) (here bs (head-cursor h) nums) ≡ here bs r all → r .at ≤ length bs → r .got ≤ h .got + 22 * h .operations →
+    Plan-read first-form bs r all
+unfolding front-numbers first-form
+plan-by head r all e inside few =
+    record { read = head .plan ∙ e; inside = inside; few = omega (arith, head .few, head .few-operations, few) }
+
+-- a cursor after all numbers, which are in front of the most that a plan has
 abbrev behind : (number at : ℕ) → (all : List ℕ) → Cursor
 behind n a all = record { number = n; at = a; got = length all; value = 0 }
 
@@ -50,9 +59,9 @@ unfolding here fault-of
 here-clean-behind bs at all = ap (λ (l : List ℕ). scan (drop at bs) at l none-given) (take-append-seam all (replicate (22868 - length all) 0))
 
 -- after a refusal no more operations are read
-times-stops : (h : Head) (s : Scan) (i n : ℕ) → given (times i (step h) s .fault) ≡ true → i ≤ n → times n (step h) s ≡ times i (step h) s
+times-stops : (h : Head) (s : Scan) (i n : ℕ) → given (times i (step 1 h) s .fault) ≡ true → i ≤ n → times n (step 1 h) s ≡ times i (step 1 h) s
 times-stops h s i n g l =
-    let op = operation-below (h .queues) (h .semaphores) (h .buffers) in
+    let op = operation-below 1 (h .queues) (h .semaphores) (h .buffers) in
     sym (read-repeat bytes n op s)
     ∙ repeat-stops bytes op s i n (ap (λ (z : Scan). given (z .fault)) (read-repeat bytes i op s) ∙ g) l
     ∙ read-repeat bytes i op s
@@ -65,24 +74,25 @@ module _ (bs : List ℕ) (h : Head) (nums : List ℕ) (cs₀ : Columns) (head : 
   few-heading = omega (arith, length-take (h .got) nums)
 
   module _ {cs : Columns} {i at signals marks : ℕ}
-      (l : Load bs h nums cs₀ cs i at signals marks) where
+      (l : Load 1 bs h nums cs₀ cs i at signals marks) where
     -- ---- an operation that is refused
-    module _ (on : i < h .operations) (w w-now : List ℕ) (r : Cursor) (o : Operation-read (h .queues) (h .semaphores) (h .buffers) bs at w r w-now) (z : r .number ≡ 0 → ⊥) where
+    module _ (on : i < h .operations) (w-now : List ℕ) (r : End) (o : Operation-read 1 (h .queues) (h .semaphores) (h .buffers) bs at r w-now) (z : r .number ≡ 0 → ⊥) where
       abbrev all-read : List ℕ
       all-read = (heading ++ l .blocks) ++ take (r .got) w-now
 
-      stopped : times (i + 1) (step h) (here bs (head-cursor h) nums) ≡ here bs (behind (r .number) (r .at) all-read) (padded all-read)
-      stopped = read-next bs h nums cs₀ l on w w-now r o ∙ sym (here-behind bs r all-read)
+      stopped : times (i + 1) (step 1 h) (here bs (head-cursor h) nums) ≡ here bs (behind (r .number) (r .at) all-read) (padded all-read)
+      unfolding end-cursor
+      stopped = read-next 1 bs h nums cs₀ l on w-now r o ∙ sym (here-behind bs (end-cursor r) all-read)
 
       few-read : length all-read ≤ h .got + 22 * h .operations
       few-read =
-          omega (arith, l .few, few-heading, length-append (heading ++ l .blocks) (take (r .got) w-now), length-append heading (l .blocks), few-numbers (h .queues) (h .semaphores) (h .buffers) bs at w w-now r o (l .inside))
+          omega (arith, l .few, few-heading, length-append (heading ++ l .blocks) (take (r .got) w-now), length-append heading (l .blocks), few-numbers 1 (h .queues) (h .semaphores) (h .buffers) bs at w-now r o (l .inside))
 
-      refused-plan : Plan-read bs (behind (r .number) (r .at) all-read) (padded all-read)
+      refused-plan : Plan-read first-form bs (behind (r .number) (r .at) all-read) (padded all-read)
       refused-plan =
-          head .plan (behind (r .number) (r .at) all-read) (padded all-read)
+          plan-by head (behind (r .number) (r .at) all-read) (padded all-read)
           (times-stops h (here bs (head-cursor h) nums) (i + 1) (h .operations) (ap (λ (s : Scan). given (s .fault)) stopped ∙ here-given bs (behind (r .number) (r .at) all-read) (padded all-read) z) (omega arith) ∙ stopped)
-          (goes-on (h .queues) (h .semaphores) (h .buffers) bs at w w-now r o (l .inside))
+          (goes-on 1 (h .queues) (h .semaphores) (h .buffers) bs at w-now r o (l .inside))
           few-read
 
       pub load-refused : (r .number ≡ scanned bs .fault .number) × (r .at ≡ scanned bs .fault .place)
@@ -99,11 +109,11 @@ module _ (bs : List ℕ) (h : Head) (nums : List ℕ) (cs₀ : Columns) (head : 
       long : length (padded all) ≡ 22868
       long = padded-long all (omega (arith, few-all, head .few, head .few-operations))
 
-      whole-plan : Plan-read bs (behind 0 at all) (padded all)
+      whole-plan : Plan-read first-form bs (behind 0 at all) (padded all)
       whole-plan =
           let e : h .operations ≡ i = omega arith in
-          head .plan (behind 0 at all) (padded all)
-          (ap (λ (k : ℕ). times k (step h) (here bs (head-cursor h) nums)) e ∙ l .read ∙ sym (here-clean-behind bs at all))
+          plan-by head (behind 0 at all) (padded all)
+          (ap (λ (k : ℕ). times k (step 1 h) (here bs (head-cursor h) nums)) e ∙ l .read ∙ sym (here-clean-behind bs at all))
           (l .inside)
           few-all
 
@@ -133,14 +143,14 @@ module _ (bs : List ℕ) (h : Head) (nums : List ℕ) (cs₀ : Columns) (head : 
         unfolding plan-in
         plan-is =
             ap (plan-of) (scanned-are ∙ all-are)
-            ∙ plan-whole first-form (h .queues) (h .semaphores) (h .buffers) (h .operations) (front .axes) (front .owners) (front .sizes) (l .blocks) (front .axes-long) (front .owners-long) (front .sizes-long)
+            ∙ plan-whole (h .queues) (h .semaphores) (h .buffers) (h .operations) (front .axes) (front .owners) (front .sizes) (l .blocks) (front .axes-long) (front .owners-long) (front .sizes-long)
 
         small : Small (h .queues) (h .semaphores) (h .buffers)
         unfolding queues
         small = record {
-          few-queues = omega (arith, shape bs clean .few-queues, ap (λ (p : Plan). length (p .axes)) plan-is, front .axes-long);
-          few-semaphores = omega (arith, few-semaphores bs clean, ap (λ (p : Plan). length (p .owners)) plan-is, front .owners-long);
-          few-buffers = omega (arith, shape bs clean .few-buffers, ap (λ (p : Plan). length (p .sizes)) plan-is, front .sizes-long);
+          few-queues = omega (arith, limits bs clean .few-queues, ap (λ (p : Plan). length (p .axes)) plan-is, front .axes-long);
+          few-semaphores = omega (arith, limits bs clean .few-semaphores, ap (λ (p : Plan). length (p .owners)) plan-is, front .owners-long);
+          few-buffers = omega (arith, limits bs clean .few-buffers, ap (λ (p : Plan). length (p .sizes)) plan-is, front .sizes-long);
         }
 
         operations-are : plan-in bs .operations ≡ operations-in (h .operations) (drop (length heading) (all ++ []))
@@ -200,7 +210,7 @@ module _ (bs : List ℕ) (h : Head) (nums : List ℕ) (cs₀ : Columns) (head : 
             queues = not-refused (sym (ap (λ (p : Plan). length (p .axes)) plan-is ∙ front .axes-long));
             semaphores = not-refused (sym (ap (λ (p : Plan). length (p .owners)) plan-is ∙ front .owners-long));
             buffers = not-refused (sym (ap (λ (p : Plan). length (p .sizes)) plan-is ∙ front .sizes-long));
-            operations = not-refused (sym (ap (λ (p : Plan). length (p .operations)) plan-is ∙ operations-long first-form (h .operations) (l .blocks)));
+            operations = not-refused (sym (ap (λ (p : Plan). length (p .operations)) plan-is ∙ operations-long (h .operations) (l .blocks)));
           };
           none = λ z. absurd (z refl);
           head-shown = λ _. load-head;
@@ -233,11 +243,11 @@ module _ {bs : List ℕ} {h : Head} {nums : List ℕ} (head : Head-read bs h num
   unfolding head-cursor here
   head-refused z =
       let s = here bs (head-cursor h) nums in
-      let stays = read-stays bytes (operation-below (h .queues) (h .semaphores) (h .buffers)) s (here-given bs (head-cursor h) nums z) in
+      let stays = read-stays bytes (operation-below 1 (h .queues) (h .semaphores) (h .buffers)) s (here-given bs (head-cursor h) nums z) in
       let all = take (h .got) nums in
-      let e = times-stays (h .operations) (step h) s stays ∙ sym (here-behind bs (head-cursor h) all) in
+      let e = times-stays (h .operations) (step 1 h) s stays ∙ sym (here-behind bs (head-cursor h) all) in
       let few : length all ≤ h .got = omega (arith, length-take (h .got) nums) in
-      let t = read-refused (head .plan (behind (h .number) (h .at) all) (padded all) e (head .inside) (omega arith)) (padded-long all (omega (arith, head .few))) z .told in
+      let t = read-refused (plan-by head (behind (h .number) (h .at) all) (padded all) e (head .inside) (omega arith)) (padded-long all (omega (arith, head .few))) z .told in
       (t .number, t .place)
 
   head-long : h .number ≡ 0 → (h .queues ≤ 340) × (2 + h .queues + h .semaphores ≤ length nums)

@@ -5,7 +5,6 @@ use Prim.Native.Nat.{ℕ, _+_}
 use native.Mathlib.Omega.{arith}
 use lib.ListN.{length, drop, length-append}
 use lib.Seq.{drop-append-seam}
-use Rattle.plan_format.specs.Form.{first-form}
 use Rattle.plan_format.specs.Plan.{Operation, operation-in, operation-long}
 use Rattle.plan_format.proofs.Blocks.{Block}
 use Rattle.plan_format.proofs.Operations.{operation-of, block-operation, block-long}
@@ -18,7 +17,7 @@ use Rattle.plan_load.proofs.Blocks.{Small, block-fits}
 put-same : {room place : ℕ} {part other before after : List ℕ} → part ≡ other → Put room part place before after → Put room other place before after
 put-same {room} {place} {before = before} {after} e p = subst (λ (z : List ℕ). Put room z place before after) e p
 
-module _ {q m b : ℕ} (small : Small q m b) (front block more junk : List ℕ) (k : Block first-form q m b block) where
+module _ {q m b : ℕ} (small : Small q m b) (front block more junk : List ℕ) (k : Block q m b block) where
   abbrev all : List ℕ
   all = front ++ (block ++ more)
 
@@ -29,13 +28,13 @@ module _ {q m b : ℕ} (small : Small q m b) (front block more junk : List ℕ) 
   at = length front
 
   abbrev o : Operation
-  o = operation-of first-form q m b block k
+  o = operation-of q m b block k
 
   there : here all at ≡ o
-  there = ap (operation-in) (drop-append-seam front (block ++ more)) ∙ block-operation first-form q m b block more k
+  there = ap (operation-in) (drop-append-seam front (block ++ more)) ∙ block-operation q m b block more k
 
   first : here window 0 ≡ o
-  first = block-operation first-form q m b block junk k
+  first = block-operation q m b block junk k
 
   fits : Fits (here all at)
   fits = subst Fits (sym there) (block-fits small k)
@@ -49,7 +48,7 @@ module _ {q m b : ℕ} (small : Small q m b) (front block more junk : List ℕ) 
   further : length (front ++ block) ≡ next-at all at
   further =
       length-append front block
-      ∙ sym (next-is all at fits ∙ ap (λ (n : ℕ). at + n) (ap (operation-long) (drop-append-seam front (block ++ more)) ∙ block-long first-form q m b block more k))
+      ∙ sym (next-is all at fits ∙ ap (λ (n : ℕ). at + n) (ap (operation-long) (drop-append-seam front (block ++ more)) ∙ block-long q m b block more k))
 
   moved : {A : Type 0} (h : A → ℕ) (of : Operation → List A) {part other : List ℕ} → part ≡ map h (of (here window 0)) → other ≡ map h (of (here all at)) → part ≡ other
   moved h of e f = e ∙ ap (λ (z : Operation). map h (of z)) same ∙ sym f

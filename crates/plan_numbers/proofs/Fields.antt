@@ -8,7 +8,7 @@ use native.Mathlib.Numerals.{add-one}
 use native.Mathlib.Omega.{arith}
 use lib.Dec.{eqb}
 use lib.ListN.{length, take, drop, set, length-drop, length-set}
-use lib.Seq.{drop-drop, take-suc-set}
+use lib.Seq.{drop-drop, drop-set-lt, take-suc-set}
 use borrow.Author.Tests.{lt-ltb, le-ltb, ne-eqb, eqb-true, eqb-false}
 use Rattle.basics.proofs.Tests.{by-cases}
 use Rattle.plan_format.specs.Refusal.{refusal, none-given, given}
@@ -18,7 +18,7 @@ use Rattle.plan_format.proofs.Faults.{read-stays}
 use Rattle.plan_format.proofs.Judged.{other-given}
 use Rattle.plan_format.proofs.Seams.{last-snoc}
 use Rattle.plan_numbers.specs.declared.cursor.Cursor.{Cursor}
-use Rattle.plan_numbers.specs.Reading.{fault-of, here, Reads, Word, Valued, Limited}
+use Rattle.plan_numbers.specs.Reading.{fault-of, here, Reads, Word, Limited}
 
 module _ (w : ℕ) (c : ℕ → ℕ) (rest : List ℕ) (p : ℕ) (got : List ℕ) where
   field-cut : length rest < w → read-field bytes w c (scan rest p got none-given) ≡ scan rest p got (refusal 1 p)
@@ -60,7 +60,15 @@ fault-none c e = by-cases (eqb (c .number) 0) (λ t. eqb-true (c .number) 0 t) (
 pub passed : {g : Grammar} {many : ℕ} {bs : List ℕ} {c : Cursor} {nums : List ℕ} {v : ℕ} → (c .number ≡ 0 → ⊥) → c .at ≤ length bs → Reads g many bs c nums (cursor (c .number) (c .at) (c .got) v) nums
 unfolding here fault-of
 passed {g} {bs = bs} {c} {nums} z h =
-    record { read = read-stays bytes g (here bs c nums) (here-given bs c nums z); inside = h; few = omega arith; as-long = refl }
+    record {
+      read = read-stays bytes g (here bs c nums) (here-given bs c nums z);
+      inside = h;
+      more = omega arith;
+      few =
+          omega arith;
+      as-long = refl;
+      past = refl;
+    }
 
 read-clean : (w : ℕ) (check : Check) (bs : List ℕ) (c : Cursor) (nums : List ℕ) → c .number ≡ 0 → read-by bytes (field w check) (here bs c nums) ≡ read-field bytes w (λ v. check (take (c .got) nums) v) (scan (drop (c .at) bs) (c .at) (take (c .got) nums) none-given)
 unfolding read-by scan
@@ -76,8 +84,10 @@ module _ {w : ℕ} {check : Check} {bs : List ℕ} {c : Cursor} {nums : List ℕ
             ∙ field-cut w (λ u. check (take (c .got) nums) u) (drop (c .at) bs) (c .at) (take (c .got) nums) (rw (length-drop (c .at) bs) l)
             ∙ sym (here-fault bs 1 (c .at) (c .got) v nums (eqb-false 1 0 refl));
         inside = h;
+        more = omega arith;
         few = omega arith;
         as-long = refl;
+        past = refl;
       }
 
   module _ (l : w ≤ length bs - c .at) {v : ℕ} (d : Word w bs (c .at) v) where
@@ -91,8 +101,10 @@ module _ {w : ℕ} {check : Check} {bs : List ℕ} {c : Cursor} {nums : List ℕ
               (rw (← d .word) e) z
               ∙ sym (here-fault bs n (c .at) (c .got) u nums z);
           inside = h;
+          more = omega arith;
           few = omega arith;
           as-long = refl;
+          past = refl;
         }
 
     -- kept
@@ -106,13 +118,14 @@ module _ {w : ℕ} {check : Check} {bs : List ℕ} {c : Cursor} {nums : List ℕ
               (rw (← d .word) e)
               ∙ rw (drop-drop w (c .at) bs, ← d .word, add-one (c .got), take-suc-set nums (c .got) v k);
           inside = omega arith;
+          more = omega arith;
           few = omega arith;
           as-long = length-set nums (c .got) v;
+          past = drop-set-lt (c .got + 1) nums (c .got) v (omega arith);
         }
 
 -- ---- limited fields, whose number the cursor has
 pub value-last : {w limit over : ℕ} {bs : List ℕ} {c r : Cursor} {nums nums-now : List ℕ} → Limited w limit over bs c nums r nums-now → r .number ≡ 0 → last-got (here bs r nums-now) ≡ r .value
-unfolding Valued
 value-last {bs = bs} {r = r} {nums-now = nums-now} p z = sym (p .valued ∙ ap (λ (n : ℕ). cond (eqb n 0) (last-got (here bs r nums-now)) 0) z)
 
 value-none : (n x : ℕ) → (n ≡ 0 → ⊥) → 0 ≡ cond (eqb n 0) x 0
@@ -120,16 +133,14 @@ value-none n x z = rw (ne-eqb n 0 z)
 
 module _ {w limit over : ℕ} {bs : List ℕ} {c : Cursor} {nums : List ℕ} where
   pub limited-passed : (c .number ≡ 0 → ⊥) → c .at ≤ length bs → Limited w limit over bs c nums (cursor (c .number) (c .at) (c .got) 0) nums
-  unfolding Valued
   limited-passed z h = record { reads = passed z h; valued = value-none (c .number) _ z; value-below = omega arith }
 
   pub limited-cut : c .number ≡ 0 → c .at ≤ length bs → length bs - c .at < w → Limited w limit over bs c nums (cursor 1 (c .at) (c .got) 0) nums
-  unfolding Valued
   limited-cut e h l = record { reads = cut e h l; valued = refl; value-below = omega arith }
 
   module _ (clean : c .number ≡ 0) (h : c .at ≤ length bs) (l : w ≤ length bs - c .at) {v : ℕ} (d : Word w bs (c .at) v) where
     pub limited-over : 1 ≤ over → limit ≤ v → Limited w limit over bs c nums (cursor over (c .at) (c .got) 0) nums
-    unfolding limited Valued
+    unfolding limited
     limited-over o m =
         record {
           reads = wrong clean h l d (rw (le-ltb v limit m)) (λ e. omega arith);
@@ -138,7 +149,7 @@ module _ {w limit over : ℕ} {bs : List ℕ} {c : Cursor} {nums : List ℕ} whe
         }
 
     pub limited-kept : c .got < length nums → v < limit → Limited w limit over bs c nums (cursor 0 (c .at + w) (c .got + 1) v) (set nums (c .got) v)
-    unfolding limited here scan last-got Valued
+    unfolding limited here scan last-got
     limited-kept k m =
         record {
           reads = kept clean h l d k (rw (lt-ltb v limit m));

@@ -2,6 +2,6 @@ pub mod Words
 pub mod Fields
 pub mod Cursors
 pub mod Counts
-pub mod Answers
 pub mod Heads
-pub mod Rules
+pub mod Answers
+pub mod Rests

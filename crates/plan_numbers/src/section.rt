@@ -2,19 +2,31 @@
 use crate::cursor::Cursor;
 use crate::field;
 use crate::operation;
+use plan_format::limits::MOST_BUFFERS;
+use plan_format::limits::MOST_QUEUES;
+use plan_format::limits::MOST_SEMAPHORES;
 ghost use mathlib.Core.Path.{_≡_};
-ghost use Prim.Native.Nat.{_≤_};
+ghost use Prim.Native.Nat.{_+_, _≤_};
 ghost use lib.ListN.{length, getD};
+ghost use Rattle.plan_format.specs.Sizes.{most-queues, most-semaphores, most-buffers, head-numbers, plan-numbers};
+ghost use Rattle.plan_format.specs.Form.{first-form};
 ghost use Rattle.plan_format.specs.Grammar.{counted, field};
 ghost use Rattle.plan_format.specs.Sections.{axis-field, size-field, limited};
-ghost use Rattle.plan_numbers.specs.Reading.{Room, Reads, Front-read, Plan-read};
+ghost use Rattle.plan_numbers.specs.Reading.{Room, Reads, Past, Front-read, Plan-read};
+
+// The least counts that are too many.
+const TOO_MANY_QUEUES: u64 = MOST_QUEUES as u64 + 1;
+
+const TOO_MANY_SEMAPHORES: u64 = MOST_SEMAPHORES as u64 + 1;
+
+const TOO_MANY_BUFFERS: u64 = MOST_BUFFERS as u64 + 1;
 
 // The section of queues.
 fn axes(plan: &[u8], c: Cursor, numbers: &mut [u64]) -> Cursor
-    requires { ⌜ Room 17 (now plan) c (now numbers) ⌝ }
-    ensures { λ r. ⌜ Reads (counted 0 16 1 axis-field) 17 (now (plan .entry)) c (now (numbers .entry)) r (now (numbers .exit)) ⌝ }
+    requires { ⌜ Room (1 + most-queues) (now plan) c (now numbers) ⌝ }
+    ensures { λ r. ⌜ Reads (counted 0 most-queues 1 axis-field) (1 + most-queues) (now (plan .entry)) c (now (numbers .entry)) r (now (numbers .exit)) ⌝ }
 {
-    let start = field::byte(plan, c, 17, 2, numbers);
+    let start = field::byte(plan, c, TOO_MANY_QUEUES, 2, numbers);
     let count = start.value;
     let mut a = start;
     let mut i: u64 = 0;
@@ -30,10 +42,10 @@ fn axes(plan: &[u8], c: Cursor, numbers: &mut [u64]) -> Cursor
 
 // The section of semaphores.
 fn owners(plan: &[u8], c: Cursor, queues: u64, numbers: &mut [u64]) -> Cursor
-    requires { ⌜ Room 65 (now plan) c (now numbers) ⌝ }
-    ensures { λ r. ⌜ Reads (counted 0 64 1 (field 1 (limited queues 4))) 65 (now (plan .entry)) c (now (numbers .entry)) r (now (numbers .exit)) ⌝ }
+    requires { ⌜ Room (1 + most-semaphores) (now plan) c (now numbers) ⌝ }
+    ensures { λ r. ⌜ Reads (counted 0 most-semaphores 1 (field 1 (limited queues 4))) (1 + most-semaphores) (now (plan .entry)) c (now (numbers .entry)) r (now (numbers .exit)) ⌝ }
 {
-    let start = field::byte(plan, c, 65, 2, numbers);
+    let start = field::byte(plan, c, TOO_MANY_SEMAPHORES, 2, numbers);
     let count = start.value;
     let mut o = start;
     let mut i: u64 = 0;
@@ -49,10 +61,10 @@ fn owners(plan: &[u8], c: Cursor, queues: u64, numbers: &mut [u64]) -> Cursor
 
 // The section of buffers.
 fn sizes(plan: &[u8], c: Cursor, numbers: &mut [u64]) -> Cursor
-    requires { ⌜ Room 257 (now plan) c (now numbers) ⌝ }
-    ensures { λ r. ⌜ Reads (counted 0 256 2 size-field) 257 (now (plan .entry)) c (now (numbers .entry)) r (now (numbers .exit)) ⌝ }
+    requires { ⌜ Room (1 + most-buffers) (now plan) c (now numbers) ⌝ }
+    ensures { λ r. ⌜ Reads (counted 0 most-buffers 2 size-field) (1 + most-buffers) (now (plan .entry)) c (now (numbers .entry)) r (now (numbers .exit)) ⌝ }
 {
-    let start = field::pair(plan, c, 257, 2, numbers);
+    let start = field::pair(plan, c, TOO_MANY_BUFFERS, 2, numbers);
     let count = start.value;
     let mut b = start;
     let mut i: u64 = 0;
@@ -73,7 +85,7 @@ fn entry(numbers: &[u64], i: usize) -> u64
     if i < numbers.len() { numbers[i] } else { 0 }
 }
 
-// What stands in front of the operations: the three sections read, and their counts.
+// What comes before the operations: the three sections read, and their counts.
 pub struct Front {
     pub cursor: Cursor,
     pub queues: u64,
@@ -81,11 +93,12 @@ pub struct Front {
     pub buffers: u64,
 }
 
-// The first three sections; a count stands in front of its section.
+// The first three sections; a count comes before its section.
 pub fn first_sections(plan: &[u8], numbers: &mut [u64]) -> Front
-    requires { ⌜ 340 ≤ length (now numbers) ⌝ }
-    ensures { λ r. ⌜ Front-read (now (plan .entry)) (r .cursor) (r .queues) (r .semaphores) (r .buffers) (now (numbers .exit)) ⌝ }
-    ensures { λ _. ⌜ length (now (numbers .exit)) ≡ length (now (numbers .entry)) ⌝ }
+    requires { ⌜ head-numbers ≤ length (now numbers) ⌝ }
+    ensures read { λ r. ⌜ Front-read first-form (now (plan .entry)) (r .cursor) (r .queues) (r .semaphores) (r .buffers) (now (numbers .exit)) ⌝ }
+    ensures past { λ r. ⌜ Past (r .cursor .got) (now (numbers .entry)) (now (numbers .exit)) ⌝ }
+    ensures few { λ r. ⌜ r .cursor .got + 1 ≤ head-numbers ⌝ }
 {
     let start = Cursor {
         number: 0,
@@ -109,8 +122,9 @@ pub fn first_sections(plan: &[u8], numbers: &mut [u64]) -> Front
 
 // The four sections.
 pub fn sections(plan: &[u8], numbers: &mut [u64]) -> Cursor
-    requires { ⌜ 22868 ≤ length (now numbers) ⌝ }
-    ensures { λ r. ⌜ Plan-read (now (plan .entry)) r (now (numbers .exit)) ⌝ }
+    requires { ⌜ plan-numbers ≤ length (now numbers) ⌝ }
+    ensures read { λ r. ⌜ Plan-read first-form (now (plan .entry)) r (now (numbers .exit)) ⌝ }
+    ensures past { λ r. ⌜ Past (r .got) (now (numbers .entry)) (now (numbers .exit)) ⌝ }
 {
     let f = first_sections(plan, numbers);
     let c = f.cursor;

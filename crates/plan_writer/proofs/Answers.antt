@@ -5,9 +5,11 @@ use Prim.Native.Nat.{ℕ, _≤_}
 use native.Mathlib.Omega.{arith}
 use lib.ListN.{length, take, length-take}
 use Rattle.basics.specs.Lists.{in-front}
-use Rattle.plan_format.specs.Stored.{listed, spelled}
+use Rattle.plan_format.specs.Meaning.{Write-means}
+use Rattle.plan_format.specs.Stored.{listed, spelled, Write-says}
 use Rattle.plan_format.specs.declared.Told.{Told}
 use Rattle.plan_format.proofs.Answers.{answer-long}
+use Rattle.plan_format.proofs.RoundTripRoom.{write-means}
 use Rattle.plan_bytes.specs.Writing.{Bytes-written}
 
 module _ {xs : List ℕ} {r : Told} {bytes : List ℕ} (n : Bytes-written xs r bytes) (z : r .number ≡ 0) where
@@ -16,8 +18,13 @@ module _ {xs : List ℕ} {r : Told} {bytes : List ℕ} (n : Bytes-written xs r b
   written-fits =
       omega (arith, answer-long (listed xs .fault) (spelled xs) (n .told) [] z, ap length (n .bytes z), length-take (length (spelled xs)) bytes)
 
-  -- and stand in front
+  -- and are in front
   pub written-front : (room : List ℕ) → in-front (take (r .answer) bytes) room ≡ in-front (spelled xs) room
   written-front room =
       ap (λ (l : List ℕ). in-front l room)
       (ap (λ (k : ℕ). take k bytes) (answer-long (listed xs .fault) (spelled xs) (n .told) [] z) ∙ n .bytes z)
+
+-- what is said, and what it means
+pub both : (xs : List ℕ) (r : Told) (room room-now : List ℕ) → Write-says xs r room room-now →
+    Write-says xs r room room-now × Write-means xs r room room-now
+both xs r room room-now w = (w, write-means xs r room room-now w)

@@ -10,6 +10,7 @@ use lib.Seq.{take-suc-set, drop-set-lt, take-append-seam}
 use borrow.Author.Tests.{le-ltb}
 use Rattle.basics.specs.Lists.{in-front}
 use Rattle.basics.proofs.Tests.{by-cases, clash}
+use Rattle.plan_format.specs.Sizes.{plan-numbers}
 use Rattle.plan_format.specs.Refusal.{Refusal, given, none-given, or-else}
 use Rattle.plan_format.specs.Stored.{scanned, listed, spelled, room-for, read-refusal, write-refusal, Fills, Read-says, Write-says}
 use Rattle.plan_format.specs.declared.Told.{Told}
@@ -46,7 +47,7 @@ module _
       (λ g. clash (given f) g (zero-not-given f (sym ((rw (refused-first g) at (h .0)) .number) ∙ z)))
       (λ n. (n, (rw (none-refused n) at (h .0)) .answer-is, rw (none-refused n) at (h .1)))
 
-module _ (bs o x : List ℕ) (r : Told) (h : Read-says bs r o x) (room : length o ≡ 22868) where
+module _ (bs o x : List ℕ) (r : Told) (h : Read-says bs r o x) (room : length o ≡ plan-numbers) where
   in-room : given (scanned bs .fault) ≡ false → length (scanned bs .got) ≤ length o
   in-room n = omega (arith, scanned-sizes bs (not-given-zero (scanned bs .fault) n) .1)
 

@@ -1,4 +1,5 @@
 // What is printed for a read and a write, as text in lent room; the text's length is handed back.
+use plan_format::limits::PLAN_NUMBERS;
 ghost use lib.ListN.{length, take};
 ghost use Rattle.text.specs.Text.{Puts};
 ghost use Rattle.report_stored.specs.Texts.{read-text, write-text};
@@ -7,7 +8,7 @@ ghost use Rattle.report_stored.specs.Texts.{read-text, write-text};
 pub fn read(plan: &[u8], out: &mut [u8]) -> usize
     ensures { λ r. ⌜ Puts (read-text (now (plan .entry))) (now (out .entry)) 0 (now (out .exit)) r ⌝ }
 {
-    let mut numbers = [0u64; 22868];
+    let mut numbers = [0u64; PLAN_NUMBERS];
     let told = plan_held::read_held(plan, &mut numbers);
     if told.number != 0 {
         return text::refused(out, told.number, told.place);

@@ -1,4 +1,4 @@
--- `write_bytes` meets its contract: a refusal on the way, numbers behind the end, or a whole plan.
+-- `write_bytes` meets its contract: a refusal on the way, numbers after the end, or a whole plan.
 use native.Mathlib.Omega.{arith}
 use borrow.Author.Needs.{needs}
 use Rattle.plan_bytes.proofs.Answers.{written-refused, written-more, written-whole}

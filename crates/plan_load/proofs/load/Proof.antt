@@ -13,10 +13,10 @@ refused-requires c κs = search needs
 returns : tie.Need-returns
 returns c =
     let taken = c .before .if1 .taken in
-    rw (c .refused .ensures) (refused-loads (head-refused (c .before .before .before .read-head .ensures) taken) taken, λ e. absurd (taken e))
+    rw (c .refused .ensures) (refused-loads (head-refused (c .before .before .before .read-head .ensures .1) taken) taken, λ e. absurd (taken e))
 
 columns-requires : tie.Need-columns-requires
-columns-requires c κs = (c .before .before .before .before .before .before .before .before .before .before .before .before .read-head .ensures, c .before .before .before .before .before .before .before .before .before .before .if1 .left)
+columns-requires c κs = (c .before .before .before .before .before .before .before .before .before .before .before .before .read-head .ensures .1, c .before .before .before .before .before .before .before .before .before .before .if1 .left)
 
 returns-2 : tie.Need-returns-2
 returns-2 c = c .columns .ensures

@@ -15,7 +15,7 @@ use Rattle.plan_load.proofs.operations.Tie as tie
 abbrev Inv-loop : tie.InvT-loop
 Inv-loop plan h queue₀ wsem₀ wval₀ ssem₀ sval₀ sop₀ mark₀ mop₀ many window₀ at₀ signals₀ marks₀ i₀ queue wsem wval ssem sval sop mark mop window at signals marks i =
     (many ≡ h .operations) × (many ≤ 1024) × (i ≤ many) × (signals ≤ 3 * i) × (marks ≤ 7 * i)
-    × ((nums : List ℕ) → Head-read plan h nums → h .number ≡ 0 → Load plan h nums (columns queue₀ wsem₀ wval₀ ssem₀ sval₀ sop₀ mark₀ mop₀) (columns queue wsem wval ssem sval sop mark mop) i at signals marks)
+    × ((nums : List ℕ) → Head-read plan h nums → h .number ≡ 0 → Load 1 plan h nums (columns queue₀ wsem₀ wval₀ ssem₀ sval₀ sop₀ mark₀ mop₀) (columns queue wsem wval ssem sval sop mark mop) i at signals marks)
 
 abbrev μ-loop : tie.MeasureT-loop
 μ-loop plan h queue₀ wsem₀ wval₀ ssem₀ sval₀ sop₀ mark₀ mop₀ many window₀ at₀ signals₀ marks₀ i₀ queue wsem wval ssem sval sop mark mop window at signals marks i =
@@ -26,7 +26,7 @@ cast-many c = search needs
 
 loop-holds : tie.Need-loop-holds Inv-loop μ-loop
 loop-holds c =
-    (refl, c .before .before .pre, omega arith, omega arith, omega arith, λ nums head z. load-none _ _ nums _ z (head .inside))
+    (refl, c .before .before .pre, omega arith, omega arith, omega arith, λ nums head z. load-none _ _ _ nums _ z (head .inside))
 
 read-operation-requires : tie.Need-read-operation-requires Inv-loop μ-loop
 read-operation-requires c κs = search needs
@@ -37,10 +37,10 @@ refused-requires c κs = search needs
 returns : tie.Need-returns Inv-loop μ-loop
 returns c =
     let taken = c .before .if1 .taken in
-    let o = c .before .before .before .read-operation .ensures .0 in
+    let o = c .before .before .before .read-operation .ensures .1 in
     let l = c .before .before .before .before .before .before .loop .inv .5 in
     rw (c .refused .ensures)
-    (λ nums head z. (refused-loads (load-refused _ _ nums _ head (l nums head z) (c .before .before .before .before .before .loop-test .taken) _ _ _ o taken) taken, λ e. absurd (taken e)))
+    (λ nums head z. (refused-loads (load-refused _ _ nums _ head (l nums head z) (c .before .before .before .before .before .loop-test .taken) _ _ o taken) taken, λ e. absurd (taken e)))
 
 add-requires : tie.Need-add-requires Inv-loop μ-loop
 add-requires c κs = search needs
@@ -71,7 +71,7 @@ loop-again c =
       omega arith,
       omega (arith, few-more a .0, l .3),
       omega (arith, few-more a .1, l .4),
-      λ nums head z. load-next _ _ nums _ (l .5 nums head z) on _ _ _ (c .before .before .before .before .before .before .before .before .before .before .before .before .before .before .read-operation .ensures .0) (c .before .before .before .before .before .before .before .before .before .before .before .before .if1 .left) a,
+      λ nums head z. load-next _ _ _ nums _ (l .5 nums head z) on _ _ (c .before .before .before .before .before .before .before .before .before .before .before .before .before .before .read-operation .ensures .1) (c .before .before .before .before .before .before .before .before .before .before .before .before .if1 .left) a,
     )
 
 refused-requires-2 : tie.Need-refused-requires-2 Inv-loop μ-loop

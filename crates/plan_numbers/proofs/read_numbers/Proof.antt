@@ -1,32 +1,23 @@
--- `read_numbers` meets its contract: a refusal on the way, bytes behind the end, or a whole plan.
+-- `read_numbers` meets its contract: what the sections read, and how it ends.
 use native.Mathlib.Omega.{arith}
 use borrow.Author.Needs.{needs}
-use Rattle.plan_numbers.proofs.Answers.{read-refused, read-more, read-whole}
+use Rattle.plan_numbers.proofs.Answers.{few-read, numbers-read, read-array}
 use Rattle.plan_numbers.proofs.read_numbers.Statement.{statement}
 use Rattle.plan_numbers.proofs.read_numbers.Tie as tie
 
 sections-requires : tie.Need-sections-requires
 sections-requires c κs = search needs
 
-refused-requires : tie.Need-refused-requires
-refused-requires c κs = search needs
+finished-requires : tie.Need-finished-requires
+finished-requires c κs = search needs
 
 returns : tie.Need-returns
 returns c =
-    rw (c .refused .ensures) (read-refused (c .before .before .before .sections .ensures) (omega arith) (c .before .if1 .taken))
-
-refused-requires-2 : tie.Need-refused-requires-2
-refused-requires-2 c κs = search needs
-
-returns-2 : tie.Need-returns-2
-returns-2 c =
-    rw (c .refused2 .ensures) (read-more (c .before .before .before .before .sections .ensures) (omega arith) (c .before .before .if1 .left) (c .before .if2 .taken))
-
-returns-3 : tie.Need-returns-3
-returns-3 c =
-    read-whole (c .before .before .before .sections .ensures) (omega arith) (c .before .if1 .left) (c .if2 .left)
+    let s = c .before .sections .ensures in (
+      numbers-read (s .0) (omega arith) (c .finished .ensures _ (omega (arith, few-read (s .0)))),
+      read-array (s .0)
+          (omega arith) (s .1),
+    )
 
 pub read-numbers-spec : {M : Type 1} → statement M
-read-numbers-spec =
-    tie.close
-    (tie.spec sections-requires refused-requires returns refused-requires-2 returns-2 returns-3)
+read-numbers-spec = tie.close (tie.spec sections-requires finished-requires returns)

@@ -4,7 +4,7 @@ use native.Mathlib.Omega.{arith}
 use borrow.Author.Needs.{needs}
 use Rattle.plan_format.specs.Stored.{listed, spelled, write-refusal, Write-says}
 use Rattle.plan_format.proofs.Answers.{not-read, no-room, stored}
-use Rattle.plan_writer.proofs.Answers.{written-fits, written-front}
+use Rattle.plan_writer.proofs.Answers.{written-fits, written-front, both}
 use Rattle.plan_writer.proofs.write_plan.Statement.{statement}
 use Rattle.plan_writer.proofs.write_plan.Tie as tie
 
@@ -16,7 +16,9 @@ unfolding Write-says write-refusal
 returns c =
     let s = c .before .before .before .before .before .before in
     let xs = s .args .numbers .now in
-    not-read (listed xs .fault) (spelled xs) (c .before .before .write-bytes .ensures .told) (s .args .room .now) (c .if1 .taken)
+    both xs _ (s .args .room .now) _
+    (not-read (listed xs .fault) (spelled xs) (c .before .before .write-bytes .ensures .told) (s .args .room .now)
+    (c .if1 .taken))
 
 refused-requires : tie.Need-refused-requires
 refused-requires c κs = search needs
@@ -24,10 +26,13 @@ refused-requires c κs = search needs
 returns-2 : tie.Need-returns-2
 unfolding Write-says write-refusal
 returns-2 c =
-    let s = c .before .before .before .before .before .before .before .before in
+    let left = c .before .before in
+    let s = left .before .before .before .before .before .before in
     let xs = s .args .numbers .now in
     rw (c .refused .ensures)
-    (no-room (listed xs .fault) (spelled xs) (c .before .before .before .before .write-bytes .ensures .told) (s .args .room .now) (c .before .before .if1 .left) (c .before .if2 .taken))
+    (both xs _ (s .args .room .now) _
+    (no-room (listed xs .fault) (spelled xs) (left .before .before .write-bytes .ensures .told) (s .args .room .now)
+    (left .if1 .left) (c .before .if2 .taken)))
 
 store-requires : tie.Need-store-requires
 store-requires c κs =
@@ -39,12 +44,15 @@ same-length c = search needs
 returns-3 : tie.Need-returns-3
 unfolding Write-says write-refusal
 returns-3 c =
-    let s = c .before .before .before .before .before .before .before .before .before .before .before .before in
+    let branch = c .before .before .before .before .before in
+    let written = branch .before .before .before in
+    let s = written .before .before .before .before in
     let xs = s .args .numbers .now in
-    let n = c .before .before .before .before .before .before .before .before .write-bytes .ensures in
-    let clean = c .before .before .before .before .before .before .if1 .left in
-    stored (listed xs .fault) (spelled xs) (n .told) (s .args .room .now) clean (c .before .before .before .before .before .if2 .left)
-    (c .before .before .store .ensures ∙ written-front n clean (s .args .room .now))
+    let n = written .write-bytes .ensures in
+    let clean = branch .before .if1 .left in
+    both xs _ (s .args .room .now) _
+    (stored (listed xs .fault) (spelled xs) (n .told) (s .args .room .now) clean (branch .if2 .left)
+    (c .before .before .store .ensures ∙ written-front n clean (s .args .room .now)))
 
 pub write-plan-spec : {M : Type 1} → statement M
 write-plan-spec =

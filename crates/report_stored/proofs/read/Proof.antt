@@ -2,6 +2,7 @@
 use Rattle.report_stored.proofs.Answering.{read-refused, read-listed}
 use Prim.Native.Nat.{ℕ}
 use lib.ListN.{length-replicate}
+use Rattle.plan_format.specs.Sizes.{plan-numbers}
 use Rattle.text.proofs.Putting.{puts-both}
 use borrow.Author.Needs.{needs}
 use Rattle.report_stored.proofs.read.Statement.{statement}
@@ -21,7 +22,10 @@ same-length c = search needs
 
 returns : tie.Need-returns
 returns c =
-    rw (← (read-refused _ _ _ (c .before .before .before .before .before .before .before .read-held .result) (c .before .before .before .before .before .before .before .read-held .ensures) (length-replicate {A = ℕ} 22868 0) (c .before .before .before .before .if1 .taken))) (c .before .before .refused .ensures)
+    let branch = c .before .before .before .before in
+    let got = branch .before .before .before .read-held in
+    rw (← (read-refused _ _ _ (got .result) (got .ensures) (length-replicate {A = ℕ} plan-numbers 0)
+    (branch .if1 .taken))) (c .before .before .refused .ensures)
 
 slice-aggregate-line : tie.Need-slice-aggregate-line
 slice-aggregate-line c = search needs
@@ -37,8 +41,12 @@ same-length-2 c = search needs
 
 returns-2 : tie.Need-returns-2
 returns-2 c =
-    rw (← (read-listed _ _ _ (c .before .before .before .before .before .before .before .before .before .before .before .before .read-held .result) (c .before .before .before .before .before .before .before .before .before .before .before .before .read-held .ensures) (length-replicate {A = ℕ} 22868 0) (c .before .before .before .before .before .before .before .before .before .if1 .left)))
-    (puts-both (c .before .before .before .before .before .before .line .ensures) (c .before .before .byte .ensures))
+    let line = c .before .before .before .before .before .before in
+    let branch = line .before .before .before in
+    let got = branch .before .before .before .read-held in
+    rw (← (read-listed _ _ _ (got .result) (got .ensures) (length-replicate {A = ℕ} plan-numbers 0)
+    (branch .if1 .left)))
+    (puts-both (line .line .ensures) (c .before .before .byte .ensures))
 
 pub read-spec : {M : Type 1} → statement M
 read-spec =

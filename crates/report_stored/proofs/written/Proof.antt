@@ -15,14 +15,17 @@ same-length c = search needs
 
 returns : tie.Need-returns
 returns c =
-    let k = write-refused _ _ _ (c .before .before .before .before .before .before .before .before .write-plan .result) (c .before .before .before .before .before .before .before .before .write-plan .ensures) (c .before .before .before .before .if1 .taken) in
+    let branch = c .before .before .before .before in
+    let put = branch .before .before .before .before .write-plan in
+    let k = write-refused _ _ _ (put .result) (put .ensures .0) (branch .if1 .taken) in
     rw (← (k .1), ← (k .0)) (c .before .before .refused .ensures)
 
 same-length-2 : tie.Need-same-length-2
 same-length-2 c = search needs
 
 returns-2 : tie.Need-returns-2
-returns-2 c = write-stored _ _ _ (c .before .before .before .before .write-plan .result) (c .before .before .before .before .write-plan .ensures) (c .if1 .left)
+returns-2 c = let put = c .before .before .before .before .write-plan in write-stored _ _ _ (put .result)
+    (put .ensures .0) (c .if1 .left)
 
 pub written-spec : {M : Type 1} → statement M
 written-spec =

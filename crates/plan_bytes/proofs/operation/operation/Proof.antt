@@ -1,8 +1,7 @@
 -- `operation` meets its contract: one part after the other.
 use borrow.Author.Needs.{needs}
-use Rattle.plan_format.specs.Form.{part, first-form}
 use Rattle.plan_format.specs.Sections.{operation-below}
-use Rattle.plan_bytes.proofs.Cursors.{writes-nothing, writes-seq}
+use Rattle.plan_bytes.proofs.Cursors.{writes-seq}
 use Rattle.plan_bytes.proofs.operation.operation.Statement.{statement}
 use Rattle.plan_bytes.proofs.operation.operation.Tie as tie
 
@@ -22,12 +21,14 @@ same-length : tie.Need-same-length
 same-length c = search needs
 
 returns : tie.Need-returns
-unfolding operation-below part first-form
+unfolding operation-below
 returns c =
-    let queue = c .before .before .before .before .before .before .before .before .before .before .before .before .before .before .byte .ensures .writes in
-    let waits = c .before .before .before .before .before .before .before .before .before .before .points .ensures in
-    let signals = c .before .before .before .before .before .before .points2 .ensures in
-    writes-seq queue (writes-seq (writes-nothing (queue .inside)) (writes-seq waits (writes-seq signals (c .before .before .marks .ensures))))
+    let signals = c .before .before .before .before .before .before in
+    let waits = signals .before .before .before .before in
+    let queue = waits .before .before .before .before in
+    writes-seq (queue .byte .ensures .writes)
+    (writes-seq (waits .points .ensures)
+    (writes-seq (signals .points2 .ensures) (c .before .before .marks .ensures)))
 
 pub operation-spec : {M : Type 1} → statement M
 operation-spec =

@@ -3,15 +3,17 @@ use mathlib.Core.Path.{refl}
 use Prim.Native.Nat.{_+_, _-_, _*_, _≤_}
 use native.Mathlib.Omega.{arith}
 use borrow.Author.Needs.{needs}
-use Rattle.plan_format.specs.Sections.{operation-below}
-use Rattle.plan_format.proofs.Repeats.{repeat}
+use Rattle.plan_format.specs.Sizes.{block-bytes}
+use Rattle.plan_format.specs.Sections.{repeat, operation-below}
 use Rattle.plan_bytes.specs.Writing.{Writes}
 use Rattle.plan_bytes.proofs.Cursors.{writes-none, writes-more, writes-counted, writes-stopped}
 use Rattle.plan_bytes.proofs.operation.operations.Statement.{statement}
 use Rattle.plan_bytes.proofs.operation.operations.Tie as tie
 
 abbrev Inv-loop : tie.InvT-loop
-Inv-loop numbers queues semaphores buffers bytes₀ count o₀ i₀ bytes o i = (i ≤ count) × Writes (repeat i (operation-below queues semaphores buffers)) (61 * i) numbers o₀ bytes₀ o bytes
+Inv-loop numbers queues semaphores buffers bytes₀ count o₀ i₀ bytes o i =
+    (i ≤ count) × Writes (repeat i (operation-below 1 queues semaphores buffers)) (block-bytes * i) numbers o₀ bytes₀ o
+    bytes
 
 abbrev μ-loop : tie.MeasureT-loop
 μ-loop numbers queues semaphores buffers bytes₀ count o₀ i₀ bytes o i = count - i
@@ -21,8 +23,11 @@ pair-requires c κs = search needs
 
 loop-holds : tie.Need-loop-holds Inv-loop μ-loop
 loop-holds c =
-    let s = c .before .before .before .before .before .before in
-    (omega arith, writes-none (operation-below (s .args .queues) (s .args .semaphores) (s .args .buffers)) 61 _ _ _ (c .before .before .pair .ensures .writes .inside))
+    let s = c .before .before .before .before .before .before in (
+      omega arith,
+      writes-none (operation-below 1 (s .args .queues) (s .args .semaphores) (s .args .buffers)) block-bytes
+          _ _ _ (c .before .before .pair .ensures .writes .inside),
+    )
 
 operation-requires : tie.Need-operation-requires Inv-loop μ-loop
 operation-requires c κs = search needs
@@ -36,8 +41,9 @@ returns c =
     let head = turn .before .before .before in
     let start = head .before .before .before in
     let s = start .before .before .before .before in
-    writes-counted 61 (start .pair .ensures) (start .pair .result .value) refl
-    (writes-stopped (operation-below (s .args .queues) (s .args .semaphores) (s .args .buffers)) 61 (head .loop .i + 1) (start .pair .result .value) (c .if1 .taken) (omega arith)
+    writes-counted block-bytes (start .pair .ensures) (start .pair .result .value) refl
+    (writes-stopped (operation-below 1 (s .args .queues) (s .args .semaphores) (s .args .buffers)) block-bytes
+    (head .loop .i + 1) (start .pair .result .value) (c .if1 .taken) (omega arith)
     (writes-more (head .loop .i) (head .loop .inv .1) (turn .operation .ensures)))
 
 add-i : tie.Need-add-i Inv-loop μ-loop
@@ -58,7 +64,7 @@ same-length-2 c = search needs
 returns-2 : tie.Need-returns-2 Inv-loop μ-loop
 returns-2 c =
     let l = c .before .loop in
-    writes-counted 61 (c .before .before .before .before .pair .ensures) (l .i) (omega arith) (l .inv .1)
+    writes-counted block-bytes (c .before .before .before .before .pair .ensures) (l .i) (omega arith) (l .inv .1)
 
 pub operations-spec : {M : Type 1} → statement M
 operations-spec =

@@ -3,15 +3,15 @@ use mathlib.Core.Path.{refl}
 use Prim.Native.Nat.{_+_, _-_, _*_, _≤_}
 use native.Mathlib.Omega.{arith}
 use borrow.Author.Needs.{needs}
-use Rattle.plan_format.specs.Sections.{point-below}
-use Rattle.plan_format.proofs.Repeats.{repeat}
+use Rattle.plan_format.specs.Sections.{repeat, point-below}
 use Rattle.plan_bytes.specs.Writing.{Writes}
 use Rattle.plan_bytes.proofs.Cursors.{writes-none, writes-more, writes-counted, writes-stopped}
 use Rattle.plan_bytes.proofs.operation.points.Statement.{statement}
 use Rattle.plan_bytes.proofs.operation.points.Tie as tie
 
 abbrev Inv-loop : tie.InvT-loop
-Inv-loop numbers most semaphores bytes₀ count p₀ i₀ bytes p i = (i ≤ count) × Writes (repeat i (point-below semaphores)) (9 * i) numbers p₀ bytes₀ p bytes
+Inv-loop numbers most semaphores bytes₀ count p₀ i₀ bytes p i =
+    (i ≤ count) × Writes (repeat i (point-below 1 semaphores)) (9 * i) numbers p₀ bytes₀ p bytes
 
 abbrev μ-loop : tie.MeasureT-loop
 μ-loop numbers most semaphores bytes₀ count p₀ i₀ bytes p i = count - i
@@ -24,8 +24,11 @@ byte-requires c κs = search needs
 
 loop-holds : tie.Need-loop-holds Inv-loop μ-loop
 loop-holds c =
-    let s = c .before .before .before .before .before .before in
-    (omega arith, writes-none (point-below (s .args .semaphores)) 9 _ _ _ (c .before .before .byte .ensures .writes .inside))
+    let s = c .before .before .before .before .before .before in (
+      omega arith,
+      writes-none (point-below 1 (s .args .semaphores)) 9 _ _ _
+          (c .before .before .byte .ensures .writes .inside),
+    )
 
 point-requires : tie.Need-point-requires Inv-loop μ-loop
 point-requires c κs = search needs
@@ -40,7 +43,8 @@ returns c =
     let start = head .before .before .before in
     let s = start .before .before .before .before in
     writes-counted 9 (start .byte .ensures) (start .byte .result .value) refl
-    (writes-stopped (point-below (s .args .semaphores)) 9 (head .loop .i + 1) (start .byte .result .value) (c .if1 .taken) (omega arith)
+    (writes-stopped (point-below 1 (s .args .semaphores)) 9 (head .loop .i + 1) (start .byte .result .value)
+    (c .if1 .taken) (omega arith)
     (writes-more (head .loop .i) (head .loop .inv .1) (turn .point .ensures)))
 
 add-i : tie.Need-add-i Inv-loop μ-loop

@@ -4,8 +4,7 @@ use Prim.Native.Nat.{_+_, _-_, _*_, _≤_}
 use native.Mathlib.Omega.{arith}
 use borrow.Author.Needs.{needs}
 use Rattle.plan_format.specs.Grammar.{field}
-use Rattle.plan_format.specs.Sections.{limited}
-use Rattle.plan_format.proofs.Repeats.{repeat}
+use Rattle.plan_format.specs.Sections.{repeat, limited}
 use Rattle.plan_bytes.specs.Writing.{Writes}
 use Rattle.plan_bytes.proofs.Cursors.{writes-none, writes-more, writes-counted, writes-stopped}
 use Rattle.plan_bytes.proofs.section.owners.Statement.{statement}

@@ -1,6 +1,8 @@
 -- `sections` meets its contract: the sections one after the other, with the counts taken from the list.
 use mathlib.Core.Path.{_∙_}
 use borrow.Author.Needs.{needs}
+use Rattle.plan_format.specs.Form.{first-form}
+use Rattle.plan_bytes.specs.Writing.{point-most, operation-most}
 use Rattle.plan_bytes.proofs.Counts.{plan-written}
 use Rattle.plan_bytes.proofs.section.sections.Statement.{statement}
 use Rattle.plan_bytes.proofs.section.sections.Tie as tie
@@ -35,13 +37,15 @@ same-length c =
     fourth .operations .ensures .as-long ∙ third .sizes .ensures .as-long ∙ second .owners .ensures .as-long ∙ first .axes .ensures .as-long
 
 returns : tie.Need-returns
+unfolding first-form point-most operation-most
 returns c =
     let fourth = c .before .before in
     let third = fourth .before .before .before .before .before in
     let second = third .before .before .before .before .before in
     let first = second .before .before .before .before .before in
     let s = first .before .before .before .before in
-    plan-written (s .args .numbers .now) (first .axes .ensures) (second .before .before .entry .ensures) (second .owners .ensures)
+    plan-written first-form (s .args .numbers .now) (first .axes .ensures) (second .before .before .entry .ensures)
+    (second .owners .ensures)
     (third .before .before .entry2 .ensures) (third .sizes .ensures) (fourth .before .before .entry3 .ensures) (fourth .operations .ensures)
 
 pub sections-spec : {M : Type 1} → statement M

@@ -17,7 +17,8 @@ same-length c = search needs
 returns : tie.Need-returns
 unfolding mark-below
 returns c =
-    let last = c .before .before .byte .ensures in (reads-seq (c .before .before .before .before .before .before .pair .ensures .reads) (last .reads), last .valued)
+    reads-seq (c .before .before .before .before .before .before .pair .ensures .reads)
+    (c .before .before .byte .ensures .reads)
 
 pub mark-spec : {M : Type 1} → statement M
 mark-spec =

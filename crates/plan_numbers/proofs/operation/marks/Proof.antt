@@ -3,15 +3,15 @@ use mathlib.Core.Path.{refl}
 use Prim.Native.Nat.{_+_, _-_, _*_, _≤_}
 use native.Mathlib.Omega.{arith}
 use borrow.Author.Needs.{needs}
-use Rattle.plan_format.specs.Sections.{mark-below}
-use Rattle.plan_format.proofs.Repeats.{repeat}
-use Rattle.plan_numbers.specs.Reading.{Reads, Valued}
+use Rattle.plan_format.specs.Sections.{repeat, mark-below}
+use Rattle.plan_numbers.specs.Reading.{Reads}
 use Rattle.plan_numbers.proofs.Cursors.{reads-none, reads-more, reads-counted, reads-stopped}
 use Rattle.plan_numbers.proofs.operation.marks.Statement.{statement}
 use Rattle.plan_numbers.proofs.operation.marks.Tie as tie
 
 abbrev Inv-loop : tie.InvT-loop
-Inv-loop plan buffers numbers₀ count m₀ i₀ numbers m i = (i ≤ count) × Reads (repeat i (mark-below buffers)) (2 * i) plan m₀ numbers₀ m numbers × Valued plan m numbers
+Inv-loop plan buffers numbers₀ count m₀ i₀ numbers m i =
+    (i ≤ count) × Reads (repeat i (mark-below buffers)) (2 * i) plan m₀ numbers₀ m numbers
 
 abbrev μ-loop : tie.MeasureT-loop
 μ-loop plan buffers numbers₀ count m₀ i₀ numbers m i = count - i
@@ -22,7 +22,7 @@ byte-requires c κs = search needs
 loop-holds : tie.Need-loop-holds Inv-loop μ-loop
 loop-holds c =
     let s = c .before .before .before .before .before .before in
-    (omega arith, reads-none (mark-below (s .args .buffers)) 2 _ _ _ (c .before .before .byte .ensures .reads .inside), c .before .before .byte .ensures .valued)
+    (omega arith, reads-none (mark-below (s .args .buffers)) 2 _ _ _ (c .before .before .byte .ensures .reads .inside))
 
 mark-requires : tie.Need-mark-requires Inv-loop μ-loop
 mark-requires c κs = search needs
@@ -35,12 +35,11 @@ returns c =
     let turn = c .before .before .before .before in
     let head = turn .before .before .before in
     let start = head .before .before .before in
-    let s = start .before .before .before .before in (
-      reads-counted 2 (start .byte .ensures) (start .byte .result .value) refl
-          (reads-stopped (mark-below (s .args .buffers)) 2 (head .loop .i + 1) (start .byte .result .value) (c .if1 .taken) (omega arith)
-          (reads-more (head .loop .i) (head .loop .inv .1) (turn .mark .ensures .0))),
-      turn .mark .ensures .1,
-    )
+    let s = start .before .before .before .before in
+    reads-counted 2 (start .byte .ensures) (start .byte .result .value) refl
+    (reads-stopped (mark-below (s .args .buffers)) 2 (head .loop .i + 1) (start .byte .result .value) (c .if1 .taken)
+    (omega arith)
+    (reads-more (head .loop .i) (head .loop .inv .1) (turn .mark .ensures)))
 
 add-i : tie.Need-add-i Inv-loop μ-loop
 add-i c = search needs
@@ -52,7 +51,7 @@ loop-again : tie.Need-loop-again Inv-loop μ-loop
 loop-again c =
     let turn = c .before .before .before .before in
     let head = turn .before .before .before in
-    (omega arith, reads-more (head .loop .i) (head .loop .inv .1) (turn .mark .ensures .0), turn .mark .ensures .1)
+    (omega arith, reads-more (head .loop .i) (head .loop .inv .1) (turn .mark .ensures))
 
 same-length-2 : tie.Need-same-length-2 Inv-loop μ-loop
 same-length-2 c = search needs
@@ -60,7 +59,7 @@ same-length-2 c = search needs
 returns-2 : tie.Need-returns-2 Inv-loop μ-loop
 returns-2 c =
     let l = c .before .loop in
-    (reads-counted 2 (c .before .before .before .before .byte .ensures) (l .i) (omega arith) (l .inv .1), l .inv .2)
+    reads-counted 2 (c .before .before .before .before .byte .ensures) (l .i) (omega arith) (l .inv .1)
 
 pub marks-spec : {M : Type 1} → statement M
 marks-spec =

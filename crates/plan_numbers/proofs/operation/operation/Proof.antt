@@ -1,8 +1,7 @@
 -- `operation` meets its contract: one part after the other.
 use borrow.Author.Needs.{needs}
-use Rattle.plan_format.specs.Form.{part, first-form}
 use Rattle.plan_format.specs.Sections.{operation-below}
-use Rattle.plan_numbers.proofs.Cursors.{reads-nothing, reads-seq}
+use Rattle.plan_numbers.proofs.Cursors.{reads-seq}
 use Rattle.plan_numbers.proofs.operation.operation.Statement.{statement}
 use Rattle.plan_numbers.proofs.operation.operation.Tie as tie
 
@@ -22,12 +21,13 @@ same-length : tie.Need-same-length
 same-length c = search needs
 
 returns : tie.Need-returns
-unfolding operation-below part first-form
+unfolding operation-below
 returns c =
-    let queue = c .before .before .before .before .before .before .before .before .before .before .before .before .before .before .byte .ensures .reads in
-    let waits = c .before .before .before .before .before .before .before .before .before .before .points .ensures in
-    let signals = c .before .before .before .before .before .before .points2 .ensures in
-    let marks = c .before .before .marks .ensures in (reads-seq queue (reads-seq (reads-nothing (queue .inside)) (reads-seq waits (reads-seq signals (marks .0)))), marks .1)
+    let signals = c .before .before .before .before .before .before in
+    let waits = signals .before .before .before .before in
+    let queue = waits .before .before .before .before in
+    reads-seq (queue .byte .ensures .reads)
+    (reads-seq (waits .points .ensures) (reads-seq (signals .points2 .ensures) (c .before .before .marks .ensures)))
 
 pub operation-spec : {M : Type 1} → statement M
 operation-spec =

@@ -3,15 +3,15 @@ use mathlib.Core.Path.{refl}
 use Prim.Native.Nat.{_+_, _-_, _*_, _≤_}
 use native.Mathlib.Omega.{arith}
 use borrow.Author.Needs.{needs}
-use Rattle.plan_format.specs.Sections.{point-below}
-use Rattle.plan_format.proofs.Repeats.{repeat}
+use Rattle.plan_format.specs.Sections.{repeat, point-below}
 use Rattle.plan_numbers.specs.Reading.{Reads}
 use Rattle.plan_numbers.proofs.Cursors.{reads-none, reads-more, reads-counted, reads-stopped}
 use Rattle.plan_numbers.proofs.operation.points.Statement.{statement}
 use Rattle.plan_numbers.proofs.operation.points.Tie as tie
 
 abbrev Inv-loop : tie.InvT-loop
-Inv-loop plan most semaphores numbers₀ count p₀ i₀ numbers p i = (i ≤ count) × Reads (repeat i (point-below semaphores)) (2 * i) plan p₀ numbers₀ p numbers
+Inv-loop plan most semaphores numbers₀ count p₀ i₀ numbers p i =
+    (i ≤ count) × Reads (repeat i (point-below 1 semaphores)) (2 * i) plan p₀ numbers₀ p numbers
 
 abbrev μ-loop : tie.MeasureT-loop
 μ-loop plan most semaphores numbers₀ count p₀ i₀ numbers p i = count - i
@@ -24,8 +24,11 @@ byte-requires c κs = search needs
 
 loop-holds : tie.Need-loop-holds Inv-loop μ-loop
 loop-holds c =
-    let s = c .before .before .before .before .before .before in
-    (omega arith, reads-none (point-below (s .args .semaphores)) 2 _ _ _ (c .before .before .byte .ensures .reads .inside))
+    let s = c .before .before .before .before .before .before in (
+      omega arith,
+      reads-none (point-below 1 (s .args .semaphores)) 2 _ _ _
+          (c .before .before .byte .ensures .reads .inside),
+    )
 
 point-requires : tie.Need-point-requires Inv-loop μ-loop
 point-requires c κs = search needs
@@ -40,7 +43,8 @@ returns c =
     let start = head .before .before .before in
     let s = start .before .before .before .before in
     reads-counted 2 (start .byte .ensures) (start .byte .result .value) refl
-    (reads-stopped (point-below (s .args .semaphores)) 2 (head .loop .i + 1) (start .byte .result .value) (c .if1 .taken) (omega arith)
+    (reads-stopped (point-below 1 (s .args .semaphores)) 2 (head .loop .i + 1) (start .byte .result .value)
+    (c .if1 .taken) (omega arith)
     (reads-more (head .loop .i) (head .loop .inv .1) (turn .point .ensures)))
 
 add-i : tie.Need-add-i Inv-loop μ-loop

@@ -1,7 +1,11 @@
 -- `first_sections` meets its contract: one section after the other, with the counts taken from the array.
-use mathlib.Core.Path.{_∙_}
+use Prim.Native.Nat.{_≤_}
+use native.Mathlib.Omega.{arith}
+use lib.ListN.{length}
 use borrow.Author.Needs.{needs}
-use Rattle.plan_numbers.proofs.Counts.{front-read}
+use Rattle.plan_format.specs.Form.{first-form}
+use Rattle.plan_numbers.specs.Reading.{front-numbers}
+use Rattle.plan_numbers.proofs.Counts.{front-read, front-past}
 use Rattle.plan_numbers.proofs.section.first_sections.Statement.{statement}
 use Rattle.plan_numbers.proofs.section.first_sections.Tie as tie
 
@@ -27,14 +31,23 @@ same-length : tie.Need-same-length
 same-length c = search needs
 
 returns : tie.Need-returns
+unfolding first-form front-numbers
 returns c =
     let third = c .before .before .before .before in
     let second = third .before .before .before .before .before .before in
     let first = second .before .before .before .before .before .before in
-    let s = first .before .before .before .before in (
-      front-read (s .args .plan .now) (s .pre) (first .axes .ensures) (second .before .before .entry .ensures) (second .owners .ensures)
-          (third .before .before .entry2 .ensures) (third .sizes .ensures) (c .entry3 .ensures),
-      third .sizes .ensures .as-long ∙ second .owners .ensures .as-long ∙ first .axes .ensures .as-long,
+    let s = first .before .before .before .before in
+    let roomy : front-numbers first-form ≤ length (s .args .numbers .now) = omega (arith, s .pre) in
+    let read = front-read first-form (s .args .plan .now) roomy (first .axes .ensures)
+    (second .before .before .entry .ensures) (second .owners .ensures)
+    (third .before .before .entry2 .ensures) (third .sizes .ensures) (c .entry3 .ensures) in (
+      read,
+      (
+        front-past first-form (s .args .plan .now) roomy (first .axes .ensures) (second .before .before .entry .ensures)
+            (second .owners .ensures)
+            (third .before .before .entry2 .ensures) (third .sizes .ensures) (c .entry3 .ensures),
+        omega (arith, read .few),
+      ),
     )
 
 pub first-sections-spec : {M : Type 1} → statement M

@@ -4,8 +4,7 @@ use Prim.Native.Nat.{_+_, _-_, _*_, _≤_}
 use native.Mathlib.Omega.{arith}
 use borrow.Author.Needs.{needs}
 use Rattle.plan_format.specs.Grammar.{field}
-use Rattle.plan_format.specs.Sections.{limited}
-use Rattle.plan_format.proofs.Repeats.{repeat}
+use Rattle.plan_format.specs.Sections.{repeat, limited}
 use Rattle.plan_numbers.specs.Reading.{Reads}
 use Rattle.plan_numbers.proofs.Cursors.{reads-none, reads-more, reads-counted, reads-stopped}
 use Rattle.plan_numbers.proofs.section.owners.Statement.{statement}
