@@ -111,7 +111,7 @@ pub fn judged<'a>(axes: &'a Slots, epochs: &'a Slots, len: usize, capacity: u32)
 }
 
 // The first slot from `from` on whose axis is not below the one sought, or the length.
-pub fn seek(axes: &Slots, len: usize, from: usize, axis: u64) -> usize
+fn seek(axes: &Slots, len: usize, from: usize, axis: u64) -> usize
     requires { ⌜ (from ≤ len) × (len ≤ most-entries) ⌝ }
     ensures { λ r. ⌜ (r ≤ len) × (r < len → axis ≤ getD (now (axes .entry)) r 0) × ((es : List ℕ) →
         rest (now (axes .entry)) es len r ≡ skip-below axis (rest (now (axes .entry)) es len from)) ⌝ }
@@ -159,7 +159,7 @@ pub fn lookup_from<'a>(
 }
 
 // Every entry of y is reached by x. An axis that x lacks is not.
-pub fn reaches<'a>(
+fn reaches<'a>(
     xa: &'a Slots,
     xe: &'a Slots,
     xn: usize,
