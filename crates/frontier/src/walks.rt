@@ -20,7 +20,8 @@ pub type Slots = [u64; Frontier::SLOTS];
 
 // The next entry of a union, and where each side goes on.
 pub struct Step {
-    pub entry: Entry,
+    pub axis: u64,
+    pub epoch: u64,
     pub left: usize,
     pub right: usize,
 }
@@ -110,7 +111,7 @@ pub fn judged<'a>(axes: &'a Slots, epochs: &'a Slots, len: usize, capacity: u32)
 }
 
 // The first slot from `from` on whose axis is not below the one sought, or the length.
-pub fn seek(axes: &Slots, len: usize, from: usize, axis: u64) -> usize
+fn seek(axes: &Slots, len: usize, from: usize, axis: u64) -> usize
     requires { ⌜ (from ≤ len) × (len ≤ most-entries) ⌝ }
     ensures { λ r. ⌜ (r ≤ len) × (r < len → axis ≤ getD (now (axes .entry)) r 0) × ((es : List ℕ) →
         rest (now (axes .entry)) es len r ≡ skip-below axis (rest (now (axes .entry)) es len from)) ⌝ }
@@ -158,7 +159,7 @@ pub fn lookup_from<'a>(
 }
 
 // Every entry of y is reached by x. An axis that x lacks is not.
-pub fn reaches<'a>(
+fn reaches<'a>(
     xa: &'a Slots,
     xe: &'a Slots,
     xn: usize,
@@ -256,7 +257,7 @@ fn leading<'a>(
     requires { ⌜ (rising-from 0 (slots (now xa) (now xe) xn 0) ≡ true) × (rising-from 0 (slots (now ya) (now ye) yn 0) ≡ true) ⌝ }
     requires { ⌜ leads (rest (now xa) (now xe) xn i) (rest (now ya) (now ye) yn j) ≡ true ⌝ }
     ensures { λ s. ⌜ (s .left ≤ xn) × (s .right ≤ yn) × (i + j < s .left + s .right) ⌝ }
-    ensures { λ s. ⌜ union (rest (now (xa .entry)) (now (xe .entry)) xn i) (rest (now (ya .entry)) (now (ye .entry)) yn j) ≡ s .entry ∷ union (rest (now (xa .entry)) (now (xe .entry)) xn (s .left)) (rest (now (ya .entry)) (now (ye .entry)) yn (s .right)) ⌝ }
+    ensures { λ s. ⌜ union (rest (now (xa .entry)) (now (xe .entry)) xn i) (rest (now (ya .entry)) (now (ye .entry)) yn j) ≡ record { axis = s .axis; epoch = s .epoch } ∷ union (rest (now (xa .entry)) (now (xe .entry)) xn (s .left)) (rest (now (ya .entry)) (now (ye .entry)) yn (s .right)) ⌝ }
 {
     let axis = xa[i];
     let epoch = xe[i];
@@ -264,16 +265,15 @@ fn leading<'a>(
     let answer = found.answer;
     let Lookup::Listed(other) = answer else {
         return Step {
-            entry: Entry { axis, epoch },
+            axis,
+            epoch,
             left: i + 1,
             right: j,
         };
     };
     Step {
-        entry: Entry {
-            axis,
-            epoch: larger(epoch, other),
-        },
+        axis,
+        epoch: larger(epoch, other),
         left: i + 1,
         right: j + 1,
     }
@@ -293,15 +293,15 @@ fn next<'a>(
     requires { ⌜ (xn ≤ most-entries) × (yn ≤ most-entries) × (i ≤ xn) × (j ≤ yn) × (i + j < xn + yn) ⌝ }
     requires { ⌜ (rising-from 0 (slots (now xa) (now xe) xn 0) ≡ true) × (rising-from 0 (slots (now ya) (now ye) yn 0) ≡ true) ⌝ }
     ensures { λ s. ⌜ (s .left ≤ xn) × (s .right ≤ yn) × (i + j < s .left + s .right) ⌝ }
-    ensures { λ s. ⌜ union (rest (now (xa .entry)) (now (xe .entry)) xn i) (rest (now (ya .entry)) (now (ye .entry)) yn j) ≡ s .entry ∷ union (rest (now (xa .entry)) (now (xe .entry)) xn (s .left)) (rest (now (ya .entry)) (now (ye .entry)) yn (s .right)) ⌝ }
+    ensures { λ s. ⌜ union (rest (now (xa .entry)) (now (xe .entry)) xn i) (rest (now (ya .entry)) (now (ye .entry)) yn j) ≡ record { axis = s .axis; epoch = s .epoch } ∷ union (rest (now (xa .entry)) (now (xe .entry)) xn (s .left)) (rest (now (ya .entry)) (now (ye .entry)) yn (s .right)) ⌝ }
 {
     if leads_at(xa, xn, i, ya, yn, j) {
         return leading(xa, xe, xn, i, ya, ye, yn, j);
     }
     let s = leading(ya, ye, yn, j, xa, xe, xn, i);
-    let entry = s.entry;
     Step {
-        entry,
+        axis: s.axis,
+        epoch: s.epoch,
         left: s.right,
         right: s.left,
     }
@@ -338,8 +338,8 @@ pub fn join<'a>(
     let mut j: usize = 0;
     while i + j < xn + yn {
         let s = next(xa, xe, xn, i, ya, ye, yn, j);
-        axes[n] = s.entry.axis;
-        epochs[n] = s.entry.epoch;
+        axes[n] = s.axis;
+        epochs[n] = s.epoch;
         n += 1;
         i = s.left;
         j = s.right;

@@ -14,7 +14,7 @@ pub kept-old : (stored : Frontier) (new : Merged) → (new .number ≡ 0 → ⊥
 unfolding kept stored-after
 kept-old stored new t = ap (λ (b : Bool). record { number = new .number; frontier = cond b (new .frontier) stored }) (sym (ne-eqb _ _ t))
 
--- what stands in a number and a frontier that are kept
+-- what a number and a frontier that are kept say
 pub changed : (stored : Frontier) (by-value r : Merged) → r ≡ kept stored by-value → Changed stored by-value (r .number) (r .frontier)
 unfolding kept
 changed stored by-value r e = (ap (λ m. m .number) e, ap (λ m. m .frontier) e)

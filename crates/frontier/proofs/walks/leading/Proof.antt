@@ -28,8 +28,8 @@ enum-known-answer c = search needs
 enum-told : tie.Need-enum-told
 enum-told c = search needs
 
-add-t21 : tie.Need-add-t21
-add-t21 c = search needs
+add-t20 : tie.Need-add-t20
+add-t20 c = search needs
 
 returns : tie.Need-returns
 unfolding slot
@@ -44,8 +44,8 @@ larger-requires c κs = search needs
 add-t14 : tie.Need-add-t14
 add-t14 c = search needs
 
-add-t23 : tie.Need-add-t23
-add-t23 c = search needs
+add-t21 : tie.Need-add-t21
+add-t21 c = search needs
 
 returns-2 : tie.Need-returns-2
 returns-2 c =
@@ -69,9 +69,9 @@ leading-spec =
     lookup-from-requires
     enum-known-answer
     enum-told
-    add-t21
+    add-t20
     returns
     larger-requires
     add-t14
-    add-t23
+    add-t21
     returns-2)

@@ -26,8 +26,8 @@ leading-requires-2 c κs =
 
 returns-2 : tie.Need-returns-2
 returns-2 c =
-    let p = c .before .before .before .before .pre in
-    let w = c .before .leading2 .ensures in
+    let p = c .before .before .before .pre in
+    let w = c .leading2 .ensures in
     ((w .0 .1, w .0 .0, omega (arith, w .0 .2)), next-turned _ _ _ _ _ _ _ _ (p .1 .0) (p .1 .1) _ _ _ (p .0 .2) (p .0 .3) (w .0 .1) (w .0 .0) (w .1))
 
 pub next-spec : {M : Type 1} → statement M
