@@ -1,4 +1,5 @@
-// The small plans of 01, others and bad input through the check: what is handed back, and the lent table and list, which hold 7s before.
+// The small plans of R79, others and bad input through the check: what is handed back, and the lent table and list,
+// which hold 7s before.
 use libc::STDOUT_FILENO;
 use plan_format::Told;
 ghost use mathlib.Core.Path.{_≡_};

@@ -1,6 +1,7 @@
-// Broken marks, refusal 11: marks of which keeping asks what "before" does not force. Two passes over the marks: a use against the next free
-// of its buffer, a mark against the last free before it. Each has a table by mark, 2 * buffer for a use and one more for a free: the operation
-// that had the mark last, and 1,024 for none. What is done for a mark does not branch on it.
+// R35 and R48, broken marks: those of which keeping asks what "before" does not force. Two passes over the marks: a use
+// against the next free of its buffer, a mark against the last free before it. Each has a table by mark, 2 * buffer for a
+// use and one more for a free: the operation that had the mark last, and 1,024 for none. What is done for a mark does not
+// branch on it.
 use plan_columns::MARK_CODES;
 use plan_columns::MarkColumn;
 use plan_columns::QueueColumn;

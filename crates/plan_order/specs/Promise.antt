@@ -1,5 +1,5 @@
--- What is promised of plans: demands 2 and 3, for any sound plan and for stored plans. Each statement is proved in proofs/.
--- Assumes nothing: these are definitions.
+-- What is promised of plans: demands 2 and 3, for any sound plan and for stored plans. Each statement is proved in
+-- proofs/. Assumes nothing: these are definitions.
 use mathlib.Core.Path.{_≡_}
 use mathlib.Core.Bool.{Bool, true, false, _&&_, not, cond}
 use mathlib.Core.Logic.{_⊎_, _↔_}
@@ -27,15 +27,15 @@ use Rattle.plan_order.specs.Check.{room-refusal, order-refusal, Outcome,
 use Rattle.plan_order.specs.Reuse.{verdict, reuse-outcome}
 
 -- ---- DEMAND 3
--- 01: "10: stuck: no full run; lowest operation that is in no run"
+-- R47, refusal 10: no run is full, no run has operation i, and each lower one is in some run
 pub record Stuck-at (p : Plan) (i : ℕ) : Type 0 where
   pub inside : i < count p
   pub in-none : (r : List ℕ) → is-run p r ≡ true → member i r ≡ false
   pub no-full : (r : List ℕ) → is-full p r ≡ false
   pub lower : (k : ℕ) → k < i → (r : List ℕ) × (is-run p r ≡ true) × (member k r ≡ true)
 
--- 01: "11: a broken mark; lowest operation with one": a full run breaks what keeping asks of one of its own marks, and every full run has
--- what is asked of every mark of a lower operation
+-- R48, refusal 11: some full run breaks what keeping asks of a mark of operation i, and every full run has what is asked
+-- of the marks of lower operations
 pub record Broken-at (p : Plan) (i : ℕ) : Type 0 where
   pub inside : i < count p
   pub run : List ℕ
@@ -73,7 +73,7 @@ unfoldable pub Demand-3-stored : (bytes : List ℕ) → (table list number place
 Demand-3-stored bs t l n i = unrefused bs t l ≡ true → Demand-3 (plan-in bs) n i
 
 -- ---- DEMAND 2
--- an entry of the table is the number of the queue's operations that are j or before j, by chains
+-- R20: an entry of the table is the number of the queue's operations that are j or before j, by chains
 unfoldable pub Demand-2 : Plan → (table : List ℕ) → Type 0
 Demand-2 p t = (j q : ℕ) → j < count p → q < row-width → Counts (In-column p j q) (getD t (row-width * j + q) 0)
 
@@ -106,7 +106,8 @@ Row-step p =
     getD (row p j) q 0 ≡ max (cond (eqb (op p j .queue) q) (epoch p j) 0) (most-of p q ks)
 
 -- ---- THE STANDARD RUN
--- of a sound plan: it is a run, has every operation that is in any run, and takes the lowest ready queue at each step
+-- R27, of a sound plan: it is a run, has every operation that is in any run, and takes the lowest ready queue at each
+-- step
 pub record Standard-right (p : Plan) : Type 0 where
   pub a-run : is-run p (standard p) ≡ true
   pub has-all : (r : List ℕ) (j : ℕ) → is-run p r ≡ true → member j r ≡ true → member j (standard p) ≡ true
@@ -115,7 +116,7 @@ pub record Standard-right (p : Plan) : Type 0 where
   pub lowest : (r : List ℕ) (j k : ℕ) → next p r ≡ some j → ready p r k ≡ true → op p j .queue ≤ op p k .queue
   pub ends : (j : ℕ) → ready p (standard p) j ≡ false
 
--- ---- paper 03's statements, over stored plans
+-- ---- OVER STORED PLANS
 -- a plan that gets none of refusals 1 to 8
 unfoldable pub good : List ℕ → Bool
 good bs = all-bytes bs && eqb (plan-refusal bs .number) 0
@@ -178,6 +179,6 @@ pub record Judged-alike (bs cs : List ℕ) : Type 0 where
   pub run-of : run-list (plan-in bs) ≡ run-list (plan-in cs)
   pub verdict-of : (q b : ℕ) → verdict (plan-in bs) q b ≡ verdict (plan-in cs) q b
 
--- one byte more than the longest plan has decides all that is answered
+-- R75, long input: one byte more than the longest plan has decides all that is answered
 unfoldable pub First-bytes : Type 0
 First-bytes = (bs : List ℕ) → Judged-alike bs (take (plan-bytes + 1) bs)

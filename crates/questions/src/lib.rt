@@ -193,7 +193,7 @@ fn seen(queue: &[u16], table: &[u32], last: usize, i: usize) -> bool
     own <= other
 }
 
-// 01's number of a verdict.
+// R58: the number of a verdict.
 fn number_of(v: Verdict) -> u64
     ensures { λ r. ⌜ r ≡ number-of v ⌝ }
 {
