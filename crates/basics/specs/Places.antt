@@ -1,4 +1,5 @@
--- Where a number stands in a list, and how many numbers have a property, by quantifiers. Assumes nothing: these are definitions.
+-- Where a number stands in a list, and how many numbers have a property, by quantifiers. Assumes nothing: these are
+-- definitions.
 use mathlib.Core.Path.{_≡_}
 use mathlib.Core.List.{List}
 use Prim.Native.Nat.{ℕ, _<_}

@@ -19,8 +19,8 @@ ghost use Rattle.plan_order.specs.Promise.{Checked};
 ghost use Rattle.checker.specs.Counting.{Sizes-told, Counts-told, opened-of, counts-of};
 ghost use Rattle.checker.specs.Opening.{Read-plan, Opened-plan, lent};
 
-// How many queues, semaphores, buffers and operations a plan has; or a refusal and its place beside them. Each is 0 where the reader refuses
-// the plan.
+// How many queues, semaphores, buffers and operations a plan has; or a refusal and its place beside them. Each is 0
+// where the reader refuses the plan.
 pub struct Counted {
     pub number: u32,
     pub place: u64,
@@ -108,8 +108,9 @@ pub fn check_counted(plan: &[u8], table: &mut [u32], list: &mut [u32]) -> Counte
     o.counted
 }
 
-// The check for those who ask further: beside the answer and the counts, the plan in lent columns. Past the plan's own places, and where the
-// reader refuses the plan, what is lent is unspecified; so is the column of sources where a refusal from 6 to 8 is given.
+// The check for those who ask further: beside the answer and the counts, the plan in lent columns. Past the plan's own
+// places, and where the reader refuses the plan, what is lent is unspecified; so is the column of sources where a
+// refusal from 6 to 8 is given.
 pub fn check_opened(
     plan: &[u8],
     head: &mut HeadNumbers,

@@ -113,7 +113,8 @@ fn show_kept(same: bool) {
     }
 }
 
-// A plan through the check with room enough: on a line what is handed back, then for table and list whether each number is kept.
+// A plan through the check with room enough: on a line what is handed back, then for table and list whether each number
+// is kept.
 fn check_kept(plan: &[u8]) {
     let mut rows = [7u32; 128];
     let mut run = [7u32; 128];

@@ -1,5 +1,5 @@
--- A frontier built one axis at a time: raising at a capacity that holds every axis never cuts, so raises in any order gather the union; and a
--- merge with the empty frontier cuts. Assumes nothing.
+-- A frontier built one axis at a time: raising at a capacity that holds every axis never cuts, so raises in any order
+-- gather the union; and a merge with the empty frontier cuts. Assumes nothing.
 use mathlib.Core.Path.{_≡_, refl, sym, ap, _∙_}
 use mathlib.Core.Bool.{Bool, false, _||_, or-false}
 use mathlib.Core.List.{List, [], _∷_}

@@ -1,5 +1,5 @@
--- Lists of entries with rising axes and epochs above 0: they are equal where they give each axis the same epoch, and union takes the larger
--- epoch, so it is commutative, associative and idempotent. Assumes nothing.
+-- Lists of entries with rising axes and epochs above 0: they are equal where they give each axis the same epoch, and
+-- union takes the larger epoch, so it is commutative, associative and idempotent. Assumes nothing.
 use mathlib.Core.Path.{_≡_, refl, sym, ap, ap₂, _∙_}
 use mathlib.Core.Bool.{true}
 use mathlib.Core.List.{List, [], _∷_}

@@ -42,9 +42,9 @@ Small f g full = (axis : ℕ) →
 
 -- LOOKUP
 
--- R60: of a well-formed frontier the lookup gives every epoch listed under the axis, one or none; of any other, which the
--- rules leave unspecified, it gives, if anything, what is in a slot below the length, and nothing where that is over
--- sixteen
+-- R60: of a well-formed frontier the lookup gives every epoch listed under the axis, one or none; of any other, which
+-- the rules leave unspecified, it gives, if anything, what is in a slot below the length, and nothing where that is
+-- over sixteen
 pub record Looked (f : Frontier) (axis : ℕ) (r : Lookup) : Type 0 where
   pub found : well-formed f ≡ true → r ≡ find axis (entries f)
   pub exactly : well-formed f ≡ true → values-of r ≡ epochs-under axis (entries f)
@@ -95,8 +95,8 @@ pub record Raise-right (f : Frontier) (axis epoch capacity : ℕ) (r : Merged) :
 
 -- DOMINANCE
 
--- R68: yes, every completion of f dominates every completion of g; no, none does; unknown, there are completions of both
--- kinds
+-- R68: yes, every completion of f dominates every completion of g; no, none does; unknown, there are completions of
+-- both kinds
 pub record Dominance-means (f g : Frontier) (r : Dominance) : Type 0 where
   pub number : number-of r .number ≡ dominance-number f g
   pub if-yes : r ≡ Yes → (full other : ℕ → ℕ) → Completion f full → Completion g other → Over full other

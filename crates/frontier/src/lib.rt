@@ -14,7 +14,8 @@ ghost use mathlib.Core.List.{[]};
 ghost use Rattle.frontier.specs.Frontiers.{well-formed, pack, refusal, merge, raise, dominance};
 ghost use Rattle.frontier.specs.Meaning.{Looked, Merge-right, Raise-right, Dominance-means};
 
-// Slot i holds the entry (axes[i], epochs[i]) for i below len; the slots past len are zero. A tainted frontier may have lost entries.
+// Slot i holds the entry (axes[i], epochs[i]) for i below len; the slots past len are zero. A tainted frontier may have
+// lost entries.
 pub struct Frontier {
     pub axes: [u64; Frontier::SLOTS],
     pub epochs: [u64; Frontier::SLOTS],
@@ -73,7 +74,8 @@ impl Frontier {
         }
     }
 
-    // At most sixteen entries, axes rise, epochs are above 0, slots past the length are zero. Anything else is refusal 14.
+    // At most sixteen entries, axes rise, epochs are above 0, slots past the length are zero. Anything else is refusal
+    // 14.
     pub fn well_formed(self) -> bool
         ensures { λ r. ⌜ r ≡ well-formed self ⌝ }
     {

@@ -1,4 +1,5 @@
--- Linear extensions: chains order the steps of every run, and of two numbers that no chain orders either may come first. Assumes nothing.
+-- Linear extensions: chains order the steps of every run, and of two numbers that no chain orders either may come
+-- first. Assumes nothing.
 use mathlib.Core.Path.{_≡_, refl, sym, ap, _∙_, subst}
 use mathlib.Core.Bool.{Bool, true, false, _||_, not}
 use mathlib.Core.Logic.{_⊎_, inl, inr}

@@ -1,5 +1,5 @@
--- Runs over the numbers below n: lists of distinct numbers, each enabled by what stands before it. A run that has all of them is a
--- linear extension of whatever order enabling stands for. Assumes nothing: these are definitions.
+-- Runs over the numbers below n: lists of distinct numbers, each enabled by what stands before it. A run that has all
+-- of them is a linear extension of whatever order enabling stands for. Assumes nothing: these are definitions.
 use mathlib.Core.Bool.{Bool, true, _&&_, not, cond}
 use mathlib.Core.List.{List, [], _∷_, _++_}
 use Prim.Native.Nat.{ℕ, suc}

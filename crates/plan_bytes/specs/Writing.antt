@@ -31,7 +31,8 @@ pub record Room (many : ℕ) (xs : List ℕ) (c : Cursor) (bytes : List ℕ) : T
   pub inside : c .at ≤ length xs
   pub room : c .put + many ≤ length bytes
 
--- from the cursor `c` to the cursor `r` a thing is read from the list and, where there is no refusal, spelled, at most so many bytes long
+-- from the cursor `c` to the cursor `r` a thing is read from the list and, where there is no refusal, spelled, at most
+-- so many bytes long
 pub record Writes (g : Grammar) (many : ℕ) (xs : List ℕ) (c : Cursor) (bytes : List ℕ) (r : Cursor) (bytes-now : List ℕ) : Type 0 where
   pub read : read-by numbers g (here xs c) ≡ here xs r
   pub spell : r .number ≡ 0 → spell-by g (spelling xs c bytes) ≡ spelling xs r bytes-now

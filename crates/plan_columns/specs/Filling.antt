@@ -1,5 +1,6 @@
--- Columns filled from the numbers of a plan: what stands where among the numbers, and what each operation adds to each column.
--- Counts and positions are cut to a few bits, which changes none in range. Assumes nothing: these are definitions.
+-- Columns filled from the numbers of a plan: what stands where among the numbers, and what each operation adds to each
+-- column. Counts and positions are cut to a few bits, which changes none in range. Assumes nothing: these are
+-- definitions.
 use mathlib.Core.Path.{_≡_}
 use mathlib.Core.Bool.{cond}
 use mathlib.Core.List.{List, [], _∷_, _++_}

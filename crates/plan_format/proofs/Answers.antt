@@ -1,4 +1,5 @@
--- What is handed back: the end of a reading, and the refusal, the answer and the room for numbers or bytes made. Assumes nothing.
+-- What is handed back: the end of a reading, and the refusal, the answer and the room for numbers or bytes made.
+-- Assumes nothing.
 use mathlib.Core.Path.{_≡_, refl, sym, _∙_, subst}
 use mathlib.Core.Bool.{false, _||_, cond}
 use mathlib.Core.List.{List, [], _∷_}

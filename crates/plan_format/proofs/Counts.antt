@@ -1,5 +1,5 @@
--- The counts in front of the sections: grammars whose checks take a count from the numbers read, and those that know it, read alike.
--- Assumes nothing.
+-- The counts in front of the sections: grammars whose checks take a count from the numbers read, and those that know
+-- it, read alike. Assumes nothing.
 use mathlib.Core.Path.{_≡_, refl, sym, ap, _∙_, subst}
 use mathlib.Core.Bool.{cond}
 use mathlib.Core.List.{List, _∷_, _++_}

@@ -1,10 +1,11 @@
--- R1, R2: the stored form of a plan, four sections, each with its count in front. Assumes nothing: these are definitions.
+-- R1, R2: the stored form of a plan, four sections, each with its count in front. Assumes nothing: these are
+-- definitions.
 --
 --   section     count    most   entry
 --   queues      1 byte   16     axis 8
 --   semaphores  1 byte   64     owner 1
 --   buffers     2 bytes  256    size 4
---   operations  2 bytes  1,024  queue 1; up to 3 waits, 1 + 9 each; up to 2 signals, 1 + 9 each; up to 4 marks, 1 + 3 each
+--   operations  2 bytes  1,024  queue 1; up to 3 waits and 2 signals of 1 + 8, up to 4 marks of 2 + 1, counts 1
 use mathlib.Core.Bool.{cond}
 use mathlib.Core.List.{List, [], _++_}
 use Prim.Native.Nat.{ℕ, _+_, _*_}
@@ -16,8 +17,8 @@ use Rattle.plan_format.specs.Refusal.{none-given}
 use Rattle.plan_format.specs.Grammar.{Check, Grammar, field, seq, counted, Source, Scan, scan, read-by, ended}
 use Rattle.plan_format.specs.Grammar.{spell-by}
 
--- what tells one stored form from another: the bytes in front, the width of a semaphore's position and of the semaphore count, the
--- limits of that count
+-- what tells one stored form from another: the bytes in front, the width of a semaphore's position and of the semaphore
+-- count, the limits of that count
 pub record Form : Type 0 where
   pub lead : List ℕ
   pub semaphore-width : ℕ

@@ -233,8 +233,8 @@ pub record Read-means (bytes : List ℕ) (r : Told) (room room-now : List ℕ) :
   pub taken : r .number ≡ 0 → listed (take (r .answer) room-now) .fault ≡ none-given
   pub written-back : r .number ≡ 0 → spelled (take (r .answer) room-now) ≡ bytes
 
--- R8, R13, what was written: the bytes of a plan within the limits, from which the reader reads the very numbers, to the
--- end
+-- R8, R13, what was written: the bytes of a plan within the limits, from which the reader reads the very numbers, to
+-- the end
 pub record Write-means (numbers : List ℕ) (r : Told) (room room-now : List ℕ) : Type 0 where
   pub filled : Filled (spelled numbers) r room room-now
   pub within : r .number ≡ 0 → Within (plan-of numbers)

@@ -1,5 +1,5 @@
--- R37 to R52: the numbers of refusals, a list for each class, and what each entry can give, made of these lists. Assumes
--- nothing: these are definitions.
+-- R37 to R52: the numbers of refusals, a list for each class, and what each entry can give, made of these lists.
+-- Assumes nothing: these are definitions.
 use mathlib.Core.Path.{_≡_}
 use mathlib.Core.Bool.{true}
 use mathlib.Core.List.{List, [], _∷_, _++_}

@@ -1,5 +1,5 @@
--- Stored plans as bytes and as lists of numbers: what the reader and the writer answer and leave. Assumes nothing: these
--- are definitions.
+-- Stored plans as bytes and as lists of numbers: what the reader and the writer answer and leave. Assumes nothing:
+-- these are definitions.
 use mathlib.Core.Path.{_≡_}
 use mathlib.Core.Bool.{Bool, cond}
 use mathlib.Core.List.{List}

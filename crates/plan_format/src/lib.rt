@@ -1,4 +1,5 @@
-// What every call on a stored plan hands back, a refusal among it, and the search that judges an axis; the format itself is in specs/.
+// What every call on a stored plan hands back, a refusal among it, and the search that judges an axis; the format
+// itself is in specs/.
 pub mod limits;
 
 ghost use mathlib.Core.Path.{_≡_};

@@ -1,4 +1,5 @@
--- Grammars whose checks ask nothing of the numbers got: what was got before changes nothing of what they read. Assumes nothing.
+-- Grammars whose checks ask nothing of the numbers got: what was got before changes nothing of what they read. Assumes
+-- nothing.
 use mathlib.Core.Path.{_≡_, refl, sym, ap, _∙_}
 use mathlib.Core.Bool.{true, false, cond}
 use mathlib.Core.List.{List, [], _∷_, _++_, append-assoc}

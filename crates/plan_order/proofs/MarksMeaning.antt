@@ -1,4 +1,5 @@
--- The marks on a buffer: every mark of every operation, in plan order, inside one operation in list order. Assumes nothing.
+-- The marks on a buffer: every mark of every operation, in plan order, inside one operation in list order. Assumes
+-- nothing.
 use mathlib.Core.Path.{_≡_, refl, sym, ap, ap₂, _∙_, subst, subst₂}
 use mathlib.Core.Bool.{cond}
 use mathlib.Core.Logic.{_⊎_, inl, inr, _↔_}

@@ -1,4 +1,5 @@
--- What a wait resolves to: nothing where it is for 0, else the least signal that is high enough, or never. Assumes nothing.
+-- What a wait resolves to: nothing where it is for 0, else the least signal that is high enough, or never. Assumes
+-- nothing.
 use mathlib.Core.Path.{_≡_, refl, sym, ap, _∙_, subst}
 use mathlib.Core.Bool.{true, false, false≢true}
 use mathlib.Core.Logic.{_⊎_, inl, inr}

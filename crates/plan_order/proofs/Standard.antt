@@ -1,4 +1,5 @@
--- The standard run is a run, takes the lowest ready queue at each step, and has every operation that is in any run. Assumes nothing.
+-- The standard run is a run, takes the lowest ready queue at each step, and has every operation that is in any run.
+-- Assumes nothing.
 use mathlib.Core.Path.{_≡_, refl}
 use mathlib.Core.Bool.{true, false, _&&_, not}
 use mathlib.Core.List.{List}

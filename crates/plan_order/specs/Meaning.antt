@@ -138,7 +138,8 @@ abbrev pub Keeps-means : Plan → (run : List ℕ) → (b : ℕ) → Type 0
 Keeps-means p r b =
     (k : ℕ) → k < length (buffer-marks p b) → Asked (buffer-marks p b) (λ i j. (i ≡ j) ⊎ Steps-earlier r i j) (λ i j. Steps-earlier r i j) k
 
--- R35, R36, a mark that is not broken: before forces what keeping asks of it, or it is a use in the operation that frees
+-- R35, R36, a mark that is not broken: before forces what keeping asks of it, or it is a use in the operation that
+-- frees
 abbrev pub Forced : Plan → (b k : ℕ) → Type 0
 Forced p b k = Asked (buffer-marks p b) (λ i j. (i ≡ j) ⊎ Before p i j) (λ i j. Before p i j) k
 

@@ -34,8 +34,8 @@ pub record Stuck-at (p : Plan) (i : ℕ) : Type 0 where
   pub no-full : (r : List ℕ) → is-full p r ≡ false
   pub lower : (k : ℕ) → k < i → (r : List ℕ) × (is-run p r ≡ true) × (member k r ≡ true)
 
--- R48, refusal 11: some full run breaks what keeping asks of a mark of operation i, and every full run has what is asked
--- of the marks of lower operations
+-- R48, refusal 11: some full run breaks what keeping asks of a mark of operation i, and every full run has what is
+-- asked of the marks of lower operations
 pub record Broken-at (p : Plan) (i : ℕ) : Type 0 where
   pub inside : i < count p
   pub run : List ℕ
@@ -98,7 +98,8 @@ unfoldable pub most-of : Plan → (q : ℕ) → List ℕ → ℕ
 most-of p q [] = 0
 most-of p q (k ∷ ks) = max (getD (row p k) q 0) (most-of p q ks)
 
--- a row is merged from rows of direct predecessors that have every other one at or before one of them, and the own epoch
+-- a row is merged from rows of direct predecessors that have every other one at or before one of them, and the own
+-- epoch
 unfoldable pub Row-step : Plan → Type 0
 Row-step p =
     (j : ℕ) (ks : List ℕ) → j < count p → ((k : ℕ) → member k ks ≡ true → direct p k j ≡ true) →

@@ -17,8 +17,8 @@ pub struct Signalled {
     pub last: LastValues,
 }
 
-// 6 or 7 at the first signal that breaks a rule, or none; and the last values of the signals before it. By the columns of a plan the refusal
-// is the plan's, and where there is none the last values of its semaphores are the highest.
+// 6 or 7 at the first signal that breaks a rule, or none; and the last values of the signals before it. By the columns
+// of a plan the refusal is the plan's, and where there is none the last values of its semaphores are the highest.
 pub fn judge(
     signals: usize,
     owner: &OwnerColumn,

@@ -1,4 +1,5 @@
--- The source column and what is directly before an operation by a wait; what holds an operation, by its three sources. Assumes nothing.
+-- The source column and what is directly before an operation by a wait; what holds an operation, by its three sources.
+-- Assumes nothing.
 use mathlib.Core.Path.{_≡_, refl, sym, ap, _∙_, subst}
 use mathlib.Core.Bool.{true, false≢true}
 use mathlib.Core.Logic.{_⊎_, inl, inr}

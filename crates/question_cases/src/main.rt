@@ -358,7 +358,8 @@ fn no_such() {
     t8_above(4294967295, 4294967295);
 }
 
-// Exactly the room, one number short in the table, in the list and in both, and none; too little room before a queue that is not there.
+// Exactly the room, one number short in the table, in the list and in both, and none; too little room before a queue
+// that is not there.
 fn rooms() {
     room(2, 0, 48, 6);
     room(2, 0, 47, 7);

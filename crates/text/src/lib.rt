@@ -1,5 +1,5 @@
-// Text made in lent room, of which the first `at` bytes are taken. What goes past the end of the room is left out. Each function hands back
-// where its text ends.
+// Text made in lent room, of which the first `at` bytes are taken. What goes past the end of the room is left out. Each
+// function hands back where its text ends.
 ghost use mathlib.Core.List.{[], _∷_};
 ghost use mathlib.Core.Path.{_≡_};
 ghost use lib.ListN.{take};

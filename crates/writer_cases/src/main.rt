@@ -5,7 +5,8 @@ ghost use mathlib.Core.Path.{_≡_};
 ghost use Prim.Native.Nat.{_<_, _≤_};
 ghost use lib.ListN.{length};
 
-// The plan T3 in front of zeros: three queues, two semaphores, one buffer, three operations, 38 numbers, 96 bytes stored.
+// The plan T3 in front of zeros: three queues, two semaphores, one buffer, three operations, 38 numbers, 96 bytes
+// stored.
 fn t3() -> [u64; 40]
     ensures { λ r. ⌜ length r ≡ 40 ⌝ }
 {
