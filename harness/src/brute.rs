@@ -1,4 +1,4 @@
-//! Small plans judged by trying every run, straight from the words of paper 01:
+//! Small plans judged by trying every run, straight from the words of R21 to R36:
 //! a run is judged by semaphore values, never by the relation "before". Nothing
 //! here is shared with the reference but the type `Plan`.
 
@@ -25,7 +25,7 @@ pub enum Judgement {
     },
 }
 
-/// Judges a plan whose fields are all in range. Panics if a claim of paper 01
+/// Judges a plan whose fields are all in range. Panics if a claim of the rules
 /// about whole runs fails: that a plan with a full run is never stuck, and that
 /// every run raises every semaphore in order.
 pub fn judge(plan: &Plan) -> Judgement {

@@ -6,7 +6,7 @@ use crate::plan::{Mark, Plan};
 use crate::reference::{self, Reference};
 use crate::side::{Raw, Side, Told, EMPTY, EPOCHS, LENGTH, TAINT};
 
-/// The mistakes that paper 01 says were paid for, and a row's own column.
+/// The mistakes that the rules exclude, and a row's own column.
 #[derive(Clone, Copy, PartialEq, Eq, Debug)]
 pub enum Fault {
     /// A wait imports the newest signal instead of the one it needed.

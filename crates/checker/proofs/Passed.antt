@@ -1,4 +1,4 @@
--- What is known once the check has passed a plan: it is sound, its counts are those handed back, and its rows stand in
+-- What is known once the check has passed a plan: it is sound, its counts are those handed back, and its rows are in
 -- front of the table. Assumes nothing.
 use mathlib.Core.Path.{_≡_, sym, ap, _∙_, subst}
 use mathlib.Core.List.{List}

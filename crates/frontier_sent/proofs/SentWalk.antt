@@ -1,4 +1,4 @@
--- The walk over a row: one axis raised after the other gathers the entries, and the row of an operation stands where
+-- The walk over a row: one axis raised after the other gathers the entries, and the row of an operation is where
 -- the walk reads it. Assumes nothing.
 use mathlib.Core.Path.{_≡_, refl, ap, ap₂, _∙_}
 use mathlib.Core.Bool.{false}

@@ -30,7 +30,7 @@ pub record Sent-tells (p : Plan) (j capacity : ℕ) (r : Sent) : Type 0 where
   pub tells : Tells (sent-refusal p j capacity) 0 (told r)
   pub frontier-is : r .frontier ≡ cond (given (sent-refusal p j capacity)) (pack [] false) (sent p j capacity)
 
--- the entries of so many queues from one on, of the row that begins at `first` in the table; the axes stand after their
+-- the entries of so many queues from one on, of the row that begins at `first` in the table; the axes come after their
 -- count
 unfoldable pub row-in : (head table : List ℕ) → (first many start : ℕ) → List Entry
 row-in head table first many start =

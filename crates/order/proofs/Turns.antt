@@ -1,4 +1,4 @@
--- A run by its places: each number may come next after those that stand before it; a number's step is its first place.
+-- A run by its places: each number may come next after those that are before it; a number's step is its first place.
 -- Assumes nothing.
 use mathlib.Core.Path.{_≡_, refl, sym, _∙_, subst}
 use mathlib.Core.Bool.{Bool, true}

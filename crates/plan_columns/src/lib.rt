@@ -77,7 +77,7 @@ fn owned(numbers: &[u64], at: usize, many: usize, owner: &mut [u16])
     }
 }
 
-// Stores operation i, read into a window, behind the signals and marks of those before it; gives how many there are
+// Stores operation i, read into a window, after the signals and marks of those before it; gives how many there are
 // with its own. There are places for 1,024 operations: one past them is not stored. With its counts cut to their bits
 // no operation reaches past a window of 32.
 pub fn add(

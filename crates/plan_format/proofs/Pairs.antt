@@ -1,4 +1,4 @@
--- Points and marks are pairs of numbers: how many there are, each by its position, and that nothing behind them
+-- Points and marks are pairs of numbers: how many there are, each by its position, and that nothing after them
 -- matters. Assumes nothing.
 use mathlib.Core.Path.{_≡_, refl, sym, ap, ap₂, _∙_}
 use mathlib.Core.List.{List, [], _∷_, _++_}

@@ -10,7 +10,7 @@ use Rattle.basics.specs.Lists.{member}
 abbrev pub One-of : (numbers : List ℕ) → (n : ℕ) → Type 0
 One-of ns n = member n ns ≡ true
 
--- the number is 0, which stands for no refusal, or one of those listed
+-- the number is 0, which is no refusal, or one of those listed
 abbrev pub None-or : (numbers : List ℕ) → (n : ℕ) → Type 0
 None-or ns n = One-of (0 ∷ ns) n
 

@@ -35,7 +35,7 @@ module _ (S : Source) (front : List ℕ) where
       (λ t. rw (n, t) (ap (λ (l : List ℕ). scan (drop (S .wide w) (s .rest)) (s .place + S .wide w) l (s .fault)) (append-assoc front (s .got) (v ∷ []))))
       (λ f. rw (n, f)))
 
-  -- a count just read is the last number got, whatever stands in front
+  -- a count just read is the last number got, whatever is in front
   last-after : (w : ℕ) (c : ℕ → ℕ) (s : Scan) → given (read-field S w c s .fault) ≡ false → last-got (after front (read-field S w c s)) ≡ last-got (read-field S w c s)
   unfolding after scan
   last-after w c s n =

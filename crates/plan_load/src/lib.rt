@@ -1,4 +1,4 @@
-// A stored plan read straight into its columns: each operation into a window of numbers, and from there behind the
+// A stored plan read straight into its columns: each operation into a window of numbers, and from there after the
 // operations before it.
 use plan_columns::MarkColumn;
 use plan_columns::OwnerColumn;
@@ -33,8 +33,8 @@ pub struct Loaded {
     pub marks: u16,
 }
 
-// Fills the columns of a stored plan, and its head, in which the axes stand from the second place on. Past them, past
-// the plan's own places in each column, and on a refusal, what is lent is free.
+// Fills the columns of a stored plan, and its head, in which the axes are from the second place on. Past them, past
+// the plan's own places in each column, and on a refusal, what is lent is unspecified.
 pub fn load(
     plan: &[u8],
     head: &mut HeadNumbers,
@@ -126,7 +126,7 @@ fn columns(
     operations(plan, h, queue, wsem, wval, ssem, sval, sop, mark, mop)
 }
 
-// Fills the columns of the operations behind a head.
+// Fills the columns of the operations after a head.
 fn operations(
     plan: &[u8],
     h: Head,

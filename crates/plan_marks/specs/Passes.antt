@@ -9,7 +9,7 @@ use Rattle.plan_format.specs.Sizes.{most-buffers, most-operations, mark-places,
 use Rattle.plan_columns.specs.Columns.{Marked}
 use Rattle.plan_columns.specs.Shown.{mark-codes, shown-from, ordered}
 
--- a table by mark, twice its buffer and one more for a free: the operation that had the mark last; 1,024 stands for
+-- a table by mark, twice its buffer and one more for a free: the operation that had the mark last; 1,024 means
 -- none
 abbrev pub none-noted : List ℕ
 none-noted = replicate mark-codes no-operation

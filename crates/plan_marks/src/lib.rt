@@ -120,7 +120,7 @@ fn early(queue: &QueueColumn, rows: &Rows, free: usize, i: usize) -> bool
     (free == i) | ((free < NO_OPERATION) & !ordered(queue, rows, free, i))
 }
 
-// Whether i is j or before j, by the column of i's queue in their rows. Where i is 1,024 the answer is free.
+// Whether i is j or before j, by the column of i's queue in their rows. Where i is 1,024 the answer is unspecified.
 fn ordered(queue: &QueueColumn, rows: &Rows, i: usize, j: usize) -> bool
     requires { ⌜ (i ≤ no-operation) × (j ≤ no-operation) ⌝ }
     ensures { λ r. ⌜ (i < most-operations → r ≡ is-ordered (now (queue .entry)) (now (rows .entry)) i j) ⌝ }

@@ -24,7 +24,7 @@ const UNIT: usize = 2 * ROW_WIDTH;
 
 // The standard run into `list`, with the number ready before each step from place n on, and the row of each operation
 // that ran into `rows`, which are all zero before; how many operations ran. Where the columns show no plan, the rows,
-// the first 2 n of the list and an answer up to n are free; where n is above 1,024 nothing is done.
+// the first 2 n of the list and an answer up to n are unspecified; where n is above 1,024 nothing is done.
 pub fn run(
     n: u16,
     queue: &QueueColumn,

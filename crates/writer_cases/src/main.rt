@@ -91,7 +91,7 @@ fn write(numbers: &[u64]) {
     show(plan_writer::write_plan(numbers, &mut room));
 }
 
-// The first `n` numbers of T3 and the zeros behind it.
+// The first `n` numbers of T3 and the zeros after it.
 fn first(n: usize)
     requires { ⌜ n ≤ 40 ⌝ }
 {
@@ -113,7 +113,7 @@ fn zeros() -> [u64; 131110]
     [0; 131110]
 }
 
-// T3 with a megabyte of zeros behind it.
+// T3 with a megabyte of zeros after it.
 fn longer() {
     let numbers = t3();
     let mut long = zeros();
