@@ -1,4 +1,5 @@
-// The check of a stored plan: shown as columns, and judged by them; its counts, and its columns for those who ask on.
+// R53 to R56, the check of a stored plan: shown as columns, and judged by them; its counts, and its columns for those
+// who ask on.
 use plan_columns::MarkColumn;
 use plan_columns::QueueColumn;
 use plan_columns::SignalColumn;

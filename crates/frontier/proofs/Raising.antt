@@ -85,7 +85,7 @@ pub raises-from-empty : (xs : List Entry) → length xs ≤ most-entries →
     raises xs (pack [] false) ≡ pack (gathered xs) false
 raises-from-empty xs h = raises-gather xs [] false tt (omega arith) ∙ ap (λ l. pack l false) (unfold union in refl)
 
--- cut to a capacity as a merge is: a merge with the empty frontier
+-- R70: the cut to a capacity is a merge with the empty frontier
 pub merge-empty : (ys : List Entry) (t : Bool) (c : ℕ) → Sorted 0 ys → length ys ≤ most-entries → 1 ≤ c →
     c ≤ most-entries → merge (pack ys t) (pack [] false) c ≡ record {
       number = 0;

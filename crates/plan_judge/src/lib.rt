@@ -1,4 +1,5 @@
-// The check of a plan that is shown by columns: judged by the rules and the room, run, and judged by its order.
+// R54 to R56, the check of a plan that is shown by columns: judged by signals, waits and room, run, and judged by its
+// order.
 mod decide;
 mod leave;
 

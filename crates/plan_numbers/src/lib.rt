@@ -1,4 +1,5 @@
-// The numbers of stored plans: one pass over the bytes, a cursor by value, each field judged and stored as it is read.
+// R9 and R53, the numbers of stored plans: one pass over the bytes, a cursor by value, each field judged and stored as
+// it is read.
 mod cursor;
 mod field;
 mod operation;

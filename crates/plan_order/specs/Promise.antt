@@ -50,7 +50,7 @@ pub record Broken-at (p : Plan) (i : ℕ) : Type 0 where
   pub lower :
       (b : ℕ) (a : Ask) → List·Memᴰ a (asks p b) → asked-of a < i → (r : List ℕ) → is-full p r ≡ true → met (λ i j. ahead r i j) a ≡ true
 
--- demand 3: some full run exists and every full run keeps every buffer
+-- demand 3: there is a full run, and all full runs keep all buffers
 abbrev pub Safe : Plan → Type 0
 Safe p = ((r : List ℕ) × (is-full p r ≡ true)) × ((r : List ℕ) (b : ℕ) → is-full p r ≡ true → keeps p r b ≡ true)
 
@@ -77,7 +77,7 @@ Demand-3-stored bs t l n i = unrefused bs t l ≡ true → Demand-3 (plan-in bs)
 unfoldable pub Demand-2 : Plan → (table : List ℕ) → Type 0
 Demand-2 p t = (j q : ℕ) → j < count p → q < row-width → Counts (In-column p j q) (getD t (row-width * j + q) 0)
 
--- what is worked out as before is before by chains
+-- R19: the closure that is computed is the one by chains
 unfoldable pub Before-right : Type 0
 Before-right = (bs : List ℕ) (i j : ℕ) → (before (plan-in bs) i j ≡ true) ↔ Before (plan-in bs) i j
 

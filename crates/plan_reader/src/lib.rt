@@ -1,4 +1,4 @@
-// The reader of stored plans: the numbers of the bytes, stored in the room that the caller lends.
+// R10, R12 and R13, the reader: the numbers of the bytes, stored in the room that the caller lends.
 use plan_format::Told;
 use plan_format::limits::HEAD_NUMBERS;
 use plan_format::limits::PLAN_NUMBERS;

@@ -1,4 +1,4 @@
-// Refusals 6 and 7 of a plan: each signal is its owner's, and above the last of its semaphore.
+// R43 and R44, refusals 6 and 7: each signal is its owner's, and above the last of its semaphore.
 use plan_columns::LastValues;
 use plan_columns::OwnerColumn;
 use plan_columns::QueueColumn;

@@ -1,4 +1,4 @@
-// The standard run and the frontier rows, in one pass.
+// R27 to R29 and R20: the standard run and the frontier rows, in one pass.
 mod merge;
 mod queues;
 mod steps;

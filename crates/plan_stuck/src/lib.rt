@@ -1,4 +1,4 @@
-// Refusal 10: the operation at which a run is stuck, by the rows that the run leaves.
+// R47, refusal 10: the operation at which a run is stuck, by the rows that the run leaves.
 use plan_columns::QueueColumn;
 use plan_columns::Rows;
 use plan_format::limits::ROW_WIDTH;

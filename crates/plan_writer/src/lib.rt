@@ -1,4 +1,4 @@
-// The writer of stored plans: the bytes of the numbers, stored in the room that the caller lends.
+// R10, R12 and R13, the writer: the bytes of the numbers, stored in the room that the caller lends.
 use plan_format::Told;
 use plan_format::limits::PLAN_BYTES;
 use plan_format::refused;
