@@ -13,7 +13,8 @@ use Rattle.frontier.specs.declared.Lookup.the-variants.{Listed, Absent}
 use Rattle.frontier.specs.declared.Dominance.{Dominance}
 use Rattle.frontier.specs.declared.Dominance.the-variants.{Yes, No, Unknown}
 use Rattle.frontier.specs.Entries.{Entry, most-entries, find, values-of, epochs-under, union, exceeding}
-use Rattle.frontier.specs.Frontiers.{slot, entries, well-formed, pack, one-entry, merge, dominance-number, number-of}
+use Rattle.frontier.specs.Frontiers.{slot, entries, well-formed, pack, one-entry, merge, dominance-number}
+use Rattle.frontier.specs.Frontiers.{number-of}
 
 -- COMPLETIONS
 
@@ -66,17 +67,20 @@ pub record Merge-means (f g : Frontier) (capacity : ℕ) (r : Frontier) : Type 0
   -- R61: the larger epoch of each axis
   pub larger : (axis : ℕ) → epoch-at (both f g) axis ≡ max (epoch-at (entries f) axis) (epoch-at (entries g) axis)
   -- R62: an entry stays exactly if fewer than the capacity exceed it
-  pub stays : (axis : ℕ) → find axis (entries r) ≡ listed-if (λ x. ltb (exceeding x (both f g)) capacity) axis (find axis (both f g))
+  pub stays : (axis : ℕ) →
+      find axis (entries r) ≡ listed-if (λ x. ltb (exceeding x (both f g)) capacity) axis (find axis (both f g))
   -- and as many stay as the capacity holds
   pub fills : length (entries r) ≡ min capacity (length (both f g))
   -- R63: tainted exactly if a side was or something was cut
   pub taint : r .tainted ≡ ((f .tainted || g .tainted) || ltb (length (entries r)) (length (both f g)))
   -- nothing is lost that the taint does not tell of
-  pub completions : (full other : ℕ → ℕ) → Completion f full → Completion g other → Completion r (λ axis. max (full axis) (other axis))
+  pub completions : (full other : ℕ → ℕ) → Completion f full → Completion g other →
+      Completion r (λ axis. max (full axis) (other axis))
   -- R66
   pub idempotent : f ≡ g → f .len ≤ capacity → r ≡ f
   -- R66, and more: of three frontiers at one capacity, in any grouping, also where they are cut
-  pub associates : (h : Frontier) → well-formed h ≡ true → merge r h capacity ≡ merge f (merge g h capacity .frontier) capacity
+  pub associates : (h : Frontier) → well-formed h ≡ true →
+      merge r h capacity ≡ merge f (merge g h capacity .frontier) capacity
 
 -- what holds of every merge, refused or not
 pub record Merge-right (f g : Frontier) (capacity : ℕ) (r : Merged) : Type 0 where
@@ -91,7 +95,8 @@ raised full axis epoch a = max (full a) (cond (eqb axis a) epoch 0)
 -- R64: what holds of every raise
 pub record Raise-right (f : Frontier) (axis epoch capacity : ℕ) (r : Merged) : Type 0 where
   pub merged : Merge-right f (pack (one-entry axis epoch) false) capacity r
-  pub completions : r .number ≡ 0 → (full : ℕ → ℕ) → Completion f full → Completion (r .frontier) (raised full axis epoch)
+  pub completions : r .number ≡ 0 → (full : ℕ → ℕ) → Completion f full →
+      Completion (r .frontier) (raised full axis epoch)
 
 -- DOMINANCE
 
@@ -101,5 +106,9 @@ pub record Dominance-means (f g : Frontier) (r : Dominance) : Type 0 where
   pub number : number-of r .number ≡ dominance-number f g
   pub if-yes : r ≡ Yes → (full other : ℕ → ℕ) → Completion f full → Completion g other → Over full other
   pub if-no : r ≡ No → (full other : ℕ → ℕ) → Completion f full → Completion g other → Over full other → ⊥
-  pub if-unknown : r ≡ Unknown → (full : ℕ → ℕ) × (other : ℕ → ℕ) × Completion f full × Completion g other × Small f g full × Small f g other × Over full other
-  pub nor-yes : r ≡ Unknown → (full : ℕ → ℕ) × (other : ℕ → ℕ) × Completion f full × Completion g other × Small f g full × Small f g other × (Over full other → ⊥)
+  pub if-unknown : r ≡ Unknown →
+      (full : ℕ → ℕ) × (other : ℕ → ℕ) × Completion f full × Completion g other × Small f g full × Small f g other ×
+      Over full other
+  pub nor-yes : r ≡ Unknown →
+      (full : ℕ → ℕ) × (other : ℕ → ℕ) × Completion f full × Completion g other × Small f g full × Small f g other ×
+      (Over full other → ⊥)

@@ -42,7 +42,9 @@ pub record Sent-means (p : Plan) (j capacity : ℕ) (f : Frontier) : Type 0 wher
   -- R70, the cut: that of a merge of the whole with the empty frontier. An entry stays exactly if fewer than the
   -- capacity exceed it, and as many stay as it holds
   pub as-merged : merge (sent p j most-entries) (pack [] false) capacity ≡ record { number = 0; frontier = f }
-  pub stays : (axis : ℕ) → find axis (entries f) ≡ listed-if (λ x. ltb (exceeding x (sent-entries p j)) capacity) axis (find axis (sent-entries p j))
+  pub stays : (axis : ℕ) →
+      find axis (entries f) ≡
+      listed-if (λ x. ltb (exceeding x (sent-entries p j)) capacity) axis (find axis (sent-entries p j))
   pub fills : length (entries f) ≡ min capacity (length (sent-entries p j))
   -- R70: tainted exactly if something was cut
   pub taint : (f .tainted ≡ true) ↔ (capacity < length (sent-entries p j))

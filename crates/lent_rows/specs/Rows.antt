@@ -20,5 +20,7 @@ reaching-row first second = cond (row-reaches first second) first (cond (row-rea
 -- R71: the very slice that was lent, the first where they are equal; else a part of the first that starts where it does
 pub record As-it-lies (first second r : RefT (List ℕ)) : Type 0 where
   pub is-first : row-reaches (first .now) (second .now) ≡ true → r ≡ first
-  pub is-second : row-reaches (first .now) (second .now) ≡ false → row-reaches (second .now) (first .now) ≡ true → r ≡ second
-  pub is-empty : row-reaches (first .now) (second .now) ≡ false → row-reaches (second .now) (first .now) ≡ false → (r .ptr ≡ first .ptr) × (r .now ≡ [])
+  pub is-second : row-reaches (first .now) (second .now) ≡ false → row-reaches (second .now) (first .now) ≡ true →
+      r ≡ second
+  pub is-empty : row-reaches (first .now) (second .now) ≡ false → row-reaches (second .now) (first .now) ≡ false →
+      (r .ptr ≡ first .ptr) × (r .now ≡ [])

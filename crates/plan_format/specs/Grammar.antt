@@ -67,7 +67,8 @@ read-field S w c s =
     let n = field-number S w c (s .rest) in
     let v = S .front w (s .rest) in
     cond (given (s .fault)) s
-    (cond (eqb n 0) (scan (drop (S .wide w) (s .rest)) (s .place + S .wide w) (s .got ++ (v ∷ [])) (s .fault)) (refused n s))
+    (cond (eqb n 0)
+    (scan (drop (S .wide w) (s .rest)) (s .place + S .wide w) (s .got ++ (v ∷ [])) (s .fault)) (refused n s))
 
 unfoldable pub last-got : Scan → ℕ
 last-got s = getD (s .got) (length (s .got) - 1) 0
@@ -85,7 +86,8 @@ unfoldable pub read-by : Source → Grammar → Scan → Scan
 read-by S (field w c) s = read-field S w (λ v. c (s .got) v) s
 read-by S (seq g h) s = read-by S h (read-by S g s)
 read-by S (counted l m w g) s =
-    let t = read-field S w (λ v. count-check l m v) s in cond (given (t .fault)) t (times (last-got t) (λ u. read-by S g u) t)
+    let t = read-field S w (λ v. count-check l m v) s in
+    cond (given (t .fault)) t (times (last-got t) (λ u. read-by S g u) t)
 read-by S nothing s = s
 
 -- R40, refusal 3: the input goes on after the last operation

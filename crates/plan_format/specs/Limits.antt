@@ -4,7 +4,8 @@ use mathlib.Core.Path.{_≡_}
 use mathlib.Core.List.{List, [], _∷_, _++_, flatMap}
 use Prim.Native.Nat.{ℕ, _^_, _≤_, _<_}
 use lib.ListN.{length, getD}
-use Rattle.plan_format.specs.Sizes.{most-queues, most-semaphores, most-buffers, most-operations, most-waits, most-signals, most-marks}
+use Rattle.plan_format.specs.Sizes.{most-queues, most-semaphores, most-buffers, most-operations, most-waits}
+use Rattle.plan_format.specs.Sizes.{most-signals, most-marks}
 use Rattle.plan_format.specs.Grammar.{digits}
 use Rattle.plan_format.specs.Plan.{Point, Mark, Operation, Plan}
 
@@ -78,12 +79,14 @@ mark-numbers m = m .buffer ∷ m .kind ∷ []
 
 unfoldable pub operation-numbers : Operation → List ℕ
 operation-numbers o =
-    o .queue ∷ (counted-numbers point-numbers (o .waits) ++ (counted-numbers point-numbers (o .signals) ++ counted-numbers mark-numbers (o .marks)))
+    o .queue ∷ (counted-numbers point-numbers (o .waits)
+    ++ (counted-numbers point-numbers (o .signals) ++ counted-numbers mark-numbers (o .marks)))
 
 unfoldable pub numbers-of : Plan → List ℕ
 numbers-of p =
     counted-numbers one-number (p .axes)
-    ++ (counted-numbers one-number (p .owners) ++ (counted-numbers one-number (p .sizes) ++ counted-numbers operation-numbers (p .operations)))
+    ++ (counted-numbers one-number (p .owners)
+    ++ (counted-numbers one-number (p .sizes) ++ counted-numbers operation-numbers (p .operations)))
 
 -- ---- R1 to R3, bytes of a plan: section by section after its count, each number with its lowest byte first
 unfoldable pub counted-bytes : {A : Type 0} → (count-width : ℕ) → (entry : A → List ℕ) → List A → List ℕ
@@ -97,9 +100,11 @@ mark-bytes m = digits 2 (m .buffer) ++ digits 1 (m .kind)
 
 unfoldable pub operation-bytes : Operation → List ℕ
 operation-bytes o =
-    digits 1 (o .queue) ++ (counted-bytes 1 point-bytes (o .waits) ++ (counted-bytes 1 point-bytes (o .signals) ++ counted-bytes 1 mark-bytes (o .marks)))
+    digits 1 (o .queue) ++ (counted-bytes 1 point-bytes (o .waits)
+    ++ (counted-bytes 1 point-bytes (o .signals) ++ counted-bytes 1 mark-bytes (o .marks)))
 
 unfoldable pub bytes-of : Plan → List ℕ
 bytes-of p =
     counted-bytes 1 (digits 8) (p .axes)
-    ++ (counted-bytes 1 (digits 1) (p .owners) ++ (counted-bytes 2 (digits 4) (p .sizes) ++ counted-bytes 2 operation-bytes (p .operations)))
+    ++ (counted-bytes 1 (digits 1) (p .owners)
+    ++ (counted-bytes 2 (digits 4) (p .sizes) ++ counted-bytes 2 operation-bytes (p .operations)))

@@ -9,7 +9,8 @@ use lib.ListN.{length, getD, take, drop}
 use Rattle.plan_format.specs.Refusal.{Refusal, none-given}
 use Rattle.plan_format.specs.RefusalNumbers.{None-or, reading-numbers, rule-numbers, plan-gives}
 use Rattle.plan_format.specs.Grammar.{Grammar, field, seq, counted, nothing, Source, Scan, scan, count-check}
-use Rattle.plan_format.specs.Form.{first-form, plan-grammar, any-number, new-axis, a-queue, a-semaphore, a-buffer, a-kind, queue-count, semaphore-count, buffer-count}
+use Rattle.plan_format.specs.Form.{first-form, plan-grammar, any-number, new-axis, a-queue, a-semaphore, a-buffer}
+use Rattle.plan_format.specs.Form.{a-kind, queue-count, semaphore-count, buffer-count}
 use Rattle.plan_format.specs.Plan.{Point, Plan, op, plan-of}
 use Rattle.plan_format.specs.Limits.{Within, numbers-of, bytes-of}
 use Rattle.plan_format.specs.Stored.{scanned, listed, plan-in, spelled}
@@ -80,8 +81,10 @@ pub record Sections-answer : Type 0 where
 pub record Field-means (S : Source) (width : ℕ) (check : ℕ → ℕ) (rest : List ℕ) (n : ℕ) : Type 0 where
   pub cut-short : length rest < S .wide width → n ≡ 1
   pub judged : S .wide width ≤ length rest → (check (S .front width rest) ≡ 0 → ⊥) → n ≡ check (S .front width rest)
-  pub too-wide : S .wide width ≤ length rest → check (S .front width rest) ≡ 0 → S .fits width (S .front width rest) ≡ false → n ≡ 4
-  pub passed : S .wide width ≤ length rest → check (S .front width rest) ≡ 0 → S .fits width (S .front width rest) ≡ true → n ≡ 0
+  pub too-wide : S .wide width ≤ length rest → check (S .front width rest) ≡ 0 →
+      S .fits width (S .front width rest) ≡ false → n ≡ 4
+  pub passed : S .wide width ≤ length rest → check (S .front width rest) ≡ 0 →
+      S .fits width (S .front width rest) ≡ true → n ≡ 0
 
 -- ---- 1 to 5 of a whole reading: the first fault in reading order
 -- a reading on its way, without a fault: what is left, the place, the numbers got
@@ -116,7 +119,8 @@ abbrev pub Reads : Source → Grammar → (a b : Cursor) → Type 0
 Reads S (field w c) a b = Takes-field S w (λ v. c (a .got) v) a b
 Reads S (seq g h) a b = (c : Cursor) × Reads S g a c × Reads S h c b
 Reads S (counted l m w g) a b =
-    (c : Cursor) × Takes-field S w (λ v. count-check l m v) a c × Repeated (λ x y. Reads S g x y) (S .front w (a .rest)) c b
+    (c : Cursor) × Takes-field S w (λ v. count-check l m v) a c ×
+    Repeated (λ x y. Reads S g x y) (S .front w (a .rest)) c b
 Reads S nothing a b = b ≡ a
 
 -- a reading takes what comes before some field of a grammar and stops there
@@ -125,7 +129,8 @@ Stops S (field w c) a b n = Stops-field S w (λ v. c (a .got) v) a b n
 Stops S (seq g h) a b n = Stops S g a b n ⊎ ((c : Cursor) × Reads S g a c × Stops S h c b n)
 Stops S (counted l m w g) a b n =
     Stops-field S w (λ v. count-check l m v) a b n ⊎
-    ((c d : Cursor) × (j : ℕ) × Takes-field S w (λ v. count-check l m v) a c × (j < S .front w (a .rest)) × Repeated (λ x y. Reads S g x y) j c d ×
+    ((c d : Cursor) × (j : ℕ) × Takes-field S w (λ v. count-check l m v) a c × (j < S .front w (a .rest)) ×
+    Repeated (λ x y. Reads S g x y) j c d ×
     Stops S g d b n)
 Stops S nothing a b n = ⊥
 
@@ -136,8 +141,10 @@ start xs = record { rest = xs; place = 0; got = [] }
 pub record Reading-means (S : Source) (xs : List ℕ) (s : Scan) : Type 0 where
   pub fault :
       (n i : ℕ) → (n ≡ 0 → ⊥) → Refuses (s .fault) n i ↔ ((b : Cursor) × (b .place ≡ i) ×
-      (Stops S (plan-grammar first-form) (start xs) b n ⊎ ((n ≡ 3) × Reads S (plan-grammar first-form) (start xs) b × (0 < length (b .rest)))))
-  pub none : Refuses (s .fault) 0 0 ↔ ((b : Cursor) × Reads S (plan-grammar first-form) (start xs) b × (length (b .rest) ≡ 0) × (s .got ≡ b .got))
+      (Stops S (plan-grammar first-form) (start xs) b n ⊎
+      ((n ≡ 3) × Reads S (plan-grammar first-form) (start xs) b × (0 < length (b .rest)))))
+  pub none : Refuses (s .fault) 0 0 ↔
+      ((b : Cursor) × Reads S (plan-grammar first-form) (start xs) b × (length (b .rest) ≡ 0) × (s .got ≡ b .got))
   pub only : None-or reading-numbers (s .fault .number)
   pub inside : s .fault .place ≤ length xs
 
@@ -158,7 +165,9 @@ Earlier j l i k = (j < i) ⊎ ((j ≡ i) × (l < k))
 
 -- R15, owner: the signal is on the queue that owns its semaphore
 abbrev pub Owned : Plan → (i k : ℕ) → Type 0
-Owned p i k = (signal-at p i k .semaphore < length (p .owners)) × (getD (p .owners) (signal-at p i k .semaphore) 0 ≡ op p i .queue)
+Owned p i k =
+    (signal-at p i k .semaphore < length (p .owners)) ×
+    (getD (p .owners) (signal-at p i k .semaphore) 0 ≡ op p i .queue)
 
 -- R16, signals rise: above 0, and above the earlier signals of the semaphore
 pub record Rising (p : Plan) (i k : ℕ) : Type 0 where
@@ -192,7 +201,8 @@ Signals-good p = (j l : ℕ) → Is-signal p j l → Owned p j l × Rising p j l
 pub record Too-high (p : Plan) (i k : ℕ) : Type 0 where
   pub wait : k < length (op p i .waits)
   pub above-zero : 0 < wait-at p i k .value
-  pub above-all : (j l : ℕ) → Is-signal p j l → signal-at p j l .semaphore ≡ wait-at p i k .semaphore → signal-at p j l .value < wait-at p i k .value
+  pub above-all : (j l : ℕ) → Is-signal p j l → signal-at p j l .semaphore ≡ wait-at p i k .semaphore →
+      signal-at p j l .value < wait-at p i k .value
 
 -- R54: 8 only where no signal is refused, at the lowest such operation
 pub record Unmet-wait (p : Plan) (i : ℕ) : Type 0 where

@@ -58,7 +58,12 @@ operation-in xs =
     let w = getD xs h 0 in
     let s = getD xs (h + 1 + 2 * w) 0 in
     let m = getD xs (h + 2 + 2 * w + 2 * s) 0 in
-    record { queue = getD xs 0 0; waits = points-in w (drop (h + 1) xs); signals = points-in s (drop (h + 2 + 2 * w) xs); marks = marks-in m (drop (h + 3 + 2 * w + 2 * s) xs) }
+    record {
+      queue = getD xs 0 0;
+      waits = points-in w (drop (h + 1) xs);
+      signals = points-in s (drop (h + 2 + 2 * w) xs);
+      marks = marks-in m (drop (h + 3 + 2 * w + 2 * s) xs);
+    }
 
 -- how many numbers an operation takes
 unfoldable pub operation-long : List ℕ → ℕ

@@ -15,7 +15,8 @@ use Rattle.plan_format.specs.Limits.{Within, numbers-of, bytes-of}
 -- R8, one string: bytes that are read as the same numbers are the same
 unfoldable pub One-string : Type 0
 One-string =
-    (bs cs : List ℕ) → all-bytes bs ≡ true → all-bytes cs ≡ true → scanned bs .fault .number ≡ 0 → scanned cs .fault .number ≡ 0 →
+    (bs cs : List ℕ) → all-bytes bs ≡ true → all-bytes cs ≡ true → scanned bs .fault .number ≡ 0 →
+    scanned cs .fault .number ≡ 0 →
     scanned bs .got ≡ scanned cs .got → bs ≡ cs
 
 -- a plan is read from its bytes, and written from its numbers
@@ -30,5 +31,6 @@ pub record Stored-plan (p : Plan) : Type 0 where
 -- R1 to R11: reader and writer take every plan within the limits, and nothing else
 pub record Takes-plans : Type 0 where
   pub every : (p : Plan) → Within p → Stored-plan p
-  pub read : (bs : List ℕ) → all-bytes bs ≡ true → (scanned bs .fault .number ≡ 0) ↔ (Within (plan-in bs) × (bs ≡ bytes-of (plan-in bs)))
+  pub read : (bs : List ℕ) → all-bytes bs ≡ true → (scanned bs .fault .number ≡ 0) ↔
+      (Within (plan-in bs) × (bs ≡ bytes-of (plan-in bs)))
   pub taken : (xs : List ℕ) → (listed xs .fault .number ≡ 0) ↔ (Within (plan-of xs) × (xs ≡ numbers-of (plan-of xs)))

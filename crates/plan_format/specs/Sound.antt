@@ -61,9 +61,12 @@ rules-refusal p = or-else (signals-refusal 0 p [] (p .operations)) (waits-refusa
 -- R4: every position that an operation names is in its list
 pub record In-range (p : Plan) (o : Operation) : Type 0 where
   pub queue : o .queue < queues p
-  pub waits : (k : ℕ) → k < length (o .waits) → getD (o .waits) k (record { semaphore = 0; value = 0 }) .semaphore < length (p .owners)
-  pub signals : (k : ℕ) → k < length (o .signals) → getD (o .signals) k (record { semaphore = 0; value = 0 }) .semaphore < length (p .owners)
-  pub marks : (k : ℕ) → k < length (o .marks) → getD (o .marks) k (record { buffer = 0; kind = 0 }) .buffer < length (p .sizes)
+  pub waits : (k : ℕ) → k < length (o .waits) →
+      getD (o .waits) k (record { semaphore = 0; value = 0 }) .semaphore < length (p .owners)
+  pub signals : (k : ℕ) → k < length (o .signals) →
+      getD (o .signals) k (record { semaphore = 0; value = 0 }) .semaphore < length (p .owners)
+  pub marks : (k : ℕ) → k < length (o .marks) →
+      getD (o .marks) k (record { buffer = 0; kind = 0 }) .buffer < length (p .sizes)
   pub kinds : (k : ℕ) → k < length (o .marks) → getD (o .marks) k (record { buffer = 0; kind = 0 }) .kind < 2
 
 -- what the theorems on plans need of one that gets none of refusals 1 to 8

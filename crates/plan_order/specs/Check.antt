@@ -49,7 +49,8 @@ or-then a b = cond (given (a .refusal)) a b
 -- R55, the order of 9, 10 and 11, each with what it leaves by R56; a pass leaves rows and run
 abbrev pub order-outcome : Plan → (table list : ℕ) → Outcome
 order-outcome p t l =
-    or-then (outcome (room-refusal (count p) t l) untouched) (or-then (outcome (order-refusal p) zeros) (outcome none-given rows-and-run))
+    or-then (outcome (room-refusal (count p) t l) untouched)
+    (or-then (outcome (order-refusal p) zeros) (outcome none-given rows-and-run))
 
 -- R53 to R55: the plan first
 unfoldable pub check-outcome : (bytes : List ℕ) → (table list : ℕ) → Outcome

@@ -9,7 +9,8 @@ use Rattle.basics.specs.Places.{Among, Counts}
 use Rattle.order.specs.Runs.{step-of}
 use Rattle.plan_format.specs.Sizes.{row-width}
 use Rattle.plan_format.specs.Refusal.{Refusal}
-use Rattle.plan_format.specs.RefusalNumbers.{One-of, None-or, order-numbers, reuse-numbers, untouched-numbers, check-gives, reuse-gives}
+use Rattle.plan_format.specs.RefusalNumbers.{One-of, None-or, order-numbers, reuse-numbers, untouched-numbers}
+use Rattle.plan_format.specs.RefusalNumbers.{check-gives, reuse-gives}
 use Rattle.plan_format.specs.Plan.{Point, Mark, Plan, count, op, queues}
 use Rattle.plan_format.specs.Stored.{plan-in, plan-refusal}
 use Rattle.plan_format.specs.Meaning.{Refuses, signal-at}
@@ -57,7 +58,8 @@ pub record Run-step (p : Plan) (r : List ℕ) (k : ℕ) : Type 0 where
   pub operation : getD r k 0 < count p
   pub distinct : Among r k (getD r k 0) → ⊥
   pub earlier : (i : ℕ) → i < getD r k 0 → op p i .queue ≡ op p (getD r k 0) .queue → Among r k i
-  pub waits : (w : Point) → List·Memᴰ w (op p (getD r k 0) .waits) → (v : ℕ) × Highest-signalled p (w .semaphore) (take k r) v × (w .value ≤ v)
+  pub waits : (w : Point) → List·Memᴰ w (op p (getD r k 0) .waits) →
+      (v : ℕ) × Highest-signalled p (w .semaphore) (take k r) v × (w .value ≤ v)
 
 abbrev pub Run-means : Plan → List ℕ → Type 0
 Run-means p r = (k : ℕ) → k < length r → Run-step p r k
@@ -95,9 +97,11 @@ pub record Lowest-in-no-run (p : Plan) (j : ℕ) : Type 0 where
 -- R26, raising in order: the signals on each semaphore strictly rise from above 0, step by step, then in list order
 pub record Raises-means (p : Plan) (r : List ℕ) : Type 0 where
   pub above-zero : (k s v : ℕ) → k < length r → Signals p (getD r k 0) s v → 0 < v
-  pub above-earlier-step : (k l s u v : ℕ) → k < l → l < length r → Signals p (getD r k 0) s u → Signals p (getD r l 0) s v → u < v
+  pub above-earlier-step : (k l s u v : ℕ) → k < l → l < length r → Signals p (getD r k 0) s u →
+      Signals p (getD r l 0) s v → u < v
   pub above-earlier-in-list : (k m n : ℕ) → k < length r → m < n → n < length (op p (getD r k 0) .signals) →
-      signal-at p (getD r k 0) m .semaphore ≡ signal-at p (getD r k 0) n .semaphore → signal-at p (getD r k 0) m .value < signal-at p (getD r k 0) n .value
+      signal-at p (getD r k 0) m .semaphore ≡ signal-at p (getD r k 0) n .semaphore →
+      signal-at p (getD r k 0) m .value < signal-at p (getD r k 0) n .value
 
 -- ---- holdings
 abbrev pub mark-at : List Placed → (k : ℕ) → Placed
@@ -113,8 +117,10 @@ pub record Marks-means (p : Plan) (b : ℕ) (ms : List Placed) : Type 0 where
   pub inside : (k : ℕ) → k < length ms → place k < length (op p (mark-at ms k .by) .marks)
   pub on-buffer : (k : ℕ) → k < length ms → own-mark p (mark-at ms k .by) (place k) .buffer ≡ b
   pub same-kind : (k : ℕ) → k < length ms → own-mark p (mark-at ms k .by) (place k) .kind ≡ mark-at ms k .kind
-  pub every : (i n : ℕ) → n < length (op p i .marks) → own-mark p i n .buffer ≡ b → (k : ℕ) × (k < length ms) × (mark-at ms k .by ≡ i) × (place k ≡ n)
-  pub in-order : (k l : ℕ) → k < l → l < length ms → (mark-at ms k .by < mark-at ms l .by) ⊎ ((mark-at ms k .by ≡ mark-at ms l .by) × (place k < place l))
+  pub every : (i n : ℕ) → n < length (op p i .marks) → own-mark p i n .buffer ≡ b →
+      (k : ℕ) × (k < length ms) × (mark-at ms k .by ≡ i) × (place k ≡ n)
+  pub in-order : (k l : ℕ) → k < l → l < length ms →
+      (mark-at ms k .by < mark-at ms l .by) ⊎ ((mark-at ms k .by ≡ mark-at ms l .by) × (place k < place l))
 
 abbrev pub Frees : List Placed → (k : ℕ) → Type 0
 Frees ms k = mark-at ms k .kind ≡ 1
@@ -126,7 +132,8 @@ No-free ms k l = (n : ℕ) → k ≤ n → n < l → Frees ms n → ⊥
 -- what keeping asks of the mark at k; no-later and earlier are those of a run, or what before forces
 pub record Asked (ms : List Placed) (no-later earlier : (i j : ℕ) → Type 0) (k : ℕ) : Type 0 where
   -- R32: a use does not come after the free of its holding
-  pub own-free : (l : ℕ) → k < l → l < length ms → No-free ms k l → Frees ms l → no-later (mark-at ms k .by) (mark-at ms l .by)
+  pub own-free : (l : ℕ) → k < l → l < length ms → No-free ms k l → Frees ms l →
+      no-later (mark-at ms k .by) (mark-at ms l .by)
   -- R33: a mark comes after the free that ended the holding before its own
   pub free-before : (l : ℕ) → l < k → Frees ms l → No-free ms (suc l) k → earlier (mark-at ms l .by) (mark-at ms k .by)
 
@@ -136,7 +143,8 @@ Steps-earlier r i j = step-of 0 r i < step-of 0 r j
 -- R34, keeps: the run has what keeping asks of each mark on the buffer
 abbrev pub Keeps-means : Plan → (run : List ℕ) → (b : ℕ) → Type 0
 Keeps-means p r b =
-    (k : ℕ) → k < length (buffer-marks p b) → Asked (buffer-marks p b) (λ i j. (i ≡ j) ⊎ Steps-earlier r i j) (λ i j. Steps-earlier r i j) k
+    (k : ℕ) → k < length (buffer-marks p b) →
+    Asked (buffer-marks p b) (λ i j. (i ≡ j) ⊎ Steps-earlier r i j) (λ i j. Steps-earlier r i j) k
 
 -- R35, R36, a mark that is not broken: before forces what keeping asks of it, or it is a use in the operation that
 -- frees
@@ -145,8 +153,10 @@ Forced p b k = Asked (buffer-marks p b) (λ i j. (i ≡ j) ⊎ Before p i j) (λ
 
 -- R48, refusal 11: the lowest operation with a broken mark
 pub record Lowest-broken (p : Plan) (i : ℕ) : Type 0 where
-  pub broken : (b k : ℕ) × (b < length (p .sizes)) × (k < length (buffer-marks p b)) × (mark-at (buffer-marks p b) k .by ≡ i) × (Forced p b k → ⊥)
-  pub lowest : (b k : ℕ) → b < length (p .sizes) → k < length (buffer-marks p b) → mark-at (buffer-marks p b) k .by < i → Forced p b k
+  pub broken : (b k : ℕ) × (b < length (p .sizes)) × (k < length (buffer-marks p b)) ×
+      (mark-at (buffer-marks p b) k .by ≡ i) × (Forced p b k → ⊥)
+  pub lowest : (b k : ℕ) → b < length (p .sizes) → k < length (buffer-marks p b) →
+      mark-at (buffer-marks p b) k .by < i → Forced p b k
 
 -- ---- the reuse question
 pub record Last-on (p : Plan) (q j : ℕ) : Type 0 where
@@ -174,7 +184,8 @@ When p q b Held = (m : Placed) × Last-mark p b m × (m .kind ≡ 1 → ⊥)
 -- the last mark is a free, and all operations with a mark are seen
 When p q b Reusable = (m : Placed) × Last-mark p b m × (m .kind ≡ 1) × ((i : ℕ) → Marked p b i → Seen p q i)
 -- the last mark is a free that is seen, and some operation with a mark is not
-When p q b StrayUse = (m : Placed) × Last-mark p b m × (m .kind ≡ 1) × Seen p q (m .by) × ((i : ℕ) × Marked p b i × (Seen p q i → ⊥))
+When p q b StrayUse =
+    (m : Placed) × Last-mark p b m × (m .kind ≡ 1) × Seen p q (m .by) × ((i : ℕ) × Marked p b i × (Seen p q i → ⊥))
 -- the last mark is a free that is not seen
 When p q b NotOrdered = (m : Placed) × Last-mark p b m × (m .kind ≡ 1) × (Seen p q (m .by) → ⊥)
 
@@ -213,13 +224,16 @@ pub record Leaves-by (own : List ℕ) (o : Outcome) : Type 0 where
 pub record Check-means (bytes : List ℕ) (table list : ℕ) (o : Outcome) : Type 0 where
   pub plan-first : (plan-refusal bytes .number ≡ 0 → ⊥) → (o .refusal ≡ plan-refusal bytes) × (o .leaves ≡ untouched)
   pub nine :
-      (i : ℕ) → Gives o 9 i untouched ↔ ((plan-refusal bytes .number ≡ 0) × Refuses (room-refusal (count (plan-in bytes)) table list) 9 i)
+      (i : ℕ) → Gives o 9 i untouched ↔
+      ((plan-refusal bytes .number ≡ 0) × Refuses (room-refusal (count (plan-in bytes)) table list) 9 i)
   pub ten : (j : ℕ) → Gives o 10 j zeros ↔ (Unrefused bytes table list × Lowest-in-no-run (plan-in bytes) j)
   pub eleven :
-      (i : ℕ) → Gives o 11 i zeros ↔ (Unrefused bytes table list × ((r : List ℕ) × Full-means (plan-in bytes) r) × Lowest-broken (plan-in bytes) i)
+      (i : ℕ) → Gives o 11 i zeros ↔
+      (Unrefused bytes table list × ((r : List ℕ) × Full-means (plan-in bytes) r) × Lowest-broken (plan-in bytes) i)
   pub passed :
       Gives o 0 0 rows-and-run ↔ (Unrefused bytes table list × ((r : List ℕ) × Full-means (plan-in bytes) r) ×
-      ((b k : ℕ) → b < length (plan-in bytes .sizes) → k < length (buffer-marks (plan-in bytes) b) → Forced (plan-in bytes) b k))
+      ((b k : ℕ) → b < length (plan-in bytes .sizes) → k < length (buffer-marks (plan-in bytes) b) →
+      Forced (plan-in bytes) b k))
   pub only : None-or check-gives (o .refusal .number)
   pub leaves : Leaves-by [] o
 
@@ -227,13 +241,18 @@ pub record Check-means (bytes : List ℕ) (table list : ℕ) (o : Outcome) : Typ
 -- R57, R49: the check, then 12, then 13; R56: an answer, 12 and 13 leave rows and run
 pub record Question-means (bytes : List ℕ) (q b table list : ℕ) (o : Outcome) : Type 0 where
   pub plan-first : (check-outcome bytes table list .refusal .number ≡ 0 → ⊥) → o ≡ check-outcome bytes table list
-  pub no-queue : check-outcome bytes table list .refusal .number ≡ 0 → queues (plan-in bytes) ≤ q → Gives o 12 q rows-and-run
-  pub no-buffer : check-outcome bytes table list .refusal .number ≡ 0 → q < queues (plan-in bytes) → length (plan-in bytes .sizes) ≤ b → Gives o 13 b rows-and-run
-  pub answered : check-outcome bytes table list .refusal .number ≡ 0 → q < queues (plan-in bytes) → b < length (plan-in bytes .sizes) → Gives o 0 0 rows-and-run
+  pub no-queue : check-outcome bytes table list .refusal .number ≡ 0 → queues (plan-in bytes) ≤ q →
+      Gives o 12 q rows-and-run
+  pub no-buffer : check-outcome bytes table list .refusal .number ≡ 0 → q < queues (plan-in bytes) →
+      length (plan-in bytes .sizes) ≤ b → Gives o 13 b rows-and-run
+  pub answered : check-outcome bytes table list .refusal .number ≡ 0 → q < queues (plan-in bytes) →
+      b < length (plan-in bytes .sizes) → Gives o 0 0 rows-and-run
   -- exactly if
-  pub twelve : (o .refusal .number ≡ 12) ↔ ((check-outcome bytes table list .refusal .number ≡ 0) × (queues (plan-in bytes) ≤ q))
+  pub twelve : (o .refusal .number ≡ 12) ↔
+      ((check-outcome bytes table list .refusal .number ≡ 0) × (queues (plan-in bytes) ≤ q))
   pub thirteen : (o .refusal .number ≡ 13) ↔
-      ((check-outcome bytes table list .refusal .number ≡ 0) × (q < queues (plan-in bytes)) × (length (plan-in bytes .sizes) ≤ b))
+      ((check-outcome bytes table list .refusal .number ≡ 0) × (q < queues (plan-in bytes)) ×
+      (length (plan-in bytes .sizes) ≤ b))
   pub only : None-or reuse-gives (o .refusal .number)
   pub leaves : Leaves-by reuse-numbers o
 

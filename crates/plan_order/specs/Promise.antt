@@ -48,7 +48,8 @@ pub record Broken-at (p : Plan) (i : ℕ) : Type 0 where
   pub own : asked-of ask ≡ i
   pub unmet : met (λ i j. ahead run i j) ask ≡ false
   pub lower :
-      (b : ℕ) (a : Ask) → List·Memᴰ a (asks p b) → asked-of a < i → (r : List ℕ) → is-full p r ≡ true → met (λ i j. ahead r i j) a ≡ true
+      (b : ℕ) (a : Ask) → List·Memᴰ a (asks p b) → asked-of a < i → (r : List ℕ) → is-full p r ≡ true →
+      met (λ i j. ahead r i j) a ≡ true
 
 -- demand 3: there is a full run, and all full runs keep all buffers
 abbrev pub Safe : Plan → Type 0
@@ -103,7 +104,8 @@ most-of p q (k ∷ ks) = max (getD (row p k) q 0) (most-of p q ks)
 unfoldable pub Row-step : Plan → Type 0
 Row-step p =
     (j : ℕ) (ks : List ℕ) → j < count p → ((k : ℕ) → member k ks ≡ true → direct p k j ≡ true) →
-    ((i : ℕ) → direct p i j ≡ true → (k : ℕ) × (member k ks ≡ true) × (at-or-before p i k ≡ true)) → (q : ℕ) → q < row-width →
+    ((i : ℕ) → direct p i j ≡ true → (k : ℕ) × (member k ks ≡ true) × (at-or-before p i k ≡ true)) →
+    (q : ℕ) → q < row-width →
     getD (row p j) q 0 ≡ max (cond (eqb (op p j .queue) q) (epoch p j) 0) (most-of p q ks)
 
 -- ---- THE STANDARD RUN
@@ -126,7 +128,8 @@ unfoldable pub passed : List ℕ → Bool
 passed bs = good bs && eqb (order-refusal (plan-in bs) .number) 0
 
 unfoldable pub Passed-keeps : Type 0
-Passed-keeps = (bs r : List ℕ) (b : ℕ) → passed bs ≡ true → is-full (plan-in bs) r ≡ true → keeps (plan-in bs) r b ≡ true
+Passed-keeps =
+    (bs r : List ℕ) (b : ℕ) → passed bs ≡ true → is-full (plan-in bs) r ≡ true → keeps (plan-in bs) r b ≡ true
 
 unfoldable pub Passed-runs : Type 0
 Passed-runs = (bs : List ℕ) → passed bs ≡ true → (r : List ℕ) × (is-full (plan-in bs) r ≡ true)
@@ -141,11 +144,13 @@ Raises = (bs r : List ℕ) → good bs ≡ true → is-run (plan-in bs) r ≡ tr
 
 unfoldable pub Stuck-truly : Type 0
 Stuck-truly =
-    (bs : List ℕ) → good bs ≡ true → order-refusal (plan-in bs) .number ≡ 10 → Stuck-at (plan-in bs) (order-refusal (plan-in bs) .place)
+    (bs : List ℕ) → good bs ≡ true → order-refusal (plan-in bs) .number ≡ 10 →
+    Stuck-at (plan-in bs) (order-refusal (plan-in bs) .place)
 
 unfoldable pub Broken-truly : Type 0
 Broken-truly =
-    (bs : List ℕ) → good bs ≡ true → order-refusal (plan-in bs) .number ≡ 11 → Broken-at (plan-in bs) (order-refusal (plan-in bs) .place)
+    (bs : List ℕ) → good bs ≡ true → order-refusal (plan-in bs) .number ≡ 11 →
+    Broken-at (plan-in bs) (order-refusal (plan-in bs) .place)
 
 unfoldable pub None-itself : Type 0
 None-itself = (bs : List ℕ) (j : ℕ) → passed bs ≡ true → before (plan-in bs) j j ≡ false

@@ -35,7 +35,8 @@ operation q ws ss ms = q ∷ section 1 ws ++ section 1 ss ++ section 1 ms
 
 unfoldable pub plan : (axes owners sizes : List ℕ) → (operations : List (List ℕ)) → List ℕ
 plan axes owners sizes operations =
-    section 1 (map (λ a. digits 8 a) axes) ++ section 1 (map (λ o. o ∷ []) owners) ++ section 2 (map (λ b. digits 4 b) sizes) ++ section 2 operations
+    section 1 (map (λ a. digits 8 a) axes) ++ section 1 (map (λ o. o ∷ []) owners)
+    ++ section 2 (map (λ b. digits 4 b) sizes) ++ section 2 operations
 
 -- ---- questions and answers
 pub data Question : Type 0 where
@@ -78,7 +79,9 @@ case bs a = asked (check bs) a
 -- T1: zero bytes only: six pass with an empty run, five are 1 at 4, seven 3 at 6
 unfoldable pub t1 : List Case
 t1 =
-    case (replicate 6 0) (passed [] [] []) ∷ case (replicate 5 0) (refused 1 4) ∷ case (replicate 7 0) (refused 3 6) ∷ []
+    case (replicate 6 0) (passed [] [] [])
+    ∷ case (replicate 5 0) (refused 1 4)
+    ∷ case (replicate 7 0) (refused 3 6) ∷ []
 
 -- T2: passed, row 1
 unfoldable pub t2 : List Case
@@ -166,7 +169,8 @@ t12 =
 -- T13: 1:5 2:7 over 1:3 3:4 is no, with the left tainted unknown; 1:5 over 1:3 with the right tainted is unknown
 unfoldable pub t13 : List Case
 t13 =
-    asked (dominance-of (pack (entry 1 5 ∷ entry 2 7 ∷ []) false) (pack (entry 1 3 ∷ entry 3 4 ∷ []) false)) (dominates No)
+    asked (dominance-of (pack (entry 1 5 ∷ entry 2 7 ∷ []) false) (pack (entry 1 3 ∷ entry 3 4 ∷ []) false))
+    (dominates No)
     ∷ asked (dominance-of (pack (entry 1 5 ∷ entry 2 7 ∷ []) true) (pack (entry 1 3 ∷ entry 3 4 ∷ []) false)) (dominates Unknown)
     ∷ asked (dominance-of (pack (entry 1 5 ∷ []) false) (pack (entry 1 3 ∷ []) true)) (dominates Unknown) ∷ []
 
