@@ -1,4 +1,4 @@
--- A word as a number in decimal. Assumes nothing: these are definitions.
+-- R74: a word as a number in decimal. Assumes nothing: these are definitions.
 use mathlib.Core.Bool.{Bool, true, false, cond}
 use mathlib.Core.List.{List, [], _∷_}
 use Prim.Native.Nat.{ℕ, _+_, _*_, _-_}

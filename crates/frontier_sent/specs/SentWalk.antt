@@ -1,5 +1,5 @@
--- The question on a plan that passes, and its rows as they lie: the axes among the numbers of a head, the epochs in the
--- table. Assumes nothing: these are definitions.
+-- R69: the question on a plan that passes, and its rows as they lie: the axes among the numbers of a head, the epochs
+-- in the table. Assumes nothing: these are definitions.
 use mathlib.Core.Path.{_≡_}
 use mathlib.Core.Bool.{false, cond}
 use mathlib.Core.List.{List, []}

@@ -1,6 +1,6 @@
--- Columns of a plan: flat lists with a place for each operation, wait, signal and mark, in plan order and list order.
--- The passes of the check read these, and say what they answer for every plan that the columns show. Assumes nothing:
--- these are definitions.
+-- Columns of a plan (R1, R2): flat lists with a place for each operation, wait, signal and mark, in plan order and list
+-- order. The passes of the check read these, and say what they answer for every plan that the columns show. Assumes
+-- nothing: these are definitions.
 use mathlib.Core.Path.{_≡_}
 use mathlib.Core.List.{List, [], _∷_, _++_}
 use Prim.Native.Nat.{ℕ, suc, _+_, _*_, _≤_, _<_}

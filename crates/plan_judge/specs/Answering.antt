@@ -1,5 +1,5 @@
--- What the check answers and leaves by its columns alone, whether they show a plan or not; only what the run gives is
--- left open. Assumes nothing: these are definitions.
+-- R54 to R56: what the check answers and leaves by its columns alone, whether they show a plan or not; only what the
+-- run gives is left open. Assumes nothing: these are definitions.
 use mathlib.Core.Path.{_≡_}
 use mathlib.Core.Bool.{true, false, _||_, cond}
 use mathlib.Core.List.{List}

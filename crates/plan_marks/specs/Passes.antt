@@ -1,5 +1,5 @@
--- Two passes over the marks of a plan, with a table by mark: uses against the free of their own holding, from the last
--- mark to the first, and marks against the free before their holding. Assumes nothing: these are definitions.
+-- R32, R33: two passes over the marks of a plan, with a table by mark: uses against the free of their own holding, from
+-- the last mark to the first, and marks against the free before their holding. Assumes nothing: these are definitions.
 use mathlib.Core.Bool.{Bool, _&&_, _||_, not, cond}
 use mathlib.Core.List.{List, [], _∷_}
 use Prim.Native.Nat.{ℕ, _+_, _*_, _/_, _%_, min}

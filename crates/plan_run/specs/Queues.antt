@@ -1,4 +1,4 @@
--- The queues during a run: the next operation of each, what holds it, and which queues are ready. 1,024 means no
+-- R25, the queues during a run: the next operation of each, what holds it, and which queues are ready. 1,024 means no
 -- operation. Assumes nothing: these are definitions.
 use mathlib.Core.Path.{_≡_}
 use mathlib.Core.Bool.{Bool, true, _&&_, _||_, cond}

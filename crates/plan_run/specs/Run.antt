@@ -1,5 +1,5 @@
--- What the standard run's pass is given and what it leaves, for every plan that the columns show. Assumes nothing:
--- these are definitions.
+-- R27 to R29: what the standard run's pass is given and what it leaves, for every plan that the columns show. Assumes
+-- nothing: these are definitions.
 use mathlib.Core.Path.{_≡_}
 use mathlib.Core.Bool.{true, false}
 use mathlib.Core.List.{List}

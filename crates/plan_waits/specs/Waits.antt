@@ -1,4 +1,4 @@
--- What the pass over the waits is given and what it answers, and refusal 8 as a walk over the wait places. Assumes
+-- R45: what the pass over the waits is given and what it answers, and refusal 8 as a walk over the wait places. Assumes
 -- nothing: these are definitions.
 use mathlib.Core.Path.{_≡_}
 use mathlib.Core.Bool.{Bool, true, false, _&&_, cond}
