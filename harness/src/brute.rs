@@ -1,4 +1,4 @@
-//! Small plans judged by trying every run, straight from the words of paper 01:
+//! Small plans judged by trying every run, straight from the words of R21 to R36:
 //! a run is judged by semaphore values, never by the relation "before". Nothing
 //! here is shared with the reference but the type `Plan`.
 
@@ -25,7 +25,7 @@ pub enum Judgement {
     },
 }
 
-/// Judges a plan whose fields are all in range. Panics if a claim of paper 01
+/// Judges a plan whose fields are all in range. Panics if a claim of the rules
 /// about whole runs fails: that a plan with a full run is never stuck, and that
 /// every run raises every semaphore in order.
 pub fn judge(plan: &Plan) -> Judgement {
@@ -40,8 +40,8 @@ pub fn judge(plan: &Plan) -> Judgement {
     if let Some(operation) = wait_fault(plan) {
         return refused(8, operation);
     }
-    // Demand 3: passed exactly if some full run exists and every full run keeps
-    // every buffer.
+    // Demand 3: passed exactly if there is a full run and all full runs keep all
+    // buffers.
     let runs = Runs::of(plan);
     if runs.full.is_empty() {
         return refused(10, runs.lowest_in_none(plan));
@@ -59,7 +59,7 @@ pub fn judge(plan: &Plan) -> Judgement {
     }
 }
 
-/// 6 and 7 in operation order and list order, 6 first for one signal.
+/// R54: 6 and 7, signal by signal in the order of the plan.
 fn signal_fault(plan: &Plan) -> Option<(u64, Position)> {
     let mut last = vec![0; plan.owners.len()];
     for (position, operation) in plan.operations.iter().enumerate() {
@@ -77,8 +77,7 @@ fn signal_fault(plan: &Plan) -> Option<(u64, Position)> {
     None
 }
 
-/// The first operation with a "wait above the highest signal of its semaphore,
-/// and above 0".
+/// R45: the first operation with a wait that no signal reaches.
 fn wait_fault(plan: &Plan) -> Option<Position> {
     let highest = |semaphore: u8| {
         let signals = plan.operations.iter().flat_map(|o| &o.signals);
@@ -94,7 +93,7 @@ fn wait_fault(plan: &Plan) -> Option<Position> {
 // ---------------------------------------------------------------------------
 // Runs.
 
-/// "The highest value signalled so far on that semaphore."
+/// R22: how far a semaphore has come in a run.
 fn highest_so_far(plan: &Plan, run: &[Position], semaphore: u8) -> u64 {
     let mut highest = 0;
     for &operation in run {
@@ -122,10 +121,8 @@ fn ready_after(plan: &Plan, run: &[Position], position: Position) -> bool {
     distinct && earlier_of_its_queue_ran() && waits_met()
 }
 
-/// "A run raises a semaphore in order if each signal of that semaphore in the
-/// run, by step and then in list order, is above 0 and above every earlier
-/// one." True of every semaphore at once. The run before its last step is known
-/// to do so.
+/// R26, of every semaphore at once: does the run raise it in order? The run
+/// before its last step is known to do so.
 fn last_step_raises_in_order(plan: &Plan, run: &[Position]) -> bool {
     let Some((&last, before)) = run.split_last() else {
         return true;
@@ -203,8 +200,7 @@ fn steps(run: &[Position]) -> Steps {
     steps
 }
 
-/// "The standard run takes at each step, of all ready queues, the one with the
-/// lowest position."
+/// R27: the standard run, by trying the queues from the lowest.
 fn standard_run(plan: &Plan) -> (Vec<Position>, Vec<usize>) {
     let (mut run, mut ready_numbers) = (Vec::new(), Vec::new());
     while run.len() < plan.operations.len() {
@@ -239,9 +235,9 @@ fn rows(plan: &Plan, full: &[Steps]) -> Vec<Vec<usize>> {
 /// What keeping asks of one mark.
 #[derive(Clone, Copy)]
 enum Asked {
-    /// A use comes no later than the operation that frees its own holding.
+    /// R32: a use is not after the free of its holding.
     NoLaterThan(Position),
-    /// A mark of a later holding comes in a later step than the free before it.
+    /// R33: a mark is after the free that ended the holding before its own.
     LaterThan(Position),
 }
 
@@ -268,8 +264,8 @@ fn asked_of_marks(plan: &Plan) -> Vec<(Position, Asked)> {
     asked
 }
 
-/// "The marks on a buffer in plan order, inside one operation in list order":
-/// each with its operation, and whether it is a free.
+/// R30: the marks on a buffer in their order, each with its operation, and
+/// whether it is a free.
 fn marks_on(plan: &Plan, buffer: usize) -> Vec<(Position, bool)> {
     let mut marks = Vec::new();
     for (position, operation) in plan.operations.iter().enumerate() {
@@ -321,7 +317,7 @@ pub fn reuse(plan: &Plan, rows: &[Vec<usize>], queue: usize, buffer: usize) -> u
     let Some(asking) = on_queue(queue).next_back() else {
         return 3;
     };
-    // The queue's last operation, or before it.
+    // R58: seen by the queue.
     let placed = |i: Position| {
         let own = usize::from(plan.operations[i].queue);
         on_queue(own).take(rows[asking][own]).any(|p| p == i)
@@ -354,7 +350,7 @@ pub fn merge(left: &Frontier, right: &Frontier, capacity: usize) -> Frontier {
     (kept, cut || left.1 || right.1)
 }
 
-/// "The entries with the largest epochs stay, of equal epochs the larger axis."
+/// R62: which entries are kept.
 pub fn keep_largest(mut entries: Vec<(u64, u64)>, capacity: usize) -> (Vec<(u64, u64)>, bool) {
     let cut = entries.len() > capacity;
     entries.sort_unstable_by_key(|&(axis, epoch)| std::cmp::Reverse((epoch, axis)));

@@ -6,18 +6,18 @@ use crate::plan::{Mark, Plan};
 use crate::reference::{self, Reference};
 use crate::side::{Raw, Side, Told, EMPTY, EPOCHS, LENGTH, TAINT};
 
-/// The mistakes that paper 01 says were paid for, and a row's own column.
+/// The mistakes that the rules exclude, and a row's own column.
 #[derive(Clone, Copy, PartialEq, Eq, Debug)]
 pub enum Fault {
-    /// A wait imports the newest signal instead of the one it needed.
+    /// A wait takes over what the latest signal knows (R17).
     NewestSignal,
-    /// Of a holding after a free only the first use is tested.
+    /// Of a holding after a free only the first use is tested (R33).
     FirstUseOnly,
     /// A row does not count its own operation.
     OwnColumnMissing,
-    /// A missing axis is read as no objection.
+    /// A missing axis is taken for agreement (R60).
     AbsentIsMet,
-    /// A frontier that lost an entry is found dominated.
+    /// A frontier that lost an entry counts as dominated (R68).
     TaintForgotten,
     /// Plan order is handed back as the run.
     PlanOrder,

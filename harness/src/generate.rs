@@ -252,7 +252,7 @@ struct Dials {
     waits: usize,
     signals: usize,
     marks: usize,
-    /// Operations in the plan stand in another order than in a run.
+    /// Operations in the plan are in another order than in a run.
     plan_order_differs: bool,
 }
 
@@ -905,7 +905,7 @@ pub fn damaged(rng: &mut Rng, bytes: &[u8]) -> Vec<u8> {
     bytes
 }
 
-/// Bytes with no plan behind them, small ones more often than not.
+/// Bytes that are no plan, small ones more often than not.
 pub fn random_bytes(rng: &mut Rng) -> Vec<u8> {
     let length = rng.between(0, 80);
     let small = rng.percent(80);

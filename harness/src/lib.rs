@@ -1,7 +1,7 @@
 //! Differential tests of the plan checker Cundvrest.
 //!
 //! Three implementations judge the same plans: the library under test through
-//! its C interface (`c_api`), a second checker written from paper 01 alone
+//! its C interface (`c_api`), a second checker written from the rules alone
 //! (`reference`), and brute force over every run for small plans (`brute`).
 
 pub mod brute;

@@ -6,9 +6,9 @@ pub type Raw = [u64; 34];
 
 /// Where the epochs begin in a `Raw`.
 pub const EPOCHS: usize = 16;
-/// Where the length stands in a `Raw`.
+/// Where the length is in a `Raw`.
 pub const LENGTH: usize = 32;
-/// Where the taint stands in a `Raw`.
+/// Where the taint is in a `Raw`.
 pub const TAINT: usize = 33;
 
 /// The empty untainted frontier.

@@ -153,8 +153,8 @@ fn too_little_room(bytes: &[u8], numbers: &[u64]) {
     assert!(room.iter().all(|&byte| byte == 7));
 }
 
-/// What is readable is written back byte for byte: "One plan, one string of
-/// bytes." What is not leaves the room untouched.
+/// R8: what is readable is written back byte for byte. What is not leaves the
+/// room untouched.
 #[test]
 fn damaged_bytes() {
     let rng = &mut Rng::new(2);
@@ -177,7 +177,7 @@ fn damaged_bytes() {
     }
 }
 
-/// "Each truncation" of a plan is 1 at the first byte of the field cut short.
+/// R38: a plan cut short anywhere is 1 at the first byte of the field cut.
 #[test]
 fn truncations() {
     let rng = &mut Rng::new(3);
@@ -295,7 +295,7 @@ fn frontiers_against_plain_lists() {
     }
 }
 
-/// "Without eviction merge is associative, commutative and idempotent."
+/// R66: the laws of merge where nothing is cut.
 #[test]
 fn merge_laws() {
     let rng = &mut Rng::new(7);

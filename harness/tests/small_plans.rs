@@ -1,4 +1,4 @@
-//! T1 to T13 of paper 01 against the reference and, if it is linked, the C
+//! T1 to T13 of R79 against the reference and, if it is linked, the C
 //! library; the small plans against brute force too.
 
 use harness::brute::{self, Judgement};

@@ -1,4 +1,5 @@
--- Lists of distinct numbers below a bound: as many members as the length says, so the pigeonhole principle. Assumes nothing.
+-- Lists of distinct numbers below a bound: as many members as the length says, so the pigeonhole principle. Assumes
+-- nothing.
 use mathlib.Core.Path.{_≡_, refl, sym, ap, _∙_}
 use mathlib.Core.Bool.{true, false}
 use mathlib.Core.List.{List, [], _∷_, _++_}

@@ -1,4 +1,4 @@
--- Elements of a list and the places where they stand; every place of a repeated number. Assumes nothing.
+-- Elements of a list and the places where they are; every place of a repeated number. Assumes nothing.
 use mathlib.Core.Path.{_≡_, refl, sym}
 use mathlib.Core.List.{List, [], _∷_, List·Memᴰ, List·Memᴰ·head, List·Memᴰ·tail, List·Memᴰ·not-nil, List·Memᴰ·cases-cons}
 use Prim.Native.Nat.{ℕ, zero, suc, _<_}

@@ -1,4 +1,4 @@
--- Tabulated and joined lists: their lengths, and what stands at a place. Assumes nothing.
+-- Tabulated and joined lists: their lengths, and what is at a place. Assumes nothing.
 use mathlib.Core.Path.{_≡_, refl, sym, ap, _∙_, subst}
 use mathlib.Core.List.{List, _++_, List·Memᴰ, List·Memᴰ·not-nil, List·Memᴰ·append-cases, Memᴰ·append-left, Memᴰ·append-right}
 use Prim.Native.Nat.{ℕ, zero, suc, _+_, _*_, _≤_, _<_}

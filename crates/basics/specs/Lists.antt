@@ -1,4 +1,5 @@
--- Lists of numbers: membership, counting, searching and tabulating. Every other crate's definitions are made of these. Assumes nothing.
+-- Lists of numbers: membership, counting, searching and tabulating. Every other crate's definitions are made of these.
+-- Assumes nothing.
 use mathlib.Core.Bool.{Bool, true, false, _&&_, _||_, cond}
 use mathlib.Core.List.{List, [], _∷_, _++_}
 use mathlib.Core.Option.{Option, none, some, orElse}

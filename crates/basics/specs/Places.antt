@@ -1,10 +1,11 @@
--- Where a number stands in a list, and how many numbers have a property, by quantifiers. Assumes nothing: these are definitions.
+-- Where a number is in a list, and how many numbers have a property, by quantifiers. Assumes nothing: these are
+-- definitions.
 use mathlib.Core.Path.{_≡_}
 use mathlib.Core.List.{List}
 use Prim.Native.Nat.{ℕ, _<_}
 use lib.ListN.{length, getD}
 
--- i stands at one of the first k places
+-- i is at one of the first k places
 abbrev pub Among : (xs : List ℕ) → (k i : ℕ) → Type 0
 Among xs k i = (l : ℕ) × (l < k) × (getD xs l 0 ≡ i)
 

@@ -1,5 +1,5 @@
--- What is known once the check has passed a plan: it is sound, its counts are those handed back, and its rows stand in front of the table.
--- Assumes nothing.
+-- What is known once the check has passed a plan: it is sound, its counts are those handed back, and its rows are in
+-- front of the table. Assumes nothing.
 use mathlib.Core.Path.{_≡_, sym, ap, _∙_, subst}
 use mathlib.Core.List.{List}
 use Prim.Native.Nat.{ℕ, _+_, _*_, _≤_, _<_}

@@ -1,4 +1,5 @@
--- The check of bytes by the check of their plan; refusals 1 to 5, which leave table and list untouched. Assumes nothing.
+-- The check of bytes by the check of their plan; refusals 1 to 5, which leave table and list untouched. Assumes
+-- nothing.
 use mathlib.Core.Path.{_≡_, refl, sym, ap, _∙_, subst}
 use mathlib.Core.List.{List}
 use Prim.Native.Nat.{ℕ}

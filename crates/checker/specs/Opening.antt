@@ -11,8 +11,9 @@ use Rattle.plan_columns.specs.Columns.{Head-column, Queue-column, Signal-column
 use Rattle.checker.specs.declared.Counted.{Counted}
 use Rattle.checker.specs.declared.Opened.{Opened}
 
--- what is lent to the check for those who ask further: the numbers before the operations, the queue of each operation, the operation that each
--- wait rests on, the semaphore, the value and the operation of each signal, the code and the operation of each mark
+-- what is lent to the check for those who ask further: the numbers before the operations, the queue of each operation,
+-- the operation that each wait rests on, the semaphore, the value and the operation of each signal, the code and the
+-- operation of each mark
 pub record Lent : Type 0 where
   pub head : List ℕ
   pub queue : List ℕ

@@ -1,4 +1,5 @@
-// The check of a stored plan: shown as columns, and judged by them; its counts, and its columns for those who ask on.
+// R53 to R56, the check of a stored plan: shown as columns, and judged by them; its counts, and its columns for those
+// who ask on.
 use plan_columns::MarkColumn;
 use plan_columns::QueueColumn;
 use plan_columns::SignalColumn;
@@ -19,8 +20,8 @@ ghost use Rattle.plan_order.specs.Promise.{Checked};
 ghost use Rattle.checker.specs.Counting.{Sizes-told, Counts-told, opened-of, counts-of};
 ghost use Rattle.checker.specs.Opening.{Read-plan, Opened-plan, lent};
 
-// How many queues, semaphores, buffers and operations a plan has; or a refusal and its place beside them. Each is 0 where the reader refuses
-// the plan.
+// How many queues, semaphores, buffers and operations a plan has; or a refusal and its place beside them. Each is 0
+// where the reader refuses the plan.
 pub struct Counted {
     pub number: u32,
     pub place: u64,
@@ -108,8 +109,9 @@ pub fn check_counted(plan: &[u8], table: &mut [u32], list: &mut [u32]) -> Counte
     o.counted
 }
 
-// The check for those who ask further: beside the answer and the counts, the plan in lent columns. Past the plan's own places, and where the
-// reader refuses the plan, what is lent is unspecified; so is the column of sources where a refusal from 6 to 8 is given.
+// The check for those who ask further: beside the answer and the counts, the plan in lent columns. Past the plan's own
+// places, and where the reader refuses the plan, what is lent is unspecified; so is the column of sources where a
+// refusal from 6 to 8 is given.
 pub fn check_opened(
     plan: &[u8],
     head: &mut HeadNumbers,

@@ -1,4 +1,5 @@
-// The small plans of 01, others and bad input through the check: what is handed back, and the lent table and list, which hold 7s before.
+// The small plans of R79, others and bad input through the check: what is handed back, and the lent table and list,
+// which hold 7s before.
 use libc::STDOUT_FILENO;
 use plan_format::Told;
 ghost use mathlib.Core.Path.{_≡_};
@@ -112,7 +113,8 @@ fn show_kept(same: bool) {
     }
 }
 
-// A plan through the check with room enough: on a line what is handed back, then for table and list whether each number is kept.
+// A plan through the check with room enough: on a line what is handed back, then for table and list whether each number
+// is kept.
 fn check_kept(plan: &[u8]) {
     let mut rows = [7u32; 128];
     let mut run = [7u32; 128];

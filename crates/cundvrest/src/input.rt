@@ -66,8 +66,8 @@ fn beyond(kept: usize) -> Input
     }
 }
 
-// The first bytes of the input, as many as there is room for, once all of it has been read. The turns only count down, so that the loop is
-// seen to end: no input uses them up.
+// The first bytes of the input, as many as there is room for, once all of it has been read. The turns only count down,
+// so that the loop is seen to end: no input uses them up.
 pub fn plan(room: &mut [u8]) -> Input
     ensures { λ r. ⌜ r .kept ≤ length (now (room .exit)) ⌝ }
 {

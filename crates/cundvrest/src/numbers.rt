@@ -3,8 +3,8 @@ use crate::input;
 use decimal::Digits;
 use libc::STDIN_FILENO;
 
-// How far the text has been read: how many numbers are before, how many of them are kept, and the digits of a number that has begun.
-// The fault is 0, 1 at a byte that belongs to no number, or 2 at a number of 2^64 or more.
+// How far the text has been read: how many numbers are before, how many of them are kept, and the digits of a number
+// that has begun. The fault is 0, 1 at a byte that belongs to no number, or 2 at a number of 2^64 or more.
 pub struct Scan {
     pub kept: usize,
     pub before: u64,
@@ -129,8 +129,8 @@ fn some(s: Scan, list: &mut [u64]) -> Numbers {
     }
 }
 
-// The first numbers of the input, as many as there is room for, once all of it has been read. The turns only count down, so that the loop is
-// seen to end: no input uses them up.
+// The first numbers of the input, as many as there is room for, once all of it has been read. The turns only count
+// down, so that the loop is seen to end: no input uses them up.
 fn all(list: &mut [u64]) -> Numbers {
     let mut read = Numbers {
         scan: between(0, 0),

@@ -1,4 +1,4 @@
--- What is told and stored of the frontier sent out for an operation. Assumes nothing: these are definitions.
+-- R77, R78: what is told and stored of the frontier sent out for an operation. Assumes nothing: these are definitions.
 use mathlib.Core.List.{List}
 use Prim.Native.Nat.{ℕ}
 use Rattle.frontier_sent.specs.declared.Sent.{Sent}

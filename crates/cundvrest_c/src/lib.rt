@@ -1,4 +1,5 @@
-// The C interface, declared in include/cundvrest.h: each function lends what it is lent to a proved function and stores what comes back.
+// The C interface, declared in include/cundvrest.h: each function lends what it is lent to a proved function and stores
+// what comes back.
 ghost use mathlib.Core.Path.{_≡_};
 ghost use mathlib.Core.Bool.{true, _||_};
 ghost use Rattle.plan_format.specs.Stored.{Read-says, Write-says};

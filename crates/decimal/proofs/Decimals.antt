@@ -11,7 +11,7 @@ use lib.Seq.{take-suc, take-all}
 use borrow.Author.Tests.{lt-ltb, le-ltb, ltb-true, ltb-false, leb-true}
 use Rattle.basics.specs.Lists.{all}
 use Rattle.basics.proofs.Tests.{by-cases, clash, and-both, and-left, and-right}
-use Rattle.decimal.specs.Decimal.{digit-test, digit-value, value-behind, limited, word-of, digits-of, more-of}
+use Rattle.decimal.specs.Decimal.{digit-test, digit-value, value-after, limited, word-of, digits-of, more-of}
 use Rattle.decimal.specs.declared.Digits.{Digits}
 use Rattle.decimal.specs.declared.Word.the-variants.{Number, Large, Other}
 
@@ -69,7 +69,7 @@ module _ (d : Digits) (u : ℕ) where
   unfolding more-of
   grows small byte h = rw small (sym (within (10 * d .value + u) (omega arith)))
 
--- behind the digits of a number
+-- after the digits of a number
 more-digits : (d : Digits) (u v : ℕ) → d ≡ digits-of v → more-of d u ≡ digits-of (10 * v + u)
 unfolding more-of
 more-digits d u v e =
@@ -79,8 +79,8 @@ more-digits d u v e =
 
 -- ---- words
 
-value-append : (v : ℕ) (bs : List ℕ) (b : ℕ) → value-behind v (bs ++ (b ∷ [])) ≡ 10 * value-behind v bs + (b - 48)
-unfolding value-behind
+value-append : (v : ℕ) (bs : List ℕ) (b : ℕ) → value-after v (bs ++ (b ∷ [])) ≡ 10 * value-after v bs + (b - 48)
+unfolding value-after
 value-append v [] b = refl
 value-append v (x ∷ bs) b = value-append (10 * v + (x - 48)) bs b
 
@@ -102,10 +102,10 @@ all-at f (x ∷ bs) (suc i) h n = by-cases (f x) (λ t. rw t (all-at f bs i (ome
 pub record Reads (text : List ℕ) (i : ℕ) (d : Digits) : Type 0 where
   pub inside : i ≤ length text
   pub digits : all digit-test (take i text) ≡ true
-  pub value : d ≡ digits-of (value-behind 0 (take i text))
+  pub value : d ≡ digits-of (value-after 0 (take i text))
 
 pub reads-none : (text : List ℕ) → Reads text 0 (record { value = 0; large = false })
-unfolding all value-behind
+unfolding all value-after
 reads-none text = record { inside = omega arith; digits = refl; value = sym (within 0 (omega arith)) }
 
 pub reads-more :
@@ -118,7 +118,7 @@ reads-more text i d r h t k step =
       digits = rw (add-one, take-suc text i 0 h) (all-more digit-test (take i text) (getD text i 0) (k .digits) (known .0));
       value =
           rw (add-one, take-suc text i 0 h, value-append 0 (take i text) (getD text i 0), ← (known .1))
-          (step ∙ more-digits d (digit-value (getD text i 0)) (value-behind 0 (take i text)) (k .value));
+          (step ∙ more-digits d (digit-value (getD text i 0)) (value-after 0 (take i text)) (k .value));
     }
 
 pub word-none : (limit : ℕ) (text : List ℕ) → length text ≡ 0 → Other ≡ word-of limit text
@@ -132,7 +132,7 @@ word-other limit [] i h n = absurd (omega arith)
 word-other limit (b ∷ bs) i h n = rw (all-at digit-test (b ∷ bs) i h (digit-other (getD (b ∷ bs) i 0) n))
 
 word-whole :
-    (limit : ℕ) (text : List ℕ) → 0 < length text → all digit-test text ≡ true → limited limit (value-behind 0 text) ≡ word-of limit text
+    (limit : ℕ) (text : List ℕ) → 0 < length text → all digit-test text ≡ true → limited limit (value-after 0 text) ≡ word-of limit text
 unfolding word-of
 word-whole limit [] h t = absurd (omega arith)
 word-whole limit (b ∷ bs) h t = rw t
@@ -141,35 +141,35 @@ word-whole limit (b ∷ bs) h t = rw t
 module _
     (limit : ℕ) (text : List ℕ) (i : ℕ) (d : Digits) (some : 0 < length text) (end : length text ≤ i) (k : Reads text i d)
     (wide : limit ≤ 18446744073709551615) where
-  whole : limited limit (value-behind 0 text) ≡ word-of limit text
+  whole : limited limit (value-after 0 text) ≡ word-of limit text
   whole = word-whole limit text some (rw (take-all i text end) at (k .digits))
 
-  value : d ≡ digits-of (value-behind 0 text)
+  value : d ≡ digits-of (value-after 0 text)
   value = rw (take-all i text end) at (k .value)
 
-  over-limit : limit < value-behind 0 text → Large ≡ word-of limit text
+  over-limit : limit < value-after 0 text → Large ≡ word-of limit text
   unfolding limited
-  over-limit h = rw (lt-ltb limit (value-behind 0 text) h) at whole
+  over-limit h = rw (lt-ltb limit (value-after 0 text) h) at whole
 
   pub word-large : d .large ≡ true → Large ≡ word-of limit text
-  word-large large = over-limit (omega (arith, beyond d (value-behind 0 text) large value))
+  word-large large = over-limit (omega (arith, beyond d (value-after 0 text) large value))
 
   pub word-over : d .large ≡ false → limit < d .value → Large ≡ word-of limit text
-  word-over small h = over-limit (omega (arith, holds d (value-behind 0 text) small value .1))
+  word-over small h = over-limit (omega (arith, holds d (value-after 0 text) small value .1))
 
   pub word-number : d .large ≡ false → d .value ≤ limit → Number (d .value) ≡ word-of limit text
   unfolding limited
   word-number small h =
-      let e = holds d (value-behind 0 text) small value .1 in
-      ap Number e ∙ (rw (le-ltb limit (value-behind 0 text) (omega (arith, e))) at whole)
+      let e = holds d (value-after 0 text) small value .1 in
+      ap Number e ∙ (rw (le-ltb limit (value-after 0 text) (omega (arith, e))) at whole)
 
 pub word-limit : (limit v : ℕ) (text : List ℕ) → Number v ≡ word-of limit text → v ≤ limit
 unfolding word-of limited
 word-limit limit v [] e = absurd (let z : _≡_ {A = ℕ} 0 1 = cc in omega arith)
 word-limit limit v (b ∷ bs) e =
     by-cases (all digit-test (b ∷ bs))
-    (λ t. by-cases (ltb limit (value-behind 0 (b ∷ bs)))
+    (λ t. by-cases (ltb limit (value-after 0 (b ∷ bs)))
     (λ o. absurd (let f : Number v ≡ Large = rw (t, o) at e in let z : _≡_ {A = ℕ} 0 1 = cc in omega arith))
-    (λ w. let f : Number v ≡ Number (value-behind 0 (b ∷ bs)) = rw (t, w) at e in
-    let g : v ≡ value-behind 0 (b ∷ bs) = cc in omega (arith, ltb-false limit (value-behind 0 (b ∷ bs)) w)))
+    (λ w. let f : Number v ≡ Number (value-after 0 (b ∷ bs)) = rw (t, w) at e in
+    let g : v ≡ value-after 0 (b ∷ bs) = cc in omega (arith, ltb-false limit (value-after 0 (b ∷ bs)) w)))
     (λ n. absurd (let f : Number v ≡ Other = rw n at e in let z : _≡_ {A = ℕ} 0 1 = cc in omega arith))

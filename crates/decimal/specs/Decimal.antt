@@ -1,4 +1,4 @@
--- A word as a number in decimal. Assumes nothing: these are definitions.
+-- R74: a word as a number in decimal. Assumes nothing: these are definitions.
 use mathlib.Core.Bool.{Bool, true, false, cond}
 use mathlib.Core.List.{List, [], _∷_}
 use Prim.Native.Nat.{ℕ, _+_, _*_, _-_}
@@ -16,10 +16,10 @@ digit-test b = cond (ltb b 48) false (leb b 57)
 unfoldable pub digit-value : ℕ → ℕ
 digit-value b = cond (digit-test b) (b - 48) 10
 
--- the number that digits give behind those of v
-unfoldable pub value-behind : (v : ℕ) → List ℕ → ℕ
-value-behind v [] = v
-value-behind v (b ∷ bs) = value-behind (10 * v + (b - 48)) bs
+-- the number that digits give after those of v
+unfoldable pub value-after : (v : ℕ) → List ℕ → ℕ
+value-after v [] = v
+value-after v (b ∷ bs) = value-after (10 * v + (b - 48)) bs
 
 -- a number that may be over its limit
 unfoldable pub limited : (limit v : ℕ) → Word
@@ -28,7 +28,7 @@ limited limit v = cond (ltb limit v) Large (Number v)
 -- a word: its digits' number where it has some and nothing else
 unfoldable pub word-of : (limit : ℕ) → List ℕ → Word
 word-of limit [] = Other
-word-of limit (b ∷ bs) = cond (all digit-test (b ∷ bs)) (limited limit (value-behind 0 (b ∷ bs))) Other
+word-of limit (b ∷ bs) = cond (all digit-test (b ∷ bs)) (limited limit (value-after 0 (b ∷ bs))) Other
 
 -- the value so far, or that it is of 2^64 or more
 unfoldable pub digits-of : ℕ → Digits

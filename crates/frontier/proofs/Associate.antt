@@ -1,5 +1,5 @@
--- A cut before a union changes nothing of the cut after it, so merges at one capacity may be grouped in any way, also where they evict: 01
--- claims it only without eviction. Assumes nothing.
+-- A cut before a union changes nothing of the cut after it, so merges at one capacity may be grouped in any way, also
+-- where they cut; R66 asks it only where they do not. Assumes nothing.
 use mathlib.Core.Path.{_≡_, refl, sym, ap, _∙_}
 use mathlib.Core.Bool.{Bool, true, false, _||_, cond}
 use mathlib.Core.Logic.{inl, inr}

@@ -1,5 +1,5 @@
--- The cut to a capacity: it keeps an entry exactly if fewer than `capacity` others exceed it, leaves at most `capacity`, and cuts exactly if
--- there are more. Assumes nothing.
+-- The cut to a capacity: it keeps an entry exactly if fewer than `capacity` others exceed it, leaves at most
+-- `capacity`, and cuts exactly if there are more. Assumes nothing.
 use mathlib.Core.Path.{_≡_, refl, sym}
 use mathlib.Core.Bool.{Bool, true, false}
 use mathlib.Core.Logic.{_⊎_, inl, inr}

@@ -1,5 +1,5 @@
--- Eviction by a bound: where as many entries exceed the bound as the capacity holds, the cut keeps exactly those; and the least entry above
--- a bound is the next bound. Assumes nothing.
+-- Eviction by a bound: where as many entries exceed the bound as the capacity holds, the cut keeps exactly those; and
+-- the least entry above a bound is the next bound. Assumes nothing.
 use mathlib.Core.Path.{_≡_, refl, sym, ap, _∙_}
 use mathlib.Core.Bool.{Bool, true, false, _&&_, cond}
 use mathlib.Core.Logic.{_⊎_, inl, inr}
@@ -80,7 +80,8 @@ nearer-found : (b x best : Entry) → exceeds x b ≡ true → exceeds best x �
 unfolding nearer
 nearer-found b x best e f = rw (e, f)
 
--- what is found is the best so far or an entry above the bound, and it exceeds neither the best so far nor an entry above the bound
+-- what is found is the best so far or an entry above the bound, and it exceeds neither the best so far nor an entry
+-- above the bound
 record Nearest (b best m : Entry) (xs : List Entry) : Type 0 where
   from : (m ≡ best) ⊎ (In m xs × (exceeds m b ≡ true))
   not-best : exceeds m best ≡ false

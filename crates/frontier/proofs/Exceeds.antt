@@ -1,4 +1,5 @@
--- The order in which entries are kept, by epoch and then by axis: a strict total order on entries of distinct axes. Assumes nothing.
+-- The order in which entries are kept, by epoch and then by axis: a strict total order on entries of distinct axes.
+-- Assumes nothing.
 use mathlib.Core.Path.{_≡_, sym}
 use mathlib.Core.Bool.{true, false, or-false}
 use mathlib.Core.Logic.{_⊎_, inl, inr}

@@ -1,4 +1,5 @@
--- The walk that joins two frontiers: the next entry of the union of what is left, and what is written so far. Assumes nothing.
+-- The walk that joins two frontiers: the next entry of the union of what is left, and what is written so far. Assumes
+-- nothing.
 use mathlib.Core.Path.{_≡_, refl, sym, ap, _∙_}
 use mathlib.Core.Bool.{Bool, true, false, or-true, false≢true}
 use mathlib.Core.List.{List, [], _∷_, _++_, append-assoc, append-nil}

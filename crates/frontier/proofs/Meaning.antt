@@ -1,4 +1,5 @@
--- What merge and raise promise of their answers: completions are kept, and merges at one capacity are grouped in any way. Assumes nothing.
+-- What merge and raise promise of their answers: completions are kept, and merges at one capacity are grouped in any
+-- way. Assumes nothing.
 use mathlib.Core.Path.{_≡_, refl, sym, ap, ap₂, _∙_}
 use mathlib.Core.Bool.{Bool, true, false, _||_, cond, or-true, or-false}
 use mathlib.Core.List.{List, []}

@@ -1,5 +1,5 @@
--- The laws of merge and raise: the refusals in their order, well-formed results, commutative always, idempotent where the capacity holds it.
--- Assumes nothing.
+-- The laws of merge and raise: the refusals in their order, well-formed results, commutative always, idempotent where
+-- the capacity holds it. Assumes nothing.
 use mathlib.Core.Path.{_≡_, refl, sym, ap, _∙_}
 use mathlib.Core.Bool.{Bool, true, false, _&&_, _||_, cond, or-false}
 use mathlib.Core.List.{List, []}

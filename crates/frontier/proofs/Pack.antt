@@ -1,5 +1,5 @@
--- A frontier is its entries and its taint: packing the entries of a well-formed frontier gives it back, and a packed list gives its entries.
--- Assumes nothing.
+-- A frontier is its entries and its taint: packing the entries of a well-formed frontier gives it back, and a packed
+-- list gives its entries. Assumes nothing.
 use mathlib.Core.Path.{_≡_, refl, sym, ap, ap₂, _∙_}
 use mathlib.Core.Bool.{Bool, true, false, _&&_}
 use mathlib.Core.List.{List, [], _∷_, _++_, map}

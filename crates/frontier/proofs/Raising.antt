@@ -1,5 +1,5 @@
--- A frontier built one axis at a time: raising at a capacity that holds every axis never cuts, so raises in any order gather the union; and a
--- merge with the empty frontier cuts. Assumes nothing.
+-- A frontier built one axis at a time: raising at a capacity that holds every axis never cuts, so raises in any order
+-- gather the union; and a merge with the empty frontier cuts. Assumes nothing.
 use mathlib.Core.Path.{_≡_, refl, sym, ap, _∙_}
 use mathlib.Core.Bool.{Bool, false, _||_, or-false}
 use mathlib.Core.List.{List, [], _∷_}
@@ -85,7 +85,7 @@ pub raises-from-empty : (xs : List Entry) → length xs ≤ most-entries →
     raises xs (pack [] false) ≡ pack (gathered xs) false
 raises-from-empty xs h = raises-gather xs [] false tt (omega arith) ∙ ap (λ l. pack l false) (unfold union in refl)
 
--- cut to a capacity as a merge is: a merge with the empty frontier
+-- R70: the cut to a capacity is a merge with the empty frontier
 pub merge-empty : (ys : List Entry) (t : Bool) (c : ℕ) → Sorted 0 ys → length ys ≤ most-entries → 1 ≤ c →
     c ≤ most-entries → merge (pack ys t) (pack [] false) c ≡ record {
       number = 0;

@@ -1,5 +1,5 @@
--- Lists of entries with rising axes and epochs above 0: they are equal where they give each axis the same epoch, and union takes the larger
--- epoch, so it is commutative, associative and idempotent. Assumes nothing.
+-- Lists of entries with rising axes and epochs above 0: they are equal where they give each axis the same epoch, and
+-- union takes the larger epoch, so it is commutative, associative and idempotent. Assumes nothing.
 use mathlib.Core.Path.{_≡_, refl, sym, ap, ap₂, _∙_}
 use mathlib.Core.Bool.{true}
 use mathlib.Core.List.{List, [], _∷_}
@@ -138,7 +138,7 @@ unfolding union
 sorted-union b [] ys s t = t
 sorted-union b (x ∷ xs) ys s t = sorted-put b x (union xs ys) (s .0) (s .1) (sorted-union b xs ys (lower (suc (x .axis)) b xs (omega arith) (s .2)) t)
 
--- "Merge takes the larger epoch of each axis"
+-- R61: the larger epoch of each axis
 pub epoch-union : (b : ℕ) (xs ys : List Entry) → Sorted b xs → Sorted b ys → (a : ℕ) → epoch-at (union xs ys) a ≡ max (epoch-at xs a) (epoch-at ys a)
 unfolding union
 epoch-union b [] ys s t a = omega (arith, epoch-none a)

@@ -1,4 +1,5 @@
--- The walks of eviction over slots: how many exceed an entry, the bound of a capacity, and the copy of what exceeds it. Assumes nothing.
+-- The walks of eviction over slots: how many exceed an entry, the bound of a capacity, and the copy of what exceeds it.
+-- Assumes nothing.
 use mathlib.Core.Path.{_≡_, refl, sym, ap, _∙_}
 use mathlib.Core.Bool.{Bool, true, false, cond}
 use mathlib.Core.Logic.{inl, inr}
@@ -97,8 +98,8 @@ module _ (xs es : List ℕ) (n : ℕ) (b : Entry) where
   unfolding exceeding
   count-end m i h w = let w′ = rw (rest-none xs es n i h) at w in omega arith
 
--- THE BOUND: no fewer than the capacity exceed the greatest that is lost, fewer the least that is kept, and fewer each slot before i that is
--- above the lost one
+-- THE BOUND: no fewer than the capacity exceed the greatest that is lost, fewer the least that is kept, and fewer each
+-- slot before i that is above the lost one
 pub record Bounded (lost kept : Entry) (xs es : List ℕ) (n c i : ℕ) : Type 0 where
   pub many : c ≤ exceeding lost (slots xs es n 0)
   pub few : exceeding kept (slots xs es n 0) < c

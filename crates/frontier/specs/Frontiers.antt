@@ -1,4 +1,5 @@
--- Frontiers as the code has them: their entries and form, merge, raise and dominance with their numbers. Assumes nothing: these are definitions.
+-- Frontiers as the code has them: their entries and form, merge, raise and dominance with their numbers. Assumes
+-- nothing: these are definitions.
 use mathlib.Core.Bool.{Bool, true, false, _&&_, _||_, cond}
 use mathlib.Core.List.{List, [], _∷_, _++_, map}
 use Prim.Native.Nat.{ℕ, _-_}
@@ -28,17 +29,17 @@ unfoldable pub all-zero : List ℕ → Bool
 all-zero [] = true
 all-zero (x ∷ xs) = eqb x 0 && all-zero xs
 
--- sixteen slots, "slots past the length zero"
+-- R59: sixteen slots, and zero from the length on
 unfoldable pub row-formed : (len : ℕ) → List ℕ → Bool
 row-formed len row = eqb (length row) most-entries && all-zero (drop len row)
 
--- "At most sixteen entries (axis, epoch), axes rising, epochs above 0, slots past the length zero, and a taint flag"
+-- R59, form: what a frontier is that is not refused by 14 (R50)
 unfoldable pub well-formed : Frontier → Bool
 well-formed f =
     leb (f .len) most-entries &&
     (rising-from 0 (entries f) && (row-formed (f .len) (f .axes) && row-formed (f .len) (f .epochs)))
 
--- the frontier of at most sixteen entries
+-- the frontier of at most sixteen entries; R59: of none, the empty frontier
 unfoldable pub pack : List Entry → (tainted : Bool) → Frontier
 pack xs tainted = record {
   axes = map (λ x. x .axis) xs ++ replicate (most-entries - length xs) 0;
@@ -47,19 +48,19 @@ pack xs tainted = record {
   tainted = tainted;
 }
 
--- "A refusal hands back an empty untainted frontier"
+-- R67: beside a refusal, the empty untainted frontier
 unfoldable pub refusal : (number : ℕ) → Merged
 refusal number = record { number = number; frontier = pack [] false }
 
--- two lists joined, cut and marked: "if more than the capacity remain .. the result is tainted. It is also tainted if either side was"
+-- R61 to R63: two lists joined and cut; tainted if something was cut or a side was tainted
 unfoldable pub joined : (xs ys : List Entry) → (tainted : Bool) → (capacity : ℕ) → Frontier
 joined xs ys tainted capacity = pack (cut capacity (union xs ys)) (tainted || ltb capacity (length (union xs ys)))
 
--- a capacity is at least 1, and at most as many as a frontier has entries
+-- R51, refusal 15: a capacity is at least 1, and at most as many as a frontier has entries
 abbrev pub capable : (capacity : ℕ) → Bool
 capable capacity = leb 1 capacity && leb capacity most-entries
 
--- "Check 15 first, then 14 for the left, then the right"
+-- R67, refusals of a merge: the capacity, then the left side, then the right
 unfoldable pub merge-number : (f g : Frontier) → (capacity : ℕ) → ℕ
 merge-number f g capacity =
     cond (capable capacity) (cond (well-formed f) (cond (well-formed g) 0 14) 14) 15
@@ -74,7 +75,7 @@ merge f g capacity =
     (handed (joined (entries f) (entries g) (f .tainted || g .tainted) capacity))
     (refusal (merge-number f g capacity))
 
--- "Raising an axis is a merge with one entry, and with the empty frontier for epoch 0"
+-- R64, raise: with which entries it merges
 unfoldable pub one-entry : (axis epoch : ℕ) → List Entry
 one-entry a e = cond (eqb e 0) [] (record { axis = a; epoch = e } ∷ [])
 
@@ -86,23 +87,24 @@ gathered (x ∷ xs) = union (one-entry (x .axis) (x .epoch)) (gathered xs)
 unfoldable pub raise : Frontier → (axis epoch capacity : ℕ) → Merged
 raise f a e capacity = merge f (pack (one-entry a e) false) capacity
 
--- an entry is reached if its axis is listed with at least its epoch
+-- R68: an entry is reached if its axis is listed with at least its epoch; R60: not if it is absent
 unfoldable pub met : Lookup → (epoch : ℕ) → Bool
 met (Listed e) n = leb n e
 met Absent n = false
 
--- "All entries of G reached by F"
+-- R68: every entry is reached
 unfoldable pub reached : (xs ys : List Entry) → Bool
 reached xs [] = true
 reached xs (y ∷ ys) = met (find (y .axis) xs) (y .epoch) && reached xs ys
 
--- "yes if G is untainted, else unknown. Some entry not reached: no if F is untainted, else unknown"
+-- R68, dominance: where all is reached the taint of g decides, else the taint of f
 unfoldable pub answer : (all-reached f-tainted g-tainted : Bool) → Dominance
 answer true f-tainted false = Yes
 answer true f-tainted true = Unknown
 answer false false g-tainted = No
 answer false true g-tainted = Unknown
 
+-- R67, refusals of dominance: the left side, then the right
 unfoldable pub dominance-number : (f g : Frontier) → ℕ
 dominance-number f g = cond (well-formed f) (cond (well-formed g) 0 14) 14
 
@@ -111,7 +113,7 @@ dominance f g =
     cond (eqb (dominance-number f g) 0) (answer (reached (entries f) (entries g)) (f .tainted) (g .tainted))
     (Refused (dominance-number f g))
 
--- the numbers of an answer: a refusal's number, 0 for none, and the value of the answer, 0 beside a refusal
+-- R77: the numbers of an answer: a refusal's number, 0 for none, and the value of the answer, 0 beside a refusal
 pub record Numbers : Type 0 where
   pub number : ℕ
   pub value : ℕ

@@ -1,5 +1,5 @@
--- What the answers mean: completions of a frontier, and what lookup, merge, raise and dominance promise of their answers. Assumes nothing:
--- these are definitions.
+-- What the answers mean: completions of a frontier, and what lookup, merge, raise and dominance promise of their
+-- answers. Assumes nothing: these are definitions.
 use mathlib.Core.Path.{_≡_}
 use mathlib.Core.Bool.{Bool, true, false, _||_, cond}
 use mathlib.Core.List.{List}
@@ -13,7 +13,8 @@ use Rattle.frontier.specs.declared.Lookup.the-variants.{Listed, Absent}
 use Rattle.frontier.specs.declared.Dominance.{Dominance}
 use Rattle.frontier.specs.declared.Dominance.the-variants.{Yes, No, Unknown}
 use Rattle.frontier.specs.Entries.{Entry, most-entries, find, values-of, epochs-under, union, exceeding}
-use Rattle.frontier.specs.Frontiers.{slot, entries, well-formed, pack, one-entry, merge, dominance-number, number-of}
+use Rattle.frontier.specs.Frontiers.{slot, entries, well-formed, pack, one-entry, merge, dominance-number}
+use Rattle.frontier.specs.Frontiers.{number-of}
 
 -- COMPLETIONS
 
@@ -25,7 +26,8 @@ epoch-of Absent = 0
 unfoldable pub epoch-at : List Entry → (axis : ℕ) → ℕ
 epoch-at xs a = epoch-of (find a xs)
 
--- `full` is what a frontier may stand for: a map from axes to epochs that is at least what is listed, and exactly that where nothing was lost
+-- `full` is what a frontier may stand for: a map from axes to epochs that is at least what is listed, and exactly that
+-- where nothing was lost
 pub record Completion (f : Frontier) (full : ℕ → ℕ) : Type 0 where
   pub at-least : (axis : ℕ) → epoch-at (entries f) axis ≤ full axis
   pub exact : f .tainted ≡ false → (axis : ℕ) → full axis ≡ epoch-at (entries f) axis
@@ -41,9 +43,9 @@ Small f g full = (axis : ℕ) →
 
 -- LOOKUP
 
--- of a well-formed frontier the lookup gives every epoch listed under the axis, one or none; of any other, which the
--- rules leave unspecified,
--- it gives, if anything, what is in a slot below the length, and nothing where that is over sixteen
+-- R60: of a well-formed frontier the lookup gives every epoch listed under the axis, one or none; of any other, which
+-- the rules leave unspecified, it gives, if anything, what is in a slot below the length, and nothing where that is
+-- over sixteen
 pub record Looked (f : Frontier) (axis : ℕ) (r : Lookup) : Type 0 where
   pub found : well-formed f ≡ true → r ≡ find axis (entries f)
   pub exactly : well-formed f ≡ true → values-of r ≡ epochs-under axis (entries f)
@@ -62,19 +64,23 @@ both f g = union (entries f) (entries g)
 
 -- what a merge hands back that is not refused
 pub record Merge-means (f g : Frontier) (capacity : ℕ) (r : Frontier) : Type 0 where
-  -- "Merge takes the larger epoch of each axis"
+  -- R61: the larger epoch of each axis
   pub larger : (axis : ℕ) → epoch-at (both f g) axis ≡ max (epoch-at (entries f) axis) (epoch-at (entries g) axis)
-  -- an entry stays exactly if fewer than the capacity exceed it
-  pub stays : (axis : ℕ) → find axis (entries r) ≡ listed-if (λ x. ltb (exceeding x (both f g)) capacity) axis (find axis (both f g))
+  -- R62: an entry stays exactly if fewer than the capacity exceed it
+  pub stays : (axis : ℕ) →
+      find axis (entries r) ≡ listed-if (λ x. ltb (exceeding x (both f g)) capacity) axis (find axis (both f g))
   -- and as many stay as the capacity holds
   pub fills : length (entries r) ≡ min capacity (length (both f g))
-  -- tainted exactly if a side was or something was cut
+  -- R63: tainted exactly if a side was or something was cut
   pub taint : r .tainted ≡ ((f .tainted || g .tainted) || ltb (length (entries r)) (length (both f g)))
   -- nothing is lost that the taint does not tell of
-  pub completions : (full other : ℕ → ℕ) → Completion f full → Completion g other → Completion r (λ axis. max (full axis) (other axis))
+  pub completions : (full other : ℕ → ℕ) → Completion f full → Completion g other →
+      Completion r (λ axis. max (full axis) (other axis))
+  -- R66
   pub idempotent : f ≡ g → f .len ≤ capacity → r ≡ f
-  -- of three frontiers at one capacity, in any grouping; 01 claims it without eviction, and it holds with eviction too
-  pub associates : (h : Frontier) → well-formed h ≡ true → merge r h capacity ≡ merge f (merge g h capacity .frontier) capacity
+  -- R66, and more: of three frontiers at one capacity, in any grouping, also where they are cut
+  pub associates : (h : Frontier) → well-formed h ≡ true →
+      merge r h capacity ≡ merge f (merge g h capacity .frontier) capacity
 
 -- what holds of every merge, refused or not
 pub record Merge-right (f g : Frontier) (capacity : ℕ) (r : Merged) : Type 0 where
@@ -86,17 +92,23 @@ pub record Merge-right (f g : Frontier) (capacity : ℕ) (r : Merged) : Type 0 w
 abbrev pub raised : (full : ℕ → ℕ) → (axis epoch : ℕ) → (ℕ → ℕ)
 raised full axis epoch a = max (full a) (cond (eqb axis a) epoch 0)
 
--- what holds of every raise
+-- R64: what holds of every raise
 pub record Raise-right (f : Frontier) (axis epoch capacity : ℕ) (r : Merged) : Type 0 where
   pub merged : Merge-right f (pack (one-entry axis epoch) false) capacity r
-  pub completions : r .number ≡ 0 → (full : ℕ → ℕ) → Completion f full → Completion (r .frontier) (raised full axis epoch)
+  pub completions : r .number ≡ 0 → (full : ℕ → ℕ) → Completion f full →
+      Completion (r .frontier) (raised full axis epoch)
 
 -- DOMINANCE
 
--- yes: every completion of f dominates every completion of g. no: none does. unknown: there are completions of both kinds
+-- R68: yes, every completion of f dominates every completion of g; no, none does; unknown, there are completions of
+-- both kinds
 pub record Dominance-means (f g : Frontier) (r : Dominance) : Type 0 where
   pub number : number-of r .number ≡ dominance-number f g
   pub if-yes : r ≡ Yes → (full other : ℕ → ℕ) → Completion f full → Completion g other → Over full other
   pub if-no : r ≡ No → (full other : ℕ → ℕ) → Completion f full → Completion g other → Over full other → ⊥
-  pub if-unknown : r ≡ Unknown → (full : ℕ → ℕ) × (other : ℕ → ℕ) × Completion f full × Completion g other × Small f g full × Small f g other × Over full other
-  pub nor-yes : r ≡ Unknown → (full : ℕ → ℕ) × (other : ℕ → ℕ) × Completion f full × Completion g other × Small f g full × Small f g other × (Over full other → ⊥)
+  pub if-unknown : r ≡ Unknown →
+      (full : ℕ → ℕ) × (other : ℕ → ℕ) × Completion f full × Completion g other × Small f g full × Small f g other ×
+      Over full other
+  pub nor-yes : r ≡ Unknown →
+      (full : ℕ → ℕ) × (other : ℕ → ℕ) × Completion f full × Completion g other × Small f g full × Small f g other ×
+      (Over full other → ⊥)

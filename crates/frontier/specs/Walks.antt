@@ -37,8 +37,7 @@ skip-below a [] = []
 skip-below a (x ∷ xs) = cond (ltb (x .axis) a) (skip-below a xs) (x ∷ xs)
 
 -- the lookup of an axis from a slot on, and where it ended: of rising slots it gives what is listed from there on; of
--- any others, anything
--- that it gives is in the slot where it ended
+-- any others, anything that it gives is in the slot where it ended
 pub record Found-from (axes epochs : List ℕ) (len from axis : ℕ) (r : Found) : Type 0 where
   pub found : rising-from 0 (slots axes epochs len 0) ≡ true → r .answer ≡ find axis (rest axes epochs len from)
   pub in-slot : (epoch : ℕ) → r .answer ≡ Listed epoch →
@@ -50,6 +49,6 @@ leads [] ys = false
 leads (x ∷ xs) [] = true
 leads (x ∷ xs) (y ∷ ys) = leb (x .axis) (y .axis)
 
--- a merge's number before the right side is judged: "Check 15 first, then 14 for the left"
+-- R67: a merge's number before the right side is judged
 unfoldable pub left-number : Frontier → (capacity : ℕ) → ℕ
 left-number f capacity = cond (capable capacity) (cond (well-formed f) 0 14) 15

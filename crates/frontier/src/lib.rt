@@ -1,4 +1,4 @@
-// Sparse frontiers: vector clocks of at most sixteen entries (axis, epoch), with lookup, merge, raise and dominance.
+// R59 to R68, sparse frontiers: vector clocks of at most sixteen entries, with lookup, merge, raise and dominance.
 mod walks; // walks over the lent slots of one or two frontiers
 
 use walks::dominance_of;
@@ -14,7 +14,8 @@ ghost use mathlib.Core.List.{[]};
 ghost use Rattle.frontier.specs.Frontiers.{well-formed, pack, refusal, merge, raise, dominance};
 ghost use Rattle.frontier.specs.Meaning.{Looked, Merge-right, Raise-right, Dominance-means};
 
-// Slot i holds the entry (axes[i], epochs[i]) for i below len; the slots past len are zero. A tainted frontier may have lost entries.
+// Slot i holds the entry (axes[i], epochs[i]) for i below len; the slots past len are zero. A tainted frontier may have
+// lost entries.
 pub struct Frontier {
     pub axes: [u64; Frontier::SLOTS],
     pub epochs: [u64; Frontier::SLOTS],
@@ -73,14 +74,14 @@ impl Frontier {
         }
     }
 
-    // At most sixteen entries, axes rise, epochs are above 0, slots past the length are zero. Anything else is refusal 14.
+    // R59, form: whether the frontier is not refused by 14.
     pub fn well_formed(self) -> bool
         ensures { λ r. ⌜ r ≡ well-formed self ⌝ }
     {
         formed(&self.axes, &self.epochs, self.len)
     }
 
-    // What the frontier says of an axis. An axis that is not listed is absent.
+    // R60: what the frontier says of an axis, which is listed or absent.
     pub fn lookup(self, axis: u64) -> Lookup
         ensures { λ r. ⌜ Looked self axis r ⌝ }
     {
@@ -92,7 +93,7 @@ impl Frontier {
         found.answer
     }
 
-    // The larger epoch of each axis, cut to the capacity.
+    // R61 to R63: the larger epoch of each axis, cut to the capacity.
     pub fn merge(self, other: Self, capacity: u32) -> Merged
         ensures { λ r. ⌜ r ≡ merge self other capacity ⌝ }
         ensures { λ r. ⌜ Merge-right self other capacity r ⌝ }
@@ -110,8 +111,8 @@ impl Frontier {
         )
     }
 
-    // One axis raised to an epoch: a merge with one entry, with the empty frontier for epoch 0. Where the axis is
-    // listed and the capacity holds every entry, that is the larger epoch stored in this copy.
+    // R64: one axis raised to an epoch. Where it is listed and the capacity holds every entry, that is the larger epoch
+    // stored in this copy; else it is a merge.
     pub fn raise(mut self, axis: u64, epoch: u64, capacity: u32) -> Merged
         ensures { λ r. ⌜ r ≡ raise self axis epoch capacity ⌝ }
         ensures { λ r. ⌜ Raise-right self axis epoch capacity r ⌝ }
@@ -149,7 +150,7 @@ impl Frontier {
         )
     }
 
-    // Whether every entry of the other is reached, as far as the taints let it be known.
+    // R68: whether every entry of the other is reached, as far as the taints let it be known.
     pub fn dominates(self, other: Self) -> Dominance
         ensures { λ r. ⌜ r ≡ dominance self other ⌝ }
         ensures { λ r. ⌜ Dominance-means self other r ⌝ }

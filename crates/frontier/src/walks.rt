@@ -279,7 +279,8 @@ fn leading<'a>(
     }
 }
 
-// The next entry of the union of x from slot i and y from slot j: the smaller axis, with the larger epoch where both list it.
+// The next entry of the union of x from slot i and y from slot j: the smaller axis, with the larger epoch where both
+// list it.
 fn next<'a>(
     xa: &'a Slots,
     xe: &'a Slots,
@@ -459,8 +460,8 @@ fn least<'a>(axes: &'a [u64], epochs: &'a [u64], len: usize) -> Entry
     best
 }
 
-// The bound that the entries kept at a capacity exceed: the greatest that is cut. If more than one is, it is counted how many exceed each
-// entry between the greatest known to be cut and the least known to be kept.
+// The bound that the entries kept at a capacity exceed: the greatest that is cut. If more than one is, it is counted
+// how many exceed each entry between the greatest known to be cut and the least known to be kept.
 fn bound_of<'a>(axes: &'a [u64], epochs: &'a [u64], len: usize, capacity: usize) -> Entry
     requires { ⌜ (len ≤ length (now axes)) × (len ≤ length (now epochs)) × (rising-from 0 (slots (now axes) (now epochs) len 0) ≡ true) ⌝ }
     requires { ⌜ (1 ≤ capacity) × (capacity < len) ⌝ }

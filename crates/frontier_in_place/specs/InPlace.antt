@@ -14,6 +14,6 @@ stored-after stored new = cond (eqb (new .number) 0) (new .frontier) stored
 unfoldable pub kept : (stored : Frontier) → (new : Merged) → Merged
 kept stored new = record { number = new .number; frontier = stored-after stored new }
 
--- 01: "a second form changes a stored frontier in place": the number of the form by value is handed back, and a refusal changes nothing
+-- R65, in place: the number of the form by value is handed back, and a refusal changes nothing
 abbrev pub Changed : (stored : Frontier) → (by-value : Merged) → (number : ℕ) → (stored-now : Frontier) → Type 0
 Changed stored by-value number stored-now = (number ≡ by-value .number) × (stored-now ≡ stored-after stored by-value)

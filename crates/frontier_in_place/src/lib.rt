@@ -1,4 +1,5 @@
-// Frontiers changed in place: the raise and the merge of a stored frontier that is lent. The work is done by value, and what comes of it is stored.
+// R65, frontiers changed in place: the raise and the merge of a stored frontier that is lent. The work is done by
+// value, and what comes of it is stored.
 use frontier::Frontier;
 use frontier::Merged;
 ghost use mathlib.Core.Path.{_≡_};

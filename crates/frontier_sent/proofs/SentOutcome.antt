@@ -1,5 +1,5 @@
--- The outcome of the question for a frontier: the plan first, then the operation, then the capacity; what each hands back and leaves.
--- Assumes nothing.
+-- The outcome of the question for a frontier: the plan first, then the operation, then the capacity; what each hands
+-- back and leaves. Assumes nothing.
 use mathlib.Core.Path.{_≡_, refl}
 use mathlib.Core.Bool.{true}
 use mathlib.Core.Logic.{_⊎_, inl, inr, _↔_}

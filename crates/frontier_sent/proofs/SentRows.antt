@@ -1,5 +1,5 @@
--- The row of an operation as a map from axes to epochs: the entries sent out are that map, and one row is over another exactly if its
--- operation is the other or after it. Assumes nothing.
+-- The row of an operation as a map from axes to epochs: the entries sent out are that map, and one row is over another
+-- exactly if its operation is the other or after it. Assumes nothing.
 use mathlib.Core.Path.{_≡_, refl, sym, _∙_, subst}
 use mathlib.Core.Bool.{true, _&&_}
 use mathlib.Core.Logic.{_⊎_, inl, inr}

@@ -1,5 +1,5 @@
--- The walk over a row: one axis raised after the other gathers the entries, and the row of an operation stands where the walk reads it.
--- Assumes nothing.
+-- The walk over a row: one axis raised after the other gathers the entries, and the row of an operation is where
+-- the walk reads it. Assumes nothing.
 use mathlib.Core.Path.{_≡_, refl, ap, ap₂, _∙_}
 use mathlib.Core.Bool.{false}
 use mathlib.Core.List.{List, []}

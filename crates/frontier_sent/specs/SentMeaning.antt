@@ -1,5 +1,5 @@
--- What a frontier sent out means: what it lists, what it may stand for, and what dominance of two tells of their operations.
--- Assumes nothing: these are definitions.
+-- What a frontier sent out means: what it lists, what it may stand for, and what dominance of two tells of their
+-- operations. Assumes nothing: these are definitions.
 use mathlib.Core.Path.{_≡_}
 use mathlib.Core.Bool.{true, false}
 use mathlib.Core.Logic.{_⊎_, _↔_}
@@ -37,14 +37,16 @@ pub record Row-map (p : Plan) (j : ℕ) (full : ℕ → ℕ) : Type 0 where
 -- a frontier sent out for operation j of a plan that passes
 pub record Sent-means (p : Plan) (j capacity : ℕ) (f : Frontier) : Type 0 where
   pub formed : well-formed f ≡ true
-  -- 01: "lists its row's entries above 0 under the queues' axes": before the cut
+  -- R69, before the cut: an entry for each number above 0 in the row
   pub listed : (axis e : ℕ) → (find axis (sent-entries p j) ≡ Listed e) ↔ ((0 < e) × ((q : ℕ) × In-row p j axis e q))
-  -- 01: "cut to a capacity as a merge is": a merge of the whole with the empty frontier. An entry stays exactly if fewer than the capacity
-  -- exceed it, and as many stay as it holds
+  -- R70, the cut: that of a merge of the whole with the empty frontier. An entry stays exactly if fewer than the
+  -- capacity exceed it, and as many stay as it holds
   pub as-merged : merge (sent p j most-entries) (pack [] false) capacity ≡ record { number = 0; frontier = f }
-  pub stays : (axis : ℕ) → find axis (entries f) ≡ listed-if (λ x. ltb (exceeding x (sent-entries p j)) capacity) axis (find axis (sent-entries p j))
+  pub stays : (axis : ℕ) →
+      find axis (entries f) ≡
+      listed-if (λ x. ltb (exceeding x (sent-entries p j)) capacity) axis (find axis (sent-entries p j))
   pub fills : length (entries f) ≡ min capacity (length (sent-entries p j))
-  -- tainted exactly if something was cut
+  -- R70: tainted exactly if something was cut
   pub taint : (f .tainted ≡ true) ↔ (capacity < length (sent-entries p j))
   -- the row is what the frontier stands for, whole or cut
   pub row-map : Row-map p j (epoch-at (sent-entries p j))
@@ -55,12 +57,12 @@ pub record Sent-means (p : Plan) (j capacity : ℕ) (f : Frontier) : Type 0 wher
   pub exactly : capacity ≡ most-entries → (i : ℕ) → i < count p →
       (dominance f (sent p i most-entries) ≡ Yes) ↔ ((i ≡ j) ⊎ Before p i j)
 
--- which refusal is handed back, with its place; 01: "The plan's refusals come first, then 21, then 15."
+-- R70: which refusal is handed back, with its place
 pub record Sent-number (check : Refusal) (p : Plan) (j capacity : ℕ) (r : Sent) : Type 0 where
   pub plan-first : (check .number ≡ 0 → ⊥) → (r .number ≡ check .number) × (r .place ≡ check .place)
-  -- 01: "21: question names no such operation, the number asked"
+  -- R52, refusal 21
   pub no-operation : check .number ≡ 0 → count p ≤ j → (r .number ≡ 21) × (r .place ≡ j)
-  -- 01: "15: frontier capacity not 1..16, 0"
+  -- R51, refusal 15
   pub no-capacity : check .number ≡ 0 → j < count p → (capacity < 1) ⊎ (most-entries < capacity) →
       (r .number ≡ 15) × (r .place ≡ 0)
   pub answered : check .number ≡ 0 → j < count p → 1 ≤ capacity → capacity ≤ most-entries →
@@ -70,7 +72,7 @@ pub record Sent-number (check : Refusal) (p : Plan) (j capacity : ℕ) (r : Sent
   pub fifteen : (r .number ≡ 15) ↔ ((check .number ≡ 0) × (j < count p) × ((capacity < 1) ⊎ (most-entries < capacity)))
   pub zero : (r .number ≡ 0) ↔ ((check .number ≡ 0) × (j < count p) × (1 ≤ capacity) × (capacity ≤ most-entries))
   pub only : None-or sent-gives (r .number)
-  -- 01: "A refusal hands back an empty untainted frontier"
+  -- R70: beside a refusal, the empty untainted frontier
   pub refused : (r .number ≡ 0 → ⊥) → r .frontier ≡ pack [] false
 
 -- the outcome of the question in lent table and list

@@ -1,5 +1,5 @@
--- The question on a plan that passes, and its rows as they lie: the axes among the numbers of a head, the epochs in the table. Assumes
--- nothing: these are definitions.
+-- R69: the question on a plan that passes, and its rows as they lie: the axes among the numbers of a head, the epochs
+-- in the table. Assumes nothing: these are definitions.
 use mathlib.Core.Path.{_≡_}
 use mathlib.Core.Bool.{false, cond}
 use mathlib.Core.List.{List, []}
@@ -30,7 +30,8 @@ pub record Sent-tells (p : Plan) (j capacity : ℕ) (r : Sent) : Type 0 where
   pub tells : Tells (sent-refusal p j capacity) 0 (told r)
   pub frontier-is : r .frontier ≡ cond (given (sent-refusal p j capacity)) (pack [] false) (sent p j capacity)
 
--- the entries of so many queues from one on, of the row that begins at `first` in the table; the axes stand after their count
+-- the entries of so many queues from one on, of the row that begins at `first` in the table; the axes come after their
+-- count
 unfoldable pub row-in : (head table : List ℕ) → (first many start : ℕ) → List Entry
 row-in head table first many start =
     tabulate-from many start (λ q. record { axis = getD head (1 + q) 0; epoch = getD table (first + q) 0 })

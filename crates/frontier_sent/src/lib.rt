@@ -1,4 +1,4 @@
-// The frontier sent out for an operation of a stored plan.
+// R69 and R70: the frontier sent out for an operation.
 use checker::Counted;
 use frontier::Frontier;
 use plan_format::limits::HEAD_NUMBERS;
@@ -28,7 +28,7 @@ pub struct Sent {
     pub frontier: Frontier,
 }
 
-// The frontier of an operation's row, cut to a capacity. The check's refusals come first, then 21, then 15.
+// The frontier of an operation's row, cut to a capacity; or the check's refusal, else 21, else 15.
 pub fn frontier_of(
     plan: &[u8],
     operation: u32,
@@ -99,7 +99,7 @@ fn refused(number: u32, place: u64) -> Sent
     }
 }
 
-// The row that begins at `first` in the table, under the axes, cut to a capacity as a merge is.
+// R69, R70: the row that begins at `first` in the table, under the axes, cut by a merge.
 fn send(head: &HeadNumbers, table: &[u32], queues: usize, first: usize, capacity: u32) -> Frontier
     requires { ⌜ (queues ≤ most-queues) × (first + queues ≤ length (now table)) × (1 ≤ capacity) × (capacity ≤ most-entries) ⌝ }
     ensures { λ r. ⌜ r ≡ cut-to capacity (gathered (row-in (now (head .entry)) (now (table .entry)) first queues 0)) ⌝ }

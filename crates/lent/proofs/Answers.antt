@@ -1,4 +1,5 @@
--- What merge, raise and dominance tell and store, from what the proved functions answer of the frontiers that were lent. Assumes nothing.
+-- What merge, raise and dominance tell and store, from what the proved functions answer of the frontiers that were
+-- lent. Assumes nothing.
 use mathlib.Core.Path.{_≡_, sym, ap, _∙_, subst}
 use mathlib.Core.Bool.{true, false, _||_}
 use mathlib.Core.List.{List}

@@ -1,6 +1,5 @@
 -- What the numbers that a C caller lends mean: the three of `told`, and those of a frontier. Assumes nothing: these are
 -- definitions.
--- The quoted sentences are those of the interface's request.
 use mathlib.Core.Path.{_≡_}
 use mathlib.Core.Bool.{Bool, true, not, cond, _||_}
 use mathlib.Core.List.{List, [], _∷_, _++_}
@@ -16,12 +15,12 @@ use Rattle.frontier.specs.Entries.{most-entries}
 use Rattle.frontier.specs.Frontiers.{number-of}
 
 -- ---- TOLD
--- "`told` is number, place, answer"
+-- R77, told: number, place, answer
 unfoldable pub told-of : List ℕ → Told
 told-of ns = record { number = getD ns 0 0; place = getD ns 1 0; answer = getD ns 2 0 }
 
 -- ---- FRONTIERS
--- where the numbers of a frontier are: the axes come first, then the epochs, the length and the taint
+-- R78, where the numbers of a frontier are: the axes come first, then the epochs, the length and the taint
 abbrev pub epochs-at : ℕ
 epochs-at = most-entries
 
@@ -39,8 +38,8 @@ frontier-numbers = taint-at + 1
 abbrev pub over-long : ℕ
 over-long = most-entries + 1
 
--- "a frontier: 16 axes, 16 epochs, length, taint (0 or 1)"; "A frontier whose length is over 16 or whose taint is above 1 is badly formed (14)":
--- the struct has no taint above 1, so a length over 16 is put in its place
+-- R78, lent frontier: the struct has no taint above 1, which is 14, so a length over 16, which is 14 too, is put in its
+-- place
 unfoldable pub frontier-of : List ℕ → Frontier
 frontier-of ns = record {
   axes = take most-entries ns;
@@ -53,7 +52,7 @@ frontier-of ns = record {
 unfoldable pub list-of : Frontier → List ℕ
 list-of f = f .axes ++ f .epochs ++ (f .len ∷ cond (f .tainted) 1 0 ∷ [])
 
--- "length is over 16 or whose taint is above 1"
+-- R78: the length or the taint is larger than in any frontier
 unfoldable pub oversized : List ℕ → Bool
 oversized ns = ltb most-entries (getD ns length-at 0) || ltb 1 (getD ns taint-at 0)
 
@@ -62,7 +61,7 @@ abbrev pub Handed : (number place : ℕ) → Frontier → (told frontier : List 
 Handed number place f told frontier = (told-of told ≡ record { number = number; place = place; answer = 0 }) × (frontier ≡ list-of f)
 
 -- ---- MERGE AND RAISE
--- 01: "14: frontier badly formed, 0. 15: frontier capacity not 1..16, 0"
+-- R50, R51: the place of 14 and 15 is 0
 abbrev pub Merge-says : Merged → (told frontier : List ℕ) → Type 0
 Merge-says m told frontier = Handed (m .number) 0 (m .frontier) told frontier
 
@@ -70,12 +69,12 @@ Merge-says m told frontier = Handed (m .number) 0 (m .frontier) told frontier
 unfoldable pub merged-of : (told frontier : List ℕ) → Merged
 merged-of told frontier = record { number = told-of told .number; frontier = frontier-of frontier }
 
--- "is badly formed (14)", after 15
+-- R78: oversized numbers are 14; R67: after 15
 abbrev pub Oversized-refused : (oversized capable : Bool) → (told : List ℕ) → Type 0
 Oversized-refused over capable told = over ≡ true → told-of told .number ≡ cond capable 14 15
 
 -- ---- DOMINANCE
--- the number and the value of an answer, with no place
+-- R77, R67: the number and the value of an answer, with no place
 abbrev pub dominance-told : Dominance → Told
 dominance-told r = record { number = number-of r .number; place = 0; answer = number-of r .value }
 

@@ -1,4 +1,4 @@
-// The numbers that a C caller lends, read and stored: the three of `told`, and those of a frontier.
+// R77 and R78, the numbers that a C caller lends, read and stored: the three of `told`, and those of a frontier.
 use frontier::Dominance;
 use frontier::Frontier;
 use plan_format::Told;

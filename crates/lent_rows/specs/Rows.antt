@@ -13,13 +13,14 @@ row-reaches [] (y ∷ ys) = false
 row-reaches (x ∷ xs) [] = false
 row-reaches (x ∷ xs) (y ∷ ys) = leb y x && row-reaches xs ys
 
--- "the one that reaches the other in every place is handed back as it lies; the first if they are equal. If neither does, or the lengths
--- differ, an empty part of the first."
+-- R71, two lent rows: the one that is at least the other in every column, the first where they are equal, else nothing
 unfoldable pub reaching-row : (first second : List ℕ) → List ℕ
 reaching-row first second = cond (row-reaches first second) first (cond (row-reaches second first) second [])
 
--- "as it lies": the very slice that was lent, the first where they are equal; else a part of the first that starts where it does
+-- R71: the very slice that was lent, the first where they are equal; else a part of the first that starts where it does
 pub record As-it-lies (first second r : RefT (List ℕ)) : Type 0 where
   pub is-first : row-reaches (first .now) (second .now) ≡ true → r ≡ first
-  pub is-second : row-reaches (first .now) (second .now) ≡ false → row-reaches (second .now) (first .now) ≡ true → r ≡ second
-  pub is-empty : row-reaches (first .now) (second .now) ≡ false → row-reaches (second .now) (first .now) ≡ false → (r .ptr ≡ first .ptr) × (r .now ≡ [])
+  pub is-second : row-reaches (first .now) (second .now) ≡ false → row-reaches (second .now) (first .now) ≡ true →
+      r ≡ second
+  pub is-empty : row-reaches (first .now) (second .now) ≡ false → row-reaches (second .now) (first .now) ≡ false →
+      (r .ptr ≡ first .ptr) × (r .now ≡ [])

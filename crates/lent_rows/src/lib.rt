@@ -2,8 +2,8 @@
 ghost use mathlib.Core.Path.{_≡_};
 ghost use Rattle.lent_rows.specs.Rows.{row-reaches, reaching-row, As-it-lies};
 
-// Of the two rows the one that reaches the other in every place, as it lies: the first where they are equal. If neither does, or
-// the lengths differ, an empty part of the first.
+// R71: the lent row that is at least the other in every column, the first where they are equal; else an empty part of
+// the first.
 pub fn reaching<'a>(first: &'a [u32], second: &'a [u32]) -> &'a [u32]
     ensures { λ r. ⌜ As-it-lies (first .entry) (second .entry) r ⌝ }
     ensures { λ r. ⌜ now r ≡ reaching-row (now (first .entry)) (now (second .entry)) ⌝ }

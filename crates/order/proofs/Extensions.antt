@@ -1,4 +1,5 @@
--- Linear extensions: chains order the steps of every run, and of two numbers that no chain orders either may come first. Assumes nothing.
+-- Linear extensions: chains order the steps of every run, and of two numbers that no chain orders either may come
+-- first. Assumes nothing.
 use mathlib.Core.Path.{_≡_, refl, sym, ap, _∙_, subst}
 use mathlib.Core.Bool.{Bool, true, false, _||_, not}
 use mathlib.Core.Logic.{_⊎_, inl, inr}
@@ -22,7 +23,7 @@ use Rattle.order.proofs.Closure.{chain-from, worked-chain, chain-worked
 -- ---- runs in which a number is enabled exactly when all that is directly before it has run
 module _ (n : ℕ) (enabled : List ℕ → ℕ → Bool) (direct : ℕ → ℕ → Bool)
     (asks : (r : List ℕ) (i j : ℕ) → runs n enabled [] r ≡ true → enabled r j ≡ true → direct i j ≡ true → member i r ≡ true) where
-  -- what is directly before stands at an earlier step
+  -- what is directly before is at an earlier step
   direct-steps : (done rest : List ℕ) (i j : ℕ) → runs n enabled [] done ≡ true → runs n enabled done rest ≡ true → member j rest ≡ true → direct i j ≡ true →
       (member i (done ++ rest) ≡ true) × (step-of 0 (done ++ rest) i < step-of 0 (done ++ rest) j)
   direct-steps done [] i j hd h m e = member-nil j m

@@ -1,4 +1,5 @@
--- Runs of numbers below n under a readiness: what a run is made of; where readiness only grows, what is missing after a stuck run is in none. Assumes nothing.
+-- Runs of numbers below n under a readiness: what a run is made of; where readiness only grows, what is missing after a
+-- stuck run is in none. Assumes nothing.
 use mathlib.Core.Path.{_≡_, refl, sym, subst}
 use mathlib.Core.Bool.{Bool, true, false, _&&_, not}
 use mathlib.Core.List.{List, [], _∷_, _++_, append-assoc, append-nil}

@@ -1,4 +1,4 @@
--- Where a number first stands in a list: inside a part, or past it. Assumes nothing.
+-- Where a number first is in a list: inside a part, or past it. Assumes nothing.
 use mathlib.Core.Path.{_≡_, sym, subst}
 use mathlib.Core.Bool.{true, false}
 use mathlib.Core.List.{List, [], _∷_, _++_}
@@ -19,7 +19,7 @@ step-least [] a j = le-refl a
 step-least (x ∷ xs) a j =
     by-cases (eqb x j) (λ t. rw t (le-refl a)) (λ f. rw f (omega (arith, step-least xs (suc a) j)))
 
--- a member stands inside, and what follows the list does not matter to it
+-- a member is inside, and what follows the list does not matter to it
 pub step-in : (xs ys : List ℕ) (a j : ℕ) → member j xs ≡ true → step-of a (xs ++ ys) j < a + length xs
 unfolding step-of
 step-in [] ys a j m = member-nil j m

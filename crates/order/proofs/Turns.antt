@@ -1,4 +1,5 @@
--- A run by its places: each number may come next after those that stand before it; a number's step is its first place. Assumes nothing.
+-- A run by its places: each number may come next after those that are before it; a number's step is its first place.
+-- Assumes nothing.
 use mathlib.Core.Path.{_≡_, refl, sym, _∙_, subst}
 use mathlib.Core.Bool.{Bool, true}
 use mathlib.Core.List.{List, [], _∷_, _++_, append-assoc, append-nil}

@@ -1,4 +1,5 @@
--- The transitive closure of a relation on the numbers below n: by chains, and worked out in rounds. Assumes nothing: these are definitions.
+-- The transitive closure of a relation on the numbers below n: by chains, and worked out in rounds. Assumes nothing:
+-- these are definitions.
 use mathlib.Core.Path.{_≡_}
 use mathlib.Core.Bool.{Bool, true, false, _&&_, _||_, not, cond}
 use mathlib.Core.List.{List, [], _∷_}

@@ -1,5 +1,5 @@
--- Runs over the numbers below n: lists of distinct numbers, each enabled by what stands before it. A run that has all of them is a
--- linear extension of whatever order enabling stands for. Assumes nothing: these are definitions.
+-- Runs over the numbers below n: lists of distinct numbers, each enabled by what is before it. A run that has all
+-- of them is a linear extension of whatever order enabling means. Assumes nothing: these are definitions.
 use mathlib.Core.Bool.{Bool, true, _&&_, not, cond}
 use mathlib.Core.List.{List, [], _∷_, _++_}
 use Prim.Native.Nat.{ℕ, suc}
@@ -15,7 +15,7 @@ unfoldable pub runs : (n : ℕ) → (enabled : List ℕ → ℕ → Bool) → (d
 runs n e r [] = true
 runs n e r (j ∷ js) = can n e r j && runs n e (r ++ (j ∷ [])) js
 
--- the first place at which j stands, counted from a start; past the end where it does not
+-- the first place at which j is, counted from a start; past the end where it does not
 unfoldable pub step-of : (start : ℕ) → List ℕ → (j : ℕ) → ℕ
 step-of a [] j = a
 step-of a (i ∷ is) j = cond (eqb i j) a (step-of (suc a) is j)

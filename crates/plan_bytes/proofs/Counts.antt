@@ -1,4 +1,5 @@
--- The four sections of a list: what the checks ask of the numbers read is what the writer took from the list. Assumes nothing.
+-- The four sections of a list: what the checks ask of the numbers read is what the writer took from the list. Assumes
+-- nothing.
 use mathlib.Core.Path.{_≡_, refl, sym, ap, _∙_}
 use mathlib.Core.List.{List, [], _∷_, _++_}
 use Prim.Native.Nat.{ℕ, _+_, _*_}

@@ -1,4 +1,5 @@
--- What cursors write, put together: one thing after another, a count and its things, a loop that stops at a refusal. Assumes nothing.
+-- What cursors write, put together: one thing after another, a count and its things, a loop that stops at a refusal.
+-- Assumes nothing.
 use mathlib.Core.Path.{_≡_, refl, sym, ap, _∙_}
 use mathlib.Core.List.{List}
 use Prim.Native.Nat.{ℕ, zero, suc, _+_, _*_, _≤_}

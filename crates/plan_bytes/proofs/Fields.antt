@@ -1,4 +1,5 @@
--- One field of a list, where there is no fault: missing, refused by its check, too wide, or kept and spelled. Assumes nothing.
+-- One field of a list, where there is no fault: missing, refused by its check, too wide, or kept and spelled. Assumes
+-- nothing.
 use mathlib.Core.Path.{_≡_, refl, sym, ap, _∙_}
 use mathlib.Core.Bool.{true, cond}
 use mathlib.Core.List.{List, [], _∷_, _++_}

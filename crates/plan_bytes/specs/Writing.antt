@@ -31,7 +31,8 @@ pub record Room (many : ℕ) (xs : List ℕ) (c : Cursor) (bytes : List ℕ) : T
   pub inside : c .at ≤ length xs
   pub room : c .put + many ≤ length bytes
 
--- from the cursor `c` to the cursor `r` a thing is read from the list and, where there is no refusal, spelled, at most so many bytes long
+-- from the cursor `c` to the cursor `r` a thing is read from the list and, where there is no refusal, spelled, at most
+-- so many bytes long
 pub record Writes (g : Grammar) (many : ℕ) (xs : List ℕ) (c : Cursor) (bytes : List ℕ) (r : Cursor) (bytes-now : List ℕ) : Type 0 where
   pub read : read-by numbers g (here xs c) ≡ here xs r
   pub spell : r .number ≡ 0 → spell-by g (spelling xs c bytes) ≡ spelling xs r bytes-now
@@ -68,8 +69,8 @@ pub record Plan-written (F : Form) (xs : List ℕ) (r : Cursor) (bytes-now : Lis
   pub inside : r .at ≤ length xs
   pub few : r .put ≤ front-most F + (2 + operation-most F * most-operations)
 
--- 01: "The writer takes such a list and refuses by 1 to 5"; the answer is the length in bytes; past it, and on a refusal, the
--- bytes are unspecified
+-- R10, the writer before its room is judged: 1 to 5, or the length in bytes; past it, and on a refusal, the bytes are
+-- unspecified
 pub record Bytes-written (xs : List ℕ) (r : Told) (bytes-now : List ℕ) : Type 0 where
   pub told : Tells (listed xs .fault) (length (spelled xs)) r
   pub bytes : r .number ≡ 0 → take (length (spelled xs)) bytes-now ≡ spelled xs

@@ -2,7 +2,7 @@
 ghost use mathlib.Core.Path.{_≡_};
 ghost use Prim.Native.Nat.{_+_, _<_, _^_};
 
-// Where a writing stands: the refusal met, or 0; the place in the list; how many bytes are put; the number read last.
+// Where a writing is: the refusal met, or 0; the place in the list; how many bytes are put; the number read last.
 pub struct Cursor {
     pub number: u32,
     pub at: usize,

@@ -1,4 +1,5 @@
-// The bytes of a number, little-endian, in 1, 2, 4 and 8 bytes, each put by its two halves; compiled, a number is one store.
+// The bytes of a number, little-endian, in 1, 2, 4 and 8 bytes, each put by its two halves; compiled, a number is one
+// store.
 ghost use Prim.Native.Nat.{_+_, _≤_, _<_};
 ghost use lib.ListN.{length};
 ghost use Rattle.plan_bytes.specs.Writing.{Puts};

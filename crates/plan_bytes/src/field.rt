@@ -1,4 +1,5 @@
-// Fields: the number at a cursor is judged, and its bytes are put after those before it. A cursor with a refusal keeps it and its place.
+// Fields: the number at a cursor is judged, and its bytes are put after those before it. A cursor with a refusal keeps
+// it and its place.
 use crate::cursor::Cursor;
 use crate::digits;
 ghost use Prim.Native.Nat.{_≤_};
@@ -7,7 +8,8 @@ ghost use Rattle.plan_format.specs.Grammar.{field};
 ghost use Rattle.plan_format.specs.Sections.{axis-field, size-field};
 ghost use Rattle.plan_bytes.specs.Writing.{Room, Writes, Limited};
 
-// A number below `limit`, in one byte; any other is refused by `over`, and by 4 one below `limit` that the byte cannot hold.
+// A number below `limit`, in one byte; any other is refused by `over`, and by 4 one below `limit` that the byte cannot
+// hold.
 pub fn byte(numbers: &[u64], c: Cursor, limit: u64, over: u32, bytes: &mut [u8]) -> Cursor
     requires { ⌜ Room 1 (now numbers) c (now bytes) ⌝ }
     requires { ⌜ 1 ≤ over ⌝ }
@@ -31,7 +33,8 @@ pub fn byte(numbers: &[u64], c: Cursor, limit: u64, over: u32, bytes: &mut [u8])
     c.past(1, value)
 }
 
-// A number below `limit`, in two bytes; any other is refused by `over`, and by 4 one below `limit` that the bytes cannot hold.
+// A number below `limit`, in two bytes; any other is refused by `over`, and by 4 one below `limit` that the bytes
+// cannot hold.
 pub fn pair(numbers: &[u64], c: Cursor, limit: u64, over: u32, bytes: &mut [u8]) -> Cursor
     requires { ⌜ Room 2 (now numbers) c (now bytes) ⌝ }
     requires { ⌜ 1 ≤ over ⌝ }

@@ -1,4 +1,5 @@
--- The limits of a plan that the reader does not refuse, and what they give with none of refusals 6 to 8. Assumes nothing.
+-- The limits of a plan that the reader does not refuse, and what they give with none of refusals 6 to 8. Assumes
+-- nothing.
 use mathlib.Core.Path.{_≡_}
 use mathlib.Core.List.{List}
 use Prim.Native.Nat.{ℕ, _≤_}

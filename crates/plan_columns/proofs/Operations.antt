@@ -1,4 +1,4 @@
--- Operations among numbers: what is read of one in range, cut to a few bits, is what stands there. Assumes nothing.
+-- Operations among numbers: what is read of one in range, cut to a few bits, is what is there. Assumes nothing.
 use mathlib.Core.Path.{_≡_, refl, sym, ap, _∙_}
 use mathlib.Core.List.{List}
 use Prim.Native.Nat.{ℕ, zero, suc, _+_, _*_, _≤_, _<_}

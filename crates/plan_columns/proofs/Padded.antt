@@ -98,7 +98,7 @@ module _ (F : Form) where
       ap₂ {C = List Operation} (λ (o : Operation) (l : List Operation). o ∷ l) (operation-alike xs ys same)
       (operations-alike n (drop (operation-long xs) xs) (drop (operation-long ys) ys) (drop-alike xs ys same (operation-long xs) (operation-long ys) (long-alike xs ys same)))
 
-  -- behind the first numbers, of a list with zeros after it
+  -- after the first numbers, of a list with zeros after it
   pub padded-operations : (n first : ℕ) (xs : List ℕ) (m : ℕ) → operations-in n (drop first (xs ++ replicate m 0)) ≡ operations-in n (drop first xs)
   padded-operations n first xs m =
       operations-alike n (drop first (xs ++ replicate m 0)) (drop first xs) (drop-alike (xs ++ replicate m 0) xs (padded-alike xs m) first first refl)

@@ -41,7 +41,7 @@ module _ {X : List ℕ} {f : Part} {room n first : ℕ} {before now : List ℕ} 
   column-many : place ≡ length ys
   column-many = column-count done b ∙ parts-long
 
--- ---- a plan whose operations stand among the numbers
+-- ---- a plan whose operations are among the numbers
 module _ (p : Plan) (limits : Limits p) (X : List ℕ) (n first : ℕ) (stand : p .operations ≡ operations-in n (drop first X)) where
   many-is : count p ≡ n
   unfolding count

@@ -1,5 +1,6 @@
--- Columns of a plan: flat lists with a place for each operation, wait, signal and mark, in plan order and list order. The passes of the
--- check read these, and say what they answer for every plan that the columns show. Assumes nothing: these are definitions.
+-- Columns of a plan (R1, R2): flat lists with a place for each operation, wait, signal and mark, in plan order and list
+-- order. The passes of the check read these, and say what they answer for every plan that the columns show. Assumes
+-- nothing: these are definitions.
 use mathlib.Core.Path.{_≡_}
 use mathlib.Core.List.{List, [], _∷_, _++_}
 use Prim.Native.Nat.{ℕ, suc, _+_, _*_, _≤_, _<_}
@@ -9,8 +10,8 @@ use Rattle.plan_format.specs.Plan.{Point, Mark, Operation, Plan, count, op, que
 use Rattle.plan_order.specs.Precedence.{Signal, plan-signals, Resolution, free, on, never, resolve}
 use Rattle.plan_order.specs.Rows.{row}
 
--- the columns of operations, side by side: the queue of each; the semaphore and the value of each wait, three places to an operation; the
--- semaphore, the value and the operation of each signal; the code and the operation of each mark
+-- the columns of operations, side by side: the queue of each; the semaphore and the value of each wait, three places to
+-- an operation; the semaphore, the value and the operation of each signal; the code and the operation of each mark
 pub record Columns : Type 0 where
   pub queue : List ℕ
   pub wait-semaphore : List ℕ
@@ -39,8 +40,8 @@ no-point = record { semaphore = 0; value = 0 }
 abbrev pub no-signal : Signal
 no-signal = record { operation = 0; position = 0; semaphore = 0; value = 0 }
 
--- the numbers before the operations: the axis of each queue from the second place on, and the size of each buffer after three counts, the axes
--- and the owners
+-- the numbers before the operations: the axis of each queue from the second place on, and the size of each buffer after
+-- three counts, the axes and the owners
 pub record Head-column (p : Plan) (head : List ℕ) : Type 0 where
   pub axes-shown : (q : ℕ) → q < queues p → getD head (1 + q) 0 ≡ getD (p .axes) q 0
   pub sizes-shown : (b : ℕ) → b < length (p .sizes) → getD head (3 + queues p + length (p .owners) + b) 0 ≡ getD (p .sizes) b 0

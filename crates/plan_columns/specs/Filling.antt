@@ -1,5 +1,6 @@
--- Columns filled from the numbers of a plan: what stands where among the numbers, and what each operation adds to each column.
--- Counts and positions are cut to a few bits, which changes none in range. Assumes nothing: these are definitions.
+-- Columns filled from the numbers of a plan: what is where among the numbers, and what each operation adds to each
+-- column. Counts and positions are cut to a few bits, which changes none in range. Assumes nothing: these are
+-- definitions.
 use mathlib.Core.Path.{_≡_}
 use mathlib.Core.Bool.{cond}
 use mathlib.Core.List.{List, [], _∷_, _++_}
@@ -50,7 +51,7 @@ module _ (numbers : List ℕ) where
   abbrev pub codes-of-marks : (many at : ℕ) → List ℕ
   codes-of-marks many at = tabulate-from many 0 (λ j. 2 * (first-at at j % most-buffers) + second-at at j % 2)
 
-  -- ---- where the parts of an operation stand
+  -- ---- where the parts of an operation are
   unfoldable pub wait-count : (at : ℕ) → ℕ
   wait-count at = getD numbers (at + 1) 0 % 4
 
@@ -100,12 +101,12 @@ module _ (numbers : List ℕ) where
   parts f (suc k) i at = f i at ++ parts f k (suc i) (next-at at)
 
 -- ---- one operation
--- a part stands in a column from a place on; the column has room for so many
+-- a part is in a column from a place on; the column has room for so many
 pub record Put (room : ℕ) (part : List ℕ) (place : ℕ) (before after : List ℕ) : Type 0 where
   pub stored : after ≡ sets before place part
   pub size : length before ≡ room
 
--- operation i at a place stands in every column; `signals` and `marks` are how many stand before it
+-- operation i at a place is in every column; `signals` and `marks` are how many come before it
 pub record Added (numbers : List ℕ) (i at signals marks : ℕ) (cs cs′ : Columns) (at′ signals′ marks′ : ℕ) : Type 0 where
   pub queues-added : Put most-operations (queue-part numbers i at) i (cs .queue) (cs′ .queue)
   pub wait-semaphores-added : Put wait-places (wait-semaphore-part numbers i at) (most-waits * i) (cs .wait-semaphore) (cs′ .wait-semaphore)

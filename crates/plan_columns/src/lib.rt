@@ -19,8 +19,9 @@ ghost use Rattle.plan_format.specs.Plan.{Plan, queues};
 ghost use Rattle.plan_columns.specs.Columns.{columns, Owner-column};
 ghost use Rattle.plan_columns.specs.Filling.{owner-numbers, wait-semaphores, wait-values, signal-semaphores, signal-values, codes-of-marks, repeated, next-at, Added};
 
-// The columns of a plan: an owner for each semaphore, a queue for each operation; for each place of a wait a semaphore or the operation that
-// the wait rests on, and a value; for each signal a semaphore or its operation, and a value; for each mark its code or its operation.
+// The columns of a plan: an owner for each semaphore, a queue for each operation; for each place of a wait a semaphore
+// or the operation that the wait rests on, and a value; for each signal a semaphore or its operation, and a value; for
+// each mark its code or its operation.
 pub type OwnerColumn = [u16; MOST_SEMAPHORES];
 
 pub type QueueColumn = [u16; MOST_OPERATIONS];
@@ -50,7 +51,8 @@ pub struct Filled {
     pub marks: usize,
 }
 
-// Fills the column of owners: `many` numbers from `first` on, cut to sixteen bits. It takes 64 at most, and a plan's owners begin at 22,868 at most.
+// Fills the column of owners: `many` numbers from `first` on, cut to sixteen bits. It takes 64 at most, and a plan's
+// owners begin at 22,868 at most.
 pub fn owners(numbers: &[u64], first: usize, many: usize, owner: &mut OwnerColumn)
     ensures { λ _. ⌜ now (owner .exit) ≡ sets (now (owner .entry)) 0 (owner-numbers (now (numbers .entry)) (min many most-semaphores) (min first plan-numbers)) ⌝ }
     ensures { λ _. ⌜ ((p : Plan) → p .owners ≡ take many (drop first (now (numbers .entry))) → first ≤ plan-numbers → many ≤ most-semaphores → queues p ≤ most-queues → ((s : ℕ) → s < length (p .owners) → getD (p .owners) s 0 < queues p) → Owner-column p (now (owner .exit))) ⌝ }
@@ -75,8 +77,9 @@ fn owned(numbers: &[u64], at: usize, many: usize, owner: &mut [u16])
     }
 }
 
-// Stores operation i, read into a window, behind the signals and marks of those before it; gives how many there are with its own. There are
-// places for 1,024 operations: one past them is not stored. With its counts cut to their bits no operation reaches past a window of 32.
+// Stores operation i, read into a window, after the signals and marks of those before it; gives how many there are
+// with its own. There are places for 1,024 operations: one past them is not stored. With its counts cut to their bits
+// no operation reaches past a window of 32.
 pub fn add(
     window: &Window,
     i: u16,

@@ -1,4 +1,4 @@
--- What parses is read, wherever it stands and whatever follows. Assumes nothing.
+-- What parses is read, wherever it is and whatever follows. Assumes nothing.
 use mathlib.Core.Path.{_≡_, ap, ap₂, _∙_}
 use mathlib.Core.Bool.{cond}
 use mathlib.Core.List.{List, [], _∷_, _++_, append-assoc, append-nil}

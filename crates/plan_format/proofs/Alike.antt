@@ -1,5 +1,5 @@
--- What was read stays in front, so grammars whose checks agree on every list that begins so read the same, and spell the same: a check may
--- take from the code what it asks of the numbers read. Assumes nothing.
+-- What was read stays in front, so grammars whose checks agree on every list that begins so read the same, and spell
+-- the same: a check may take from the code what it asks of the numbers read. Assumes nothing.
 use mathlib.Core.Path.{_≡_, refl, sym, ap, _∙_, subst}
 use mathlib.Core.Bool.{Bool, true, false, cond}
 use mathlib.Core.List.{List, [], _∷_, _++_, append-assoc, append-nil}

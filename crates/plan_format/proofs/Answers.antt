@@ -1,4 +1,5 @@
--- What is handed back: the end of a reading, and the refusal, the answer and the room for numbers or bytes made. Assumes nothing.
+-- What is handed back: the end of a reading, and the refusal, the answer and the room for numbers or bytes made.
+-- Assumes nothing.
 use mathlib.Core.Path.{_≡_, refl, sym, _∙_, subst}
 use mathlib.Core.Bool.{false, _||_, cond}
 use mathlib.Core.List.{List, [], _∷_}
@@ -35,7 +36,7 @@ unfolding ended refused scan
 ended-got s = by-cases (given (s .fault) || eqb (length (s .rest)) 0) (λ t. rw t) (λ f. rw f)
 
 -- ---- into the room
--- the refusal that stands for a reading's and the room's
+-- the refusal of a reading and of the room
 filled : {f g : Refusal} (new : List ℕ) {r : Told} (room : List ℕ) {now-room : List ℕ} → f ≡ g → Tells g (length new) r → now-room ≡ cond (given g) room (in-front new room) → Fills f new r room now-room
 unfolding Fills
 filled new {r} room {now-room} e t x =

@@ -1,5 +1,5 @@
--- The counts in front of the sections: grammars whose checks take a count from the numbers read, and those that know it, read alike.
--- Assumes nothing.
+-- The counts in front of the sections: grammars whose checks take a count from the numbers read, and those that know
+-- it, read alike. Assumes nothing.
 use mathlib.Core.Path.{_≡_, refl, sym, ap, _∙_, subst}
 use mathlib.Core.Bool.{cond}
 use mathlib.Core.List.{List, _∷_, _++_}
@@ -27,7 +27,7 @@ count-limited most v =
     by-cases (ltb most v) (λ t. rw (le-ltb v 0 zero-le, t, le-ltb v (most + 1) (omega (arith, ltb-true most v t))))
     (λ f. rw (le-ltb v 0 zero-le, f, lt-ltb v (most + 1) (omega (arith, ltb-false most v f))))
 
--- the number that stands behind a front of the numbers read
+-- the number after a front of the numbers read
 pub number-at : (nums : List ℕ) (k i : ℕ) (front : List ℕ) (v : ℕ) (rest : List ℕ) → take k nums ≡ front ++ (v ∷ rest) → length front ≡ i → getD nums i 0 ≡ v
 number-at nums k i front v rest e l =
     sym (getD-take k nums i 0 (omega (arith, length-take k nums, ap length e, length-append front (v ∷ rest))))

@@ -1,4 +1,5 @@
--- Entries of one field each, and of two fields each: as many numbers as there are fields, each passing its check. Assumes nothing.
+-- Entries of one field each, and of two fields each: as many numbers as there are fields, each passing its check.
+-- Assumes nothing.
 use mathlib.Core.Path.{_≡_, sym, ap, _∙_, subst}
 use mathlib.Core.List.{List, [], _∷_, _++_, append-assoc, append-nil}
 use Prim.Native.Nat.{ℕ, zero, suc, _+_, _*_, _≤_, _<_}

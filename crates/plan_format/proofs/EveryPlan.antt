@@ -138,7 +138,7 @@ row-of w c got (v ∷ vs) r e =
     (field-of w c got v (e .0) (row-head c got (length vs) v vs r))
     (row-of w c (got ++ (v ∷ [])) vs (row-tail c got (length vs) v vs r) (e .1))
 
--- distinct axes: none stands among those before it
+-- distinct axes: none is among those before it
 axes-row : (axes : List ℕ) → ((i k : ℕ) → i < k → k < length axes → getD axes i 0 ≡ getD axes k 0 → ⊥) →
     Row new-axis (length axes ∷ []) (length axes) axes
 unfolding new-axis

@@ -1,4 +1,5 @@
--- One field, read without a fault; what a count's check asks; the sources whose fields are read as they are shown. Assumes nothing.
+-- One field, read without a fault; what a count's check asks; the sources whose fields are read as they are shown.
+-- Assumes nothing.
 use mathlib.Core.Path.{_≡_, refl}
 use mathlib.Core.Bool.{Bool, true, false, cond}
 use mathlib.Core.List.{List, [], _∷_, _++_}

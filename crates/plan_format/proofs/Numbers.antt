@@ -1,4 +1,4 @@
--- No number is given on other grounds: which numbers a reading's fault can have. Assumes nothing.
+-- Which numbers a reading's fault can have (R53). Assumes nothing.
 use mathlib.Core.Path.{_≡_, refl}
 use mathlib.Core.Bool.{Bool, true, false, _||_, cond}
 use mathlib.Core.Logic.{_⊎_, inl, inr}

@@ -1,4 +1,5 @@
--- Points and marks are pairs of numbers: how many there are, each by its position, and that nothing behind them matters. Assumes nothing.
+-- Points and marks are pairs of numbers: how many there are, each by its position, and that nothing after them
+-- matters. Assumes nothing.
 use mathlib.Core.Path.{_≡_, refl, sym, ap, ap₂, _∙_}
 use mathlib.Core.List.{List, [], _∷_, _++_}
 use Prim.Native.Nat.{ℕ, zero, suc, _+_, _*_, _<_}

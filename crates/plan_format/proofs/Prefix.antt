@@ -27,7 +27,7 @@ pub record Reads-alike (s t : Scan) : Type 0 where
   pub fault : s .fault ≡ t .fault
   pub got : s .got ≡ t .got
 
--- a reading with more behind what is left
+-- a reading with more after what is left
 unfoldable pub longer : List ℕ → Scan → Scan
 longer b s = scan (s .rest ++ b) (s .place) (s .got) (s .fault)
 

@@ -1,4 +1,5 @@
--- Writing what was read gives the same bytes, reading what was written gives the same numbers, and one plan has one string of bytes. Assumes nothing.
+-- Writing what was read gives the same bytes, reading what was written gives the same numbers, and one plan has one
+-- string of bytes. Assumes nothing.
 use mathlib.Core.Path.{_≡_, refl, sym, ap, ap₂, _∙_, subst}
 use mathlib.Core.Bool.{true}
 use mathlib.Core.List.{List, [], _++_, append-nil}

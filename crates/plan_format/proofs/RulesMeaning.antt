@@ -1,4 +1,5 @@
--- Refusals 6 to 8 by quantifiers: each is given exactly if its signal or wait is the first that breaks a rule. Assumes nothing.
+-- Refusals 6 to 8 by quantifiers: each is given exactly if its signal or wait is the first that breaks a rule. Assumes
+-- nothing.
 use mathlib.Core.Path.{_≡_, refl, sym, ap, _∙_, subst, subst₂}
 use mathlib.Core.Logic.{inl, inr, _↔_}
 use mathlib.Core.List.{[], _∷_}

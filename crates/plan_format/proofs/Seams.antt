@@ -1,4 +1,4 @@
--- A number at the seam of two lists, what stands behind it, and a number at the end. Assumes nothing.
+-- A number at the seam of two lists, what comes after it, and a number at the end. Assumes nothing.
 use mathlib.Core.Path.{_≡_, sym, ap, _∙_}
 use mathlib.Core.List.{List, [], _∷_, _++_}
 use Prim.Native.Nat.{ℕ, suc, _+_, _-_}

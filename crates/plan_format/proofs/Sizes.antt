@@ -118,7 +118,7 @@ module _ (F : Form) (xs : List ℕ) (e : scanned-by numbers F xs .fault .number 
       let (ds, p) = numbers-read F xs e in
       omega (arith, ap length (spelled-parsed F xs ds p), length-append (F .lead) ds, exact-long (plan-grammar F) [] xs ds p)
 
--- ---- the first form; 01: "The longest operation takes 61 bytes, the longest plan 63,686", "at most 22,868"
+-- ---- R7, greatest sizes, of the first form
 pub longest-operation : most-bytes (operation first-form) ≡ 61
 unfolding most-bytes operation point mark first-form
 longest-operation = refl

@@ -10,7 +10,7 @@ use Rattle.plan_format.specs.Stored.{all-bytes}
 use Rattle.plan_format.proofs.Bytes.{digits-bytes, bytes-append}
 use Rattle.plan_format.proofs.Parses.{Takes, _⊆_, Exact, Nothing, Then, Holds, Parses, then-first, parsed-give}
 
--- what stands in front is spelled, and the rest is left
+-- what is in front is spelled, and the rest is left
 abbrev Spells : (f : Spelling → Spelling) → Takes
 Spells f got vs ds = (more made : List ℕ) → f (record { left = vs ++ more; made = made }) ≡ record { left = more; made = made ++ ds }
 

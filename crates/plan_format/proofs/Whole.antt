@@ -1,4 +1,4 @@
--- A whole plan, from behind its lead to its end: read without a fault exactly where it parses. Assumes nothing.
+-- A whole plan, from after its lead to its end: read without a fault exactly where it parses. Assumes nothing.
 use mathlib.Core.Path.{_≡_, refl, sym, ap, _∙_, subst}
 use mathlib.Core.Bool.{cond}
 use mathlib.Core.List.{List, [], _∷_, _++_, append-nil}

@@ -18,7 +18,7 @@ pub data Grammar : Type 0 where
   counted : (least most width : ℕ) → Grammar → Grammar
   nothing : Grammar
 
--- 01: "All numbers are unsigned, little-endian."
+-- R3, numbers: the lowest byte first
 unfoldable pub value : List ℕ → ℕ
 value [] = 0
 value (b ∷ bs) = b + 256 * value bs
@@ -27,7 +27,7 @@ unfoldable pub digits : (width v : ℕ) → List ℕ
 digits zero v = []
 digits (suc w) v = v % 256 ∷ digits w (v / 256)
 
--- what fields are read from: how many places a field takes, the number that stands in front, whether it fits the field's bytes, and
+-- what fields are read from: how many places a field takes, the number in front, whether it fits the field's bytes, and
 -- how many places a lead byte takes
 pub record Source : Type 0 where
   pub wide : (width : ℕ) → ℕ
@@ -35,11 +35,11 @@ pub record Source : Type 0 where
   pub fits : (width v : ℕ) → Bool
   pub leads : ℕ
 
--- stored bytes
+-- R10, the reader: stored bytes
 unfoldable pub bytes : Source
 bytes = record { wide = λ w. w; front = λ w xs. value (take w xs); fits = λ w v. true; leads = 1 }
 
--- 01: "A read plan is a list of numbers, one for each field in stored order, counts included"
+-- R9 and R10, the writer: the list with a number for each field; R11: such a number may be too wide
 unfoldable pub numbers : Source
 numbers = record { wide = λ w. 1; front = λ w xs. getD xs 0 0; fits = λ w v. ltb v (256 ^ w); leads = 0 }
 
@@ -56,7 +56,7 @@ scan r p g f = record { rest = r; place = p; got = g; fault = f }
 unfoldable pub refused : (number : ℕ) → Scan → Scan
 refused n s = scan (s .rest) (s .place) (s .got) (refusal n (s .place))
 
--- 01: "each field judged as soon as it is read. A field that is cut short is 1 whatever it holds"; what its bytes cannot hold is 4
+-- R53, reading order, of one field: 1 if it is cut short, else what its check says, else 4 if it is too wide (R11)
 unfoldable pub field-number : Source → (width : ℕ) → (check : ℕ → ℕ) → (rest : List ℕ) → ℕ
 field-number S w c r =
     let v = S .front w r in
@@ -67,7 +67,8 @@ read-field S w c s =
     let n = field-number S w c (s .rest) in
     let v = S .front w (s .rest) in
     cond (given (s .fault)) s
-    (cond (eqb n 0) (scan (drop (S .wide w) (s .rest)) (s .place + S .wide w) (s .got ++ (v ∷ [])) (s .fault)) (refused n s))
+    (cond (eqb n 0)
+    (scan (drop (S .wide w) (s .rest)) (s .place + S .wide w) (s .got ++ (v ∷ [])) (s .fault)) (refused n s))
 
 unfoldable pub last-got : Scan → ℕ
 last-got s = getD (s .got) (length (s .got) - 1) 0
@@ -76,19 +77,20 @@ unfoldable pub times {ℓ} : {A : Type ℓ} → (k : ℕ) → (A → A) → A �
 times zero f s = s
 times (suc k) f s = times k f (f s)
 
--- 01: "2: a count is over its limit"
+-- R39, refusal 2: a count is within its limits
 unfoldable pub count-check : (least most v : ℕ) → ℕ
 count-check l m v = cond (ltb v l || ltb m v) 2 0
 
--- nothing is read after a fault
+-- R53: nothing is read after a fault, so that the first one decides
 unfoldable pub read-by : Source → Grammar → Scan → Scan
 read-by S (field w c) s = read-field S w (λ v. c (s .got) v) s
 read-by S (seq g h) s = read-by S h (read-by S g s)
 read-by S (counted l m w g) s =
-    let t = read-field S w (λ v. count-check l m v) s in cond (given (t .fault)) t (times (last-got t) (λ u. read-by S g u) t)
+    let t = read-field S w (λ v. count-check l m v) s in
+    cond (given (t .fault)) t (times (last-got t) (λ u. read-by S g u) t)
 read-by S nothing s = s
 
--- 01: "3: bytes follow the last section, place the first such byte"
+-- R40, refusal 3: the input goes on after the last operation
 unfoldable pub ended : Scan → Scan
 ended s = cond (given (s .fault) || eqb (length (s .rest)) 0) s (refused 3 s)
 
@@ -107,7 +109,7 @@ spell-by (seq g h) s = spell-by h (spell-by g s)
 spell-by (counted l m w g) s = times (getD (s .left) 0 0) (λ u. spell-by g u) (spell-field w s)
 spell-by nothing s = s
 
--- the most bytes, and the most numbers, that a grammar takes
+-- R7, greatest sizes: the most bytes, and the most numbers, that a grammar takes
 unfoldable pub most-bytes : Grammar → ℕ
 most-bytes (field w c) = w
 most-bytes (seq g h) = most-bytes g + most-bytes h

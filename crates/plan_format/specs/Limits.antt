@@ -1,10 +1,11 @@
--- The plans that can be stored, said of a plan itself: the limits, the list of its numbers, and its bytes. None of this knows the grammar.
--- Assumes nothing: these are definitions.
+-- The plans that can be stored, said of a plan itself: the limits, the list of its numbers, and its bytes. None of this
+-- knows the grammar. Assumes nothing: these are definitions.
 use mathlib.Core.Path.{_≡_}
 use mathlib.Core.List.{List, [], _∷_, _++_, flatMap}
 use Prim.Native.Nat.{ℕ, _^_, _≤_, _<_}
 use lib.ListN.{length, getD}
-use Rattle.plan_format.specs.Sizes.{most-queues, most-semaphores, most-buffers, most-operations, most-waits, most-signals, most-marks}
+use Rattle.plan_format.specs.Sizes.{most-queues, most-semaphores, most-buffers, most-operations, most-waits}
+use Rattle.plan_format.specs.Sizes.{most-signals, most-marks}
 use Rattle.plan_format.specs.Grammar.{digits}
 use Rattle.plan_format.specs.Plan.{Point, Mark, Operation, Plan}
 
@@ -12,7 +13,7 @@ abbrev pub Each : {A : Type 0} → (A → Type 0) → List A → Type 0
 Each P [] = Unit {0}
 Each P (x ∷ xs) = P x × Each P xs
 
--- what is asked of an axis, a size and a value, which have no limit but the bytes of their field
+-- R6, open fields: what is asked of an axis, a size and a value, which have no limit but the bytes of their field
 abbrev pub Fits : Type 1
 Fits = (width v : ℕ) → Type 0
 
@@ -22,17 +23,17 @@ In-bytes w v = v < 256 ^ w
 abbrev pub Unbounded : Fits
 Unbounded w v = Unit {0}
 
--- 01: "each wait a semaphore (1 byte) and a value (8 bytes)", "A signal of 2^64−1 is allowed"
+-- R2, R4, a wait or a signal: its semaphore is in the plan, its value any number of 8 bytes
 pub record Point-within (fits : Fits) (semaphores : ℕ) (x : Point) : Type 0 where
   pub semaphore : x .semaphore < semaphores
   pub value : fits 8 (x .value)
 
--- 01: "each mark a buffer (2 bytes) and a kind (1 byte: 0 use, 1 free)"
+-- R2, R4, a mark: its buffer is in the plan, and it is a use or a free
 pub record Mark-within (buffers : ℕ) (m : Mark) : Type 0 where
   pub buffer : m .buffer < buffers
   pub kind : m .kind ≤ 1
 
--- 01: "An operation: queue (1 byte); wait count (1 byte, 0..3) ..; signal count (1 byte, 0..2) ..; mark count (1 byte, 0..4)"
+-- R2, R4, operation: its queue is in the plan, and its lists are within their limits
 pub record Operation-within (fits : Fits) (queues semaphores buffers : ℕ) (o : Operation) : Type 0 where
   pub queue : o .queue < queues
   pub few-waits : length (o .waits) ≤ most-waits
@@ -42,8 +43,7 @@ pub record Operation-within (fits : Fits) (queues semaphores buffers : ℕ) (o :
   pub few-marks : length (o .marks) ≤ most-marks
   pub marks : Each (Mark-within buffers) (o .marks)
 
--- 01: "queues, 0..16: axis, 8 bytes, all distinct", "semaphores, 0..64: owner: a queue", "buffers, 0..256: size in bytes, 4 bytes, any number",
--- "operations, 0..1,024"
+-- R1, R5: sections within their limits, axes distinct, owners among the queues
 pub record Plan-within (fits : Fits) (p : Plan) : Type 0 where
   pub few-queues : length (p .axes) ≤ most-queues
   pub axes : Each (fits 8) (p .axes)
@@ -64,7 +64,7 @@ Within = Plan-within In-bytes
 abbrev pub Limits : Plan → Type 0
 Limits = Plan-within Unbounded
 
--- ---- 01: "A read plan is a list of numbers, one for each field in stored order, counts included"
+-- ---- R9, numbers of a plan: one for each field, counts included
 unfoldable pub counted-numbers : {A : Type 0} → (entry : A → List ℕ) → List A → List ℕ
 counted-numbers f xs = length xs ∷ flatMap f xs
 
@@ -79,14 +79,16 @@ mark-numbers m = m .buffer ∷ m .kind ∷ []
 
 unfoldable pub operation-numbers : Operation → List ℕ
 operation-numbers o =
-    o .queue ∷ (counted-numbers point-numbers (o .waits) ++ (counted-numbers point-numbers (o .signals) ++ counted-numbers mark-numbers (o .marks)))
+    o .queue ∷ (counted-numbers point-numbers (o .waits)
+    ++ (counted-numbers point-numbers (o .signals) ++ counted-numbers mark-numbers (o .marks)))
 
 unfoldable pub numbers-of : Plan → List ℕ
 numbers-of p =
     counted-numbers one-number (p .axes)
-    ++ (counted-numbers one-number (p .owners) ++ (counted-numbers one-number (p .sizes) ++ counted-numbers operation-numbers (p .operations)))
+    ++ (counted-numbers one-number (p .owners)
+    ++ (counted-numbers one-number (p .sizes) ++ counted-numbers operation-numbers (p .operations)))
 
--- ---- 01: "Four sections in fixed order, each after its count. All numbers are unsigned, little-endian."
+-- ---- R1 to R3, bytes of a plan: section by section after its count, each number with its lowest byte first
 unfoldable pub counted-bytes : {A : Type 0} → (count-width : ℕ) → (entry : A → List ℕ) → List A → List ℕ
 counted-bytes w f xs = digits w (length xs) ++ flatMap f xs
 
@@ -98,9 +100,11 @@ mark-bytes m = digits 2 (m .buffer) ++ digits 1 (m .kind)
 
 unfoldable pub operation-bytes : Operation → List ℕ
 operation-bytes o =
-    digits 1 (o .queue) ++ (counted-bytes 1 point-bytes (o .waits) ++ (counted-bytes 1 point-bytes (o .signals) ++ counted-bytes 1 mark-bytes (o .marks)))
+    digits 1 (o .queue) ++ (counted-bytes 1 point-bytes (o .waits)
+    ++ (counted-bytes 1 point-bytes (o .signals) ++ counted-bytes 1 mark-bytes (o .marks)))
 
 unfoldable pub bytes-of : Plan → List ℕ
 bytes-of p =
     counted-bytes 1 (digits 8) (p .axes)
-    ++ (counted-bytes 1 (digits 1) (p .owners) ++ (counted-bytes 2 (digits 4) (p .sizes) ++ counted-bytes 2 operation-bytes (p .operations)))
+    ++ (counted-bytes 1 (digits 1) (p .owners)
+    ++ (counted-bytes 2 (digits 4) (p .sizes) ++ counted-bytes 2 operation-bytes (p .operations)))

@@ -1,5 +1,5 @@
--- What the refusals of stored plans say, by quantifiers. The laws *-means of proofs/ show each the same as its definition.
--- Assumes nothing: these are definitions.
+-- What the refusals of stored plans say, by quantifiers. The laws *-means of proofs/ show each the same as its
+-- definition. Assumes nothing: these are definitions.
 use mathlib.Core.Path.{_≡_}
 use mathlib.Core.Bool.{true, false}
 use mathlib.Core.Logic.{_⊎_, _↔_}
@@ -9,7 +9,8 @@ use lib.ListN.{length, getD, take, drop}
 use Rattle.plan_format.specs.Refusal.{Refusal, none-given}
 use Rattle.plan_format.specs.RefusalNumbers.{None-or, reading-numbers, rule-numbers, plan-gives}
 use Rattle.plan_format.specs.Grammar.{Grammar, field, seq, counted, nothing, Source, Scan, scan, count-check}
-use Rattle.plan_format.specs.Form.{first-form, plan-grammar, any-number, new-axis, a-queue, a-semaphore, a-buffer, a-kind, queue-count, semaphore-count, buffer-count}
+use Rattle.plan_format.specs.Form.{first-form, plan-grammar, any-number, new-axis, a-queue, a-semaphore, a-buffer}
+use Rattle.plan_format.specs.Form.{a-kind, queue-count, semaphore-count, buffer-count}
 use Rattle.plan_format.specs.Plan.{Point, Plan, op, plan-of}
 use Rattle.plan_format.specs.Limits.{Within, numbers-of, bytes-of}
 use Rattle.plan_format.specs.Stored.{scanned, listed, plan-in, spelled}
@@ -20,17 +21,17 @@ abbrev pub Refuses : Refusal → (number place : ℕ) → Type 0
 Refuses f n i = (f .number ≡ n) × (f .place ≡ i)
 
 -- ---- room
--- 01: "too little room is 9 with the length needed"
+-- R12, room: 9 with the length as its place, exactly if the room is shorter
 pub record Room-for-means (needed room : ℕ) (f : Refusal) : Type 0 where
   pub short : room < needed → Refuses f 9 needed
   pub enough : needed ≤ room → Refuses f 0 0
 
--- 01: "After those, for reader and writer alike, too little room is 9 with the length needed."
+-- R12, of reader and writer: room is judged only where nothing else is refused
 pub record Room-after (numbers : List ℕ) (fault : Refusal) (needed room : ℕ) (f : Refusal) : Type 0 where
   pub fault-first : (fault .number ≡ 0 → ⊥) → f ≡ fault
   pub then-room : fault .number ≡ 0 → Room-for-means needed room f
   pub nine : (f .number ≡ 9) → (fault .number ≡ 0) × (room < needed)
-  -- 01: "Neither gives 6 to 8."
+  -- R10: neither looks at 6 to 8
   pub only : None-or numbers (f .number)
 
 -- ---- 2, 4 and 5: a field's number is n exactly if what is said of it holds, else 0
@@ -38,11 +39,11 @@ pub record Given-when (answer n : ℕ) (P : Type 0) : Type 0 where
   pub yes : P → answer ≡ n
   pub otherwise : (P → ⊥) → answer ≡ 0
 
--- 01: "5: an axis appears twice"; the numbers read before an axis are the count and the earlier axes
+-- R42, refusal 5: the axis equals one of the numbers read after the count
 abbrev pub Earlier-axis : (got : List ℕ) → (v : ℕ) → Type 0
 Earlier-axis g v = (k : ℕ) × (1 ≤ k) × (k < length g) × (getD g k 0 ≡ v)
 
--- 01: "2: a count is over its limit. 4: owner, queue, semaphore or buffer not in its list, or kind above 1. 5: an axis appears twice"
+-- R39, R41, R42: which fields give 2, 4 and 5, and when
 pub record Checks-mean (got : List ℕ) (v : ℕ) : Type 0 where
   pub count : (least most : ℕ) → Given-when (count-check least most v) 2 ((v < least) ⊎ (most < v))
   pub queue : Given-when (a-queue got v) 4 (queue-count got ≤ v)
@@ -76,12 +77,14 @@ pub record Sections-answer : Type 0 where
   pub axes : Fields-answer (λ n. (n ≡ 0) ⊎ (n ≡ 5)) (first-of (plan-grammar first-form))
   pub others : Fields-answer (λ n. (n ≡ 0) ⊎ (n ≡ 4)) (rest-of (plan-grammar first-form))
 
--- 01: "each field judged as soon as it is read. A field that is cut short is 1 whatever it holds"; what its bytes cannot hold is 4
+-- R53, reading order, of one field: 1 if it is cut short, else what its check says, else 4 if it is too wide (R11)
 pub record Field-means (S : Source) (width : ℕ) (check : ℕ → ℕ) (rest : List ℕ) (n : ℕ) : Type 0 where
   pub cut-short : length rest < S .wide width → n ≡ 1
   pub judged : S .wide width ≤ length rest → (check (S .front width rest) ≡ 0 → ⊥) → n ≡ check (S .front width rest)
-  pub too-wide : S .wide width ≤ length rest → check (S .front width rest) ≡ 0 → S .fits width (S .front width rest) ≡ false → n ≡ 4
-  pub passed : S .wide width ≤ length rest → check (S .front width rest) ≡ 0 → S .fits width (S .front width rest) ≡ true → n ≡ 0
+  pub too-wide : S .wide width ≤ length rest → check (S .front width rest) ≡ 0 →
+      S .fits width (S .front width rest) ≡ false → n ≡ 4
+  pub passed : S .wide width ≤ length rest → check (S .front width rest) ≡ 0 →
+      S .fits width (S .front width rest) ≡ true → n ≡ 0
 
 -- ---- 1 to 5 of a whole reading: the first fault in reading order
 -- a reading on its way, without a fault: what is left, the place, the numbers got
@@ -116,7 +119,8 @@ abbrev pub Reads : Source → Grammar → (a b : Cursor) → Type 0
 Reads S (field w c) a b = Takes-field S w (λ v. c (a .got) v) a b
 Reads S (seq g h) a b = (c : Cursor) × Reads S g a c × Reads S h c b
 Reads S (counted l m w g) a b =
-    (c : Cursor) × Takes-field S w (λ v. count-check l m v) a c × Repeated (λ x y. Reads S g x y) (S .front w (a .rest)) c b
+    (c : Cursor) × Takes-field S w (λ v. count-check l m v) a c ×
+    Repeated (λ x y. Reads S g x y) (S .front w (a .rest)) c b
 Reads S nothing a b = b ≡ a
 
 -- a reading takes what comes before some field of a grammar and stops there
@@ -125,19 +129,22 @@ Stops S (field w c) a b n = Stops-field S w (λ v. c (a .got) v) a b n
 Stops S (seq g h) a b n = Stops S g a b n ⊎ ((c : Cursor) × Reads S g a c × Stops S h c b n)
 Stops S (counted l m w g) a b n =
     Stops-field S w (λ v. count-check l m v) a b n ⊎
-    ((c d : Cursor) × (j : ℕ) × Takes-field S w (λ v. count-check l m v) a c × (j < S .front w (a .rest)) × Repeated (λ x y. Reads S g x y) j c d ×
+    ((c d : Cursor) × (j : ℕ) × Takes-field S w (λ v. count-check l m v) a c × (j < S .front w (a .rest)) ×
+    Repeated (λ x y. Reads S g x y) j c d ×
     Stops S g d b n)
 Stops S nothing a b n = ⊥
 
 abbrev pub start : List ℕ → Cursor
 start xs = record { rest = xs; place = 0; got = [] }
 
--- 01: "Numbers 1 to 5 come from the first fault met in that reading order"; "3: bytes follow the last section, first such byte"
+-- R53, R40: the refusal is that of the first field at which the reading stops, or 3 where input is left over
 pub record Reading-means (S : Source) (xs : List ℕ) (s : Scan) : Type 0 where
   pub fault :
       (n i : ℕ) → (n ≡ 0 → ⊥) → Refuses (s .fault) n i ↔ ((b : Cursor) × (b .place ≡ i) ×
-      (Stops S (plan-grammar first-form) (start xs) b n ⊎ ((n ≡ 3) × Reads S (plan-grammar first-form) (start xs) b × (0 < length (b .rest)))))
-  pub none : Refuses (s .fault) 0 0 ↔ ((b : Cursor) × Reads S (plan-grammar first-form) (start xs) b × (length (b .rest) ≡ 0) × (s .got ≡ b .got))
+      (Stops S (plan-grammar first-form) (start xs) b n ⊎
+      ((n ≡ 3) × Reads S (plan-grammar first-form) (start xs) b × (0 < length (b .rest)))))
+  pub none : Refuses (s .fault) 0 0 ↔
+      ((b : Cursor) × Reads S (plan-grammar first-form) (start xs) b × (length (b .rest) ≡ 0) × (s .got ≡ b .got))
   pub only : None-or reading-numbers (s .fault .number)
   pub inside : s .fault .place ≤ length xs
 
@@ -152,15 +159,17 @@ wait-at p i k = getD (op p i .waits) k (record { semaphore = 0; value = 0 })
 abbrev pub Is-signal : Plan → (i k : ℕ) → Type 0
 Is-signal p i k = k < length (op p i .signals)
 
--- 01: "in operation order and list order"
+-- R54: operation by operation, signal by signal
 abbrev pub Earlier : (j l i k : ℕ) → Type 0
 Earlier j l i k = (j < i) ⊎ ((j ≡ i) × (l < k))
 
--- 01: "Only the owner queue signals"
+-- R15, owner: the signal is on the queue that owns its semaphore
 abbrev pub Owned : Plan → (i k : ℕ) → Type 0
-Owned p i k = (signal-at p i k .semaphore < length (p .owners)) × (getD (p .owners) (signal-at p i k .semaphore) 0 ≡ op p i .queue)
+Owned p i k =
+    (signal-at p i k .semaphore < length (p .owners)) ×
+    (getD (p .owners) (signal-at p i k .semaphore) 0 ≡ op p i .queue)
 
--- 01: "In plan order, and in list order inside one operation, each signal of a semaphore is higher than the one before and above 0."
+-- R16, signals rise: above 0, and above the earlier signals of the semaphore
 pub record Rising (p : Plan) (i k : ℕ) : Type 0 where
   pub above-zero : 0 < signal-at p i k .value
   pub above-earlier :
@@ -171,13 +180,13 @@ pub record Rising (p : Plan) (i k : ℕ) : Type 0 where
 abbrev pub First : Plan → (i k : ℕ) → Type 0
 First p i k = (j l : ℕ) → Is-signal p j l → Earlier j l i k → Owned p j l × Rising p j l
 
--- 01: "6: signal by a queue that isn't the owner", "6 first for one signal"
+-- R43, refusal 6: the first fault is a signal on a queue that is not the owner
 pub record Bad-owner (p : Plan) (i k : ℕ) : Type 0 where
   pub signal : Is-signal p i k
   pub not-owned : Owned p i k → ⊥
   pub first : First p i k
 
--- 01: "7: signal not higher than the last, or 0"
+-- R44, refusal 7: the first fault is a signal by the owner that does not rise
 pub record Not-rising (p : Plan) (i k : ℕ) : Type 0 where
   pub signal : Is-signal p i k
   pub owned : Owned p i k
@@ -188,13 +197,14 @@ pub record Not-rising (p : Plan) (i k : ℕ) : Type 0 where
 abbrev pub Signals-good : Plan → Type 0
 Signals-good p = (j l : ℕ) → Is-signal p j l → Owned p j l × Rising p j l
 
--- 01: "8: wait above the highest signal of its semaphore, and above 0"
+-- R45, refusal 8: a wait for a value above 0 that no signal reaches
 pub record Too-high (p : Plan) (i k : ℕ) : Type 0 where
   pub wait : k < length (op p i .waits)
   pub above-zero : 0 < wait-at p i k .value
-  pub above-all : (j l : ℕ) → Is-signal p j l → signal-at p j l .semaphore ≡ wait-at p i k .semaphore → signal-at p j l .value < wait-at p i k .value
+  pub above-all : (j l : ℕ) → Is-signal p j l → signal-at p j l .semaphore ≡ wait-at p i k .semaphore →
+      signal-at p j l .value < wait-at p i k .value
 
--- 01: "then 8 likewise"
+-- R54: 8 only where no signal is refused, at the lowest such operation
 pub record Unmet-wait (p : Plan) (i : ℕ) : Type 0 where
   pub signals-good : Signals-good p
   pub too-high : (k : ℕ) × Too-high p i k
@@ -208,14 +218,14 @@ pub record Rules-mean (p : Plan) (f : Refusal) : Type 0 where
   pub none : (Refuses f 0 0) ↔ (Signals-good p × ((i k : ℕ) → Too-high p i k → ⊥))
   pub only : None-or rule-numbers (f .number)
 
--- 01: "Numbers 1 to 5 come from the first fault ..  Then 6 and 7 ..; then 8 likewise"
+-- R53, R54: the reading first, then signals and waits
 pub record Plan-refusal-means (bytes : List ℕ) (f : Refusal) : Type 0 where
   pub reading-first : (scanned bytes .fault .number ≡ 0 → ⊥) → f ≡ scanned bytes .fault
   pub then-rules : scanned bytes .fault .number ≡ 0 → Rules-mean (plan-in bytes) f
   pub only : None-or plan-gives (f .number)
 
 -- ---- what is handed back by reader and writer
--- 01: "A success hands back 0 and, beside it, the length. A refusal leaves the room untouched; past the length nothing is touched."
+-- R13, handed back: the length, with the result at the front of the room and the rest as it was; or the room as it was
 pub record Filled (new : List ℕ) (r : Told) (room room-now : List ℕ) : Type 0 where
   pub refused : (r .number ≡ 0 → ⊥) → room-now ≡ room
   pub length-told : r .number ≡ 0 → r .answer ≡ length new
@@ -224,8 +234,8 @@ pub record Filled (new : List ℕ) (r : Told) (room room-now : List ℕ) : Type 
   pub holds : r .number ≡ 0 → (k : ℕ) → k < length new → getD room-now k 0 ≡ getD new k 0
   pub past : r .number ≡ 0 → (k : ℕ) → length new ≤ k → getD room-now k 0 ≡ getD room k 0
 
--- what was read: the numbers of a plan within the limits, which the writer takes, and from which it writes the very
--- bytes
+-- R8, R13, what was read: the numbers of a plan within the limits, which the writer takes, and from which it writes the
+-- very bytes
 pub record Read-means (bytes : List ℕ) (r : Told) (room room-now : List ℕ) : Type 0 where
   pub filled : Filled (scanned bytes .got) r room room-now
   pub within : r .number ≡ 0 → Within (plan-in bytes)
@@ -233,7 +243,8 @@ pub record Read-means (bytes : List ℕ) (r : Told) (room room-now : List ℕ) :
   pub taken : r .number ≡ 0 → listed (take (r .answer) room-now) .fault ≡ none-given
   pub written-back : r .number ≡ 0 → spelled (take (r .answer) room-now) ≡ bytes
 
--- what was written: the bytes of a plan within the limits, from which the reader reads the very numbers, to the end
+-- R8, R13, what was written: the bytes of a plan within the limits, from which the reader reads the very numbers, to
+-- the end
 pub record Write-means (numbers : List ℕ) (r : Told) (room room-now : List ℕ) : Type 0 where
   pub filled : Filled (spelled numbers) r room room-now
   pub within : r .number ≡ 0 → Within (plan-of numbers)

@@ -19,7 +19,7 @@ pub record Operation : Type 0 where
   pub signals : List Point
   pub marks : List Mark
 
--- 01: "Queues, semaphores, buffers and operations are named by position from 0."
+-- R4, positions: each part of a plan is named by where it is in its list
 pub record Plan : Type 0 where
   pub axes : List ℕ
   pub owners : List ℕ
@@ -39,7 +39,7 @@ op p i = getD (p .operations) i empty-operation
 unfoldable pub queues : Plan → ℕ
 queues p = length (p .axes)
 
--- ---- from numbers, in stored order
+-- ---- R9: the plan of its numbers, in stored order
 unfoldable pub points-in : (many : ℕ) → List ℕ → List Point
 points-in zero xs = []
 points-in (suc k) xs = record { semaphore = getD xs 0 0; value = getD xs 1 0 } ∷ points-in k (drop 2 xs)
@@ -48,7 +48,7 @@ unfoldable pub marks-in : (many : ℕ) → List ℕ → List Mark
 marks-in zero xs = []
 marks-in (suc k) xs = record { buffer = getD xs 0 0; kind = getD xs 1 0 } ∷ marks-in k (drop 2 xs)
 
--- how many numbers stand before an operation's wait count
+-- how many numbers come before an operation's wait count
 unfoldable pub heading : ℕ
 heading = 1
 
@@ -58,7 +58,12 @@ operation-in xs =
     let w = getD xs h 0 in
     let s = getD xs (h + 1 + 2 * w) 0 in
     let m = getD xs (h + 2 + 2 * w + 2 * s) 0 in
-    record { queue = getD xs 0 0; waits = points-in w (drop (h + 1) xs); signals = points-in s (drop (h + 2 + 2 * w) xs); marks = marks-in m (drop (h + 3 + 2 * w + 2 * s) xs) }
+    record {
+      queue = getD xs 0 0;
+      waits = points-in w (drop (h + 1) xs);
+      signals = points-in s (drop (h + 2 + 2 * w) xs);
+      marks = marks-in m (drop (h + 3 + 2 * w + 2 * s) xs);
+    }
 
 -- how many numbers an operation takes
 unfoldable pub operation-long : List ℕ → ℕ

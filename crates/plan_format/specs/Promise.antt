@@ -12,10 +12,11 @@ use Rattle.plan_format.specs.Plan.{Plan, plan-of}
 use Rattle.plan_format.specs.Stored.{all-bytes, scanned, listed, plan-in, spelled}
 use Rattle.plan_format.specs.Limits.{Within, numbers-of, bytes-of}
 
--- 01: "One plan, one string of bytes."
+-- R8, one string: bytes that are read as the same numbers are the same
 unfoldable pub One-string : Type 0
 One-string =
-    (bs cs : List ℕ) → all-bytes bs ≡ true → all-bytes cs ≡ true → scanned bs .fault .number ≡ 0 → scanned cs .fault .number ≡ 0 →
+    (bs cs : List ℕ) → all-bytes bs ≡ true → all-bytes cs ≡ true → scanned bs .fault .number ≡ 0 →
+    scanned cs .fault .number ≡ 0 →
     scanned bs .got ≡ scanned cs .got → bs ≡ cs
 
 -- a plan is read from its bytes, and written from its numbers
@@ -27,8 +28,9 @@ pub record Stored-plan (p : Plan) : Type 0 where
   pub plan-taken : plan-of (numbers-of p) ≡ p
   pub written : spelled (numbers-of p) ≡ bytes-of p
 
--- 01: "Stored plan"; "No number is given on other grounds.": reader and writer take every plan within the limits, and nothing else
+-- R1 to R11: reader and writer take every plan within the limits, and nothing else
 pub record Takes-plans : Type 0 where
   pub every : (p : Plan) → Within p → Stored-plan p
-  pub read : (bs : List ℕ) → all-bytes bs ≡ true → (scanned bs .fault .number ≡ 0) ↔ (Within (plan-in bs) × (bs ≡ bytes-of (plan-in bs)))
+  pub read : (bs : List ℕ) → all-bytes bs ≡ true → (scanned bs .fault .number ≡ 0) ↔
+      (Within (plan-in bs) × (bs ≡ bytes-of (plan-in bs)))
   pub taken : (xs : List ℕ) → (listed xs .fault .number ≡ 0) ↔ (Within (plan-of xs) × (xs ≡ numbers-of (plan-of xs)))

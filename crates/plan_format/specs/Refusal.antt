@@ -1,4 +1,4 @@
--- Refusals: a number and its place, 0 standing for none. Assumes nothing: these are definitions.
+-- Refusals: a number and its place; the number 0 is none. Assumes nothing: these are definitions.
 use mathlib.Core.Bool.{Bool, true, false, cond}
 use Prim.Native.Nat.{ℕ}
 use lib.Dec.{eqb}
@@ -10,7 +10,7 @@ pub record Refusal : Type 0 where
 unfoldable pub refusal : (number place : ℕ) → Refusal
 refusal n p = record { number = n; place = p }
 
--- 01: "0, passed, place 0"
+-- R37, number 0: no refusal
 unfoldable pub none-given : Refusal
 none-given = record { number = 0; place = 0 }
 

@@ -1,5 +1,5 @@
--- The numbers of refusals: a list for each class, and what each entry can give, made of these lists. Assumes nothing:
--- these are definitions.
+-- R37 to R52: the numbers of refusals, a list for each class, and what each entry can give, made of these lists.
+-- Assumes nothing: these are definitions.
 use mathlib.Core.Path.{_≡_}
 use mathlib.Core.Bool.{true}
 use mathlib.Core.List.{List, [], _∷_, _++_}
@@ -10,36 +10,36 @@ use Rattle.basics.specs.Lists.{member}
 abbrev pub One-of : (numbers : List ℕ) → (n : ℕ) → Type 0
 One-of ns n = member n ns ≡ true
 
--- the number is 0, which stands for no refusal, or one of those listed
+-- the number is 0, which is no refusal, or one of those listed
 abbrev pub None-or : (numbers : List ℕ) → (n : ℕ) → Type 0
 None-or ns n = One-of (0 ∷ ns) n
 
 -- ---- classes
--- of a reading: a field cut short, a count, bytes that follow, a name that is in no list, an axis twice
+-- R38 to R42, of a reading: a field cut short, a count, input left over, a position in no section, an axis twice
 abbrev pub reading-numbers : List ℕ
 reading-numbers = 1 ∷ 2 ∷ 3 ∷ 4 ∷ 5 ∷ []
 
--- of signals and waits: not by the owner, not higher, above the highest
+-- R43 to R45, of signals and waits: not by the owner, not rising, above the highest
 abbrev pub rule-numbers : List ℕ
 rule-numbers = 6 ∷ 7 ∷ 8 ∷ []
 
--- of lent room
+-- R46, of lent room
 abbrev pub room-numbers : List ℕ
 room-numbers = 9 ∷ []
 
--- of the order: stuck, a broken mark
+-- R47, R48, of the order: stuck, a broken mark
 abbrev pub order-numbers : List ℕ
 order-numbers = 10 ∷ 11 ∷ []
 
--- of the reuse question: no such queue, no such buffer
+-- R49, of the reuse question: no such queue, no such buffer
 abbrev pub reuse-numbers : List ℕ
 reuse-numbers = 12 ∷ 13 ∷ []
 
--- of the question for a frontier: no such operation, no such capacity
+-- R52, R51, of the question for a frontier: no such operation, no such capacity
 abbrev pub sent-numbers : List ℕ
 sent-numbers = 21 ∷ 15 ∷ []
 
--- ---- entries: what each can give besides 0
+-- ---- entries: what each can give besides 0; R55: there are no other reasons
 abbrev pub reader-gives : List ℕ
 reader-gives = reading-numbers ++ room-numbers
 
@@ -50,7 +50,7 @@ writer-gives = reading-numbers ++ room-numbers
 abbrev pub plan-gives : List ℕ
 plan-gives = reading-numbers ++ rule-numbers
 
--- what leaves table and list as they were
+-- R56: what leaves table and list as they were
 abbrev pub untouched-numbers : List ℕ
 untouched-numbers = plan-gives ++ room-numbers
 

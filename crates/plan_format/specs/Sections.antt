@@ -1,4 +1,4 @@
--- The grammars of the sections once the counts are known: each check has the limit that it asks for.
+-- R1, R2: the grammars of the sections once the counts are known. Each check has the limit that it asks for.
 -- Assumes nothing: these are definitions.
 use mathlib.Core.Bool.{cond}
 use Prim.Native.Nat.{ℕ, zero, suc}

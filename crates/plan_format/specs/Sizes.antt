@@ -1,7 +1,8 @@
--- The limits of a plan and the sizes made of them; src/limits.rt has the same names. Assumes nothing: these are definitions.
+-- The limits of a plan and the sizes made of them; src/limits.rt has the same names. Assumes nothing: these are
+-- definitions.
 use Prim.Native.Nat.{ℕ, _+_, _*_}
 
--- what a plan has at most
+-- R1: what a plan has at most
 abbrev pub most-queues : ℕ
 most-queues = 16
 
@@ -14,7 +15,7 @@ most-buffers = 256
 abbrev pub most-operations : ℕ
 most-operations = 1024
 
--- what one operation has at most
+-- R2: what one operation has at most
 abbrev pub most-waits : ℕ
 most-waits = 3
 
@@ -34,21 +35,21 @@ signal-places = most-signals * most-operations
 abbrev pub mark-places : ℕ
 mark-places = most-marks * most-operations
 
--- a row has a place for each queue; the rows have two more than there are operations, which stay zero
+-- R20: a row has a place for each queue; the rows have two more than there are operations, which stay zero
 abbrev pub row-width : ℕ
 row-width = most-queues
 
 abbrev pub row-places : ℕ
 row-places = row-width * (most-operations + 2)
 
--- room for the rows and the run of every plan
+-- R46: room for the rows and the run of every plan
 abbrev pub table-numbers : ℕ
 table-numbers = row-width * most-operations
 
 abbrev pub list-numbers : ℕ
 list-numbers = 2 * most-operations
 
--- the most numbers before the operations, of one operation and of a plan
+-- R7: the most numbers before the operations, of one operation and of a plan
 abbrev pub head-numbers : ℕ
 head-numbers = 4 + most-queues + most-semaphores + most-buffers
 
@@ -68,6 +69,6 @@ block-bytes = 4 + 9 * (most-waits + most-signals) + 3 * most-marks
 abbrev pub plan-bytes : ℕ
 plan-bytes = head-bytes + most-operations * block-bytes
 
--- the number that stands for no operation
+-- the number that means no operation
 abbrev pub no-operation : ℕ
 no-operation = most-operations

@@ -1,4 +1,5 @@
--- Refusals 6 to 8, and sound plans: those with none of them, every position in range. Assumes nothing: these are definitions.
+-- Refusals 6 to 8, and sound plans: those with none of them, every position in range. Assumes nothing: these are
+-- definitions.
 use mathlib.Core.Path.{_≡_}
 use mathlib.Core.Bool.{Bool, false, _&&_, _||_, not, cond}
 use mathlib.Core.List.{List, [], _∷_, _++_}
@@ -10,7 +11,7 @@ use Rattle.plan_format.specs.Sizes.{most-queues, most-operations}
 use Rattle.plan_format.specs.Refusal.{Refusal, refusal, none-given, or-else}
 use Rattle.plan_format.specs.Plan.{Point, Operation, Plan, count, op, queues}
 
--- 01: "Semaphores start at 0": the highest value signalled on a semaphore, 0 where there is none
+-- R16: the highest value signalled on a semaphore, which begins at 0
 unfoldable pub highest-in : (s : ℕ) → List Point → ℕ
 highest-in s [] = 0
 highest-in s (x ∷ xs) = max (cond (eqb (x .semaphore) s) (x .value) 0) (highest-in s xs)
@@ -19,7 +20,7 @@ unfoldable pub highest : (s : ℕ) → List Operation → ℕ
 highest s [] = 0
 highest s (o ∷ os) = max (highest-in s (o .signals)) (highest s os)
 
--- 01: "Only the owner queue signals"
+-- R15, owner: the queue that may signal a semaphore
 unfoldable pub is-queue : Option ℕ → (q : ℕ) → Bool
 is-queue none q = false
 is-queue (some o) q = eqb o q
@@ -27,8 +28,7 @@ is-queue (some o) q = eqb o q
 unfoldable pub owns : Plan → (q s : ℕ) → Bool
 owns p q s = is-queue (getElem? (p .owners) s) q
 
--- 01: "6: signal by a queue that isn't the owner. 7: signal not higher than the last, or 0", "6 and 7 in operation order and list
--- order, 6 first for one signal"; `own` are the operation's signals before these
+-- R43, R44 and R54: signal by signal, 6 before 7 for the same one; `own` are the operation's signals before these
 unfoldable pub signals-number : Plan → (queue : ℕ) → (before : List Operation) → (own rest : List Point) → ℕ
 signals-number p q bs own [] = 0
 signals-number p q bs own (x ∷ xs) =
@@ -42,7 +42,7 @@ signals-refusal i p bs (o ∷ os) =
     let n = signals-number p (o .queue) bs [] (o .signals) in
     cond (eqb n 0) (signals-refusal (suc i) p (bs ++ (o ∷ [])) os) (refusal n i)
 
--- 01: "8: wait above the highest signal of its semaphore, and above 0"
+-- R45, refusal 8: a wait for a value above 0 that no signal of its semaphore reaches
 unfoldable pub too-high : Plan → Point → Bool
 too-high p w = ltb 0 (w .value) && ltb (highest (w .semaphore) (p .operations)) (w .value)
 
@@ -54,16 +54,19 @@ unfoldable pub waits-refusal : (i : ℕ) → Plan → List Operation → Refusal
 waits-refusal i p [] = none-given
 waits-refusal i p (o ∷ os) = cond (any-too-high p (o .waits)) (refusal 8 i) (waits-refusal (suc i) p os)
 
--- 01: "Then 6 and 7 in operation order and list order ..; then 8 likewise"
+-- R54: 6 and 7 over all operations, then 8
 unfoldable pub rules-refusal : Plan → Refusal
 rules-refusal p = or-else (signals-refusal 0 p [] (p .operations)) (waits-refusal 0 p (p .operations))
 
--- every position that an operation names is in its list
+-- R4: every position that an operation names is in its list
 pub record In-range (p : Plan) (o : Operation) : Type 0 where
   pub queue : o .queue < queues p
-  pub waits : (k : ℕ) → k < length (o .waits) → getD (o .waits) k (record { semaphore = 0; value = 0 }) .semaphore < length (p .owners)
-  pub signals : (k : ℕ) → k < length (o .signals) → getD (o .signals) k (record { semaphore = 0; value = 0 }) .semaphore < length (p .owners)
-  pub marks : (k : ℕ) → k < length (o .marks) → getD (o .marks) k (record { buffer = 0; kind = 0 }) .buffer < length (p .sizes)
+  pub waits : (k : ℕ) → k < length (o .waits) →
+      getD (o .waits) k (record { semaphore = 0; value = 0 }) .semaphore < length (p .owners)
+  pub signals : (k : ℕ) → k < length (o .signals) →
+      getD (o .signals) k (record { semaphore = 0; value = 0 }) .semaphore < length (p .owners)
+  pub marks : (k : ℕ) → k < length (o .marks) →
+      getD (o .marks) k (record { buffer = 0; kind = 0 }) .buffer < length (p .sizes)
   pub kinds : (k : ℕ) → k < length (o .marks) → getD (o .marks) k (record { buffer = 0; kind = 0 }) .kind < 2
 
 -- what the theorems on plans need of one that gets none of refusals 1 to 8

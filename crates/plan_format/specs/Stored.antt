@@ -1,4 +1,5 @@
--- Stored plans as bytes and as lists of numbers: what the reader and the writer answer and leave. Assumes nothing: these are definitions.
+-- Stored plans as bytes and as lists of numbers: what the reader and the writer answer and leave. Assumes nothing:
+-- these are definitions.
 use mathlib.Core.Path.{_≡_}
 use mathlib.Core.Bool.{Bool, cond}
 use mathlib.Core.List.{List}
@@ -17,7 +18,7 @@ use Rattle.plan_format.specs.declared.Told.{Told}
 unfoldable pub all-bytes : List ℕ → Bool
 all-bytes bs = all (λ b. ltb b 256) bs
 
--- the reading of bytes, and of a list of numbers
+-- R10: the reading of bytes, and of a list of numbers
 unfoldable pub scanned : List ℕ → Scan
 scanned bs = scanned-by bytes first-form bs
 
@@ -27,15 +28,15 @@ listed xs = scanned-by numbers first-form xs
 unfoldable pub plan-in : List ℕ → Plan
 plan-in bs = plan-of (scanned bs .got)
 
--- the stored bytes of a list of numbers
+-- R10, the writer: the stored bytes of a list of numbers
 unfoldable pub spelled : List ℕ → List ℕ
 spelled xs = spelled-by first-form xs
 
--- refusals 1 to 8
+-- R53, R54: refusals 1 to 5, then 6 to 8
 unfoldable pub plan-refusal : List ℕ → Refusal
 plan-refusal bs = or-else (scanned bs .fault) (rules-refusal (plan-in bs))
 
--- 01: "After those, for reader and writer alike, too little room is 9 with the length needed."
+-- R12 and R46, refusal 9: room that is too short, with the length that is enough
 unfoldable pub room-for : (needed room : ℕ) → Refusal
 room-for n k = cond (ltb k n) (refusal 9 n) none-given
 
@@ -51,7 +52,7 @@ pub record Tells (f : Refusal) (answer : ℕ) (r : Told) : Type 0 where
   pub place : r .place ≡ f .place
   pub answer-is : r .answer ≡ cond (given f) 0 answer
 
--- 01: "A success hands back 0 and, beside it, the length. A refusal leaves the room untouched; past the length nothing is touched."
+-- R13, handed back: the length, with the result at the front of the room and the rest as it was; or the room as it was
 unfoldable pub Fills : Refusal → (new : List ℕ) → Told → (room room-now : List ℕ) → Type 0
 Fills f new r o x = Tells f (length new) r × (x ≡ cond (given f) o (in-front new o))
 

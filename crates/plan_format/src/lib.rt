@@ -1,4 +1,5 @@
-// What every call on a stored plan hands back, a refusal among it, and the search that judges an axis; the format itself is in specs/.
+// What every call on a stored plan hands back, a refusal among it, and the search that judges an axis; the format
+// itself is in specs/.
 pub mod limits;
 
 ghost use mathlib.Core.Path.{_≡_};
@@ -34,7 +35,7 @@ pub fn answered(answer: u64) -> Told
     }
 }
 
-// Whether a number stands in a list behind the first: an axis among the axes, the count being in front of them.
+// Whether a number is in a list after the first: an axis among the axes, the count being in front of them.
 pub fn repeated(list: &[u64], number: u64) -> bool
     ensures { λ r. ⌜ r ≡ member number (drop 1 (now (list .entry))) ⌝ }
 {

@@ -50,7 +50,7 @@ pub const PLAN_BYTES: usize = HEAD_BYTES + MOST_OPERATIONS * BLOCK_BYTES;
 // Room for the numbers of one operation, with its counts cut to their bits.
 pub const WINDOW: usize = 32;
 
-// The number that stands for no operation, to compute with and as a column holds it.
+// The number that means no operation, to compute with and as a column holds it.
 pub const NO_OPERATION: usize = MOST_OPERATIONS;
 
 pub const NO_OPERATION_STORED: u16 = NO_OPERATION as u16;

@@ -1,5 +1,5 @@
-// A reader that holds the bytes of a stored plan and its place in them, and is handed on from the head to the operations: thin functions over it,
-// and one above them with plain parameters.
+// A reader that holds the bytes of a stored plan and its place in them, and is handed on from the head to the
+// operations: thin functions over it, and one above them with plain parameters.
 use plan_format::Told;
 use plan_reader::Heading;
 ghost use mathlib.Core.Path.{_≡_};

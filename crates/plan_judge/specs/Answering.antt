@@ -1,5 +1,5 @@
--- What the check answers and leaves by its columns alone, whether they show a plan or not; only what the run gives is left open.
--- Assumes nothing: these are definitions.
+-- R54 to R56: what the check answers and leaves by its columns alone, whether they show a plan or not; only what the
+-- run gives is left open. Assumes nothing: these are definitions.
 use mathlib.Core.Path.{_≡_}
 use mathlib.Core.Bool.{true, false, _||_, cond}
 use mathlib.Core.List.{List}
@@ -34,8 +34,8 @@ order-by n ran marks queue mark mop rows =
     cond (ltb ran n) (refusal 10 (first-zero n queue rows))
     (cond (ltb (first-broken queue rows n marks mark mop) n) (refusal 11 (first-broken queue rows n marks mark mop)) none-given)
 
--- after a run of at most n steps, with the rows and the front of the list that it left: its judgement; zeros in front of table and list where that is
--- a refusal, else rows and list; and past them nothing is touched
+-- after a run of at most n steps, with the rows and the front of the list that it left: its judgement; zeros in front
+-- of table and list where that is a refusal, else rows and list; and past them nothing is touched
 pub record Run-judged (n marks : ℕ) (queue mark mop : List ℕ) (r : Told) (table table-now list list-now : List ℕ) : Type 0 where
   pub ran : ℕ
   pub rows : List ℕ
@@ -47,7 +47,8 @@ pub record Run-judged (n marks : ℕ) (queue mark mop : List ℕ) (r : Told) (ta
   pub table-holds : table-now ≡ in-front (cond (given (order-by n ran marks queue mark mop rows)) (replicate (row-width * n) 0) (take (row-width * n) rows)) table
   pub list-holds : list-now ≡ in-front (cond (given (order-by n ran marks queue mark mop rows)) (replicate (2 * n) 0) run) list
 
--- a refusal that is given first, and what has more operations than the columns have places for, leave table and list; else there is a run
+-- a refusal that is given first, and what has more operations than the columns have places for, leave table and list;
+-- else there is a run
 pub record Answers-by (first : Refusal) (n marks : ℕ) (queue mark mop : List ℕ) (r : Told) (table table-now list list-now : List ℕ) : Type 0 where
   pub stopped : (given first || ltb most-operations n) ≡ true → Tells first 0 r × (table-now ≡ table) × (list-now ≡ list)
   pub judged : (given first || ltb most-operations n) ≡ false → Run-judged n marks queue mark mop r table table-now list list-now

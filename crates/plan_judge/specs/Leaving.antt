@@ -1,4 +1,4 @@
--- What the check leaves in the lent table and list. Assumes nothing: these are definitions.
+-- R56: what the check leaves in the lent table and list. Assumes nothing: these are definitions.
 use mathlib.Core.Path.{_≡_}
 use mathlib.Core.List.{List}
 use Prim.Native.Nat.{ℕ, _*_, _≤_}

@@ -1,4 +1,5 @@
-// The check of a plan that is shown by columns: judged by the rules and the room, run, and judged by its order.
+// R54 to R56, the check of a plan that is shown by columns: judged by signals, waits and room, run, and judged by its
+// order.
 mod decide;
 mod leave;
 
@@ -21,9 +22,9 @@ ghost use Rattle.plan_columns.specs.Columns.{columns, Source-column};
 ghost use Rattle.plan_judge.specs.Answering.{rules-by, Sources-by, Answers-by};
 ghost use Rattle.plan_judge.specs.Given.{Check-given, Rules-given, Ruled};
 
-// Refusals 6 and 7, then 8, then 9, then the order: the answer, what is left in table and list, and the operation that each wait rests on, in
-// place of its semaphore. Where the columns show no plan within the limits, what the run gives is unspecified: how many ran, the rows, and the
-// front of the list.
+// Refusals 6 and 7, then 8, then 9, then the order: the answer, what is left in table and list, and the operation that
+// each wait rests on, in place of its semaphore. Where the columns show no plan within the limits, what the run gives
+// is unspecified: how many ran, the rows, and the front of the list.
 pub fn check_columns(
     n: u16,
     signals: usize,

@@ -1,4 +1,5 @@
--- Grammars whose checks ask nothing of the numbers got: what was got before changes nothing of what they read. Assumes nothing.
+-- Grammars whose checks ask nothing of the numbers got: what was got before changes nothing of what they read. Assumes
+-- nothing.
 use mathlib.Core.Path.{_≡_, refl, sym, ap, _∙_}
 use mathlib.Core.Bool.{true, false, cond}
 use mathlib.Core.List.{List, [], _∷_, _++_, append-assoc}
@@ -34,7 +35,7 @@ module _ (S : Source) (front : List ℕ) where
       (λ t. rw (n, t) (ap (λ (l : List ℕ). scan (drop (S .wide w) (s .rest)) (s .place + S .wide w) l (s .fault)) (append-assoc front (s .got) (v ∷ []))))
       (λ f. rw (n, f)))
 
-  -- a count just read is the last number got, whatever stands in front
+  -- a count just read is the last number got, whatever is in front
   last-after : (w : ℕ) (c : ℕ → ℕ) (s : Scan) → given (read-field S w c s .fault) ≡ false → last-got (after front (read-field S w c s)) ≡ last-got (read-field S w c s)
   unfolding after scan
   last-after w c s n =

@@ -1,4 +1,4 @@
--- The loop over the operations: what is read so far, and what stands in the columns. Assumes nothing.
+-- The loop over the operations: what is read so far, and what is in the columns. Assumes nothing.
 use mathlib.Core.Path.{_≡_, sym, ap, _∙_, subst}
 use mathlib.Core.List.{List, [], _++_, append-assoc, append-nil}
 use Prim.Native.Nat.{ℕ, _+_, _*_, _≤_, _<_, min}
@@ -25,7 +25,7 @@ use Rattle.plan_load.proofs.Windows.{added-among}
 abbrev pub step : (width : ℕ) → Head → Scan → Scan
 step width h s = read-by bytes (operation-below width (h .queues) (h .semaphores) (h .buffers)) s
 
--- i operations after a head's numbers are read, up to a place of the bytes, and stand in the columns
+-- i operations after a head's numbers are read, up to a place of the bytes, and are in the columns
 pub record Load (width : ℕ) (bs : List ℕ) (h : Head) (nums : List ℕ) (cs₀ cs : Columns)
     (i at signals marks : ℕ) : Type 0 where
   pub blocks : List ℕ

@@ -158,7 +158,7 @@ module _ (bs : List ℕ) (h : Head) (nums : List ℕ) (cs₀ : Columns) (head : 
             ap (λ (p : Plan). p .operations) plan-is
             ∙ ap (operations-in (h .operations)) (sym (ap (λ (x : List ℕ). drop (length heading) x) (append-nil all) ∙ drop-append-seam heading (l .blocks)))
 
-        -- the numbers in front of the operations, and what stands behind them
+        -- the numbers in front of the operations, and what comes after them
         split : nums ≡ (h .queues ∷ front .axes) ++ (h .semaphores ∷ (front .owners ++ ((h .buffers ∷ (front .sizes ++ (h .operations ∷ []))) ++ drop (h .got) nums)))
         split =
             sym (take-append-drop (h .got) nums) ∙ ap (λ (x : List ℕ). x ++ drop (h .got) nums) (front .numbers-are) ∙ simp append-assoc

@@ -1,4 +1,5 @@
--- What an operation adds to the columns from a window of numbers is what it adds from its place among all numbers. Assumes nothing.
+-- What an operation adds to the columns from a window of numbers is what it adds from its place among all numbers.
+-- Assumes nothing.
 use mathlib.Core.Path.{_≡_, sym, ap, _∙_, subst}
 use mathlib.Core.List.{List, [], _∷_, _++_, map}
 use Prim.Native.Nat.{ℕ, _+_}

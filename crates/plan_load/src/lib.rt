@@ -1,4 +1,5 @@
-// A stored plan read straight into its columns: each operation into a window of numbers, and from there behind the operations before it.
+// A stored plan read straight into its columns: each operation into a window of numbers, and from there after the
+// operations before it.
 use plan_columns::MarkColumn;
 use plan_columns::OwnerColumn;
 use plan_columns::QueueColumn;
@@ -19,7 +20,8 @@ ghost use Rattle.plan_columns.specs.Columns.{columns, Owner-column};
 ghost use Rattle.plan_numbers.specs.Reading.{Head-read};
 ghost use Rattle.plan_load.specs.Loading.{Loads};
 
-// How many queues, semaphores, buffers, operations, signals and marks a plan has; or the reader's refusal and its place.
+// How many queues, semaphores, buffers, operations, signals and marks a plan has; or the reader's refusal and its
+// place.
 pub struct Loaded {
     pub number: u32,
     pub place: usize,
@@ -31,8 +33,8 @@ pub struct Loaded {
     pub marks: u16,
 }
 
-// Fills the columns of a stored plan, and its head, in which the axes stand from the second place on. Past them, past the plan's own places in
-// each column, and on a refusal, what is lent is free.
+// Fills the columns of a stored plan, and its head, in which the axes are from the second place on. Past them, past
+// the plan's own places in each column, and on a refusal, what is lent is unspecified.
 pub fn load(
     plan: &[u8],
     head: &mut HeadNumbers,
@@ -124,7 +126,7 @@ fn columns(
     operations(plan, h, queue, wsem, wval, ssem, sval, sop, mark, mop)
 }
 
-// Fills the columns of the operations behind a head.
+// Fills the columns of the operations after a head.
 fn operations(
     plan: &[u8],
     h: Head,

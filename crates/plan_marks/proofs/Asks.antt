@@ -1,5 +1,5 @@
--- What keeping asks, by the marks of all buffers in plan order: of each use against the next free of its buffer, and of each mark against
--- the last free of its buffer before it. Assumes nothing.
+-- What keeping asks, by the marks of all buffers in plan order: of each use against the next free of its buffer, and of
+-- each mark against the last free of its buffer before it. Assumes nothing.
 use mathlib.Core.Path.{_≡_, refl, sym, subst}
 use mathlib.Core.Bool.{false, cond}
 use mathlib.Core.Logic.{_⊎_, inl, inr}

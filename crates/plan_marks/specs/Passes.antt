@@ -1,5 +1,5 @@
--- Two passes over the marks of a plan, with a table by mark: uses against the free of their own holding, from the last mark to the first, and
--- marks against the free before their holding. Assumes nothing: these are definitions.
+-- R32, R33: two passes over the marks of a plan, with a table by mark: uses against the free of their own holding, from
+-- the last mark to the first, and marks against the free before their holding. Assumes nothing: these are definitions.
 use mathlib.Core.Bool.{Bool, _&&_, _||_, not, cond}
 use mathlib.Core.List.{List, [], _∷_}
 use Prim.Native.Nat.{ℕ, _+_, _*_, _/_, _%_, min}
@@ -9,7 +9,8 @@ use Rattle.plan_format.specs.Sizes.{most-buffers, most-operations, mark-places,
 use Rattle.plan_columns.specs.Columns.{Marked}
 use Rattle.plan_columns.specs.Shown.{mark-codes, shown-from, ordered}
 
--- a table by mark, twice its buffer and one more for a free: the operation that had the mark last; 1,024 stands for none
+-- a table by mark, twice its buffer and one more for a free: the operation that had the mark last; 1,024 means
+-- none
 abbrev pub none-noted : List ℕ
 none-noted = replicate mark-codes no-operation
 

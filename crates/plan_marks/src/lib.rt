@@ -1,6 +1,7 @@
-// Broken marks, refusal 11: marks of which keeping asks what "before" does not force. Two passes over the marks: a use against the next free
-// of its buffer, a mark against the last free before it. Each has a table by mark, 2 * buffer for a use and one more for a free: the operation
-// that had the mark last, and 1,024 for none. What is done for a mark does not branch on it.
+// R35 and R48, broken marks: those of which keeping asks what "before" does not force. Two passes over the marks: a use
+// against the next free of its buffer, a mark against the last free before it. Each has a table by mark, 2 * buffer for
+// a use and one more for a free: the operation that had the mark last, and 1,024 for none. What is done for a mark does
+// not branch on it.
 use plan_columns::MARK_CODES;
 use plan_columns::MarkColumn;
 use plan_columns::QueueColumn;
@@ -21,7 +22,8 @@ ghost use Rattle.plan_marks.specs.Given.{Marks-given};
 ghost use Rattle.plan_columns.specs.Shown.{mark-codes, mark-of, shown-from, ordered as is-ordered};
 ghost use Rattle.plan_marks.specs.Passes.{none-noted, noted, free-in, late as is-late, early as is-early, first-late, first-early, first-broken};
 
-// The lower of what the two passes find; n where they find nothing. By the columns of a plan it is the lowest operation with a broken mark.
+// The lower of what the two passes find; n where they find nothing. By the columns of a plan it is the lowest operation
+// with a broken mark.
 pub fn broken(
     n: u16,
     marks: usize,
@@ -47,7 +49,8 @@ fn lower(a: usize, b: usize) -> usize
     if a < b { a } else { b }
 }
 
-// The lowest operation with a use that isn't forced to come no later than the free of its holding; n where there is none.
+// The lowest operation with a use that isn't forced to come no later than the free of its holding; n where there is
+// none.
 fn uses(
     n: usize,
     marks: usize,
@@ -108,8 +111,8 @@ fn late(queue: &QueueColumn, rows: &Rows, i: usize, free: usize) -> bool
     (free < NO_OPERATION) & !ordered(queue, rows, i, free)
 }
 
-// Whether a mark by i isn't forced to come after a free. Neither side of the `|` is true of a mark that isn't broken, so that a jump on either
-// is easy to foretell.
+// Whether a mark by i isn't forced to come after a free. Neither side of the `|` is true of a mark that isn't broken,
+// so that a jump on either is easy to foretell.
 fn early(queue: &QueueColumn, rows: &Rows, free: usize, i: usize) -> bool
     requires { ⌜ (free ≤ no-operation) × (i < most-operations) ⌝ }
     ensures { λ r. ⌜ r ≡ is-early (now (queue .entry)) (now (rows .entry)) free i ⌝ }
@@ -117,7 +120,7 @@ fn early(queue: &QueueColumn, rows: &Rows, free: usize, i: usize) -> bool
     (free == i) | ((free < NO_OPERATION) & !ordered(queue, rows, free, i))
 }
 
-// Whether i is j or before j, by the column of i's queue in their rows. Where i is 1,024 the answer is free.
+// Whether i is j or before j, by the column of i's queue in their rows. Where i is 1,024 the answer is unspecified.
 fn ordered(queue: &QueueColumn, rows: &Rows, i: usize, j: usize) -> bool
     requires { ⌜ (i ≤ no-operation) × (j ≤ no-operation) ⌝ }
     ensures { λ r. ⌜ (i < most-operations → r ≡ is-ordered (now (queue .entry)) (now (rows .entry)) i j) ⌝ }

@@ -1,4 +1,5 @@
--- The four sections of a plan: what the checks ask of the numbers read is what the reader took from its array. Assumes nothing.
+-- The four sections of a plan: what the checks ask of the numbers read is what the reader took from its array. Assumes
+-- nothing.
 use mathlib.Core.Path.{_≡_, refl, sym, ap, _∙_}
 use mathlib.Core.List.{List, [], _∷_, _++_, append-assoc}
 use Prim.Native.Nat.{ℕ, _+_, _≤_}

@@ -1,4 +1,5 @@
--- What cursors read, put together: one thing after another, a count and its things, a loop that stops at a refusal. Assumes nothing.
+-- What cursors read, put together: one thing after another, a count and its things, a loop that stops at a refusal.
+-- Assumes nothing.
 use mathlib.Core.Path.{_≡_, refl, sym, ap, _∙_, subst}
 use mathlib.Core.List.{List}
 use Prim.Native.Nat.{ℕ, _+_, _-_, _*_, _≤_}

@@ -1,5 +1,5 @@
--- One field, read where there is no fault: cut short, refused by its check, or kept; and the cursor that stands for what is read.
--- Assumes nothing.
+-- One field, read where there is no fault: cut short, refused by its check, or kept; and the cursor that stands for
+-- what is read. Assumes nothing.
 use mathlib.Core.Path.{_≡_, refl, sym, ap, _∙_}
 use mathlib.Core.Bool.{true, cond}
 use mathlib.Core.List.{List, [], _∷_, _++_}

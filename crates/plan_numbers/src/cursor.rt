@@ -2,7 +2,8 @@
 ghost use mathlib.Core.Path.{_≡_};
 ghost use Prim.Native.Nat.{_+_, _<_, _^_};
 
-// Where a reading stands: the refusal met, or 0; the place in the bytes; how many numbers are stored; the number read last.
+// Where a reading is: the refusal met, or 0; the place in the bytes; how many numbers are stored; the number read
+// last.
 pub struct Cursor {
     pub number: u32,
     pub at: usize,

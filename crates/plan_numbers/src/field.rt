@@ -1,4 +1,5 @@
-// Fields: each is read at a cursor, judged, and stored after the numbers before it. A cursor with a refusal keeps it and its place.
+// Fields: each is read at a cursor, judged, and stored after the numbers before it. A cursor with a refusal keeps it
+// and its place.
 use crate::cursor::Cursor;
 use crate::word;
 ghost use Prim.Native.Nat.{_≤_};

@@ -1,4 +1,5 @@
-// The numbers of stored plans: one pass over the bytes, a cursor by value, each field judged and stored as it is read.
+// R9 and R53, the numbers of stored plans: one pass over the bytes, a cursor by value, each field judged and stored as
+// it is read.
 mod cursor;
 mod field;
 mod operation;
@@ -27,8 +28,8 @@ const OPERATIONS: u64 = MOST_OPERATIONS as u64;
 
 const TOO_MANY_OPERATIONS: u64 = OPERATIONS + 1;
 
-// What comes before the operations: the refusal met there, or 0; the place where the reading stopped and how many numbers are stored; the four
-// counts, 0 beside a refusal.
+// What comes before the operations: the refusal met there, or 0; the place where the reading stopped and how many
+// numbers are stored; the four counts, 0 beside a refusal.
 pub struct Head {
     pub number: u32,
     pub at: usize,
@@ -46,8 +47,8 @@ pub struct End {
     pub got: usize,
 }
 
-// The numbers before the operations, in front of the array, with the four counts; or the first of refusals 1, 2, 4 and 5 that is met there, and
-// no counts. Past the numbers read the array stays.
+// The numbers before the operations, in front of the array, with the four counts; or the first of refusals 1, 2, 4 and
+// 5 that is met there, and no counts. Past the numbers read the array stays.
 pub fn read_head(plan: &[u8], numbers: &mut [u64; HEAD_NUMBERS]) -> Head
     ensures told { λ r. ⌜ Head-told (now (plan .entry)) (now (numbers .entry)) r (now (numbers .exit)) ⌝ }
     ensures means { λ r. ⌜ Head-read (now (plan .entry)) r (now (numbers .exit)) ⌝ }
@@ -77,8 +78,8 @@ pub fn read_head(plan: &[u8], numbers: &mut [u64; HEAD_NUMBERS]) -> Head
     }
 }
 
-// The numbers of the operation at a place, in front of the window, where the counts are as given; or the first of refusals 1, 2 and 4. Past the
-// numbers read the window stays.
+// The numbers of the operation at a place, in front of the window, where the counts are as given; or the first of
+// refusals 1, 2 and 4. Past the numbers read the window stays.
 pub fn read_operation(
     plan: &[u8],
     at: usize,
@@ -149,8 +150,8 @@ fn finished(plan: &[u8], c: Cursor) -> Told
     }
 }
 
-// The numbers of a stored plan in front of the array, with their length as the answer; or the first of refusals 1 to 5, with the numbers read
-// before it. Past the numbers read the array stays.
+// The numbers of a stored plan in front of the array, with their length as the answer; or the first of refusals 1 to 5,
+// with the numbers read before it. Past the numbers read the array stays.
 pub fn read_numbers(plan: &[u8], numbers: &mut [u64; PLAN_NUMBERS]) -> Told
     ensures told { λ r. ⌜ Numbers-read (now (plan .entry)) r (now (numbers .exit)) ⌝ }
     ensures array { λ _. ⌜ now (numbers .exit) ≡ in-front (scanned (now (plan .entry)) .got) (now (numbers .entry)) ⌝ }
@@ -159,8 +160,9 @@ pub fn read_numbers(plan: &[u8], numbers: &mut [u64; PLAN_NUMBERS]) -> Told
     finished(plan, c)
 }
 
-// The rest of a plan whose head was read, from a place on: the head's numbers and then those of its operations in front of the array, with their
-// length as the answer; or the head's refusal, or the first of refusals 1 to 4 after it. Past the numbers read the array stays.
+// The rest of a plan whose head was read, from a place on: the head's numbers and then those of its operations in front
+// of the array, with their length as the answer; or the head's refusal, or the first of refusals 1 to 4 after it. Past
+// the numbers read the array stays.
 pub fn read_rest(
     plan: &[u8],
     at: usize,

@@ -95,7 +95,8 @@ module _ (g : Option ℕ) (m : Placed) (ms : List Placed) where
   unfolding free-after
   after-use e = rw (kind-use m e)
 
--- ---- where what is asked comes from: a use and its own free, a free and a mark of the holding after it, the free before the first mark
+-- ---- where what is asked comes from: a use and its own free, a free and a mark of the holding after it, the free
+-- before the first mark
 pub data Origin (g : Option ℕ) (ms : List Placed) (a : Ask) : Type 0 where
   own : (k l : ℕ) → k < l → l < length ms → No-free ms k l → Frees ms l → a ≡ ask (mark-at ms k .by) (mark-at ms l .by) true → Origin g ms a
   later : (l k : ℕ) → l < k → k < length ms → Frees ms l → No-free ms (suc l) k → a ≡ ask (mark-at ms l .by) (mark-at ms k .by) false → Origin g ms a

@@ -70,7 +70,7 @@ module _ (bs : List ℕ) (t l : ℕ) where
       (λ nine. room-case good nine (room-refused bs t l good (other-given room (λ z. omega arith)))))
       (λ a. let bad = eqb-false (plan-refusal bs .number) 0 a in plan-case bad (plan-refused bs t l (other-given (plan-refusal bs) bad)))
 
-  -- ---- no number is given on other grounds, and each leaves what its class does
+  -- ---- R55, R56: there are no other numbers, and each leaves what its class does
   -- a refusal of the plan has no other number
   not-plan : {o : Outcome} (n : ℕ) → member n (0 ∷ plan-gives) ≡ false → o ≡ outcome (plan-refusal bs) untouched →
       o .refusal .number ≡ n → ⊥

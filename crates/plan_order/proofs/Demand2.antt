@@ -1,4 +1,5 @@
--- Demand 2 for any plan: rows count what is at or before, tell it by epochs, and merge; before is what every full run forces. Assumes nothing.
+-- Demand 2 for any plan: rows count what is at or before, tell it by epochs, and merge; before is what every full run
+-- forces. Assumes nothing.
 use mathlib.Core.Path.{_≡_, refl, sym, ap, ap₂, _∙_}
 use mathlib.Core.List.{List, [], _∷_}
 use Prim.Native.Nat.{ℕ, _+_, _*_, _≤_, _<_, max}

@@ -1,4 +1,5 @@
--- What keeping asks is asked of operations that mark the buffer; what before forces every full run keeps, and what it does not force some full run breaks. Assumes nothing.
+-- What keeping asks is asked of operations that mark the buffer; what before forces every full run keeps, and what it
+-- does not force some full run breaks. Assumes nothing.
 use mathlib.Core.Path.{_≡_, refl, sym, subst}
 use mathlib.Core.Bool.{Bool, true, false, _&&_, _||_, not, true≢false}
 use mathlib.Core.List.{List, [], _∷_, _++_, List·Memᴰ, List·Memᴰ·not-nil, List·Memᴰ·cases-cons, List·Memᴰ·append-cases}

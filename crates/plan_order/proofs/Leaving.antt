@@ -17,7 +17,7 @@ pub data Left-case (own : List ℕ) (o : Outcome) : Type 0 where
   left-zeros : One-of order-numbers (o .refusal .number) → o .leaves ≡ zeros → Left-case own o
   left-rows : None-or own (o .refusal .number) → o .leaves ≡ rows-and-run → Left-case own o
 
--- no number is given on other grounds
+-- R55: there are no other reasons for a refusal
 pub left-number : (own : List ℕ) (o : Outcome) → Left-case own o → None-or (check-gives ++ own) (o .refusal .number)
 left-number own o (left-untouched c e) =
     let n = o .refusal .number in

@@ -1,4 +1,4 @@
--- The marks on a buffer: every mark of every operation, in plan order, inside one operation in list order. Assumes nothing.
+-- R30, the marks on a buffer: every mark of every operation, by operation and then by place. Assumes nothing.
 use mathlib.Core.Path.{_≡_, refl, sym, ap, ap₂, _∙_, subst, subst₂}
 use mathlib.Core.Bool.{cond}
 use mathlib.Core.Logic.{_⊎_, inl, inr, _↔_}
@@ -110,7 +110,7 @@ from-every i b (suc j) n (o ∷ os) l e =
     Memᴰ·append-right (located-of i b 0 (o .marks))
     (subst (λ (z : ℕ). List·Memᴰ (located z n (mark-in (getD os j empty-operation .marks) n .kind)) (located-from (suc i) b os)) (let q : suc i + j ≡ i + suc j = omega arith in q) (from-every (suc i) b j n os l e))
 
--- ---- in plan order, inside one operation in list order
+-- ---- R30: by operation, then by place in its list
 abbrev Earlier : (x y : Located) → Type 0
 Earlier x y = (x .by < y .by) ⊎ ((x .by ≡ y .by) × (x .place < y .place))
 

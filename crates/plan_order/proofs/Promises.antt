@@ -40,7 +40,7 @@ of-good bs g = demand-3 (plan-in bs) (good-sound bs g)
 safe-passed : (bs : List ℕ) → passed bs ≡ true → Safe (plan-in bs)
 safe-passed bs h = let g = passed-good bs h in of-good bs (g .0) .exactly .0 (g .1)
 
--- ---- paper 03's statements
+-- ---- the statements over stored plans
 pub passed-keeps : Passed-keeps
 unfolding Passed-keeps
 passed-keeps bs r b h f = safe-passed bs h .1 r b f

@@ -1,4 +1,5 @@
--- The reuse question: the plan first, then the queue, then the buffer, then the verdict; what each leaves. Assumes nothing.
+-- The reuse question: the plan first, then the queue, then the buffer, then the verdict; what each leaves. Assumes
+-- nothing.
 use mathlib.Core.Path.{_≡_, refl, sym, _∙_, subst}
 use mathlib.Core.Bool.{true}
 use mathlib.Core.Logic.{_↔_}

@@ -1,4 +1,5 @@
--- Readiness only grows with what has run, and after a run an operation is enabled exactly when all that is directly before it has run. Assumes nothing.
+-- Readiness only grows with what has run, and after a run an operation is enabled exactly when all that is directly
+-- before it has run. Assumes nothing.
 use mathlib.Core.Path.{_≡_, refl, sym, subst}
 use mathlib.Core.Bool.{Bool, true, false, _&&_, _||_, not, false≢true}
 use mathlib.Core.Logic.{_↔_}

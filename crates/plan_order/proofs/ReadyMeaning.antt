@@ -1,4 +1,5 @@
--- A queue has at most one ready operation; the number ready is the number of ready queues; what the run list holds. Assumes nothing.
+-- A queue has at most one ready operation; the number ready is the number of ready queues; what the run list holds.
+-- Assumes nothing.
 use mathlib.Core.Path.{_≡_, refl, sym, ap, _∙_}
 use mathlib.Core.Bool.{true}
 use mathlib.Core.Logic.{_↔_}

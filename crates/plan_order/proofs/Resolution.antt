@@ -1,4 +1,5 @@
--- What a wait resolves to: nothing where it is for 0, else the least signal that is high enough, or never. Assumes nothing.
+-- What a wait resolves to: nothing where it is for 0, else the least signal that is high enough, or never. Assumes
+-- nothing.
 use mathlib.Core.Path.{_≡_, refl, sym, ap, _∙_, subst}
 use mathlib.Core.Bool.{true, false, false≢true}
 use mathlib.Core.Logic.{_⊎_, inl, inr}
@@ -64,7 +65,7 @@ value-at s v [] k l a b = absurd (not-suc-le-zero l)
 value-at s v (x ∷ xs) zero l a b = value-here s v x xs a b
 value-at s v (x ∷ xs) (suc k) l a b = value-there s v x xs (value-at s v xs k (le-of-suc-le-suc l) a b)
 
--- a signal stands where it says: its operation, its position there, its semaphore and value
+-- a signal is where it says: its operation, its position there, its semaphore and value
 pub record Signalled (os : List Operation) (i : ℕ) (y : Signal) : Type 0 where
   pub low : i ≤ y .operation
   pub high : y .operation < length os + i

@@ -1,4 +1,5 @@
--- Epochs and rows count what they should: operations up to one on its queue, and those at or before one. Assumes nothing.
+-- Epochs and rows count what they should: operations up to one on its queue, and those at or before one. Assumes
+-- nothing.
 use mathlib.Core.Path.{_≡_, sym, _∙_}
 use mathlib.Core.Bool.{_&&_}
 use mathlib.Core.Logic.{_↔_}

@@ -1,4 +1,5 @@
--- The standard run is a run, takes the lowest ready queue at each step, and has every operation that is in any run. Assumes nothing.
+-- The standard run is a run, takes the lowest ready queue at each step, and has every operation that is in any run.
+-- Assumes nothing.
 use mathlib.Core.Path.{_≡_, refl}
 use mathlib.Core.Bool.{true, false, _&&_, not}
 use mathlib.Core.List.{List}
@@ -41,7 +42,7 @@ module _ (p : Plan) where
       let w = first-some (λ q. ready-on p r q) (queues p) 0 j e in
       ready-on-gives r (w .0) j (w .3) .1
 
-  -- of all ready queues the one with the lowest position
+  -- R27: the lowest ready queue
   pub next-lowest : (r : List ℕ) (j : ℕ) → next p r ≡ some j → (k : ℕ) → ready p r k ≡ true → op p j .queue ≤ op p k .queue
   unfolding next
   next-lowest r j e k h =

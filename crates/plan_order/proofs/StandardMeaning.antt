@@ -1,4 +1,5 @@
--- The standard run is the one that takes the lowest ready queue at each step until nothing is ready; what it lacks is in no run. Assumes nothing.
+-- The standard run is the one that takes the lowest ready queue at each step until nothing is ready; what it lacks is
+-- in no run. Assumes nothing.
 use mathlib.Core.Path.{_≡_, refl, sym, _∙_, subst}
 use mathlib.Core.Bool.{true}
 use mathlib.Core.Logic.{_↔_}

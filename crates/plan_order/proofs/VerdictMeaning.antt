@@ -179,7 +179,7 @@ module _ (p : Plan) (q b : ℕ) where
       is-stray (w .0) (last-is (w .0) (w .1)) (kind-free (w .0) (w .2)) (seen-means p q (w .0 .by) .1 (w .3))
       (all-no sees marks (n .0) (n .1) (sees-not (n .0 .by) (λ v. x .2 (subst (λ (z : ℕ). Seen p q z) (n .2) v))))
 
-  -- 01, the table of verdicts
+  -- R58, the table of verdicts
   pub verdict-means : (v : Verdict) → (verdict p q b ≡ v) ↔ When p q b v
   verdict-means v = ((λ e. subst (λ (z : Verdict). When p q b z) e table), when-is v)
 

@@ -1,5 +1,5 @@
--- The check of a plan: refusals 9 to 11, what a call tells and what it leaves in table and list (01, "Numbers handed back").
--- Assumes nothing: these are definitions.
+-- The check of a plan: refusals 9 to 11, what a call tells and what it leaves in table and list. Assumes nothing: these
+-- are definitions.
 use mathlib.Core.Path.{_≡_}
 use mathlib.Core.Bool.{cond}
 use mathlib.Core.List.{List}
@@ -17,7 +17,7 @@ use Rattle.plan_order.specs.Rows.{rows}
 use Rattle.plan_order.specs.Runs.{missing, run-list}
 use Rattle.plan_order.specs.Holdings.{broken}
 
--- 01: "9: lent table under 16 numbers for each operation, or lent run list under two for each", "table before list"
+-- R46, refusal 9: sixteen numbers of the table and two of the run list for each operation; R55: the table first
 unfoldable pub room-refusal : (n table list : ℕ) → Refusal
 room-refusal n t l = or-else (room-for (row-width * n) t) (room-for (2 * n) l)
 
@@ -25,11 +25,11 @@ unfoldable pub refused-at : (number : ℕ) → (place : Option ℕ) → (otherwi
 refused-at n none r = r
 refused-at n (some i) r = refusal n i
 
--- 01: "10: stuck: no full run; lowest operation that is in no run. 11: a broken mark; lowest operation with one."
+-- R47, R48: 10 at the lowest operation that no run has, then 11 at the lowest with a broken mark
 unfoldable pub order-refusal : Plan → Refusal
 order-refusal p = refused-at 10 (missing p) (refused-at 11 (broken p) none-given)
 
--- what is left in table and list
+-- R56: what is left in table and list
 pub data Leaves : Type 0 where
   untouched : Leaves
   zeros : Leaves
@@ -46,12 +46,13 @@ outcome f l = record { refusal = f; leaves = l }
 unfoldable pub or-then : Outcome → Outcome → Outcome
 or-then a b = cond (given (a .refusal)) a b
 
--- 01: "then 9, table before list; then 10; then 11", "No number is given on other grounds."; "Refusals 1 to 9 leave table and list untouched. 10 and 11 leave zeros .. A pass, any answer, and 12, 13, 15 and 21 leave the rows
--- and the run there"
+-- R55, the order of 9, 10 and 11, each with what it leaves by R56; a pass leaves rows and run
 abbrev pub order-outcome : Plan → (table list : ℕ) → Outcome
 order-outcome p t l =
-    or-then (outcome (room-refusal (count p) t l) untouched) (or-then (outcome (order-refusal p) zeros) (outcome none-given rows-and-run))
+    or-then (outcome (room-refusal (count p) t l) untouched)
+    (or-then (outcome (order-refusal p) zeros) (outcome none-given rows-and-run))
 
+-- R53 to R55: the plan first
 unfoldable pub check-outcome : (bytes : List ℕ) → (table list : ℕ) → Outcome
 check-outcome bs t l = or-then (outcome (plan-refusal bs) untouched) (order-outcome (plan-in bs) t l)
 
@@ -59,7 +60,7 @@ check-outcome bs t l = or-then (outcome (plan-refusal bs) untouched) (order-outc
 unfoldable pub plan-outcome : Plan → (table list : ℕ) → Outcome
 plan-outcome p t l = or-then (outcome (rules-refusal p) untouched) (order-outcome p t l)
 
--- 01: "zeros in the first 16 × n numbers of the table and the first 2 × n of the list", "Numbers past those are never touched."
+-- R56: the front holds zeros or what is new, and what is past it stays
 unfoldable pub left-in : Leaves → (size : ℕ) → (new old : List ℕ) → List ℕ
 left-in untouched k new old = old
 left-in zeros k new old = in-front (replicate k 0) old

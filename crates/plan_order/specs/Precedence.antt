@@ -1,5 +1,5 @@
--- What waits resolve to, and what is before what: the happens-before order of a plan (01, "Order between operations").
--- Assumes nothing: these are definitions.
+-- What waits resolve to, and what is before what: the happens-before order of a plan. Assumes nothing: these are
+-- definitions.
 use mathlib.Core.Bool.{Bool, false, _&&_, _||_, cond}
 use mathlib.Core.List.{List, [], _∷_, _++_}
 use mathlib.Core.Option.{Option, none, some}
@@ -29,10 +29,11 @@ signals-from i (o ∷ os) = signals-of i 0 (o .signals) ++ signals-from (suc i) 
 unfoldable pub plan-signals : Plan → List Signal
 plan-signals p = signals-from 0 (p .operations)
 
+-- R17: the signal is on the semaphore and has at least the value that is waited for
 unfoldable pub reaches : Point → Signal → Bool
 reaches w x = eqb (x .semaphore) (w .semaphore) && leb (w .value) (x .value)
 
--- the one with the least value, the first of equal ones
+-- R17: the one with the least value, the first of equal ones
 unfoldable pub nearer : Signal → Option Signal → Signal
 nearer x none = x
 nearer x (some y) = cond (ltb (y .value) (x .value)) y x
@@ -41,8 +42,8 @@ unfoldable pub nearest : Point → List Signal → Option Signal
 nearest w [] = none
 nearest w (x ∷ xs) = cond (reaches w x) (some (nearer x (nearest w xs))) (nearest w xs)
 
--- 01: "A wait for 0 is met at once and orders nothing. A wait for v above 0 resolves to the operation whose signal has the least value
--- that is at least v, never to a later one"; to none where no signal is high enough, which is refusal 8
+-- R17, resolution: a wait for a value above 0 rests on the signal with the least value that reaches it, or never ends,
+-- which is refusal 8; R18: a wait for 0 rests on nothing
 pub data Resolution : Type 0 where
   free : Resolution
   on : Signal → Resolution
@@ -67,12 +68,12 @@ any-rests-on p i (w ∷ ws) = rests-on (resolve p w) i || any-rests-on p i ws
 unfoldable pub same-queue : Plan → (i j : ℕ) → Bool
 same-queue p i j = eqb (op p i .queue) (op p j .queue)
 
--- 01: "i is before j when i is earlier on the same queue, or j has a wait resolved to i"
+-- R19, the steps of before: i is earlier on the queue of j, or a wait of j rests on i
 unfoldable pub direct : Plan → (i j : ℕ) → Bool
 direct p i j =
     (ltb i (count p) && ltb j (count p)) && ((ltb i j && same-queue p i j) || any-rests-on p i (op p j .waits))
 
--- 01: "or by a chain of these"
+-- R19, before: the transitive closure of these
 abbrev pub Before : Plan → (i j : ℕ) → Type 0
 Before p i j = Chain (λ i j. direct p i j) i j
 

@@ -1,5 +1,5 @@
--- What is promised of plans: demands 2 and 3, for any sound plan and for stored plans. Each statement is proved in proofs/.
--- Assumes nothing: these are definitions.
+-- What is promised of plans: demands 2 and 3, for any sound plan and for stored plans. Each statement is proved in
+-- proofs/. Assumes nothing: these are definitions.
 use mathlib.Core.Path.{_≡_}
 use mathlib.Core.Bool.{Bool, true, false, _&&_, not, cond}
 use mathlib.Core.Logic.{_⊎_, _↔_}
@@ -27,15 +27,15 @@ use Rattle.plan_order.specs.Check.{room-refusal, order-refusal, Outcome,
 use Rattle.plan_order.specs.Reuse.{verdict, reuse-outcome}
 
 -- ---- DEMAND 3
--- 01: "10: stuck: no full run; lowest operation that is in no run"
+-- R47, refusal 10: no run is full, no run has operation i, and each lower one is in some run
 pub record Stuck-at (p : Plan) (i : ℕ) : Type 0 where
   pub inside : i < count p
   pub in-none : (r : List ℕ) → is-run p r ≡ true → member i r ≡ false
   pub no-full : (r : List ℕ) → is-full p r ≡ false
   pub lower : (k : ℕ) → k < i → (r : List ℕ) × (is-run p r ≡ true) × (member k r ≡ true)
 
--- 01: "11: a broken mark; lowest operation with one": a full run breaks what keeping asks of one of its own marks, and every full run has
--- what is asked of every mark of a lower operation
+-- R48, refusal 11: some full run breaks what keeping asks of a mark of operation i, and every full run has what is
+-- asked of the marks of lower operations
 pub record Broken-at (p : Plan) (i : ℕ) : Type 0 where
   pub inside : i < count p
   pub run : List ℕ
@@ -48,9 +48,10 @@ pub record Broken-at (p : Plan) (i : ℕ) : Type 0 where
   pub own : asked-of ask ≡ i
   pub unmet : met (λ i j. ahead run i j) ask ≡ false
   pub lower :
-      (b : ℕ) (a : Ask) → List·Memᴰ a (asks p b) → asked-of a < i → (r : List ℕ) → is-full p r ≡ true → met (λ i j. ahead r i j) a ≡ true
+      (b : ℕ) (a : Ask) → List·Memᴰ a (asks p b) → asked-of a < i → (r : List ℕ) → is-full p r ≡ true →
+      met (λ i j. ahead r i j) a ≡ true
 
--- demand 3: some full run exists and every full run keeps every buffer
+-- demand 3: there is a full run, and all full runs keep all buffers
 abbrev pub Safe : Plan → Type 0
 Safe p = ((r : List ℕ) × (is-full p r ≡ true)) × ((r : List ℕ) (b : ℕ) → is-full p r ≡ true → keeps p r b ≡ true)
 
@@ -73,11 +74,11 @@ unfoldable pub Demand-3-stored : (bytes : List ℕ) → (table list number place
 Demand-3-stored bs t l n i = unrefused bs t l ≡ true → Demand-3 (plan-in bs) n i
 
 -- ---- DEMAND 2
--- an entry of the table is the number of the queue's operations that are j or before j, by chains
+-- R20: an entry of the table is the number of the queue's operations that are j or before j, by chains
 unfoldable pub Demand-2 : Plan → (table : List ℕ) → Type 0
 Demand-2 p t = (j q : ℕ) → j < count p → q < row-width → Counts (In-column p j q) (getD t (row-width * j + q) 0)
 
--- what is worked out as before is before by chains
+-- R19: the closure that is computed is the one by chains
 unfoldable pub Before-right : Type 0
 Before-right = (bs : List ℕ) (i j : ℕ) → (before (plan-in bs) i j ≡ true) ↔ Before (plan-in bs) i j
 
@@ -98,15 +99,18 @@ unfoldable pub most-of : Plan → (q : ℕ) → List ℕ → ℕ
 most-of p q [] = 0
 most-of p q (k ∷ ks) = max (getD (row p k) q 0) (most-of p q ks)
 
--- a row is merged from rows of direct predecessors that have every other one at or before one of them, and the own epoch
+-- a row is merged from rows of direct predecessors that have every other one at or before one of them, and the own
+-- epoch
 unfoldable pub Row-step : Plan → Type 0
 Row-step p =
     (j : ℕ) (ks : List ℕ) → j < count p → ((k : ℕ) → member k ks ≡ true → direct p k j ≡ true) →
-    ((i : ℕ) → direct p i j ≡ true → (k : ℕ) × (member k ks ≡ true) × (at-or-before p i k ≡ true)) → (q : ℕ) → q < row-width →
+    ((i : ℕ) → direct p i j ≡ true → (k : ℕ) × (member k ks ≡ true) × (at-or-before p i k ≡ true)) →
+    (q : ℕ) → q < row-width →
     getD (row p j) q 0 ≡ max (cond (eqb (op p j .queue) q) (epoch p j) 0) (most-of p q ks)
 
 -- ---- THE STANDARD RUN
--- of a sound plan: it is a run, has every operation that is in any run, and takes the lowest ready queue at each step
+-- R27, of a sound plan: it is a run, has every operation that is in any run, and takes the lowest ready queue at each
+-- step
 pub record Standard-right (p : Plan) : Type 0 where
   pub a-run : is-run p (standard p) ≡ true
   pub has-all : (r : List ℕ) (j : ℕ) → is-run p r ≡ true → member j r ≡ true → member j (standard p) ≡ true
@@ -115,7 +119,7 @@ pub record Standard-right (p : Plan) : Type 0 where
   pub lowest : (r : List ℕ) (j k : ℕ) → next p r ≡ some j → ready p r k ≡ true → op p j .queue ≤ op p k .queue
   pub ends : (j : ℕ) → ready p (standard p) j ≡ false
 
--- ---- paper 03's statements, over stored plans
+-- ---- OVER STORED PLANS
 -- a plan that gets none of refusals 1 to 8
 unfoldable pub good : List ℕ → Bool
 good bs = all-bytes bs && eqb (plan-refusal bs .number) 0
@@ -124,7 +128,8 @@ unfoldable pub passed : List ℕ → Bool
 passed bs = good bs && eqb (order-refusal (plan-in bs) .number) 0
 
 unfoldable pub Passed-keeps : Type 0
-Passed-keeps = (bs r : List ℕ) (b : ℕ) → passed bs ≡ true → is-full (plan-in bs) r ≡ true → keeps (plan-in bs) r b ≡ true
+Passed-keeps =
+    (bs r : List ℕ) (b : ℕ) → passed bs ≡ true → is-full (plan-in bs) r ≡ true → keeps (plan-in bs) r b ≡ true
 
 unfoldable pub Passed-runs : Type 0
 Passed-runs = (bs : List ℕ) → passed bs ≡ true → (r : List ℕ) × (is-full (plan-in bs) r ≡ true)
@@ -139,11 +144,13 @@ Raises = (bs r : List ℕ) → good bs ≡ true → is-run (plan-in bs) r ≡ tr
 
 unfoldable pub Stuck-truly : Type 0
 Stuck-truly =
-    (bs : List ℕ) → good bs ≡ true → order-refusal (plan-in bs) .number ≡ 10 → Stuck-at (plan-in bs) (order-refusal (plan-in bs) .place)
+    (bs : List ℕ) → good bs ≡ true → order-refusal (plan-in bs) .number ≡ 10 →
+    Stuck-at (plan-in bs) (order-refusal (plan-in bs) .place)
 
 unfoldable pub Broken-truly : Type 0
 Broken-truly =
-    (bs : List ℕ) → good bs ≡ true → order-refusal (plan-in bs) .number ≡ 11 → Broken-at (plan-in bs) (order-refusal (plan-in bs) .place)
+    (bs : List ℕ) → good bs ≡ true → order-refusal (plan-in bs) .number ≡ 11 →
+    Broken-at (plan-in bs) (order-refusal (plan-in bs) .place)
 
 unfoldable pub None-itself : Type 0
 None-itself = (bs : List ℕ) (j : ℕ) → passed bs ≡ true → before (plan-in bs) j j ≡ false
@@ -178,6 +185,6 @@ pub record Judged-alike (bs cs : List ℕ) : Type 0 where
   pub run-of : run-list (plan-in bs) ≡ run-list (plan-in cs)
   pub verdict-of : (q b : ℕ) → verdict (plan-in bs) q b ≡ verdict (plan-in cs) q b
 
--- one byte more than the longest plan has decides all that is answered
+-- R75, long input: one byte more than the longest plan has decides all that is answered
 unfoldable pub First-bytes : Type 0
 First-bytes = (bs : List ℕ) → Judged-alike bs (take (plan-bytes + 1) bs)

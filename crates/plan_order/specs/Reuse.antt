@@ -1,4 +1,4 @@
--- The reuse question (01, "The reuse question"). Assumes nothing: these are definitions.
+-- The reuse question: its verdicts, refusals and outcome. Assumes nothing: these are definitions.
 use mathlib.Core.Bool.{Bool, false, not, cond}
 use mathlib.Core.List.{List, [], _∷_}
 use mathlib.Core.Option.{Option, none, some}
@@ -16,7 +16,7 @@ use Rattle.plan_order.specs.Check.{Outcome, outcome, or-then, rows-and-r
 use Rattle.plan_order.specs.declared.Verdict.{Verdict}
 use Rattle.plan_order.specs.declared.Verdict.the-variants.{Fresh, Reusable, Held, NotOrdered, StrayUse}
 
--- 01: "0 fresh, 1 reusable, 2 held, 3 not ordered, 4 stray use"
+-- R58: the number of a verdict
 unfoldable pub number-of : Verdict → ℕ
 number-of Fresh = 0
 number-of Reusable = 1
@@ -28,7 +28,7 @@ number-of StrayUse = 4
 unfoldable pub last-on : Plan → (q : ℕ) → Option ℕ
 last-on p q = highest-below (count p) (λ i. eqb (op p i .queue) q)
 
--- i is the last operation or before it; with no operation on the queue it is not
+-- R58: seen by the queue, i is its last operation or before it; a queue without operations sees none
 unfoldable pub seen-by : Plan → (last : Option ℕ) → (i : ℕ) → Bool
 seen-by p none i = false
 seen-by p (some j) i = at-or-before p i j
@@ -38,9 +38,7 @@ last-mark [] = none
 last-mark (m ∷ []) = some m
 last-mark (m ∷ n ∷ ms) = last-mark (n ∷ ms)
 
--- 01: "fresh: the buffer has no mark. held: its last mark is a use. reusable: the last mark is a free, and every operation with a mark on
--- it is the queue's last operation or before it. stray use: the last mark is a free that is so placed, but another marked operation
--- isn't. not ordered: otherwise, also for a queue with no operations"
+-- R58, verdicts: by the last mark on the buffer, and by which of the operations with a mark are seen
 unfoldable pub verdict-on : Plan → (last : Option ℕ) → (marks : List Placed) → (last-mark : Option Placed) → Verdict
 verdict-on p j ms none = Fresh
 verdict-on p j ms (some m) =
@@ -50,12 +48,12 @@ verdict-on p j ms (some m) =
 unfoldable pub verdict : Plan → (q b : ℕ) → Verdict
 verdict p q b = let ms = buffer-marks p b in verdict-on p (last-on p q) ms (last-mark ms)
 
--- 01: "12, 13: question names no such queue; no such buffer, place the number asked"
+-- R49, refusals 12 and 13: no such queue, then no such buffer, with the number that was asked
 unfoldable pub question-refusal : Plan → (q b : ℕ) → Refusal
 question-refusal p q b =
     or-else (cond (leb (queues p) q) (refusal 12 q) none-given) (cond (leb (length (p .sizes)) b) (refusal 13 b) none-given)
 
--- 01: "The plan is checked first."
+-- R57: the check first, then the question; R56: the question leaves rows and run
 unfoldable pub reuse-outcome : (bytes : List ℕ) → (q b table list : ℕ) → Outcome
 reuse-outcome bs q b t l =
     or-then (check-outcome bs t l) (outcome (question-refusal (plan-in bs) q b) rows-and-run)

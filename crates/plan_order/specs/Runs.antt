@@ -1,4 +1,4 @@
--- Runs of a plan, raising in order, and the standard run (01, "Runs"). Assumes nothing: these are definitions.
+-- Runs of a plan, raising in order, and the standard run. Assumes nothing: these are definitions.
 use mathlib.Core.Bool.{Bool, true, _&&_, _||_, not}
 use mathlib.Core.List.{List, [], _∷_, _++_}
 use mathlib.Core.Option.{Option}
@@ -12,32 +12,32 @@ use Rattle.plan_format.specs.Plan.{Point, Plan, count, op, queues}
 use Rattle.plan_format.specs.Sound.{highest-in}
 use Rattle.plan_order.specs.Precedence.{same-queue}
 
--- 01: "the highest value signalled so far on that semaphore"
+-- R22: how far a semaphore has come in a run
 unfoldable pub reached : Plan → (s : ℕ) → (run : List ℕ) → ℕ
 reached p s [] = 0
 reached p s (i ∷ is) = max (highest-in s (op p i .signals)) (reached p s is)
 
--- 01: "each of its waits is met: the highest value signalled so far on that semaphore is at least the value waited for"
+-- R22, wait met: the semaphore has come to the value; R18: to 0 it has from the start
 unfoldable pub wait-met : Plan → (run : List ℕ) → Point → Bool
 wait-met p r w = leb (w .value) (reached p (w .semaphore) r)
 
--- 01: "Each, at its turn, has all earlier operations of its queue already in the run"
+-- R21: all earlier operations of the queue are in the run
 unfoldable pub earlier-run : Plan → (run : List ℕ) → (j : ℕ) → Bool
 earlier-run p r j = all-below j (λ i. not (same-queue p i j) || member i r)
 
 unfoldable pub enabled : Plan → (run : List ℕ) → (j : ℕ) → Bool
 enabled p r j = earlier-run p r j && all (λ w. wait-met p r w) (op p j .waits)
 
--- what may come next: an operation of the plan that has not run and is enabled
+-- R25, ready: an operation of the plan that has not run and is enabled
 unfoldable pub ready : Plan → (run : List ℕ) → (j : ℕ) → Bool
 ready p r j = can (count p) (λ r j. enabled p r j) r j
 
--- 01: "A run is a list of distinct operations. Each, at its turn, has .."; "A wait holds its queue": what is after a
--- wait that is not met does not run, and a wait for a later signal of its own queue is never met
+-- R21, run: each operation is ready at its turn. R23: what is after a wait that is not met does not run, and a wait for
+-- a later signal of its own queue is never met
 unfoldable pub is-run : Plan → List ℕ → Bool
 is-run p r = runs (count p) (λ r j. enabled p r j) [] r
 
--- 01: "A full run has every operation."
+-- R24, full run: none is missing
 unfoldable pub is-full : Plan → List ℕ → Bool
 is-full p r = is-run p r && eqb (length r) (count p)
 
@@ -45,8 +45,7 @@ is-full p r = is-run p r && eqb (length r) (count p)
 unfoldable pub ahead : (run : List ℕ) → (i j : ℕ) → Bool
 ahead r i j = ltb (step-of 0 r i) (step-of 0 r j)
 
--- 01: "A run raises a semaphore in order if each signal of that semaphore in the run, by step and then in list order, is above 0 and
--- above every earlier one."
+-- R26, raising in order: the signals of a run, step by step and then in list order, strictly rise on each semaphore
 unfoldable pub points-rise : (earlier rest : List Point) → Bool
 points-rise got [] = true
 points-rise got (x ∷ xs) = ltb (highest-in (x .semaphore) got) (x .value) && points-rise (x ∷ got) xs
@@ -58,19 +57,18 @@ run-points p (j ∷ js) = op p j .signals ++ run-points p js
 unfoldable pub raises-in-order : Plan → (run : List ℕ) → Bool
 raises-in-order p r = points-rise [] (run-points p r)
 
--- the ready operation of a queue, if it has one; 01: "An operation, and so its queue, is ready after a run if adding the operation at the
--- end gives a run."
+-- R25, ready queue: its ready operation, if it has one
 unfoldable pub ready-on : Plan → (run : List ℕ) → (q : ℕ) → Option ℕ
 ready-on p r q = lowest-below (count p) (λ j. eqb (op p j .queue) q && ready p r j)
 
--- 01: "The standard run takes at each step, of all ready queues, the one with the lowest position."
+-- R27, standard run: always the ready operation of the lowest ready queue
 unfoldable pub next : Plan → (run : List ℕ) → Option ℕ
 next p r = first-below (queues p) (λ q. ready-on p r q)
 
 unfoldable pub standard : Plan → List ℕ
 standard p = greedy (λ r. next p r) (count p) []
 
--- 01: "the number ready before each step"
+-- R28, ready number: how many queues are ready after a run
 unfoldable pub number-ready : Plan → (run : List ℕ) → ℕ
 number-ready p r = tally (queues p) (λ q. is-some (ready-on p r q))
 
@@ -78,10 +76,10 @@ unfoldable pub ready-numbers : Plan → (done rest : List ℕ) → List ℕ
 ready-numbers p r [] = []
 ready-numbers p r (j ∷ js) = number-ready p r ∷ ready-numbers p (r ++ (j ∷ [])) js
 
--- 01: "The run list holds the n positions in run order, then the n ready numbers."
+-- R29, run list: the standard run, then the ready numbers of its steps
 unfoldable pub run-list : Plan → List ℕ
 run-list p = let r = standard p in r ++ ready-numbers p [] r
 
--- 01: "lowest operation that is in no run"
+-- R47, refusal 10: the lowest operation that the standard run, and so every run, is without
 unfoldable pub missing : Plan → Option ℕ
 missing p = let r = standard p in lowest-below (count p) (λ j. not (member j r))

@@ -1,6 +1,6 @@
 // The verdicts of the reuse question; what is before what, runs and holdings are in specs/, their theorems in proofs/.
 
-// 01, "The reuse question".
+// R58: the verdicts.
 pub enum Verdict {
     Fresh,
     Reusable,

@@ -15,9 +15,7 @@ pub record Heading-told (bytes : List ℕ) (at : ℕ) (h : Heading) : Type 0 whe
   pub told : Head-told (drop at bytes) (replicate head-numbers 0) (h .head) (h .numbers)
   pub means : Head-read (drop at bytes) (h .head) (h .numbers)
 
--- 01: "A success hands back 0 and, beside it, the length. A refusal leaves the room untouched; past the length nothing
--- is touched.": the
--- numbers of the head and of what follows it at a place
+-- R13, handed back, of the numbers of a head and of what follows it at a place
 unfoldable pub Rest-says : (bytes : List ℕ) → (at : ℕ) → Heading → Told → (room room-now : List ℕ) → Type 0
 Rest-says bs at h r o x =
     let s = rest-scan bs at (h .head) (h .numbers) in

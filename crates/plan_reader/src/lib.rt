@@ -1,4 +1,4 @@
-// The reader of stored plans: the numbers of the bytes, stored in the room that the caller lends.
+// R10, R12 and R13, the reader: the numbers of the bytes, stored in the room that the caller lends.
 use plan_format::Told;
 use plan_format::limits::HEAD_NUMBERS;
 use plan_format::limits::PLAN_NUMBERS;
@@ -48,7 +48,8 @@ fn into_room(told: Told, numbers: &[u64; PLAN_NUMBERS], room: &mut [u64]) -> Tol
     }
 }
 
-// The numbers of a stored plan in front of the room, with their length as the answer; or a refusal, and the room untouched.
+// The numbers of a stored plan in front of the room, with their length as the answer; or a refusal, and the room
+// untouched.
 pub fn read_plan(plan: &[u8], room: &mut [u64]) -> Told
     ensures says { λ r. ⌜ Read-says (now (plan .entry)) r (now (room .entry)) (now (room .exit)) ⌝ }
     ensures means { λ r. ⌜ Read-means (now (plan .entry)) r (now (room .entry)) (now (room .exit)) ⌝ }
@@ -80,8 +81,8 @@ pub fn read_heading(plan: &[u8], at: usize) -> Heading
     Heading { head, numbers }
 }
 
-// The numbers of a plan whose head was read, its operations from a place on, in front of the room, with their length as the answer; or a refusal,
-// and the room untouched.
+// The numbers of a plan whose head was read, its operations from a place on, in front of the room, with their length as
+// the answer; or a refusal, and the room untouched.
 pub fn read_rest(plan: &[u8], at: usize, h: Heading, room: &mut [u64]) -> Told
     ensures { λ r. ⌜ Rest-says (now (plan .entry)) at h r (now (room .entry)) (now (room .exit)) ⌝ }
 {

@@ -1,5 +1,5 @@
--- Refusals 6 and 7 over all signals of a plan in one list, by a table of last values: where none is given the last value of a semaphore
--- is its highest. Assumes nothing.
+-- Refusals 6 and 7 over all signals of a plan in one list, by a table of last values: where none is given the last
+-- value of a semaphore is its highest. Assumes nothing.
 use mathlib.Core.Path.{_≡_, refl, sym, ap, _∙_, subst}
 use mathlib.Core.Bool.{false, cond}
 use mathlib.Core.List.{List, [], _∷_, _++_, List·Memᴰ, List·Memᴰ·not-nil, List·Memᴰ·cases-cons, List·Memᴰ·append-cases}

@@ -1,4 +1,5 @@
--- Refusals 6 and 7 as a walk over the columns of a plan, with a table of last values. Assumes nothing: these are definitions.
+-- R43, R44: refusals 6 and 7 as a walk over the columns of a plan, with a table of last values. Assumes nothing: these
+-- are definitions.
 use mathlib.Core.Path.{_≡_}
 use mathlib.Core.Bool.{cond}
 use mathlib.Core.List.{List, []}

@@ -1,4 +1,4 @@
-// Refusals 6 and 7 of a plan: each signal is its owner's, and above the last of its semaphore.
+// R43 and R44, refusals 6 and 7: each signal is its owner's, and above the last of its semaphore.
 use plan_columns::LastValues;
 use plan_columns::OwnerColumn;
 use plan_columns::QueueColumn;
@@ -17,8 +17,8 @@ pub struct Signalled {
     pub last: LastValues,
 }
 
-// 6 or 7 at the first signal that breaks a rule, or none; and the last values of the signals before it. By the columns of a plan the refusal
-// is the plan's, and where there is none the last values of its semaphores are the highest.
+// 6 or 7 at the first signal that breaks a rule, or none; and the last values of the signals before it. By the columns
+// of a plan the refusal is the plan's, and where there is none the last values of its semaphores are the highest.
 pub fn judge(
     signals: usize,
     owner: &OwnerColumn,

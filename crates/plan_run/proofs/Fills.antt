@@ -1,4 +1,5 @@
--- The row of an operation that runs: merged from the rows of its queue's last operation and of its sources. Assumes nothing.
+-- The row of an operation that runs: merged from the rows of its queue's last operation and of its sources. Assumes
+-- nothing.
 use mathlib.Core.Path.{_≡_, refl, sym, ap, ap₂, _∙_, subst}
 use mathlib.Core.Bool.{Bool, true, false, cond}
 use mathlib.Core.Logic.{inl}

@@ -1,4 +1,5 @@
--- The ready word after a run: its bits are the ready queues, its lowest bit the queue that goes next, its ones the number ready. Assumes nothing.
+-- The ready word after a run: its bits are the ready queues, its lowest bit the queue that goes next, its ones the
+-- number ready. Assumes nothing.
 use mathlib.Core.Path.{_≡_, sym, ap, _∙_, subst}
 use mathlib.Core.Bool.{Bool, true, false, _&&_, cond}
 use mathlib.Core.List.{List}

@@ -1,4 +1,5 @@
--- The source column and what is directly before an operation by a wait; what holds an operation, by its three sources. Assumes nothing.
+-- The source column and what is directly before an operation by a wait; what holds an operation, by its three sources.
+-- Assumes nothing.
 use mathlib.Core.Path.{_≡_, refl, sym, ap, _∙_, subst}
 use mathlib.Core.Bool.{true, false≢true}
 use mathlib.Core.Logic.{_⊎_, inl, inr}
@@ -42,7 +43,7 @@ module _ (p : Plan) (n : ℕ) (queue source : List ℕ) (shown : Run-given p n q
       (λ f. subst (λ (x : Point). Rest p j (source-of (resolve p x))) (sym (List·getD-eq-default (op p j .waits) no-point (ltb-false k (length (op p j .waits)) f)))
       (unfold resolve source-of in on-nothing)))
 
-  -- what a wait of j rests on stands at one of its three places
+  -- what a wait of j rests on is at one of its three places
   pub source-has : (j : ℕ) → j < count p → (w : Point) → List·Memᴰ w (op p j .waits) → (i : ℕ) → rests-on (resolve p w) i ≡ true → (k : ℕ) × (k < 3) × (getD source (3 * j + k) 0 ≡ i)
   unfolding Source-column wait-at
   source-has j l w m i t =

@@ -1,4 +1,4 @@
--- Where the run stands on each queue after one operation more. Assumes nothing.
+-- Where the run is on each queue after one operation more. Assumes nothing.
 use mathlib.Core.Path.{_≡_, sym, ap, _∙_, subst}
 use mathlib.Core.Bool.{Bool, true, false, cond}
 use mathlib.Core.List.{List, [], _∷_, _++_}

@@ -1,4 +1,5 @@
--- The ready queues and the notes after a step: whoever can go is ready, whoever is held is noted at what holds it. Assumes nothing.
+-- The ready queues and the notes after a step: whoever can go is ready, whoever is held is noted at what holds it.
+-- Assumes nothing.
 use mathlib.Core.Path.{_≡_, refl, sym, ap, _∙_}
 use mathlib.Core.Bool.{Bool, true, false, _&&_, _||_, not, and-false, or-true}
 use mathlib.Core.List.{List}

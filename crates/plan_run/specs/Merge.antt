@@ -1,4 +1,4 @@
--- Rows merged: the largest of four rows in each column. Assumes nothing: these are definitions.
+-- R20, rows merged: the largest of four rows in each column. Assumes nothing: these are definitions.
 use mathlib.Core.Path.{_≡_}
 use mathlib.Core.List.{List}
 use Prim.Native.Nat.{ℕ, _+_, _-_, _*_, _%_, _<_, max}

@@ -1,5 +1,5 @@
--- The queues during a run: the next operation of each, what holds it, and which queues are ready. 1,024 stands for no operation.
--- Assumes nothing: these are definitions.
+-- R25, the queues during a run: the next operation of each, what holds it, and which queues are ready. 1,024 means no
+-- operation. Assumes nothing: these are definitions.
 use mathlib.Core.Path.{_≡_}
 use mathlib.Core.Bool.{Bool, true, _&&_, _||_, cond}
 use mathlib.Core.List.{List}
@@ -16,7 +16,8 @@ pub data First (queue : List ℕ) (q start n : ℕ) : ℕ → Type 0 where
       First queue q start n x
   absent : ((k : ℕ) → start ≤ k → k < n → getD queue k 0 ≡ q → ⊥) → First queue q start n no-operation
 
--- the operations from a start on, chained by queue: the first of each queue, and after each operation the next of its queue
+-- the operations from a start on, chained by queue: the first of each queue, and after each operation the next of its
+-- queue
 pub record Chained (queue : List ℕ) (start n : ℕ) (head next : List ℕ) : Type 0 where
   pub heads : (q : ℕ) → q < most-queues → First queue q start n (getD head q 0)
   pub nexts : (i : ℕ) → start ≤ i → i < n → getD queue i 0 < most-queues → First queue (getD queue i 0) (suc i) n (getD next i 0)

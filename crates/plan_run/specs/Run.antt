@@ -1,4 +1,5 @@
--- What the standard run's pass is given and what it leaves, for every plan that the columns show. Assumes nothing: these are definitions.
+-- R27 to R29: what the standard run's pass is given and what it leaves, for every plan that the columns show. Assumes
+-- nothing: these are definitions.
 use mathlib.Core.Path.{_≡_}
 use mathlib.Core.Bool.{true, false}
 use mathlib.Core.List.{List}
@@ -11,7 +12,8 @@ use Rattle.plan_format.specs.Sound.{Sound}
 use Rattle.plan_order.specs.Runs.{number-ready, standard, run-list}
 use Rattle.plan_columns.specs.Columns.{Queue-column, Source-column, Row-columns}
 
--- columns that show a sound plan of n operations, each with so few waits that the source column has a place for every one
+-- columns that show a sound plan of n operations, each with so few waits that the source column has a place for every
+-- one
 pub record Run-given (p : Plan) (n : ℕ) (queue source : List ℕ) : Type 0 where
   pub sound : Sound p
   pub many : count p ≡ n
@@ -36,8 +38,8 @@ pub record Listed (p : Plan) (n : ℕ) (run list list-now : List ℕ) : Type 0 w
   pub past : drop (2 * n) list-now ≡ drop (2 * n) list
   pub long : length list-now ≡ length list
 
--- whatever the columns show: no more than n operations ran, the list is as long as before and the same past 2 n, and where there are no places for
--- n operations nothing is done
+-- whatever the columns show: no more than n operations ran, the list is as long as before and the same past 2 n, and
+-- where there are no places for n operations nothing is done
 pub record Bounded (n answer : ℕ) (rows rows-now list list-now : List ℕ) : Type 0 where
   pub few : answer ≤ n
   pub long : length list-now ≡ length list

@@ -27,7 +27,7 @@ pub data Last (p : Plan) (r : List ℕ) (q : ℕ) : ℕ → Type 0 where
       (j : ℕ) → member j r ≡ true → op p j .queue ≡ q → ((k : ℕ) → member k r ≡ true → op p k .queue ≡ q → k ≤ j) → Last p r q j
   unused : ((k : ℕ) → member k r ≡ true → op p k .queue ≡ q → ⊥) → Last p r q no-operation
 
--- where the run stands on each queue, and what has run; 1,024 counts as run
+-- where the run is on each queue, and what has run; 1,024 counts as run
 pub record Places (p : Plan) (r head prev ran : List ℕ) : Type 0 where
   pub a-run : is-run p r ≡ true
   pub heads : (q : ℕ) → q < most-queues → Head p r q (getD head q 0)

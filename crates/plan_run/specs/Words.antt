@@ -1,4 +1,4 @@
--- Words of bits: a set of queues in one number. Assumes nothing: these are definitions.
+-- R28, words of bits: a set of queues in one number. Assumes nothing: these are definitions.
 use mathlib.Core.Path.{_≡_}
 use mathlib.Core.Bool.{Bool, true, false}
 use Prim.Native.Nat.{ℕ, zero, suc, _/_, _%_, _<_}

@@ -1,4 +1,4 @@
-// The standard run and the frontier rows, in one pass.
+// R27 to R29 and R20: the standard run and the frontier rows, in one pass.
 mod merge;
 mod queues;
 mod steps;
@@ -22,9 +22,9 @@ const SLOTS: usize = NO_OPERATION + 1;
 // A row with a one in the middle: the part of it that begins at width - q has the one in column q.
 const UNIT: usize = 2 * ROW_WIDTH;
 
-// The standard run into `list`, with the number ready before each step from place n on, and the row of each operation that ran into `rows`,
-// which are all zero before; how many operations ran. Where the columns show no plan, the rows, the first 2 n of the list and an answer up to n are
-// free; where n is above 1,024 nothing is done.
+// The standard run into `list`, with the number ready before each step from place n on, and the row of each operation
+// that ran into `rows`, which are all zero before; how many operations ran. Where the columns show no plan, the rows,
+// the first 2 n of the list and an answer up to n are unspecified; where n is above 1,024 nothing is done.
 pub fn run(
     n: u16,
     queue: &QueueColumn,

@@ -1,5 +1,5 @@
--- The lowest operation whose row is zero at its own queue, by the columns alone, whether they show a plan or not. Assumes nothing: these are
--- definitions.
+-- R47: the lowest operation whose row is zero at its own queue, by the columns alone, whether they show a plan or not.
+-- Assumes nothing: these are definitions.
 use mathlib.Core.Bool.{Bool}
 use mathlib.Core.List.{List}
 use Prim.Native.Nat.{ℕ, _+_, _*_, _%_}

@@ -1,4 +1,4 @@
-// Refusal 10: the operation at which a run is stuck, by the rows that the run leaves.
+// R47, refusal 10: the operation at which a run is stuck, by the rows that the run leaves.
 use plan_columns::QueueColumn;
 use plan_columns::Rows;
 use plan_format::limits::ROW_WIDTH;
@@ -11,8 +11,8 @@ ghost use Rattle.plan_columns.specs.Columns.{Queue-column};
 ghost use Rattle.plan_run.specs.Run.{Rows-of};
 ghost use Rattle.plan_stuck.specs.Zeros.{first-zero};
 
-// The lowest operation whose row is zero at its own queue; n if there is none. By the rows of a plan's standard run it is the lowest that did
-// not run.
+// The lowest operation whose row is zero at its own queue; n if there is none. By the rows of a plan's standard run it
+// is the lowest that did not run.
 pub fn stuck(n: u16, queue: &QueueColumn, rows: &Rows) -> usize
     ensures { λ r. ⌜ r ≡ first-zero n (now (queue .entry)) (now (rows .entry)) ⌝ }
     ensures { λ r. ⌜ ((p : Plan) → Sound p → count p ≡ n → Queue-column p (now (queue .entry)) → Rows-of p (standard p) (now (rows .entry)) →

@@ -1,5 +1,5 @@
--- What the pass over the waits is given and what it answers, and refusal 8 as a walk over the wait places. Assumes nothing: these are
--- definitions.
+-- R45: what the pass over the waits is given and what it answers, and refusal 8 as a walk over the wait places. Assumes
+-- nothing: these are definitions.
 use mathlib.Core.Path.{_≡_}
 use mathlib.Core.Bool.{Bool, true, false, _&&_, cond}
 use mathlib.Core.Logic.{_⊎_}
@@ -33,7 +33,8 @@ pub record Resolved (p : Plan) (r : Told) (source : List ℕ) : Type 0 where
   pub place : r .place ≡ waits-refusal 0 p (p .operations) .place
   pub sources-shown : r .number ≡ 0 → Source-column p source
 
--- 8 at the first of the wait places from k on, three to an operation, that is above the last of its semaphore, one of 64
+-- 8 at the first of the wait places from k on, three to an operation, that is above the last of its semaphore, one of
+-- 64
 unfoldable pub waits-walk : (wsem wval last : List ℕ) → (left k : ℕ) → Refusal
 waits-walk wsem wval last zero k = none-given
 waits-walk wsem wval last (suc left) k =
@@ -59,9 +60,10 @@ pub record Rests (ssem sval : List ℕ) (signals s v j : ℕ) : Type 0 where
 abbrev pub Rests-within : (signals : ℕ) → (sop : List ℕ) → (r : ℕ) → Type 0
 Rests-within signals sop r = (r ≡ no-operation) ⊎ ((j : ℕ) × (j < signals) × (r ≡ getD sop j 0))
 
--- the column of the waits afterwards, whatever the columns show: as long as before; past the places of n operations as before, and all of it where
--- the columns have no places for the plan. Where nothing is refused a wait for 0 rests on nothing, and so does one of a semaphore that has no signal;
--- any other, where each signal is of one of the semaphores, on an operation of a signal, and on the first signal that reaches it if those after it do
+-- the column of the waits afterwards, whatever the columns show: as long as before; past the places of n operations as
+-- before, and all of it where the columns have no places for the plan. Where nothing is refused a wait for 0 rests on
+-- nothing, and so does one of a semaphore that has no signal; any other, where each signal is of one of the semaphores,
+-- on an operation of a signal, and on the first signal that reaches it if those after it do
 pub record Sources (n signals number : ℕ) (ssem sval sop wsem wval source : List ℕ) : Type 0 where
   pub long : length source ≡ length wsem
   pub past : (k : ℕ) → most-waits * n ≤ k → getD source k 0 ≡ getD wsem k 0

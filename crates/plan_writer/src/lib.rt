@@ -1,4 +1,4 @@
-// The writer of stored plans: the bytes of the numbers, stored in the room that the caller lends.
+// R10, R12 and R13, the writer: the bytes of the numbers, stored in the room that the caller lends.
 use plan_format::Told;
 use plan_format::limits::PLAN_BYTES;
 use plan_format::refused;
@@ -22,7 +22,8 @@ fn store(bytes: &[u8; PLAN_BYTES], many: usize, room: &mut [u8])
     }
 }
 
-// The bytes of a list of numbers in front of the room, with their length as the answer; or a refusal, and the room untouched.
+// The bytes of a list of numbers in front of the room, with their length as the answer; or a refusal, and the room
+// untouched.
 pub fn write_plan(numbers: &[u64], room: &mut [u8]) -> Told
     ensures says { λ r. ⌜ Write-says (now (numbers .entry)) r (now (room .entry)) (now (room .exit)) ⌝ }
     ensures means { λ r. ⌜ Write-means (now (numbers .entry)) r (now (room .entry)) (now (room .exit)) ⌝ }

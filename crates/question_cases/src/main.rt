@@ -1,4 +1,5 @@
-// The reuse question on the small plans of 01 and others: what is handed back, and the lent table and list, which hold 7s before.
+// The reuse question on the small plans of R79 and others: what is handed back, and the lent table and list, which hold
+// 7s before.
 use libc::STDOUT_FILENO;
 use plan_format::Told;
 ghost use Prim.Native.Nat.{_≤_};
@@ -308,7 +309,7 @@ fn bad_plans() {
     ask(b"no bytes", b"", 9, 9, 1, 1);
 }
 
-// The small plans of 01 with operations in order.
+// The small plans of R79 with operations in order.
 fn small_plans() {
     t3(0, 0);
     t3(1, 0);
@@ -357,7 +358,8 @@ fn no_such() {
     t8_above(4294967295, 4294967295);
 }
 
-// Exactly the room, one number short in the table, in the list and in both, and none; too little room before a queue that is not there.
+// Exactly the room, one number short in the table, in the list and in both, and none; too little room before a queue
+// that is not there.
 fn rooms() {
     room(2, 0, 48, 6);
     room(2, 0, 47, 7);

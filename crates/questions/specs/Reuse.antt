@@ -16,15 +16,15 @@ use Rattle.plan_order.specs.Promise.{Safe, unrefused}
 abbrev pub reuse-outcome-in : (bytes : List ℕ) → (q b : ℕ) → (table list : List ℕ) → Outcome
 reuse-outcome-in bs q b t l = reuse-outcome bs q b (length t) (length l)
 
--- what it hands back and leaves, by its definition, by quantifiers and by index; each line of 01's table of verdicts as an iff
+-- R57, R58: what it hands back and leaves, by its definition, by quantifiers and by index; each line of the table of
+-- verdicts as an iff
 pub record Asked (bytes : List ℕ) (q b : ℕ) (r : Told) (table table-now list list-now : List ℕ) : Type 0 where
   pub says : Reuse-says bytes q b r table table-now list list-now
   -- the number and the place are those of the outcome of which `means` speaks
   pub number : r .number ≡ reuse-outcome-in bytes q b table list .refusal .number
   pub place : r .place ≡ reuse-outcome-in bytes q b table list .refusal .place
   pub means : Question-means bytes q b (length table) (length list) (reuse-outcome-in bytes q b table list)
-  -- 01: "The plan is checked first.": rows and run are left, by an answer or a refusal of the question, exactly where
-  -- the plan passes
+  -- R57, R56: rows and run are left, by an answer or a refusal of the question, exactly where the plan passes
   pub passed :
       (reuse-outcome-in bytes q b table list .leaves ≡ rows-and-run) ↔
       ((unrefused bytes (length table) (length list) ≡ true) × Safe (plan-in bytes))

@@ -1,4 +1,5 @@
--- The verdict of the reuse question by the columns of a plan and its rows: one pass over the marks. Assumes nothing: these are definitions.
+-- The verdict of the reuse question by the columns of a plan and its rows: one pass over the marks. Assumes nothing:
+-- these are definitions.
 use mathlib.Core.Path.{_≡_}
 use mathlib.Core.Bool.{Bool, _&&_, cond}
 use mathlib.Core.List.{List, [], _∷_}
@@ -30,16 +31,15 @@ pub record Question-given (p : Plan) (c : Counted) (marks : ℕ) (queue mark ope
   pub buffers-are : c .buffers ≡ length (p .sizes)
   pub shown : Verdict-given p (c .operations) marks queue mark operation rows
 
--- 01: "the queue's last operation", of n; 1,024 where there is none
+-- R58: the queue's last operation, of n; 1,024 where there is none
 unfoldable pub last-shown : (queue : List ℕ) → (q n : ℕ) → ℕ
 last-shown queue q n = place-or no-operation (highest-below n (λ i. eqb (getD queue i 0) q))
 
--- 01: i "is the queue's last operation or before it"; not "for a queue with no operations"
+-- R58: i is seen by the queue with this last operation; a queue without operations sees none
 unfoldable pub seen : (queue rows : List ℕ) → (last i : ℕ) → Bool
 seen queue rows last i = ltb last no-operation && ordered queue rows i last
 
--- 01: "held: its last mark is a use. reusable: the last mark is a free, and every operation with a mark on it is" seen. "stray use: the last
--- mark is a free that is so placed, but another marked operation isn't. not ordered: otherwise"
+-- R58, verdicts: by whether the last mark is a free, whether its operation is seen, and whether all are
 unfoldable pub verdict-after : (frees seen all : Bool) → Verdict
 verdict-after f s a = cond f (cond s (cond a Reusable StrayUse) NotOrdered) Held
 

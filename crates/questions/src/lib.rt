@@ -1,4 +1,5 @@
-// The reuse question: the verdict by the columns of a plan and the rows that its check leaves in the table.
+// R57 and R58, the reuse question: the verdict by the columns of a plan and the rows that its check leaves in the
+// table.
 use checker::Counted;
 use plan_columns::MARK_CODES;
 use plan_columns::MarkColumn;
@@ -132,7 +133,7 @@ fn last_on(n: usize, queue: &[u16], q: usize) -> usize
     NO_OPERATION
 }
 
-// The verdict by the marks on a buffer in plan order, each taken for the last one until another comes.
+// R58: the verdict by the marks on a buffer, each taken for the last one until another comes.
 fn judged(
     b: usize,
     last: usize,
@@ -179,7 +180,7 @@ fn after(frees: bool, placed: bool, all: bool) -> Verdict
     }
 }
 
-// Whether i is the queue's last operation or before it, by the column of i's queue in their rows.
+// R58: whether i is seen by the queue with this last operation, by the column of i's queue in their rows.
 fn seen(queue: &[u16], table: &[u32], last: usize, i: usize) -> bool
     requires { ⌜ i < most-operations ⌝ }
     ensures { λ r. ⌜ r ≡ is-seen (now (queue .entry)) (now (table .entry)) last i ⌝ }
@@ -193,7 +194,7 @@ fn seen(queue: &[u16], table: &[u32], last: usize, i: usize) -> bool
     own <= other
 }
 
-// 01's number of a verdict.
+// R58: the number of a verdict.
 fn number_of(v: Verdict) -> u64
     ensures { λ r. ⌜ r ≡ number-of v ⌝ }
 {

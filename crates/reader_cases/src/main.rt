@@ -86,7 +86,7 @@ fn zeros() -> [u8; 1048672]
     [0; 1048672]
 }
 
-// T3 with zeros behind it.
+// T3 with zeros after it.
 fn longer(more: usize)
     requires { ⌜ more ≤ 1048576 ⌝ }
 {

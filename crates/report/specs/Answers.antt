@@ -11,19 +11,19 @@ use Rattle.checker.specs.declared.Counted.{Counted}
 use Rattle.text.specs.Ascii.{ascii}
 use Rattle.text.specs.Text.{Puts, decimal, blanked, spaced, or-refused}
 
--- 01: "`size` is queues, semaphores, buffers, operations."
+-- R72: the counts in the order of their sections
 unfoldable pub sizes-text : Counted → List ℕ
 sizes-text c = ascii "passed 0\nsize " ++ spaced (c .queues ∷ c .semaphores ∷ c .buffers ∷ c .operations ∷ [])
 
--- 01: "With no operations the run and ready lines are the bare words."
+-- R72: the run and the ready numbers; without operations only the words
 unfoldable pub runs-text : (n : ℕ) → (list : List ℕ) → List ℕ
 runs-text n l = (ascii "\nrun" ++ blanked (take n l)) ++ (ascii "\nready" ++ blanked (take n (drop n l))) ++ ascii "\n"
 
--- an operation, and its row's columns for the queues
+-- R72: an operation, and its row's columns for the queues
 unfoldable pub row-text : (queues : ℕ) → (table : List ℕ) → (i : ℕ) → List ℕ
 row-text q t i = decimal i ++ (ascii ":" ++ blanked (take q (drop (row-width * i) t))) ++ ascii "\n"
 
--- the text of a pass: counts, run and ready numbers, rows
+-- R72, the text of a pass: counts, run and ready numbers, rows
 unfoldable pub passed-text : Counted → (table list : List ℕ) → List ℕ
 passed-text c t l = sizes-text c ++ runs-text (c .operations) l ++ join-from (c .operations) 0 (row-text (c .queues) t)
 

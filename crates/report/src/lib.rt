@@ -1,4 +1,4 @@
-// What is printed for a check, as text in lent room; the text's length is handed back.
+// R72, what is printed for a check, as text in lent room; the text's length is handed back.
 use checker::Counted;
 use plan_format::limits::LIST_NUMBERS;
 use plan_format::limits::ROW_WIDTH;

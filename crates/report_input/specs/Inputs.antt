@@ -18,14 +18,14 @@ Answered (Reuse q b) bs o x e = Reuse-printed bs q b o x e
 Answered (Frontier j c) bs o x e = Frontier-printed bs j c o x e
 Answered Read bs o x e = Puts (read-text bs) o 0 x e
 
--- two inputs with the same first bytes, or numbers: one more than the longest plan has
+-- R75, long input: two with the same first bytes, or numbers, one more than the longest plan has
 abbrev pub Same-bytes : (xs ys : List ℕ) → Type 0
 Same-bytes xs ys = take (plan-bytes + 1) xs ≡ take (plan-bytes + 1) ys
 
 abbrev pub Same-numbers : (xs ys : List ℕ) → Type 0
 Same-numbers xs ys = take (plan-numbers + 1) xs ≡ take (plan-numbers + 1) ys
 
--- the text is that of every input, whole, that begins so
+-- R75: the text is that of every input, whole, that begins so
 abbrev pub Answered-whole : Question → (begun room room-now : List ℕ) → (end : ℕ) → Type 0
 Answered-whole q begun o x e = (whole : List ℕ) → Same-bytes whole begun → Answered q whole o x e
 

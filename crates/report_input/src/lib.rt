@@ -1,4 +1,4 @@
-// What is printed for what is asked of an input of any length, which is known by its first bytes or its first numbers.
+// R75, what is printed for an input of any length, which is known by its first bytes or its first numbers.
 ghost use lib.ListN.{take};
 ghost use Rattle.report_input.specs.Inputs.{Answered, Answered-whole, Written-whole};
 

@@ -23,7 +23,7 @@ verdict-name n =
     (cond (eqb n 3) (ascii " not-ordered")
     (ascii " stray-use"))))
 
--- the line of a verdict: its number and its name
+-- R74, the line of a verdict: its number and its name
 unfoldable pub verdict-text : (number : ℕ) → List ℕ
 verdict-text n = ascii "verdict" ++ after-blank n ++ verdict-name n ++ ascii "\n"
 
@@ -46,7 +46,7 @@ entry-of axis epoch = after-blank axis ++ ascii ":" ++ decimal epoch
 unfoldable pub entry-text : (axes epochs : List ℕ) → (i : ℕ) → List ℕ
 entry-text axes epochs i = entry-of (getD axes i 0) (getD epochs i 0)
 
--- the line of a frontier
+-- R74, the line of a frontier
 unfoldable pub frontier-text : Frontier → List ℕ
 frontier-text f = whole-words (f .tainted) ++ join-from (f .len) 0 (entry-text (f .axes) (f .epochs)) ++ ascii "\n"
 

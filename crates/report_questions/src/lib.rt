@@ -1,4 +1,4 @@
-// What is printed for a question on a plan, as text in lent room; the text's length is handed back.
+// R74, what is printed for a question on a plan, as text in lent room; the text's length is handed back.
 use frontier_sent::Sent;
 use plan_format::Told;
 use plan_format::limits::LIST_NUMBERS;

@@ -1,4 +1,5 @@
--- What is printed, from what reader and writer hand back: their refusals, the numbers read and the bytes written. Assumes nothing.
+-- What is printed, from what reader and writer hand back: their refusals, the numbers read and the bytes written.
+-- Assumes nothing.
 use mathlib.Core.Path.{_≡_, ap, sym, _∙_}
 use mathlib.Core.Bool.{true, false}
 use mathlib.Core.List.{List, [], _∷_, _++_, append-assoc}

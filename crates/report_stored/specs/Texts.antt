@@ -6,11 +6,11 @@ use Rattle.plan_format.specs.Refusal.{given}
 use Rattle.plan_format.specs.Stored.{scanned, spelled, write-refusal}
 use Rattle.text.specs.Text.{spaced, refused-text}
 
--- the numbers of a plan on a line, or the reader's refusal
+-- R74: the numbers of a plan on a line, or the reader's refusal
 unfoldable pub read-text : (bytes : List ℕ) → List ℕ
 read-text bs =
     cond (given (scanned bs .fault)) (refused-text (scanned bs .fault .number) (scanned bs .fault .place)) (spaced (scanned bs .got) ++ (10 ∷ []))
 
--- the stored plan of a list of numbers, or the writer's refusal, in a room of so many bytes
+-- R74: the stored plan of a list of numbers, or the writer's refusal, in a room of so many bytes
 unfoldable pub write-text : (numbers : List ℕ) → (room : ℕ) → List ℕ
 write-text xs k = let f = write-refusal xs k in cond (given f) (refused-text (f .number) (f .place)) (spelled xs)

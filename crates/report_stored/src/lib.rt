@@ -1,4 +1,4 @@
-// What is printed for a read and a write, as text in lent room; the text's length is handed back.
+// R74, what is printed for a read and a write, as text in lent room; the text's length is handed back.
 use plan_format::limits::PLAN_NUMBERS;
 ghost use lib.ListN.{length, take};
 ghost use Rattle.text.specs.Text.{Puts};

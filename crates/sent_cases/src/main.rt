@@ -1,5 +1,6 @@
-// Plans through the question for a frontier: for an operation at a capacity, the number, the place, whether the frontier is whole or cut, its
-// length and its entries; what dominance says of two; and what is left in the lent table and list, which hold 7s before.
+// Plans through the question for a frontier: for an operation at a capacity, the number, the place, whether the
+// frontier is whole or cut, its length and its entries; what dominance says of two; and what is left in the lent table
+// and list, which hold 7s before.
 use frontier::Dominance;
 use frontier::Frontier;
 use frontier_sent::Sent;

@@ -22,7 +22,7 @@ use Rattle.frontier.specs.Entries.{rising-from, find, put, union, exceeds, exce
 use Rattle.frontier.specs.Frontiers.{slot, slots, entries, all-zero, row-formed, well-formed, pack, joined, merge-number, merge, met as entry-met, reached as all-reached, answer as dominance-answer, dominance-number, dominance}
 use Rattle.small_plans.specs.Cases.{section, at, use-of, free-of, operation, plan, wide, checked, judge, asked, case, t1, t2, first-17, t3-stored, t3, t4, t5, t6, signals-to, t7, t8-stored, t8, t9, t10, t11, entry, t12, t13, greatest-signal, cases}
 
--- 01: T3 takes 96 bytes
+-- R79: T3 takes 96 bytes
 pub t3-length : length t3-stored ≡ 96
 unfolding t3-stored section at use-of free-of operation plan digits flatten
 t3-length = refl

@@ -1,4 +1,4 @@
--- The small plans and frontiers that 01 judges by hand, T1 to T13, each with its answer. Assumes nothing: these are definitions.
+-- R79: the small plans and frontiers, T1 to T13, each with its answer. Assumes nothing: these are definitions.
 use mathlib.Core.Bool.{true, false, cond}
 use mathlib.Core.List.{List, [], _∷_, _++_, map, flatten}
 use Prim.Native.Nat.{ℕ, _-_}
@@ -35,7 +35,8 @@ operation q ws ss ms = q ∷ section 1 ws ++ section 1 ss ++ section 1 ms
 
 unfoldable pub plan : (axes owners sizes : List ℕ) → (operations : List (List ℕ)) → List ℕ
 plan axes owners sizes operations =
-    section 1 (map (λ a. digits 8 a) axes) ++ section 1 (map (λ o. o ∷ []) owners) ++ section 2 (map (λ b. digits 4 b) sizes) ++ section 2 operations
+    section 1 (map (λ a. digits 8 a) axes) ++ section 1 (map (λ o. o ∷ []) owners)
+    ++ section 2 (map (λ b. digits 4 b) sizes) ++ section 2 operations
 
 -- ---- questions and answers
 pub data Question : Type 0 where
@@ -74,11 +75,13 @@ asked q a = record { question = q; answer = a }
 unfoldable pub case : (bytes : List ℕ) → Answer → Case
 case bs a = asked (check bs) a
 
--- ---- the cases, in 01's order
--- T1: six zero bytes: passed, empty run; five: 1 at 4; seven: 3 at 6
+-- ---- the cases, in the order of R79
+-- T1: zero bytes only: six pass with an empty run, five are 1 at 4, seven 3 at 6
 unfoldable pub t1 : List Case
 t1 =
-    case (replicate 6 0) (passed [] [] []) ∷ case (replicate 5 0) (refused 1 4) ∷ case (replicate 7 0) (refused 3 6) ∷ []
+    case (replicate 6 0) (passed [] [] [])
+    ∷ case (replicate 5 0) (refused 1 4)
+    ∷ case (replicate 7 0) (refused 3 6) ∷ []
 
 -- T2: passed, row 1
 unfoldable pub t2 : List Case
@@ -103,23 +106,23 @@ t3 =
     case t3-stored
     (passed (0 ∷ 1 ∷ 2 ∷ []) (1 ∷ 1 ∷ 1 ∷ []) (wide ((1 ∷ 0 ∷ 0 ∷ []) ∷ (1 ∷ 1 ∷ 0 ∷ []) ∷ (1 ∷ 1 ∷ 1 ∷ []) ∷ []))) ∷ []
 
--- T4: queue 0 waits S1≥1 and signals S0=1, queue 1 waits S0≥1 and signals S1=1: 10 at 0
+-- T4: two queues wait for each other's first signal: 10 at 0
 unfoldable pub t4 : List Case
 t4 =
     case (plan (1 ∷ 2 ∷ []) (0 ∷ 1 ∷ []) []
     (operation 0 (at 1 1 ∷ []) (at 0 1 ∷ []) [] ∷ operation 1 (at 0 1 ∷ []) (at 1 1 ∷ []) [] ∷ [])) (refused 10 0) ∷ []
 
--- T5: one operation waits S0≥1 and signals S0=1: 10 at 0
+-- T5: an operation waits for its own signal: 10 at 0
 unfoldable pub t5 : List Case
 t5 = case (plan (1 ∷ []) (0 ∷ []) [] (operation 0 (at 0 1 ∷ []) (at 0 1 ∷ []) [] ∷ [])) (refused 10 0) ∷ []
 
--- T6: operation 0 (queue 1) waits S0≥1; operation 1 (queue 0) signals S0=1: run 1 0, rows 1 1 and 1 0
+-- T6: operation 0, on queue 1, waits for operation 1, on queue 0: run 1 0, rows 1 1 and 1 0
 unfoldable pub t6 : List Case
 t6 =
     case (plan (1 ∷ 2 ∷ []) (0 ∷ []) [] (operation 1 (at 0 1 ∷ []) [] [] ∷ operation 0 [] (at 0 1 ∷ []) [] ∷ []))
     (passed (1 ∷ 0 ∷ []) (1 ∷ 1 ∷ []) (wide ((1 ∷ 1 ∷ []) ∷ (1 ∷ 0 ∷ []) ∷ []))) ∷ []
 
--- T7: queue 0 signals 1 to 5 in five operations; operation 5 on queue 1 waits for 2: row 2 1
+-- T7: five operations of queue 0 signal 1 to 5, and operation 5, on queue 1, waits for 2: its row is 2 1
 unfoldable pub signals-to : List ℕ → List (List ℕ)
 signals-to vs = map (λ v. operation 0 [] (at 0 v ∷ []) []) vs
 
@@ -129,7 +132,7 @@ t7 =
     (passed (0 ∷ 1 ∷ 2 ∷ 3 ∷ 4 ∷ 5 ∷ []) (1 ∷ 1 ∷ 2 ∷ 2 ∷ 2 ∷ 1 ∷ [])
     (wide ((1 ∷ []) ∷ (2 ∷ []) ∷ (3 ∷ []) ∷ (4 ∷ []) ∷ (5 ∷ []) ∷ (2 ∷ 1 ∷ []) ∷ []))) ∷ []
 
--- T8: signals 3 and 7: a wait for 4 resolves to 7; a wait for 8 is refusal 8
+-- T8: with signals to 3 and 7, a wait for 4 rests on the second, and a wait for 8 is 8 at 2
 unfoldable pub t8-stored : (wait : ℕ) → List ℕ
 t8-stored v = plan (1 ∷ 2 ∷ []) (0 ∷ []) [] (signals-to (3 ∷ 7 ∷ []) ++ (operation 1 (at 0 v ∷ []) [] [] ∷ []))
 
@@ -138,23 +141,23 @@ t8 =
     case (t8-stored 4) (passed (0 ∷ 1 ∷ 2 ∷ []) (1 ∷ 1 ∷ 1 ∷ []) (wide ((1 ∷ []) ∷ (2 ∷ []) ∷ (2 ∷ 1 ∷ []) ∷ [])))
     ∷ case (t8-stored 8) (refused 8 2) ∷ []
 
--- T9: operation 0 (queue 0) uses and frees b0; 1 (queue 1) uses it, no wait: 11 at 1
+-- T9: a buffer is used and freed on queue 0, and used on queue 1 without a wait: 11 at 1
 unfoldable pub t9 : List Case
 t9 =
     case (plan (1 ∷ 2 ∷ []) [] (64 ∷ [])
     (operation 0 [] [] (use-of 0 ∷ free-of 0 ∷ []) ∷ operation 1 [] [] (use-of 0 ∷ []) ∷ [])) (refused 11 1) ∷ []
 
--- T10: one operation frees b0, then uses it: 11 at 0
+-- T10: the marks of an operation are a free and then a use: 11 at 0
 unfoldable pub t10 : List Case
 t10 = case (plan (1 ∷ []) [] (64 ∷ []) (operation 0 [] [] (free-of 0 ∷ use-of 0 ∷ []) ∷ [])) (refused 11 0) ∷ []
 
--- T11: queue 0 uses b0, then queue 1, unordered, frees it: 11 at 0
+-- T11: a buffer is used on queue 0 and freed on queue 1 with no order between: 11 at 0
 unfoldable pub t11 : List Case
 t11 =
     case (plan (1 ∷ 2 ∷ []) [] (64 ∷ [])
     (operation 0 [] [] (use-of 0 ∷ []) ∷ operation 1 [] [] (free-of 0 ∷ []) ∷ [])) (refused 11 0) ∷ []
 
--- T12: axes A<B<C, capacity 2: merge of {A:5, B:3} and {B:7, C:4} is {A:5, B:7}, tainted
+-- T12: 1:5 2:3 merged with 2:7 3:4 at capacity 2 is 1:5 2:7, tainted
 unfoldable pub entry : (axis epoch : ℕ) → Entry
 entry a e = record { axis = a; epoch = e }
 
@@ -163,14 +166,15 @@ t12 =
     asked (merge-of (pack (entry 1 5 ∷ entry 2 3 ∷ []) false) (pack (entry 2 7 ∷ entry 3 4 ∷ []) false) 2)
     (merged (record { number = 0; frontier = pack (entry 1 5 ∷ entry 2 7 ∷ []) true })) ∷ []
 
--- T13: {A:5, B:7} over {A:3, C:4}: no; unknown if the left is tainted. {A:5} over tainted {A:3}: unknown
+-- T13: 1:5 2:7 over 1:3 3:4 is no, with the left tainted unknown; 1:5 over 1:3 with the right tainted is unknown
 unfoldable pub t13 : List Case
 t13 =
-    asked (dominance-of (pack (entry 1 5 ∷ entry 2 7 ∷ []) false) (pack (entry 1 3 ∷ entry 3 4 ∷ []) false)) (dominates No)
+    asked (dominance-of (pack (entry 1 5 ∷ entry 2 7 ∷ []) false) (pack (entry 1 3 ∷ entry 3 4 ∷ []) false))
+    (dominates No)
     ∷ asked (dominance-of (pack (entry 1 5 ∷ entry 2 7 ∷ []) true) (pack (entry 1 3 ∷ entry 3 4 ∷ []) false)) (dominates Unknown)
     ∷ asked (dominance-of (pack (entry 1 5 ∷ []) false) (pack (entry 1 3 ∷ []) true)) (dominates Unknown) ∷ []
 
--- a signal of 2^64−1 is allowed; any later one on that semaphore is 7
+-- a signal to 2^64 − 1 passes, and another one after it is 7
 unfoldable pub greatest-signal : List Case
 greatest-signal =
     case (plan (1 ∷ []) (0 ∷ []) [] (signals-to (18446744073709551615 ∷ [])))

@@ -1,1 +1,1 @@
-// Theory only: the small plans and frontiers of paper 01, T1 to T13, judged by the definitions.
+// Theory only: R79, the small plans and frontiers T1 to T13, judged by the definitions.

@@ -1,4 +1,5 @@
--- The digits that the kit spells are the fewest that hold the number; lists of numbers with blanks between. Assumes nothing.
+-- The digits that the kit spells are the fewest that hold the number; lists of numbers with blanks between. Assumes
+-- nothing.
 use mathlib.Core.Path.{_≡_, refl, ap}
 use mathlib.Core.List.{List, [], _∷_, _++_}
 use Prim.Native.Nat.{ℕ, zero, suc, _*_, _^_, _/_, _%_, _<_, _≤_}

@@ -40,7 +40,7 @@ unfoldable pub spaced : List ℕ → List ℕ
 spaced [] = []
 spaced (n ∷ ns) = decimal n ++ blanked ns
 
--- 01: "A refused plan prints one line, as `refused 10 0`."
+-- R73, text of a refusal: number and place on one line
 unfoldable pub refused-text : (number place : ℕ) → List ℕ
 refused-text n p = ascii "refused" ++ after-blank n ++ after-blank p ++ ascii "\n"
 

@@ -1,5 +1,5 @@
-// Text made in lent room, of which the first `at` bytes are taken. What goes past the end of the room is left out. Each function hands back
-// where its text ends.
+// Text made in lent room, of which the first `at` bytes are taken. What goes past the end of the room is left out. Each
+// function hands back where its text ends.
 ghost use mathlib.Core.List.{[], _∷_};
 ghost use mathlib.Core.Path.{_≡_};
 ghost use lib.ListN.{take};
@@ -99,7 +99,7 @@ pub fn line(out: &mut [u8], at: usize, numbers: &[u64], n: usize) -> usize
     spaced_list(out, at, numbers)
 }
 
-// One line, `refused N P`.
+// R73: one line, `refused N P`.
 pub fn refused(out: &mut [u8], number: u32, place: u64) -> usize
     ensures { λ r. ⌜ Puts (refused-text number place) (now (out .entry)) 0 (now (out .exit)) r ⌝ }
 {

@@ -5,7 +5,8 @@ ghost use mathlib.Core.Path.{_≡_};
 ghost use Prim.Native.Nat.{_<_, _≤_};
 ghost use lib.ListN.{length};
 
-// The plan T3 in front of zeros: three queues, two semaphores, one buffer, three operations, 38 numbers, 96 bytes stored.
+// The plan T3 in front of zeros: three queues, two semaphores, one buffer, three operations, 38 numbers, 96 bytes
+// stored.
 fn t3() -> [u64; 40]
     ensures { λ r. ⌜ length r ≡ 40 ⌝ }
 {
@@ -90,7 +91,7 @@ fn write(numbers: &[u64]) {
     show(plan_writer::write_plan(numbers, &mut room));
 }
 
-// The first `n` numbers of T3 and the zeros behind it.
+// The first `n` numbers of T3 and the zeros after it.
 fn first(n: usize)
     requires { ⌜ n ≤ 40 ⌝ }
 {
@@ -112,7 +113,7 @@ fn zeros() -> [u64; 131110]
     [0; 131110]
 }
 
-// T3 with a megabyte of zeros behind it.
+// T3 with a megabyte of zeros after it.
 fn longer() {
     let numbers = t3();
     let mut long = zeros();

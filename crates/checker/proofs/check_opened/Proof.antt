@@ -1,4 +1,5 @@
--- `check_opened` meets its contract: the reader's refusal, or what `plan_judge` says of the columns that are loaded. Assumes nothing.
+-- `check_opened` meets its contract: the reader's refusal, or what `plan_judge` says of the columns that are loaded.
+-- Assumes nothing.
 use borrow.Author.Needs.{needs}
 use Rattle.plan_format.proofs.Telling.{tells-as}
 use Rattle.plan_order.proofs.Checks.{checked}

@@ -1,5 +1,5 @@
--- `gather` meets its contract. The loop's invariant: the axes that are left, raised on what is gathered, give what all give on the empty
--- frontier. The measure is how many are left. Assumes nothing.
+-- `gather` meets its contract. The loop's invariant: the axes that are left, raised on what is gathered, give what all
+-- give on the empty frontier. The measure is how many are left. Assumes nothing.
 use mathlib.Core.Path.{_≡_, sym, _∙_}
 use mathlib.Core.Bool.{false}
 use mathlib.Core.List.{[]}

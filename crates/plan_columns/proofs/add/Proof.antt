@@ -1,4 +1,4 @@
--- `plan_columns::add` adds one operation to each column, where its parts stand. Assumes nothing.
+-- `plan_columns::add` adds one operation to each column, where its parts are. Assumes nothing.
 use mathlib.Core.Path.{refl, ap, _∙_}
 use Prim.Native.Nat.{ℕ, _%_}
 use native.Mathlib.Omega.{arith}

@@ -1,4 +1,4 @@
--- `load` meets its contract: a refusal in the head, or the columns behind it. Assumes nothing.
+-- `load` meets its contract: a refusal in the head, or the columns after it. Assumes nothing.
 use borrow.Author.Needs.{needs}
 use Rattle.plan_load.proofs.Outcomes.{head-refused, refused-loads}
 use Rattle.plan_load.proofs.load.Statement.{statement}

@@ -1,4 +1,5 @@
--- `operations` meets its contract: operation after operation is read and stored, to the first refusal or to the end. Assumes nothing.
+-- `operations` meets its contract: operation after operation is read and stored, to the first refusal or to the end.
+-- Assumes nothing.
 use mathlib.Core.Path.{_≡_, refl}
 use mathlib.Core.List.{List}
 use Prim.Native.Nat.{ℕ, _-_, _*_, _≤_}

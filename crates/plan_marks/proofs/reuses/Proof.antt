@@ -1,4 +1,5 @@
--- `plan_marks::reuses` goes from the first mark to the last: the answer from here is that of the whole. Assumes nothing.
+-- `plan_marks::reuses` goes from the first mark to the last: the answer from here is that of the whole. Assumes
+-- nothing.
 use mathlib.Core.Path.{ap}
 use Prim.Native.Nat.{ℕ, _-_, _%_}
 use borrow.Author.Needs.{needs}

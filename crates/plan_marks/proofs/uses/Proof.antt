@@ -1,4 +1,5 @@
--- `plan_marks::uses` goes from the last mark to the first: table and answer are those of the marks passed. Assumes nothing.
+-- `plan_marks::uses` goes from the last mark to the first: table and answer are those of the marks passed. Assumes
+-- nothing.
 use mathlib.Core.Path.{ap}
 use Prim.Native.Nat.{ℕ, _%_}
 use borrow.Author.Needs.{needs}

@@ -1,4 +1,5 @@
--- `reuse_question` meets its contract: the check's refusal, or what `answer` says of a plan that passes. Assumes nothing.
+-- `reuse_question` meets its contract: the check's refusal, or what `answer` says of a plan that passes. Assumes
+-- nothing.
 use Rattle.questions.proofs.ReuseAsked.{asked, plan-refused, then-asked, question-given}
 use borrow.Author.Needs.{needs}
 use Rattle.questions.proofs.reuse_question.Statement.{statement}

@@ -1,4 +1,5 @@
--- `bound_of` meets its contract: the loop's invariant is `Bounded`: the bounds are right, and so is every slot seen. Assumes nothing.
+-- `bound_of` meets its contract: the loop's invariant is `Bounded`: the bounds are right, and so is every slot seen.
+-- Assumes nothing.
 use Prim.Native.Nat.{_-_}
 use native.Mathlib.Omega.{arith}
 use mathlib.Core.Path.{sym, _∙_}

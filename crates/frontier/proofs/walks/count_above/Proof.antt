@@ -1,4 +1,5 @@
--- `count_above` meets its contract: the loop's invariant: those counted, and those of the rest, are all. Assumes nothing.
+-- `count_above` meets its contract: the loop's invariant: those counted, and those of the rest, are all. Assumes
+-- nothing.
 use Prim.Native.Nat.{_+_, _-_, _≤_}
 use mathlib.Core.Path.{_≡_, sym, _∙_}
 use borrow.Author.Tests.{not-true, not-false}

@@ -1,4 +1,5 @@
--- `join` meets its contract: the loop's invariant is `Join`: what is written so far, and the union of what is left, are the whole union; then the cut by the bound. Assumes nothing.
+-- `join` meets its contract: the loop's invariant is `Join`: what is written so far, and the union of what is left, are
+-- the whole union; then the cut by the bound. Assumes nothing.
 use Prim.Native.Nat.{_+_, _-_}
 use mathlib.Core.Path.{refl, ap, _∙_}
 use borrow.Author.Needs.{needs}

@@ -1,4 +1,5 @@
--- `seek` meets its contract: the loop's invariant: what is skipped of the rest is what is skipped of the whole. Assumes nothing.
+-- `seek` meets its contract: the loop's invariant: what is skipped of the rest is what is skipped of the whole. Assumes
+-- nothing.
 use Prim.Native.Nat.{ℕ, _-_, _≤_}
 use mathlib.Core.Path.{_≡_, refl, sym, _∙_}
 use mathlib.Core.List.{List}

@@ -1,4 +1,5 @@
--- `trim` meets its contract: the loop's invariant is `Trim`: what is kept so far, and what is kept of the rest, is all that is kept. Assumes nothing.
+-- `trim` meets its contract: the loop's invariant is `Trim`: what is kept so far, and what is kept of the rest, is all
+-- that is kept. Assumes nothing.
 use Prim.Native.Nat.{_-_, _≤_, _<_}
 use mathlib.Core.Path.{refl, sym, ap, _∙_}
 use borrow.Author.Tests.{not-true, not-false}

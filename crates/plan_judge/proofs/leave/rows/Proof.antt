@@ -1,4 +1,4 @@
--- `leave::rows` meets its contract: after i turns the first i numbers of the rows stand in front. Assumes nothing.
+-- `leave::rows` meets its contract: after i turns the first i numbers of the rows are in front. Assumes nothing.
 use mathlib.Core.List.{List}
 use mathlib.Core.Path.{_≡_, refl, sym, ap, _∙_}
 use Prim.Native.Nat.{ℕ, _-_, _≤_}

@@ -1,4 +1,4 @@
--- `leave::zeros` meets its contract: after i turns the first i of n zeros stand in front. Assumes nothing.
+-- `leave::zeros` meets its contract: after i turns the first i of n zeros are in front. Assumes nothing.
 use mathlib.Core.List.{List}
 use mathlib.Core.Path.{_≡_, refl, sym, ap, _∙_}
 use Prim.Native.Nat.{ℕ, _-_, _≤_}

@@ -1,4 +1,5 @@
--- `merge::merge` gives the largest cell of each column and the unit's: the invariant says so of the columns passed. Assumes nothing.
+-- `merge::merge` gives the largest cell of each column and the unit's: the invariant says so of the columns passed.
+-- Assumes nothing.
 use borrow.Author.Needs.{needs}
 use Rattle.plan_run.proofs.merge.merge.Statement.{statement}
 use Rattle.plan_run.proofs.merge.merge.Tie as tie

@@ -1,4 +1,5 @@
--- `queues::chain` chains the operations from the last to the first: the invariant says so of those passed. Assumes nothing.
+-- `queues::chain` chains the operations from the last to the first: the invariant says so of those passed. Assumes
+-- nothing.
 use borrow.Author.Needs.{needs}
 use Rattle.plan_run.proofs.queues.chain.Statement.{statement}
 use Rattle.plan_run.proofs.queues.chain.Tie as tie

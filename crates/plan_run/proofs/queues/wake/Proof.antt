@@ -1,5 +1,5 @@
--- `queues::wake` looks at every queue of the mask. The invariant: what a look at those left leaves is what one at all leaves; the measure
--- is the word that is left. Assumes nothing.
+-- `queues::wake` looks at every queue of the mask. The invariant: what a look at those left leaves is what one at all
+-- leaves; the measure is the word that is left. Assumes nothing.
 use borrow.Author.Needs.{needs}
 use Rattle.plan_run.proofs.queues.wake.Statement.{statement}
 use Rattle.plan_run.proofs.queues.wake.Tie as tie

@@ -1,5 +1,5 @@
--- `steps::all` ends with the standard run. The invariant: after i steps the pass stands at a run of i operations, for every plan that the
--- columns show. Assumes nothing.
+-- `steps::all` ends with the standard run. The invariant: after i steps the pass is at a run of i operations, for
+-- every plan that the columns show. Assumes nothing.
 use borrow.Author.Needs.{needs}
 use Rattle.plan_run.proofs.steps.all.Statement.{statement}
 use Rattle.plan_run.proofs.steps.all.Tie as tie
