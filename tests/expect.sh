@@ -1,6 +1,6 @@
-# What the tests share: a temporary folder, and what is expected of the last run. Sourced by a test of this folder, which
-# gets `root`, the repository; `run`, its launcher; `room`, the folder, with what the last run printed in `out`, said in
-# `err` and should print in `want`; and `passed`, how many expectations have held.
+# What the tests share: a temporary folder, and what is expected of the last run. Sourced by a test of this folder,
+# which gets `root`, the repository; `run`, its launcher; `room`, the folder, with what the last run printed in `out`,
+# said in `err` and should print in `want`; and `passed`, how many expectations have held.
 test=tests/$(basename "$0")
 root=$(cd "$(dirname "$0")/.." && pwd -P)
 run=$root/cundvrest
