@@ -1,12 +1,14 @@
 /* Cundvrest: a proved checker for queue plans. The C interface.
  *
- * Link with libcundvrest_c.a, built by `rt staticlib cundvrest_c`, for x86-64
- * Linux. The archive needs nothing but memcpy, memset and the like of the C
- * library. Every function is proved to meet a contract that is an equation with
- * the definitions of the rules, for every input: crates/cundvrest_c.
+ * Link with libcundvrest, for x86-64 Linux: `./library` makes it in target/lib,
+ * `./install PREFIX` puts it below PREFIX, and `pkg-config --cflags --libs
+ * cundvrest` finds it there. It needs nothing but memcpy, memset and the like of
+ * the C library. Every function is proved to meet a contract that is an equation
+ * with the definitions of the rules, for every input: crates/cundvrest_c.
  *
  * TOLD. Every call writes all three numbers of `told`: number, place, answer.
- * The number is 0, or that of a refusal; the place says where:
+ * The number is 0, or that of a refusal; the place says where. docs/REFUSALS.md
+ * has each with an example and what to do about it.
  *
  *    0  passed, or answered                       0
  *    1  a field runs past the end                 the field's first byte
@@ -53,6 +55,28 @@
 extern "C" {
 #endif
 
+/* The version of the library that this header belongs to. */
+#define CUNDVREST_VERSION "0.1.0"
+
+/* The first number of `told`. */
+#define CUNDVREST_PASSED 0
+#define CUNDVREST_REFUSED_CUT_SHORT 1
+#define CUNDVREST_REFUSED_COUNT_OVER_LIMIT 2
+#define CUNDVREST_REFUSED_BYTES_FOLLOW 3
+#define CUNDVREST_REFUSED_NOT_IN_LIST 4
+#define CUNDVREST_REFUSED_AXIS_TWICE 5
+#define CUNDVREST_REFUSED_NOT_THE_OWNER 6
+#define CUNDVREST_REFUSED_SIGNAL_NOT_HIGHER 7
+#define CUNDVREST_REFUSED_WAIT_TOO_HIGH 8
+#define CUNDVREST_REFUSED_ROOM_TOO_SHORT 9
+#define CUNDVREST_REFUSED_STUCK 10
+#define CUNDVREST_REFUSED_BROKEN_MARK 11
+#define CUNDVREST_REFUSED_NO_SUCH_QUEUE 12
+#define CUNDVREST_REFUSED_NO_SUCH_BUFFER 13
+#define CUNDVREST_REFUSED_BAD_FRONTIER 14
+#define CUNDVREST_REFUSED_BAD_CAPACITY 15
+#define CUNDVREST_REFUSED_NO_SUCH_OPERATION 21
+
 /* The longest stored plan in bytes, and the most numbers of a read one. */
 #define CUNDVREST_MOST_BYTES 63686
 #define CUNDVREST_MOST_NUMBERS 22868
@@ -82,14 +106,14 @@ extern "C" {
 
 /* Reads a stored plan into numbers, one for each field in stored order, counts
  * included. Refusals 1 to 5 and 9. The answer is how many numbers there are:
- * they stand in front of the room, and past them nothing is touched. A refusal
+ * they are at the front of the room, and past them nothing is touched. A refusal
  * leaves the room untouched. */
 void cundvrest_read(const uint8_t *plan, size_t plan_len,
                     uint64_t *room, size_t room_len, uint64_t told[3]);
 
 /* Writes such numbers as a stored plan. Refusals 1 to 5, each with a position in
  * the numbers as its place, and 9. The answer is how many bytes there are: they
- * stand in front of the room, and past them nothing is touched. A refusal leaves
+ * are at the front of the room, and past them nothing is touched. A refusal leaves
  * the room untouched. */
 void cundvrest_write(const uint64_t *numbers, size_t numbers_len,
                      uint8_t *room, size_t room_len, uint64_t told[3]);

@@ -1,4 +1,5 @@
-/* Checks the stored plan in a file and prints the verdict: `passed 0`, or `refused NUMBER PLACE`. Exits with 0, 1, or 2 where there is no verdict. */
+/* Checks the stored plan in a file and prints the verdict: `passed 0`, or `refused NUMBER PLACE`. Exits with 0, 1, or 2
+ * where there is no verdict. */
 #include <stdio.h>
 
 #include "cundvrest.h"
@@ -30,9 +31,10 @@ int main(int argc, char **argv)
     }
     fclose(file);
 
-    cundvrest_check(plan, plan_len, table, sizeof table / sizeof table[0], list, sizeof list / sizeof list[0], told);
+    cundvrest_check(plan, plan_len, table, sizeof table / sizeof table[0], list, sizeof list / sizeof list[0],
+                    told);
 
-    if (told[0] == 0)
+    if (told[0] == CUNDVREST_PASSED)
         puts("passed 0");
     else
         printf("refused %lu %lu\n", (unsigned long)told[0], (unsigned long)told[1]);
@@ -40,5 +42,5 @@ int main(int argc, char **argv)
         perror("standard output");
         return 2;
     }
-    return told[0] == 0 ? 0 : 1;
+    return told[0] == CUNDVREST_PASSED ? 0 : 1;
 }

@@ -10,7 +10,7 @@ struct Told {
     place: u64,
 }
 
-#[link(name = "cundvrest_c", kind = "static")]
+#[link(name = "cundvrest", kind = "static")]
 extern "C" {
     fn cundvrest_check(
         plan: *const u8,

@@ -26,7 +26,10 @@ It prints one of these; N is the refusal and P its place.
      6 not the owner   7 signal not higher        8 wait for no signal   10 stuck              11 broken mark
     12 no such queue  13 no such buffer          15 capacity not 1..16   21 no such operation
 
-All numbers are decimal. The launcher ./cundvrest exits 0 if passed or answered, 1 if refused, 2 on anything else.
+All numbers are decimal. The launcher ./cundvrest also knows --help, -h and --version. Its exit status:
+  0 yes, go on    passed; fresh or reusable; a frontier, numbers or a plan
+  1 no            refused; held, not-ordered or stray-use
+  2 not judged    wrong words, or input or output that fails: a line on standard error says what
 ",
     )
 }
@@ -82,7 +85,7 @@ pub fn complain(before: &[u8], word: &[u8], after: &[u8]) {
 // A line on a number of standard input that is none, or is too large.
 pub fn bad_number(before: u64, fault: u8) {
     let mut out = line();
-    let name = text::words(&mut out, 0, b"cundvrest: standard input: behind ");
+    let name = text::words(&mut out, 0, b"cundvrest: standard input: after ");
     let first = text::number(&mut out, name, before);
     let second = text::words(&mut out, first, b" numbers comes ");
     let third = fault_words(&mut out, second, fault);
