@@ -10,25 +10,27 @@
  * The number is 0, or that of a refusal; the place says where. docs/REFUSALS.md
  * has each with an example and what to do about it.
  *
- *    0  passed, or answered                       0
- *    1  a field runs past the end                 the field's first byte
- *    2  a count is over its limit                 the count's first byte
- *    3  bytes follow the last section             the first such byte
- *    4  owner, queue, semaphore or buffer not
- *       in its list, or a kind above 1            the field's first byte
- *    5  an axis appears twice                     first byte of the later one
- *    6  signal by a queue that isn't the owner    operation
- *    7  signal not higher than the last, or 0     operation
- *    8  wait above the highest signal of its
- *       semaphore, and above 0                    operation
- *    9  table, list or room too short             the length needed
- *   10  stuck: there is no full run               lowest operation in no run
- *   11  a broken mark                             lowest operation with one
- *   12  the question names no such queue          the number asked
- *   13  the question names no such buffer         the number asked
- *   14  a frontier is badly formed                0
- *   15  the capacity is not 1 to 16               0
- *   21  the question names no such operation      the number asked
+ *    0  passed, or answered                   0
+ *    1  the input ends inside a field or
+ *       before it                             where the field begins
+ *    2  a count exceeds its limit             where the count begins
+ *    3  the input goes on after the plan      the first byte too many
+ *    4  a position out of its section, or
+ *       a kind that is neither 0 nor 1        where the field begins
+ *    5  two queues with one axis              where the later axis begins
+ *    6  a signal on another queue's
+ *       semaphore                             the operation
+ *    7  a signal of 0, or one that does not
+ *       rise above those before it            the operation
+ *    8  a wait that no signal reaches         the operation
+ *    9  table, list or room too short         the length that is enough
+ *   10  stuck: no run is full                 the lowest operation in no run
+ *   11  a broken mark                         the lowest operation with one
+ *   12  a queue that the plan has not         the number that was asked
+ *   13  a buffer that the plan has not        the number that was asked
+ *   14  a frontier that is not well formed    0
+ *   15  a capacity of 0 or above 16           0
+ *   21  an operation that the plan has not    the number that was asked
  *
  * Of several the first in the rules' order is given: 1 to 5 as they are met in
  * reading, then 6 and 7, 8, 9, 10, 11, and what belongs to the question. The
