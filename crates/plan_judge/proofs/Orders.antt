@@ -31,6 +31,7 @@ use Rattle.plan_marks.specs.Given.{Marks-given}
 use Rattle.plan_judge.specs.Leaving.{Room, Left}
 use Rattle.plan_judge.specs.Given.{Judge-given}
 use Rattle.plan_judge.proofs.Untouched.{room-enough}
+use Rattle.plan_judge.proofs.Anyhow.{front-past}
 
 -- ---- the standard run of a sound plan is full, or an operation is missing
 module _ (p : Plan) (sound : Sound p) where
@@ -100,11 +101,6 @@ passed-means p e =
     (λ i m. absurd (let z : 10 ≡ 0 = rw m at e in omega arith))
 
 -- ---- what is left
--- what is written over the front is all that a front of that length keeps
-front-past : (new a b : List ℕ) → drop (length new) a ≡ drop (length new) b → in-front new a ≡ in-front new b
-unfolding in-front
-front-past new a b e = ap (λ (z : List ℕ). new ++ z) e
-
 rows-taken : (p : Plan) (rows-now : List ℕ) → row-width * count p ≤ length rows-now → Row-columns p (λ j. j < count p) rows-now → take (row-width * count p) rows-now ≡ rows p
 unfolding Row-columns
 rows-taken p rows-now room shows =

@@ -7,7 +7,7 @@ use Prim.Native.Nat.{ℕ, zero, suc, _+_, _-_, _*_, _%_, _≤_, _<_, max}
 use native.Mathlib.Nat.{le-trans}
 use native.Mathlib.Omega.{arith}
 use lib.Dec.{ltb, leb, eqb}
-use lib.ListN.{getD}
+use lib.ListN.{length, getD}
 use borrow.Author.Tests.{ltb-true, ltb-false, lt-ltb, leb-true, leb-false, eqb-true, eqb-false, eq-eqb, ne-eqb}
 use Rattle.basics.specs.Lists.{member, filter, tally}
 use Rattle.basics.proofs.Tests.{by-cases, clash, is-false, or-left, or-right, either}
@@ -16,6 +16,7 @@ use Rattle.basics.proofs.Filters.{filter-has, filter-passes, filter-among}
 use Rattle.basics.proofs.Tallies.{tally-same, tally-ends, tally-le}
 use Rattle.order.specs.Closure.{once}
 use Rattle.order.proofs.Extensions.{chain-steps}
+use Rattle.plan_format.specs.Sizes.{row-places}
 use Rattle.plan_format.specs.Plan.{Plan, count, op}
 use Rattle.plan_order.specs.Precedence.{same-queue, direct, before, at-or-before}
 use Rattle.plan_order.specs.Promise.{most-of, Row-epoch, Row-step}
@@ -275,14 +276,14 @@ module _ (p : Plan) (n : ℕ) (queue source next unit : List ℕ) (shown : Run-g
       (le-trans (row-small p k j l) few)))
 
   pub filled-more :
-      (rows′ : List ℕ) →
+      (rows′ : List ℕ) → length rows ≡ row-places →
       Merged rows unit j q (slot-of (getD prev q 0)) (slot-of (getD source (3 * j) 0)) (slot-of (getD source (3 * j + 1) 0)) (slot-of (getD source (3 * j + 2) 0)) rows′ →
       Rows-of p (r ++ (j ∷ [])) rows′
   unfolding Row-columns cell
-  filled-more rows′ merged = record {
+  filled-more rows′ long merged = record {
     ran = λ i k m l. either (member-snoc i r j m)
         (λ t. merged .elsewhere i k l (λ e. clash (member j r) (subst (λ (x : ℕ). member x r ≡ true) e t) (goes .fresh)) ∙ filled .ran i k t l)
-        (λ e. subst (λ (x : ℕ). getD rows′ (16 * x + k) 0 ≡ getD (row p x) k 0) e (merged .there k l ∙ row-value k l));
+        (λ e. subst (λ (x : ℕ). getD rows′ (16 * x + k) 0 ≡ getD (row p x) k 0) e (merged .there long k l ∙ row-value k l));
     others = λ i k b f l.
         let out : member i r ≡ false = is-false (member i r) (λ t. clash (member i (r ++ (j ∷ []))) (member-left i r (j ∷ []) t) f) in
         let ne : i ≡ j → ⊥ = λ e. clash (member i (r ++ (j ∷ []))) (ap (λ (x : ℕ). member x (r ++ (j ∷ []))) e ∙ member-last j r) f in

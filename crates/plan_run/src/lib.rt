@@ -23,8 +23,8 @@ const SLOTS: usize = NO_OPERATION + 1;
 const UNIT: usize = 2 * ROW_WIDTH;
 
 // The standard run into `list`, with the number ready before each step from place n on, and the row of each operation that ran into `rows`,
-// which are all zero before; how many operations ran. Where the columns show no plan, the rows, the first 2 n of the list and an answer up to n are
-// free; where n is above 1,024 nothing is done.
+// which are all zero before; how many operations ran. Where the columns show no plan, it is unspecified which operations below n run, in which
+// order, and what their rows are; where n is above 1,024 nothing is done.
 pub fn run(
     n: u16,
     queue: &QueueColumn,
@@ -32,8 +32,8 @@ pub fn run(
     rows: &mut Rows,
     list: &mut [u32],
 ) -> usize
-    ensures { λ r. ⌜ Bounded n r (now (rows .entry)) (now (rows .exit)) (now (list .entry)) (now (list .exit)) ⌝ }
-    ensures { λ r. ⌜ ((p : Plan) → Run-given p n (now (queue .entry)) (now (source .entry)) → Cleared (now (rows .entry)) → 2 * n ≤ length (now (list .entry)) →
+    ensures bounds { λ r. ⌜ Bounded n r (now (rows .entry)) (now (rows .exit)) (now (list .entry)) (now (list .exit)) ⌝ }
+    ensures of_plans { λ r. ⌜ ((p : Plan) → Run-given p n (now (queue .entry)) (now (source .entry)) → Cleared (now (rows .entry)) → 2 * n ≤ length (now (list .entry)) →
         Ran p n r (now (rows .exit)) (now (list .entry)) (now (list .exit))) ⌝ }
 {
     let many = n as usize;

@@ -4,8 +4,8 @@ use plan_columns::Rows;
 use plan_format::limits::ROW_WIDTH;
 ghost use mathlib.Core.Path.{_≡_};
 ghost use Prim.Native.Nat.{ℕ, _+_, _-_, _*_, _%_, _≤_, _<_, max};
-ghost use lib.ListN.{length, getD};
-ghost use Rattle.plan_format.specs.Sizes.{row-width, row-places, no-operation};
+ghost use lib.ListN.{getD};
+ghost use Rattle.plan_format.specs.Sizes.{row-width, no-operation};
 ghost use Rattle.plan_run.specs.Merge.{largest, Laid};
 
 fn larger(a: u16, b: u16) -> u16
@@ -61,7 +61,7 @@ pub fn merge(
 // A row written at operation j.
 pub fn lay(rows: &mut Rows, j: usize, row: [u16; ROW_WIDTH])
     requires { ⌜ j ≤ no-operation ⌝ }
-    ensures { λ _. ⌜ (length (now (rows .entry)) ≡ row-places → Laid (now (rows .entry)) j row row-width (now (rows .exit))) ⌝ }
+    ensures { λ _. ⌜ Laid (now (rows .entry)) j row row-width (now (rows .exit)) ⌝ }
 {
     for k in 0..ROW_WIDTH {
         rows[ROW_WIDTH * j + k] = row[k];
