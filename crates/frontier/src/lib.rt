@@ -5,7 +5,6 @@ use walks::dominance_of;
 use walks::formed;
 use walks::join;
 use walks::judged;
-use walks::larger;
 use walks::lookup_from;
 use walks::merged;
 ghost use mathlib.Core.Path.{_≡_};
@@ -126,7 +125,7 @@ impl Frontier {
             let answer = found.answer;
             if let Lookup::Listed(old) = answer {
                 let at = found.at;
-                self.epochs[at] = larger(old, epoch);
+                self.epochs[at] = base_numbers::max_u64(old, epoch);
                 return Merged {
                     number: 0,
                     frontier: self,

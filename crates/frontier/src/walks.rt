@@ -8,7 +8,7 @@ use crate::refused;
 ghost use mathlib.Core.Path.{_≡_};
 ghost use mathlib.Core.Bool.{true, false, cond};
 ghost use mathlib.Core.List.{List, _∷_};
-ghost use Prim.Native.Nat.{ℕ, _+_, _≤_, _<_, max};
+ghost use Prim.Native.Nat.{ℕ, _+_, _≤_, _<_};
 ghost use lib.ListN.{length, getD, drop, take};
 ghost use Rattle.basics.specs.Lists.{filter};
 ghost use Rattle.frontier.specs.Entries.{most-entries, most-of-two, rising-from, union, exceeds, exceeding, cut};
@@ -273,7 +273,7 @@ fn leading<'a>(
     };
     Step {
         axis,
-        epoch: larger(epoch, other),
+        epoch: base_numbers::max_u64(epoch, other),
         left: i + 1,
         right: j + 1,
     }
@@ -305,13 +305,6 @@ fn next<'a>(
         left: s.right,
         right: s.left,
     }
-}
-
-// The larger of two epochs.
-pub fn larger(a: u64, b: u64) -> u64
-    ensures { λ r. ⌜ r ≡ max a b ⌝ }
-{
-    if a < b { b } else { a }
 }
 
 // The union of x and y, cut to a capacity: tainted if something is cut, or if `tainted` says so.

@@ -57,8 +57,8 @@ pub fn owners(numbers: &[u64], first: usize, many: usize, owner: &mut OwnerColum
 {
     owned(
         numbers,
-        lower(first, PLAN_NUMBERS),
-        lower(many, MOST_SEMAPHORES),
+        base_numbers::min_usize(first, PLAN_NUMBERS),
+        base_numbers::min_usize(many, MOST_SEMAPHORES),
         owner,
     );
 }
@@ -108,7 +108,7 @@ pub fn add(
             marks: marks_before,
         };
     }
-    cells::put16(queue, operation, wide(window[0]));
+    cells::put16(queue, operation, base_numbers::u64_to_usize(window[0]));
     let w = put_waits(window, operation, wsem, wval);
     let signals_at = 2 + 2 * w;
     let s = put_signals(
@@ -135,7 +135,7 @@ fn put_waits(window: &Window, i: usize, semaphore: &mut [u16], value: &mut [u64]
     ensures { λ r. ⌜ now (semaphore .exit) ≡ sets (now (semaphore .entry)) (3 * i) (wait-semaphores (now (window .entry)) r 1) ⌝ }
     ensures { λ r. ⌜ now (value .exit) ≡ sets (now (value .entry)) (3 * i) (wait-values (now (window .entry)) r 1) ⌝ }
 {
-    let many = wide(window[1]) % 4;
+    let many = base_numbers::u64_to_usize(window[1]) % 4;
     for j in 0..3 {
         semaphore[3 * i + j] = low(waited(window[2 + 2 * j], j, many));
         value[3 * i + j] = waited(window[3 + 2 * j], j, many);
@@ -166,10 +166,14 @@ fn put_signals(
     ensures { λ r. ⌜ now (value .exit) ≡ sets (now (value .entry)) had (signal-values (now (window .entry)) r at) ⌝ }
     ensures { λ r. ⌜ now (operation .exit) ≡ sets (now (operation .entry)) had (repeated r i) ⌝ }
 {
-    let many = wide(window[at]) % 4;
+    let many = base_numbers::u64_to_usize(window[at]) % 4;
     let mut j = 0;
     while j < many {
-        cells::put16(semaphore, had + j, wide(window[at + 1 + 2 * j]));
+        cells::put16(
+            semaphore,
+            had + j,
+            base_numbers::u64_to_usize(window[at + 1 + 2 * j]),
+        );
         cells::put64(value, had + j, window[at + 2 + 2 * j]);
         cells::put16(operation, had + j, i);
         j += 1;
@@ -191,11 +195,11 @@ fn put_marks(
     ensures { λ r. ⌜ now (mark .exit) ≡ sets (now (mark .entry)) had (codes-of-marks (now (window .entry)) r at) ⌝ }
     ensures { λ r. ⌜ now (operation .exit) ≡ sets (now (operation .entry)) had (repeated r i) ⌝ }
 {
-    let many = wide(window[at]) % 8;
+    let many = base_numbers::u64_to_usize(window[at]) % 8;
     let mut j = 0;
     while j < many {
-        let b = wide(window[at + 1 + 2 * j]) % MOST_BUFFERS;
-        let f = wide(window[at + 2 + 2 * j]) % 2;
+        let b = base_numbers::u64_to_usize(window[at + 1 + 2 * j]) % MOST_BUFFERS;
+        let f = base_numbers::u64_to_usize(window[at + 2 + 2 * j]) % 2;
         cells::put16(mark, had + j, 2 * b + f);
         cells::put16(operation, had + j, i);
         j += 1;
@@ -210,23 +214,9 @@ fn number(numbers: &[u64], at: usize) -> usize
     cells::get64(numbers, at) as usize
 }
 
-// The same number.
-fn wide(x: u64) -> usize
-    ensures { λ r. ⌜ r ≡ x ⌝ }
-{
-    x as usize
-}
-
 // The lower sixteen bits.
 fn low(x: u64) -> u16
     ensures { λ r. ⌜ r ≡ x % 65536 ⌝ }
 {
     (x % 65536) as u16
-}
-
-// The lower of two.
-fn lower(a: usize, b: usize) -> usize
-    ensures { λ r. ⌜ r ≡ min a b ⌝ }
-{
-    if a < b { a } else { b }
 }

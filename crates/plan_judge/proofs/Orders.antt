@@ -10,6 +10,7 @@ use lib.ListN.{length, getD, take, drop, replicate, length-replicate}
 use lib.Seq.{ext-getD, getD-take, length-take-le}
 use Rattle.basics.specs.Lists.{member, in-front, place-or}
 use Rattle.basics.proofs.Tests.{by-cases, by-option, clash}
+use Rattle.basics.proofs.Fronts.{front-alike}
 use Rattle.basics.proofs.Searches.{lowest-some}
 use Rattle.plan_format.specs.Sizes.{row-width}
 use Rattle.plan_format.specs.Refusal.{Refusal, refusal, none-given, given}
@@ -31,7 +32,6 @@ use Rattle.plan_marks.specs.Given.{Marks-given}
 use Rattle.plan_judge.specs.Leaving.{Room, Left}
 use Rattle.plan_judge.specs.Given.{Judge-given}
 use Rattle.plan_judge.proofs.Untouched.{room-enough}
-use Rattle.plan_judge.proofs.Anyhow.{front-past}
 
 -- ---- the standard run of a sound plan is full, or an operation is missing
 module _ (p : Plan) (sound : Sound p) where
@@ -135,7 +135,7 @@ module _ (p : Plan) {n ran : ℕ} {rows-now : List ℕ} {r : Told} {t t′ l l�
       (record {
         tells = told-is;
         table-holds = left .refused-table z ∙ ap (λ (k : ℕ). in-front (replicate (row-width * k) 0) t) (sym many);
-        list-holds = left .refused-list z ∙ front-past (replicate (2 * n) 0) l₁ l (rw length-replicate (run .listed .past))
+        list-holds = left .refused-list z ∙ front-alike (replicate (2 * n) 0) l₁ l (rw length-replicate (run .listed .past))
             ∙ ap (λ (k : ℕ). in-front (replicate (2 * k) 0) l) (sym many);
       })
 

@@ -19,7 +19,7 @@ pub record Sizes (bytes : List ℕ) (q s b n : ℕ) : Type 0 where
   pub operations : n ≡ cond (given (scanned bytes .fault)) 0 (count (plan-in bytes))
 
 -- 01: "Numbers 1 to 5 come from the first fault met in that reading order"; where there is none, the columns show the plan. On a refusal
--- the counts are 0, and the columns are free
+-- the counts are 0, and the columns are unspecified
 pub record Loads (bytes : List ℕ) (r : Loaded) (head : List ℕ) (cs : Columns) : Type 0 where
   pub number : r .number ≡ scanned bytes .fault .number
   pub place : r .place ≡ scanned bytes .fault .place

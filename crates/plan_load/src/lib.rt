@@ -32,7 +32,7 @@ pub struct Loaded {
 }
 
 // Fills the columns of a stored plan, and its head, in which the axes stand from the second place on. Past them, past the plan's own places in
-// each column, and on a refusal, what is lent is free.
+// each column, and on a refusal, what is lent is unspecified.
 pub fn load(
     plan: &[u8],
     head: &mut HeadNumbers,

@@ -44,7 +44,7 @@ nearest w (x ∷ xs) = cond (reaches w x) (some (nearer x (nearest w xs))) (near
 -- 01: "A wait for 0 is met at once and orders nothing. A wait for v above 0 resolves to the operation whose signal has the least value
 -- that is at least v, never to a later one"; to none where no signal is high enough, which is refusal 8
 pub data Resolution : Type 0 where
-  free : Resolution
+  at-once : Resolution
   on : Signal → Resolution
   never : Resolution
 
@@ -53,10 +53,10 @@ resolution-of none = never
 resolution-of (some x) = on x
 
 unfoldable pub resolve : Plan → (wait : Point) → Resolution
-resolve p w = cond (eqb (w .value) 0) free (resolution-of (nearest w (plan-signals p)))
+resolve p w = cond (eqb (w .value) 0) at-once (resolution-of (nearest w (plan-signals p)))
 
 unfoldable pub rests-on : Resolution → (i : ℕ) → Bool
-rests-on free i = false
+rests-on at-once i = false
 rests-on (on x) i = eqb (x .operation) i
 rests-on never i = false
 

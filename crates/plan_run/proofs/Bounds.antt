@@ -8,7 +8,8 @@ use native.Mathlib.Omega.{arith}
 use lib.Count.{ones, ones-le}
 use lib.Dec.{eqb}
 use lib.ListN.{length, getD, set, drop, replicate, length-set}
-use lib.Seq.{getD-set-same, getD-set-other, drop-drop}
+use lib.Seq.{getD-set-same, getD-set-other}
+use Rattle.basics.proofs.Fronts.{past-later}
 use borrow.Author.Tests.{eqb-true, eqb-false}
 use Rattle.basics.proofs.Tests.{by-cases, clash, and-left, and-right, or-cases, either}
 use Rattle.basics.proofs.Ranks.{rank-under}
@@ -185,7 +186,7 @@ module _ (queue : List ℕ) (n : ℕ) (next unit : List ℕ) (tables : Tables qu
             (λ f. rw (stays (n + k) (λ z. omega arith) (λ z. eqb-false k i f (let e : k ≡ i = omega arith in e))) (old .readies k (omega (arith, eqb-false k i f)) b));
         between = λ k l b. stays k (λ z. omega arith) (λ z. omega arith) ∙ old .between k (omega arith) b;
         past = step-past n list list₁ list₂ i j (ones ready) inside few counted first-is then-is (n + (i + 1)) (omega arith)
-            ∙ sym (further list) ∙ ap (λ (x : List ℕ). drop 1 x) (old .past) ∙ further first;
+            ∙ past-later (n + i) (n + (i + 1)) list first (omega arith) (old .past);
         long = list-long ∙ old .long;
         unlaid = λ enough x c l none. merged .elsewhere x c l (λ e. none i (omega arith) (entry-now (omega (arith, old .long)) ∙ sym e))
             ∙ old .unlaid (omega arith) x c l (λ k u e. none k (omega arith) (entry-old k u ∙ e));
@@ -193,9 +194,6 @@ module _ (queue : List ℕ) (n : ℕ) (next unit : List ℕ) (tables : Tables qu
         rows-long = merged .long ∙ old .rows-long;
         over = λ l. absurd (omega arith);
       }
-    where
-      further : (xs : List ℕ) → drop 1 (drop (n + i) xs) ≡ drop (n + (i + 1)) xs
-      further xs = drop-drop 1 (n + i) xs ∙ ap (λ (k : ℕ). drop k xs) (let e : n + i + 1 ≡ n + (i + 1) = omega arith in e)
 
   pub bounds-more : Bounds queue n (i + 1) head′ ready′ rows₀ rows′ first list₂
   bounds-more = record {
@@ -209,10 +207,5 @@ module _ (queue : List ℕ) (n : ℕ) (next unit : List ℕ) (tables : Tables qu
 -- ---- what the bounds give
 -- nothing past 2 n
 pub run-past : {n answer : ℕ} {rows rows-now list list-now : List ℕ} → Bounded n answer rows rows-now list list-now → drop (2 * n) list-now ≡ drop (2 * n) list
-run-past {n} {answer} {rows} {rows-now} {list} {list-now} bounded =
-    further list-now ∙ ap (λ (x : List ℕ). drop (n - answer) x) (bounded .past) ∙ sym (further list)
-  where
-    further : (xs : List ℕ) → drop (2 * n) xs ≡ drop (n - answer) (drop (n + answer) xs)
-    further xs =
-        ap (λ (k : ℕ). drop k xs) (let e : 2 * n ≡ n + answer + (n - answer) = omega (arith, bounded .few) in e)
-        ∙ sym (drop-drop (n - answer) (n + answer) xs)
+run-past {n} {answer} {list = list} {list-now} bounded =
+    past-later (n + answer) (2 * n) list-now list (omega (arith, bounded .few)) (bounded .past)

@@ -12,7 +12,7 @@ use borrow.Author.Tests.{ltb-true, ltb-false, eqb-true, eqb-false, eq-eqb}
 use Rattle.basics.proofs.Tests.{by-cases, either}
 use Rattle.basics.proofs.Elements.{element-at, element-place}
 use Rattle.plan_format.specs.Plan.{Point, Plan, count, op}
-use Rattle.plan_order.specs.Precedence.{Resolution, free, on, never, resolve, rests-on}
+use Rattle.plan_order.specs.Precedence.{Resolution, at-once, on, never, resolve, rests-on}
 use Rattle.plan_order.proofs.Resolution.{Resolved, at-signal, resolve-is}
 use Rattle.plan_columns.specs.Columns.{no-point, wait-at, source-of, Source-column}
 use Rattle.plan_run.specs.Queues.{held-by, blocker-of}
@@ -27,7 +27,7 @@ pub data Rest (p : Plan) (j : ℕ) : ℕ → Type 0 where
 module _ (p : Plan) (n : ℕ) (queue source : List ℕ) (shown : Run-given p n queue source) where
   source-rest : (j : ℕ) (w : Point) → List·Memᴰ w (op p j .waits) → (x : Resolution) → x ≡ resolve p w → Resolved p w x → Rest p j (source-of x)
   unfolding source-of
-  source-rest j w m free e d = on-nothing
+  source-rest j w m at-once e d = on-nothing
   source-rest j w m (on x) e (at-signal _ t) =
       on-operation (x .operation) (t .inside) w m (ap (λ (y : Resolution). rests-on y (x .operation)) (sym e) ∙ unfold rests-on in (eq-eqb (x .operation) (x .operation) refl))
   source-rest j w m never e d = on-nothing
@@ -51,7 +51,7 @@ module _ (p : Plan) (n : ℕ) (queue source : List ℕ) (shown : Run-given p n q
       (g .0, few, shown .sources j (g .0) l few ∙ ap (λ (x : Point). source-of (resolve p x)) (g .2) ∙ rests-source (resolve p w) t)
     where
       rests-source : (x : Resolution) → rests-on x i ≡ true → source-of x ≡ i
-      rests-source free e = absurd (false≢true (unfold rests-on in e))
+      rests-source at-once e = absurd (false≢true (unfold rests-on in e))
       rests-source (on x) e = unfold source-of rests-on in (eqb-true (x .operation) i e)
       rests-source never e = absurd (false≢true (unfold rests-on in e))
 

@@ -38,8 +38,8 @@ returns c =
     let q = sym (c .enum-told .given .1) ∙ c .before .before .lookup-from .ensures .found (p .1 .0 .1) in
     (search needs, next-absent _ _ _ _ _ _ _ _ (p .1 .0 .0) (p .1 .0 .1) (p .0 .2) (p .0 .3) (p .1 .1) q)
 
-larger-requires : tie.Need-larger-requires
-larger-requires c κs = search needs
+max-u64-requires : tie.Need-max-u64-requires
+max-u64-requires c κs = search needs
 
 add-t14 : tie.Need-add-t14
 add-t14 c = search needs
@@ -55,7 +55,7 @@ returns-2 c =
     let l = listed-some _ _ _ _ _ _ q in (
       (search needs, omega (arith, l), search needs),
       next-listed _ _ _ _ _ _ _ _ (p .1 .0 .0) (p .1 .0 .1) _ _
-          (c .larger .ensures) (p .0 .2) l (p .1 .1) q,
+          (c .max-u64 .ensures) (p .0 .2) l (p .1 .1) q,
     )
 
 pub leading-spec : {M : Type 1} → statement M
@@ -71,7 +71,7 @@ leading-spec =
     enum-told
     add-t20
     returns
-    larger-requires
+    max-u64-requires
     add-t14
     add-t21
     returns-2)
