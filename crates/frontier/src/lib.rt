@@ -1,12 +1,15 @@
 // Sparse frontiers: vector clocks of at most sixteen entries (axis, epoch), with lookup, merge, raise and dominance.
-mod walks; // walks over the lent slots of one or two frontiers
+mod cuts;
+mod form;
+mod search;
+mod unions;
 
-use walks::dominance_of;
-use walks::formed;
-use walks::join;
-use walks::judged;
-use walks::lookup_from;
-use walks::merged;
+use form::formed;
+use form::judged;
+use search::dominance_of;
+use search::lookup_from;
+use unions::join;
+use unions::merged;
 ghost use mathlib.Core.Path.{_≡_};
 ghost use mathlib.Core.Bool.{false};
 ghost use mathlib.Core.List.{[]};
@@ -93,8 +96,8 @@ impl Frontier {
 
     // The larger epoch of each axis, cut to the capacity.
     pub fn merge(self, other: Self, capacity: u32) -> Merged
-        ensures { λ r. ⌜ r ≡ merge self other capacity ⌝ }
-        ensures { λ r. ⌜ Merge-right self other capacity r ⌝ }
+        ensures answers { λ r. ⌜ r ≡ merge self other capacity ⌝ }
+        ensures right { λ r. ⌜ Merge-right self other capacity r ⌝ }
     {
         merged(
             &self.axes,
@@ -112,8 +115,8 @@ impl Frontier {
     // One axis raised to an epoch: a merge with one entry, with the empty frontier for epoch 0. Where the axis is
     // listed and the capacity holds every entry, that is the larger epoch stored in this copy.
     pub fn raise(mut self, axis: u64, epoch: u64, capacity: u32) -> Merged
-        ensures { λ r. ⌜ r ≡ raise self axis epoch capacity ⌝ }
-        ensures { λ r. ⌜ Raise-right self axis epoch capacity r ⌝ }
+        ensures answers { λ r. ⌜ r ≡ raise self axis epoch capacity ⌝ }
+        ensures right { λ r. ⌜ Raise-right self axis epoch capacity r ⌝ }
     {
         let len = self.len;
         let number = judged(&self.axes, &self.epochs, len, capacity);
@@ -150,8 +153,8 @@ impl Frontier {
 
     // Whether every entry of the other is reached, as far as the taints let it be known.
     pub fn dominates(self, other: Self) -> Dominance
-        ensures { λ r. ⌜ r ≡ dominance self other ⌝ }
-        ensures { λ r. ⌜ Dominance-means self other r ⌝ }
+        ensures answers { λ r. ⌜ r ≡ dominance self other ⌝ }
+        ensures means { λ r. ⌜ Dominance-means self other r ⌝ }
     {
         dominance_of(
             &self.axes,

@@ -6,6 +6,7 @@ use Prim.Native.Nat.{ℕ, suc, _+_, _-_, _*_, _≤_, _<_}
 use native.Mathlib.Omega.{arith}
 use lib.ListN.{length, getD, take, drop, replicate, length-append, length-take, length-drop, length-replicate, take-append-drop, List·getD-append}
 use lib.Seq.{take-append-seam, drop-append-seam, take-at, getD-append-add}
+use Rattle.plan_format.specs.Sizes.{plan-numbers}
 use Rattle.plan_format.specs.Refusal.{none-given, given}
 use Rattle.plan_format.specs.Grammar.{bytes, Scan, scan, times}
 use Rattle.plan_format.specs.Form.{first-form}
@@ -45,18 +46,18 @@ abbrev behind : (number at : ℕ) → (all : List ℕ) → Cursor
 behind n a all = record { number = n; at = a; got = length all; value = 0 }
 
 abbrev padded : List ℕ → List ℕ
-padded all = all ++ replicate (22868 - length all) 0
+padded all = all ++ replicate (plan-numbers - length all) 0
 
-padded-long : (all : List ℕ) → length all ≤ 22868 → length (padded all) ≡ 22868
-padded-long all l = length-append all (replicate (22868 - length all) 0) ∙ omega (arith, length-replicate {A = ℕ} (22868 - length all) 0)
+padded-long : (all : List ℕ) → length all ≤ plan-numbers → length (padded all) ≡ plan-numbers
+padded-long all l = length-append all (replicate (plan-numbers - length all) 0) ∙ omega (arith, length-replicate {A = ℕ} (plan-numbers - length all) 0)
 
 here-behind : (bs : List ℕ) (r : Cursor) (all : List ℕ) → here bs (behind (r .number) (r .at) all) (padded all) ≡ scan (drop (r .at) bs) (r .at) all (fault-of r)
 unfolding here fault-of
-here-behind bs r all = ap (λ (l : List ℕ). scan (drop (r .at) bs) (r .at) l (fault-of r)) (take-append-seam all (replicate (22868 - length all) 0))
+here-behind bs r all = ap (λ (l : List ℕ). scan (drop (r .at) bs) (r .at) l (fault-of r)) (take-append-seam all (replicate (plan-numbers - length all) 0))
 
 here-clean-behind : (bs : List ℕ) (at : ℕ) (all : List ℕ) → here bs (behind 0 at all) (padded all) ≡ scan (drop at bs) at all none-given
 unfolding here fault-of
-here-clean-behind bs at all = ap (λ (l : List ℕ). scan (drop at bs) at l none-given) (take-append-seam all (replicate (22868 - length all) 0))
+here-clean-behind bs at all = ap (λ (l : List ℕ). scan (drop at bs) at l none-given) (take-append-seam all (replicate (plan-numbers - length all) 0))
 
 -- after a refusal no more operations are read
 times-stops : (h : Head) (s : Scan) (i n : ℕ) → given (times i (step 1 h) s .fault) ≡ true → i ≤ n → times n (step 1 h) s ≡ times i (step 1 h) s
@@ -106,7 +107,7 @@ module _ (bs : List ℕ) (h : Head) (nums : List ℕ) (cs₀ : Columns) (head : 
       few-all : length all ≤ h .got + 22 * h .operations
       few-all = omega (arith, l .few, few-heading, length-append heading (l .blocks))
 
-      long : length (padded all) ≡ 22868
+      long : length (padded all) ≡ plan-numbers
       long = padded-long all (omega (arith, few-all, head .few, head .few-operations))
 
       whole-plan : Plan-read first-form bs (behind 0 at all) (padded all)
@@ -131,7 +132,7 @@ module _ (bs : List ℕ) (h : Head) (nums : List ℕ) (cs₀ : Columns) (head : 
         scanned-are =
             sym (numbers .numbers refl)
             ∙ ap (λ (k : ℕ). take k (padded all)) (sym (answer-long (scanned bs .fault) (scanned bs .got) (numbers .told) [] refl))
-            ∙ take-append-seam all (replicate (22868 - length all) 0)
+            ∙ take-append-seam all (replicate (plan-numbers - length all) 0)
 
         front : Heading (h .queues) (h .semaphores) (h .buffers) (h .operations) heading
         front = head .heading z

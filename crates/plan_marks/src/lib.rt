@@ -30,8 +30,8 @@ pub fn broken(
     mop: &MarkColumn,
     rows: &Rows,
 ) -> usize
-    ensures { λ r. ⌜ r ≡ first-broken (now (queue .entry)) (now (rows .entry)) n marks (now (mark .entry)) (now (mop .entry)) ⌝ }
-    ensures { λ r. ⌜ ((p : Plan) → Marks-given p n marks (now (queue .entry)) (now (mark .entry)) (now (mop .entry)) (now (rows .entry)) → r ≡ place-or n (broken-mark p)) ⌝ }
+    ensures found { λ r. ⌜ r ≡ first-broken (now (queue .entry)) (now (rows .entry)) n marks (now (mark .entry)) (now (mop .entry)) ⌝ }
+    ensures of_plans { λ r. ⌜ ((p : Plan) → Marks-given p n marks (now (queue .entry)) (now (mark .entry)) (now (mop .entry)) (now (rows .entry)) → r ≡ place-or n (broken-mark p)) ⌝ }
 {
     let none = n as usize;
     let many = base_numbers::min_usize(marks, MARK_PLACES);

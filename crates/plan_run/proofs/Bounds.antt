@@ -14,7 +14,7 @@ use borrow.Author.Tests.{eqb-true, eqb-false}
 use Rattle.basics.proofs.Tests.{by-cases, clash, and-left, and-right, or-cases, either}
 use Rattle.basics.proofs.Ranks.{rank-under}
 use Rattle.plan_format.specs.Sizes.{most-queues, most-operations, no-operation, row-width}
-use Rattle.plan_run.specs.Words.{has, Lowest-bit}
+use Rattle.plan_run.specs.Words.{has, Lowest-bit, all-queues}
 use Rattle.plan_run.specs.Queues.{First, found, absent, can-go, Looked}
 use Rattle.plan_run.specs.Merge.{cell}
 use Rattle.plan_run.specs.Run.{Bounded}
@@ -61,7 +61,7 @@ pub bounds-none :
     Prepared queue n source head next ran waiter ready → Bounds queue n 0 head ready rows rows list list
 bounds-none queue n source head next ran waiter ready rows list prepared = record {
   ahead = λ q l. record { start = 0; first = prepared .chained .heads q l; before = λ k b _ _. absurd (not-suc-le-zero b) };
-  readies = λ q l t. looked-ready 65535 0 head source ran (replicate (no-operation + 1) 0) ready waiter (prepared .looked) q l
+  readies = λ q l t. looked-ready all-queues 0 head source ran (replicate (no-operation + 1) 0) ready waiter (prepared .looked) q l
       (λ z. clash (has 0 q) z (has-none q)) t;
   head-long = prepared .chained .head-long;
   bounded = bounded-none n rows list;

@@ -9,7 +9,7 @@ use lib.ListN.{length, getD, set, drop, length-set, length-drop}
 use lib.Seq.{getD-set-same, getD-set-other, getD-drop, ext-getD}
 use borrow.Author.Tests.{eqb-true, eqb-false}
 use Rattle.basics.proofs.Tests.{by-cases}
-use Rattle.plan_format.specs.Sizes.{row-width}
+use Rattle.plan_format.specs.Sizes.{row-width, no-operation}
 use Rattle.plan_run.specs.Merge.{cell, largest, Laid, Merged}
 
 -- ---- a row merged
@@ -36,7 +36,7 @@ module _ (rows : List ℕ) (j : ℕ) (row : List ℕ) where
   laid-none = record { there = λ h k l. absurd (not-suc-le-zero l); elsewhere = λ i k l ne. refl; long = refl }
 
   pub laid-more :
-      (k : ℕ) (old new : List ℕ) → j ≤ 1024 → k < 16 → Laid rows j row k old → new ≡ set old (16 * j + k) (getD row k 0) →
+      (k : ℕ) (old new : List ℕ) → j ≤ no-operation → k < 16 → Laid rows j row k old → new ≡ set old (16 * j + k) (getD row k 0) →
       Laid rows j row (k + 1) new
   unfolding cell
   laid-more k old new few b h now-is = record {

@@ -9,7 +9,7 @@ use Rattle.order.specs.Greedy.{greedy}
 use Rattle.plan_format.specs.Sizes.{most-queues, most-operations, most-waits, row-width, row-places, no-operation}
 use Rattle.plan_format.specs.Plan.{Plan, count, op}
 use Rattle.plan_order.specs.Runs.{is-run, next, standard}
-use Rattle.plan_run.specs.Words.{has}
+use Rattle.plan_run.specs.Words.{has, all-queues}
 use Rattle.plan_run.specs.Queues.{First, Chained, can-go, Looked}
 use Rattle.plan_run.specs.Merge.{Merged}
 use Rattle.plan_run.specs.Run.{Rows-of, Listed, Bounded}
@@ -75,7 +75,7 @@ pub record Tables (queue : List ℕ) (n : ℕ) (next unit : List ℕ) : Type 0 w
 pub record Prepared (queue : List ℕ) (n : ℕ) (source head next ran waiter : List ℕ) (ready : ℕ) : Type 0 where
   pub chained : Chained queue 0 n head next
   pub ran-is : ran ≡ set (replicate (no-operation + 1) 0) no-operation 1
-  pub looked : Looked 65535 0 head source ran (replicate (no-operation + 1) 0) ready waiter
+  pub looked : Looked all-queues 0 head source ran (replicate (no-operation + 1) 0) ready waiter
 
 -- operation numbers past 1,024 read as 1,024
 abbrev pub slot-of : ℕ → ℕ

@@ -19,6 +19,9 @@ ghost use Rattle.plan_run.specs.Run.{Run-given, Cleared, Bounded, Ran};
 // A place for each operation, and one for none.
 const SLOTS: usize = NO_OPERATION + 1;
 
+// The word with a bit for every queue.
+const ALL_QUEUES: u32 = (1 << MOST_QUEUES) - 1;
+
 // A row with a one in the middle: the part of it that begins at width - q has the one in column q.
 const UNIT: usize = 2 * ROW_WIDTH;
 
@@ -46,7 +49,7 @@ pub fn run(
     let mut waiter = [0u16; SLOTS];
     ran[NO_OPERATION] = 1;
     queues::chain(many, queue, &mut head, &mut next);
-    let ready = queues::wake(65535, 0, &head, source, &ran, &mut waiter);
+    let ready = queues::wake(ALL_QUEUES, 0, &head, source, &ran, &mut waiter);
     steps::all(
         many,
         ready,

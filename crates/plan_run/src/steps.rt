@@ -7,6 +7,7 @@ use plan_columns::QueueColumn;
 use plan_columns::Rows;
 use plan_columns::WaitColumn;
 use plan_format::limits::MOST_QUEUES;
+use plan_format::limits::MOST_WAITS;
 use plan_format::limits::NO_OPERATION;
 use plan_format::limits::NO_OPERATION_STORED;
 use plan_format::limits::ROW_WIDTH;
@@ -42,9 +43,9 @@ fn fill(
         (slot-of (getD (now (source .entry)) (most-waits * j + 1) 0)) (slot-of (getD (now (source .entry)) (most-waits * j + 2) 0)) (now (rows .exit)) ⌝ }
 {
     let last = slot(prev, q);
-    let a = slot(source, 3 * j);
-    let b = slot(source, 3 * j + 1);
-    let c = slot(source, 3 * j + 2);
+    let a = slot(source, MOST_WAITS * j);
+    let b = slot(source, MOST_WAITS * j + 1);
+    let c = slot(source, MOST_WAITS * j + 2);
     let row = merge::merge(rows, unit, q, last, a, b, c);
     merge::lay(rows, j, row);
 }
