@@ -25,6 +25,7 @@ use Rattle.plan_stuck.specs.Zeros.{first-zero}
 use Rattle.plan_marks.specs.Passes.{first-broken}
 use Rattle.plan_judge.specs.Answering.{rules-by, Sources-by, order-by, Run-judged, Answers-by}
 use Rattle.plan_judge.specs.Leaving.{Room, Left}
+use Rattle.plan_judge.proofs.Inside.{order-inside}
 
 -- ---- 6 to 8
 module _ (n signals : ℕ) (owner queue wsem wval ssem sval sop : List ℕ) where
@@ -82,6 +83,9 @@ module _ (n ran marks : ℕ) (queue mark mop rows : List ℕ) {t t′ l l₁ l�
     run-long = length-take-le (2 * n) l₁ (omega (arith, bounded .long, room .in-list));
     bounded = subst (λ (x : List ℕ). Bounded n ran (replicate row-places 0) rows l x) in-list bounded;
     tells = told-is;
+    place-inside = λ z.
+        subst (λ (k : ℕ). k < n) (sym (told-is .place))
+        (order-inside bounded (omega (arith, room .in-list)) marks queue mark mop (λ e. z (told-is .number ∙ e)));
     table-holds = by-cases (given (order-by n ran marks queue mark mop rows))
         (λ g. left .refused-table (not-none g) ∙ sym (ap (λ (b : Bool). in-front (cond b (replicate (row-width * n) 0) (take (row-width * n) rows)) t) g))
         (λ f. left .passed-table (is-none f) ∙ sym (ap (λ (b : Bool). in-front (cond b (replicate (row-width * n) 0) (take (row-width * n) rows)) t) f));

@@ -3,7 +3,7 @@
 use mathlib.Core.Path.{_≡_}
 use mathlib.Core.Bool.{true, false, _||_, cond}
 use mathlib.Core.List.{List}
-use Prim.Native.Nat.{ℕ, _*_}
+use Prim.Native.Nat.{ℕ, _*_, _<_}
 use lib.Dec.{ltb}
 use lib.ListN.{length, take, replicate}
 use Rattle.basics.specs.Lists.{in-front}
@@ -37,7 +37,7 @@ order-by n ran marks queue mark mop rows =
 
 -- after a run, with the rows and the front of the list that it left: its judgement; zeros in front of table and list where that is a refusal, else
 -- rows and list; and past them nothing is touched. What the run leaves is bounded: operations below n, none twice, with one to sixteen queues ready
--- before each, and a row of zeros for each that did not run.
+-- before each, and a row of zeros for each that did not run. A refusal names an operation.
 pub record Run-judged (n marks : ℕ) (queue mark mop : List ℕ) (r : Told) (table table-now list list-now : List ℕ) : Type 0 where
   pub ran : ℕ
   pub rows : List ℕ
@@ -45,6 +45,7 @@ pub record Run-judged (n marks : ℕ) (queue mark mop : List ℕ) (r : Told) (ta
   pub run-long : length run ≡ 2 * n
   pub bounded : Bounded n ran (replicate row-places 0) rows list (in-front run list)
   pub tells : Tells (order-by n ran marks queue mark mop rows) 0 r
+  pub place-inside : (r .number ≡ 0 → ⊥) → r .place < n
   pub table-holds : table-now ≡ in-front (cond (given (order-by n ran marks queue mark mop rows)) (replicate (row-width * n) 0) (take (row-width * n) rows)) table
   pub list-holds : list-now ≡ in-front (cond (given (order-by n ran marks queue mark mop rows)) (replicate (2 * n) 0) run) list
 
