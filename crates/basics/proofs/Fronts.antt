@@ -62,6 +62,7 @@ module _ {A : Type 0} where
       ∙ ap (λ (zs : List A). take k xs ++ zs) (e ∙ ap (λ (n : ℕ). drop n ys) (sym (length-take-le k xs l)))
 
   -- and what is written over all that differs is the same
-  pub front-alike : (new xs ys : List A) → drop (length new) xs ≡ drop (length new) ys → in-front new xs ≡ in-front new ys
+  pub front-alike : (new xs ys : List A) → drop (length new) xs ≡ drop (length new) ys →
+      in-front new xs ≡ in-front new ys
   unfolding in-front
   front-alike new xs ys e = ap (λ (zs : List A). new ++ zs) e

@@ -26,7 +26,8 @@ listed-is : {xs bytes₀ : List ℕ} {c : Cursor} {bytes : List ℕ} → Plan-wr
 unfolding listed scanned-by first-form numbers
 listed-is p = ap ended (p .read)
 
-spelled-is : {xs bytes₀ : List ℕ} {c : Cursor} {bytes : List ℕ} → Plan-written first-form xs bytes₀ c bytes → c .number ≡ 0 →
+spelled-is : {xs bytes₀ : List ℕ} {c : Cursor} {bytes : List ℕ} → Plan-written first-form xs bytes₀ c bytes →
+    c .number ≡ 0 →
     spelled xs ≡ take (c .put) bytes
 unfolding spelled first-form spelling
 spelled-is p z = ap (λ (s : Spelling). s .made) (p .spell z)
@@ -48,7 +49,8 @@ module _ {xs bytes₀ : List ℕ} {c : Cursor} {bytes : List ℕ} (p : Plan-writ
   stays = past-later (c .put) (8 * c .at) bytes bytes₀ (p .by-eight) (p .past)
 
   -- a refusal on the way
-  pub written-refused : (c .number ≡ 0 → ⊥) → Bytes-written xs bytes₀ (record { number = c .number; place = c .at; answer = 0 }) bytes
+  pub written-refused : (c .number ≡ 0 → ⊥) →
+      Bytes-written xs bytes₀ (record { number = c .number; place = c .at; answer = 0 }) bytes
   unfolding here scan
   written-refused z =
       record {
@@ -62,7 +64,8 @@ module _ {xs bytes₀ : List ℕ} {c : Cursor} {bytes : List ℕ} (p : Plan-writ
       }
 
   -- numbers after the last section
-  pub written-more : c .number ≡ 0 → c .at < length xs → Bytes-written xs bytes₀ (record { number = 3; place = c .at; answer = 0 }) bytes
+  pub written-more : c .number ≡ 0 → c .at < length xs →
+      Bytes-written xs bytes₀ (record { number = 3; place = c .at; answer = 0 }) bytes
   unfolding scan refusal given
   written-more z h =
       record {
@@ -78,7 +81,8 @@ module _ {xs bytes₀ : List ℕ} {c : Cursor} {bytes : List ℕ} (p : Plan-writ
       }
 
   -- a whole plan
-  pub written-whole : c .number ≡ 0 → length xs ≤ c .at → Bytes-written xs bytes₀ (record { number = c .number; place = 0; answer = c .put }) bytes
+  pub written-whole : c .number ≡ 0 → length xs ≤ c .at →
+      Bytes-written xs bytes₀ (record { number = c .number; place = 0; answer = c .put }) bytes
   unfolding scan none-given given
   written-whole z h =
       let l : length (spelled xs) ≡ c .put = ap length (spelled-is p z)
@@ -89,7 +93,8 @@ module _ {xs bytes₀ : List ℕ} {c : Cursor} {bytes : List ℕ} (p : Plan-writ
             (listed-is p ∙ ap ended (here-clean xs c z)
             ∙ ended-none (drop (c .at) xs) (c .at) (take (c .at) xs) (length-drop (c .at) xs ∙ omega arith))
             (record { number = z; place = refl; answer-is = sym l });
-        passed = λ e. front-taken (c .put) bytes bytes₀ (omega (arith, few)) (p .past) ∙ ap (λ (front : List ℕ). in-front front bytes₀) (sym (spelled-is p z));
+        passed = λ e. front-taken (c .put) bytes bytes₀ (omega (arith, few)) (p .past)
+            ∙ ap (λ (front : List ℕ). in-front front bytes₀) (sym (spelled-is p z));
         refused = λ e. absurd (e z);
         few = few;
         long = long;

@@ -121,5 +121,6 @@ module _ (F : Form) where
           past = operations .past
               ∙ past-later (c₃ .put) (c₄ .put) b₃ b₂ (operations .more) (sizes .past)
               ∙ past-later (c₂ .put) (c₄ .put) b₂ b₁ (omega (arith, sizes .more, operations .more)) (owners .past)
-              ∙ past-later (c₁ .put) (c₄ .put) b₁ b₀ (omega (arith, owners .more, sizes .more, operations .more)) (axes .past);
+              ∙ past-later (c₁ .put) (c₄ .put) b₁ b₀ (omega (arith, owners .more, sizes .more, operations .more))
+              (axes .past);
         }

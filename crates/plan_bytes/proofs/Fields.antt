@@ -117,7 +117,9 @@ module _ {w : ℕ} {check : Check} {xs : List ℕ} {c : Cursor} {bytes : List �
     pub wide : {u : ℕ} → check (take (c .at) xs) v ≡ 0 → 256 ^ w ≤ v → Writes (field w check) w xs c bytes (cursor 4 (c .at) (c .put) u) bytes
     wide e k = stopped (eqb-false 4 0 refl) (field-wide w (λ u. check (take (c .at) xs) u) (drop (c .at) xs) (c .at) (take (c .at) xs) (some-left xs (c .at) l) (rw (← front-is xs (c .at) v d) e) (rw (← front-is xs (c .at) v d) k))
 
-    pub kept : {bytes-now : List ℕ} → w ≤ 8 → check (take (c .at) xs) v ≡ 0 → v < 256 ^ w → Puts w bytes (c .put) v bytes-now → Writes (field w check) w xs c bytes (cursor 0 (c .at + 1) (c .put + w) v) bytes-now
+    pub kept : {bytes-now : List ℕ} → w ≤ 8 → check (take (c .at) xs) v ≡ 0 → v < 256 ^ w →
+        Puts w bytes (c .put) v bytes-now → Writes (field w check) w xs c bytes
+        (cursor 0 (c .at + 1) (c .put + w) v) bytes-now
     unfolding here fault-of spelling spell-by spell-field
     kept {bytes-now} narrow e k q =
         record {
@@ -165,7 +167,8 @@ module _ {w limit over : ℕ} {xs : List ℕ} {c : Cursor} {bytes : List ℕ} wh
           value-below = omega arith;
         }
 
-    pub limited-kept : {bytes-now : List ℕ} → w ≤ 8 → v < limit → v < 256 ^ w → Puts w bytes (c .put) v bytes-now → Limited w limit over xs c bytes (cursor 0 (c .at + 1) (c .put + w) v) bytes-now
+    pub limited-kept : {bytes-now : List ℕ} → w ≤ 8 → v < limit → v < 256 ^ w → Puts w bytes (c .put) v bytes-now →
+        Limited w limit over xs c bytes (cursor 0 (c .at + 1) (c .put + w) v) bytes-now
     unfolding limited here scan last-got
     limited-kept narrow m k q =
         record {

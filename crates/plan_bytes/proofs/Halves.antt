@@ -38,7 +38,8 @@ joined w {bytes} {bytes₁} {bytes₂} {at} {v} p q =
           ap (λ (n : ℕ). take n bytes₂) (sym (add-assoc at w w)) ∙ q .front ∙ ap (λ (l : List ℕ). l ++ digits w (v / 256 ^ w)) (p .front)
           ∙ rw (digits-low w v, digits-split w w v) (append-assoc (take at bytes) (digits w v) (digits w (v / 256 ^ w)));
       as-long = q .as-long ∙ p .as-long;
-      past = ap (λ (n : ℕ). drop n bytes₂) (sym (add-assoc at w w)) ∙ q .past ∙ past-later (at + w) (at + w + w) bytes₁ bytes (omega arith) (p .past)
+      past = ap (λ (n : ℕ). drop n bytes₂) (sym (add-assoc at w w)) ∙ q .past
+          ∙ past-later (at + w) (at + w + w) bytes₁ bytes (omega arith) (p .past)
           ∙ ap (λ (n : ℕ). drop n bytes) (add-assoc at w w);
     }
 

@@ -32,8 +32,8 @@ pub record Room (many : ℕ) (xs : List ℕ) (c : Cursor) (bytes : List ℕ) : T
   pub inside : c .at ≤ length xs
   pub room : c .put + many ≤ length bytes
 
--- from the cursor `c` to the cursor `r` a thing is read from the list and, where there is no refusal, spelled, at most so many bytes long and eight
--- for each number; past the bytes put the array stays
+-- from the cursor `c` to the cursor `r` a thing is read from the list and, where there is no refusal, spelled, at most
+-- so many bytes long and eight for each number; past the bytes put the array stays
 pub record Writes (g : Grammar) (many : ℕ) (xs : List ℕ) (c : Cursor) (bytes : List ℕ) (r : Cursor) (bytes-now : List ℕ) : Type 0 where
   pub read : read-by numbers g (here xs c) ≡ here xs r
   pub spell : r .number ≡ 0 → spell-by g (spelling xs c bytes) ≡ spelling xs r bytes-now
@@ -76,8 +76,9 @@ pub record Plan-written (F : Form) (xs bytes : List ℕ) (r : Cursor) (bytes-now
   pub by-eight : r .put ≤ 8 * r .at
   pub past : drop (r .put) bytes-now ≡ drop (r .put) bytes
 
--- 01: "The writer takes such a list and refuses by 1 to 5"; the answer is the length in bytes. Past the bytes the array stays. Beside a refusal it
--- stays past eight bytes for each number before the refused one; what is in front of that is unspecified.
+-- 01: "The writer takes such a list and refuses by 1 to 5"; the answer is the length in bytes. Past the bytes the array
+-- stays. Beside a refusal it stays past eight bytes for each number before the refused one; what is in front of that is
+-- unspecified.
 pub record Bytes-written (xs bytes : List ℕ) (r : Told) (bytes-now : List ℕ) : Type 0 where
   pub told : Tells (listed xs .fault) (length (spelled xs)) r
   pub passed : r .number ≡ 0 → bytes-now ≡ in-front (spelled xs) bytes

@@ -13,14 +13,17 @@ use Rattle.plan_format.specs.Plan.{Plan, queues}
 use Rattle.plan_columns.specs.Columns.{Owner-column}
 use Rattle.plan_columns.specs.Filling.{owner-numbers}
 
-pub owners-stored : (X before now : List ℕ) (first many at m : ℕ) → at ≡ min first plan-numbers → m ≡ min many most-semaphores → now ≡ sets before 0 (owner-numbers X m at) →
+pub owners-stored : (X before now : List ℕ) (first many at m : ℕ) → at ≡ min first plan-numbers →
+    m ≡ min many most-semaphores → now ≡ sets before 0 (owner-numbers X m at) →
     now ≡ sets before 0 (owner-numbers X (min many most-semaphores) (min first plan-numbers))
 owners-stored X before now first many at m at-is m-is stored = stored ∙ rw (at-is, m-is)
 
 module _ (p : Plan) (X before now : List ℕ) (first many : ℕ) where
-  pub owners-shown : p .owners ≡ take many (drop first X) → first ≤ plan-numbers → many ≤ most-semaphores → queues p ≤ 16 →
+  pub owners-shown : p .owners ≡ take many (drop first X) → first ≤ plan-numbers → many ≤ most-semaphores →
+      queues p ≤ 16 →
       ((s : ℕ) → s < length (p .owners) → getD (p .owners) s 0 < queues p) →
-      now ≡ sets before 0 (owner-numbers X (min many most-semaphores) (min first plan-numbers)) → length before ≡ most-semaphores → Owner-column p now
+      now ≡ sets before 0 (owner-numbers X (min many most-semaphores) (min first plan-numbers)) →
+      length before ≡ most-semaphores → Owner-column p now
   unfolding Owner-column
   owners-shown stand low few queues-few known stored size s l =
       let at-is : min first plan-numbers ≡ first = omega arith in

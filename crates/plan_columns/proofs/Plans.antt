@@ -85,7 +85,8 @@ module _ (p : Plan) (limits : Limits p) (X : List ℕ) (n first : ℕ) (stand : 
         (joined-at of 1 (λ i o. refl) 0 (p .operations) j 0 empty-operation l (omega arith)))
 
     -- a number of a wait
-    wait-shown : (h : Point → ℕ) → h no-point ≡ 0 → {f : Part} {before now : List ℕ} → parts X f n 0 first ≡ map h (joined three-waits 0 (p .operations)) → Column X f wait-places n first before now i at (3 * i) →
+    wait-shown : (h : Point → ℕ) → h no-point ≡ 0 → {f : Part} {before now : List ℕ} → parts X f n 0 first ≡ map h
+        (joined three-waits 0 (p .operations)) → Column X f wait-places n first before now i at (3 * i) →
         (j k : ℕ) → j < count p → k < 3 → getD now (3 * j + k) 0 ≡ h (wait-at p j k)
     unfolding count op wait-at
     wait-shown h z s c j k l u =

@@ -74,7 +74,9 @@ module _ (n ran marks i : ℕ) (queue mark mop rows : List ℕ) where
 
 -- ---- what is left
 module _ (n ran marks : ℕ) (queue mark mop rows : List ℕ) {t t′ l l₁ l′ : List ℕ} {r : Told} (room : Room n t l)
-    (bounded : Bounded n ran (replicate row-places 0) rows l l₁) (told-is : Tells (order-by n ran marks queue mark mop rows) 0 r) (left : Left (r .number) n rows t t′ l₁ l′) where
+    (bounded : Bounded n ran (replicate row-places 0) rows l l₁)
+    (told-is : Tells (order-by n ran marks queue mark mop rows) 0 r)
+    (left : Left (r .number) n rows t t′ l₁ l′) where
   run-judged : Run-judged n marks queue mark mop r t t′ l l′
   run-judged = record {
     ran = ran;

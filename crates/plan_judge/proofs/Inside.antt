@@ -21,7 +21,8 @@ use Rattle.plan_stuck.specs.Zeros.{own-zero, first-zero}
 use Rattle.plan_marks.specs.Passes.{first-broken}
 use Rattle.plan_judge.specs.Answering.{order-by}
 
-module _ {n ran : ℕ} {rows list list-now : List ℕ} (bounded : Bounded n ran (replicate row-places 0) rows list list-now) (room : n ≤ length list) where
+module _ {n ran : ℕ} {rows list list-now : List ℕ}
+    (bounded : Bounded n ran (replicate row-places 0) rows list list-now) (room : n ≤ length list) where
   -- what is listed is below n, and none twice
   listed : (k : ℕ) → k ≤ ran → Sized n (take k list-now)
   listed zero l = subst (λ (xs : List ℕ). Sized n xs) (sym (none-taken list-now)) (sized-nil n)
@@ -44,7 +45,8 @@ module _ {n ran : ℕ} {rows list list-now : List ℕ} (bounded : Bounded n ran 
   unlaid-zero queue i f =
       eq-eqb (getD rows (row-width * i + getD queue i 0 % row-width) 0) 0
       (bounded .unlaid (omega (arith, bounded .few)) i (getD queue i 0 % row-width) (omega arith)
-      (λ k l e. clash (member i (take ran list-now)) (place-take list-now ran i (omega (arith, bounded .few, bounded .long)) (k, l, e)) f)
+      (λ k l e. clash (member i (take ran list-now))
+      (place-take list-now ran i (omega (arith, bounded .few, bounded .long)) (k, l, e)) f)
       ∙ replicate-at row-places 0 (row-width * i + getD queue i 0 % row-width))
 
   -- fewer than n ran: one that did not is found
@@ -57,11 +59,13 @@ module _ {n ran : ℕ} {rows list list-now : List ℕ} (bounded : Bounded n ran 
         length-take-le ran list-now (omega (arith, bounded .few, bounded .long)),
         sized-full n (take ran list-now) (listed ran (omega arith))
             (λ i b. by-cases (member i (take ran list-now)) (λ t. t)
-            (λ f. clash (own-zero queue rows i) (unlaid-zero queue i f) (lowest-none n (own-zero queue rows) none i b))),
+            (λ f. clash (own-zero queue rows i) (unlaid-zero queue i f)
+            (lowest-none n (own-zero queue rows) none i b))),
       )))
       (λ j e. rw e (lowest-some n (own-zero queue rows) j e .inside))
 
-  pub order-inside : (marks : ℕ) (queue mark mop : List ℕ) → (order-by n ran marks queue mark mop rows .number ≡ 0 → ⊥) → order-by n ran marks queue mark mop rows .place < n
+  pub order-inside : (marks : ℕ) (queue mark mop : List ℕ) →
+      (order-by n ran marks queue mark mop rows .number ≡ 0 → ⊥) → order-by n ran marks queue mark mop rows .place < n
   unfolding order-by refusal none-given
   order-inside marks queue mark mop z =
       by-cases (ltb ran n)

@@ -135,7 +135,8 @@ module _ (p : Plan) {n ran : ℕ} {rows-now : List ℕ} {r : Told} {t t′ l l�
       (record {
         tells = told-is;
         table-holds = left .refused-table z ∙ ap (λ (k : ℕ). in-front (replicate (row-width * k) 0) t) (sym many);
-        list-holds = left .refused-list z ∙ front-alike (replicate (2 * n) 0) l₁ l (rw length-replicate (run .listed .past))
+        list-holds = left .refused-list z ∙ front-alike (replicate (2 * n) 0) l₁ l
+            (rw length-replicate (run .listed .past))
             ∙ ap (λ (k : ℕ). in-front (replicate (2 * k) 0) l) (sym many);
       })
 

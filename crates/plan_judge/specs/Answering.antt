@@ -1,4 +1,5 @@
--- What the check answers and leaves by its columns alone, whether they show a plan or not; only the order of the run and its rows are unspecified.
+-- What the check answers and leaves by its columns alone, whether they show a plan or not; only the order of the run
+-- and its rows are unspecified.
 -- Assumes nothing: these are definitions.
 use mathlib.Core.Path.{_≡_}
 use mathlib.Core.Bool.{true, false, _||_, cond}
@@ -35,9 +36,10 @@ order-by n ran marks queue mark mop rows =
     cond (ltb ran n) (refusal 10 (first-zero n queue rows))
     (cond (ltb (first-broken queue rows n marks mark mop) n) (refusal 11 (first-broken queue rows n marks mark mop)) none-given)
 
--- after a run, with the rows and the front of the list that it left: its judgement; zeros in front of table and list where that is a refusal, else
--- rows and list; and past them nothing is touched. What the run leaves is bounded: operations below n, none twice, with one to sixteen queues ready
--- before each, and a row of zeros for each that did not run. A refusal names an operation.
+-- after a run, with the rows and the front of the list that it left: its judgement; zeros in front of table and list
+-- where that is a refusal, else rows and list; and past them nothing is touched. What the run leaves is bounded:
+-- operations below n, none twice, with one to sixteen queues ready before each, and a row of zeros for each that did
+-- not run. A refusal names an operation.
 pub record Run-judged (n marks : ℕ) (queue mark mop : List ℕ) (r : Told) (table table-now list list-now : List ℕ) : Type 0 where
   pub ran : ℕ
   pub rows : List ℕ

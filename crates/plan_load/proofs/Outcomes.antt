@@ -6,7 +6,6 @@ use Prim.Native.Nat.{ℕ, suc, _+_, _-_, _*_, _≤_, _<_}
 use native.Mathlib.Omega.{arith}
 use lib.ListN.{length, getD, take, drop, replicate, length-append, length-take, length-drop, length-replicate, take-append-drop, List·getD-append}
 use lib.Seq.{take-append-seam, drop-append-seam, take-at, getD-append-add}
-use Rattle.plan_format.specs.Sizes.{plan-numbers}
 use Rattle.plan_format.specs.Refusal.{none-given, given}
 use Rattle.plan_format.specs.Grammar.{bytes, Scan, scan, times}
 use Rattle.plan_format.specs.Form.{first-form}
@@ -46,18 +45,18 @@ abbrev behind : (number at : ℕ) → (all : List ℕ) → Cursor
 behind n a all = record { number = n; at = a; got = length all; value = 0 }
 
 abbrev padded : List ℕ → List ℕ
-padded all = all ++ replicate (plan-numbers - length all) 0
+padded all = all ++ replicate (22868 - length all) 0
 
-padded-long : (all : List ℕ) → length all ≤ plan-numbers → length (padded all) ≡ plan-numbers
-padded-long all l = length-append all (replicate (plan-numbers - length all) 0) ∙ omega (arith, length-replicate {A = ℕ} (plan-numbers - length all) 0)
+padded-long : (all : List ℕ) → length all ≤ 22868 → length (padded all) ≡ 22868
+padded-long all l = length-append all (replicate (22868 - length all) 0) ∙ omega (arith, length-replicate {A = ℕ} (22868 - length all) 0)
 
 here-behind : (bs : List ℕ) (r : Cursor) (all : List ℕ) → here bs (behind (r .number) (r .at) all) (padded all) ≡ scan (drop (r .at) bs) (r .at) all (fault-of r)
 unfolding here fault-of
-here-behind bs r all = ap (λ (l : List ℕ). scan (drop (r .at) bs) (r .at) l (fault-of r)) (take-append-seam all (replicate (plan-numbers - length all) 0))
+here-behind bs r all = ap (λ (l : List ℕ). scan (drop (r .at) bs) (r .at) l (fault-of r)) (take-append-seam all (replicate (22868 - length all) 0))
 
 here-clean-behind : (bs : List ℕ) (at : ℕ) (all : List ℕ) → here bs (behind 0 at all) (padded all) ≡ scan (drop at bs) at all none-given
 unfolding here fault-of
-here-clean-behind bs at all = ap (λ (l : List ℕ). scan (drop at bs) at l none-given) (take-append-seam all (replicate (plan-numbers - length all) 0))
+here-clean-behind bs at all = ap (λ (l : List ℕ). scan (drop at bs) at l none-given) (take-append-seam all (replicate (22868 - length all) 0))
 
 -- after a refusal no more operations are read
 times-stops : (h : Head) (s : Scan) (i n : ℕ) → given (times i (step 1 h) s .fault) ≡ true → i ≤ n → times n (step 1 h) s ≡ times i (step 1 h) s
@@ -107,7 +106,7 @@ module _ (bs : List ℕ) (h : Head) (nums : List ℕ) (cs₀ : Columns) (head : 
       few-all : length all ≤ h .got + 22 * h .operations
       few-all = omega (arith, l .few, few-heading, length-append heading (l .blocks))
 
-      long : length (padded all) ≡ plan-numbers
+      long : length (padded all) ≡ 22868
       long = padded-long all (omega (arith, few-all, head .few, head .few-operations))
 
       whole-plan : Plan-read first-form bs (behind 0 at all) (padded all)
@@ -132,7 +131,7 @@ module _ (bs : List ℕ) (h : Head) (nums : List ℕ) (cs₀ : Columns) (head : 
         scanned-are =
             sym (numbers .numbers refl)
             ∙ ap (λ (k : ℕ). take k (padded all)) (sym (answer-long (scanned bs .fault) (scanned bs .got) (numbers .told) [] refl))
-            ∙ take-append-seam all (replicate (plan-numbers - length all) 0)
+            ∙ take-append-seam all (replicate (22868 - length all) 0)
 
         front : Heading (h .queues) (h .semaphores) (h .buffers) (h .operations) heading
         front = head .heading z
@@ -149,9 +148,25 @@ module _ (bs : List ℕ) (h : Head) (nums : List ℕ) (cs₀ : Columns) (head : 
         small : Small (h .queues) (h .semaphores) (h .buffers)
         unfolding queues
         small = record {
-          few-queues = omega (arith, scanned-limits bs clean .few-queues, ap (λ (p : Plan). length (p .axes)) plan-is, front .axes-long);
-          few-semaphores = omega (arith, scanned-limits bs clean .few-semaphores, ap (λ (p : Plan). length (p .owners)) plan-is, front .owners-long);
-          few-buffers = omega (arith, scanned-limits bs clean .few-buffers, ap (λ (p : Plan). length (p .sizes)) plan-is, front .sizes-long);
+          few-queues = omega (
+            arith,
+            scanned-limits bs clean .few-queues,
+            ap (λ (p : Plan). length (p .axes)) plan-is,
+            front .axes-long,
+          );
+          few-semaphores = omega (
+            arith,
+            scanned-limits bs clean .few-semaphores,
+            ap (λ (p : Plan). length (p .owners)) plan-is,
+            front .owners-long,
+          );
+          few-buffers = omega (
+            arith,
+            scanned-limits bs clean .few-buffers,
+            ap
+                (λ (p : Plan). length (p .sizes)) plan-is,
+            front .sizes-long,
+          );
         }
 
         operations-are : plan-in bs .operations ≡ operations-in (h .operations) (drop (length heading) (all ++ []))
@@ -215,7 +230,8 @@ module _ (bs : List ℕ) (h : Head) (nums : List ℕ) (cs₀ : Columns) (head : 
           };
           none = λ z. absurd (z refl);
           head-shown = λ _. load-head;
-          columns = λ _. filling-end (plan-in bs) (scanned-limits bs clean) (all ++ []) (h .operations) (length heading) operations-are done (l .filled small []);
+          columns = λ _. filling-end (plan-in bs) (scanned-limits bs clean) (all ++ []) (h .operations)
+              (length heading) operations-are done (l .filled small []);
         }
 
         pub load-owners : plan-in bs .owners ≡ take (h .semaphores) (drop (2 + h .queues) nums)

@@ -70,7 +70,11 @@ record Shows (table : List ℕ) (last : ℕ → Option ℕ) : Type 0 where
 
 shows-none : Shows none-noted (λ b. none)
 unfolding code
-shows-none = record { size = length-replicate {A = ℕ} 512 no-operation; frees = λ b l. getD-replicate 512 (b * 2 + 1) no-operation 0 (omega arith) }
+shows-none = record {
+  size = length-replicate {A = ℕ} 512 no-operation;
+  frees = λ b l. getD-replicate 512
+      (b * 2 + 1) no-operation 0 (omega arith);
+}
 
 module _ (last : ℕ → Option ℕ) (m : Marked) where
   after-free : (b : ℕ) → eqb (m .buffer) b ≡ true → eqb (m .kind) 1 ≡ true → after last m b ≡ some (m .by)

@@ -26,7 +26,10 @@ module _ (p : Plan) (sound : Sound p) (queue rows : List ℕ) (queues-shown : Qu
   -- a use and the free of its holding
   pub late-right : (i g : ℕ) → i < count p → g < count p → late queue rows i g ≡ not (at-or-before p i g)
   unfolding late
-  late-right i g a b = rw (lt-ltb g no-operation (omega (arith, sound .few-operations)), ordered-right p sound queue rows queues-shown rows-shown i g a b)
+  late-right i g a b = rw (
+    lt-ltb g no-operation (omega (arith, sound .few-operations)),
+    ordered-right p sound queue rows queues-shown rows-shown i g a b,
+  )
 
   pub late-nothing : (i : ℕ) → late queue rows i no-operation ≡ false
   unfolding late
@@ -40,7 +43,10 @@ module _ (p : Plan) (sound : Sound p) (queue rows : List ℕ) (queues-shown : Qu
   pub early-right : (f : List ℕ) → is-full p f ≡ true → (g i : ℕ) → g < count p → i < count p → early queue rows g i ≡ not (before p g i)
   unfolding early at-or-before
   early-right f full g i a b =
-      rw (lt-ltb g no-operation (omega (arith, sound .few-operations)), ordered-right p sound queue rows queues-shown rows-shown g i a b)
+      rw (
+        lt-ltb g no-operation (omega (arith, sound .few-operations)),
+        ordered-right p sound queue rows queues-shown rows-shown g i a b,
+      )
       (by-cases (eqb g i)
       (λ t. rw t (sym (ap (λ (b : Bool). not b) (subst (λ (z : ℕ). before p g z ≡ false) (eqb-true g i t) (not-itself p (rules-good p sound .0) f full g)))))
       (λ n. rw n))

@@ -41,7 +41,8 @@ low-set (x ∷ xs) (suc m) i l h (suc k) = low-set xs m i l (λ k. h (suc k)) k
 -- ---- tests
 module _ (queue rows : List ℕ) where
   -- a number below 1,024 is its own remainder
-  pub ordered-cut : (i j x a b : ℕ) → i < most-operations → x ≡ getD queue (i % most-operations) 0 → a ≡ getD rows (16 * i + x % 16) 0 → b ≡ getD rows (16 * j + x % 16) 0 →
+  pub ordered-cut : (i j x a b : ℕ) → i < most-operations → x ≡ getD queue (i % most-operations) 0 →
+      a ≡ getD rows (16 * i + x % 16) 0 → b ≡ getD rows (16 * j + x % 16) 0 →
       leb a b ≡ ordered queue rows i j
   ordered-cut i j x a b l e f g = ordered-is queue rows i j x a b (rw (mod-eq-of-lt l) at e) f g
 
@@ -50,9 +51,11 @@ module _ (queue rows : List ℕ) where
   late-is i g r e = rw e
 
   -- 1,024 is no operation
-  pub early-is : (g i : ℕ) (r : Bool) → i < most-operations → (g < no-operation → r ≡ ordered queue rows g i) → (eqb g i || (ltb g no-operation && not r)) ≡ early queue rows g i
+  pub early-is : (g i : ℕ) (r : Bool) → i < most-operations → (g < no-operation → r ≡ ordered queue rows g i) →
+      (eqb g i || (ltb g no-operation && not r)) ≡ early queue rows g i
   unfolding early
-  early-is g i r l e = by-cases (ltb g no-operation) (λ t. rw (t, e (ltb-true g no-operation t))) (λ f. rw (f, ne-eqb g i (omega (arith, ltb-false g no-operation f))))
+  early-is g i r l e = by-cases (ltb g no-operation) (λ t. rw (t, e (ltb-true g no-operation t)))
+      (λ f. rw (f, ne-eqb g i (omega (arith, ltb-false g no-operation f))))
 
 -- ---- the marks of the columns, one at a time
 
@@ -112,7 +115,8 @@ module _ {queue rows mark operation : List ℕ} {n many : ℕ} where
   forward-end {k} l b = rw (shown-none mark operation many k l) at (b .rest)
 
   module _ {last : List ℕ} {k m i g : ℕ} {t : Bool} (b : Forward queue rows mark operation n many last k) (more : k < many)
-      (m-is : m ≡ getD mark k 0 % 512) (i-is : i ≡ getD operation k 0 % most-operations) (g-is : g ≡ free-in last (m / 2)) (t-is : t ≡ early queue rows g i) where
+      (m-is : m ≡ getD mark k 0 % 512) (i-is : i ≡ getD operation k 0 % most-operations)
+      (g-is : g ≡ free-in last (m / 2)) (t-is : t ≡ early queue rows g i) where
     first : shown-from mark operation (many - k) k ≡ mark-of m i ∷ shown-from mark operation (many - (k + 1)) (k + 1)
     first = rw (m-is, i-is) (shown-next mark operation many k more)
 

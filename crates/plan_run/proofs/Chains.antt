@@ -27,9 +27,12 @@ first-small queue q start n x few (found _ l u e h) = omega arith
 first-small queue q start n x few (absent h) = le-refl no-operation
 
 module _ (queue : List ℕ) (n : ℕ) (few : n ≤ most-operations) where
-  pub chained-none : (head next : List ℕ) → head ≡ replicate most-queues no-operation → length next ≡ most-operations → Chained queue n n head next
+  pub chained-none : (head next : List ℕ) → head ≡ replicate most-queues no-operation → length next ≡ most-operations →
+      Chained queue n n head next
   chained-none head next e long = record {
-    heads = λ q l. subst (λ (x : ℕ). First queue q n n x) (sym (ap (λ (x : List ℕ). getD x q 0) e ∙ getD-replicate most-queues q no-operation 0 l)) (absent (λ k a b z. omega arith));
+    heads = λ q l. subst (λ (x : ℕ). First queue q n n x)
+        (sym (ap (λ (x : List ℕ). getD x q 0) e ∙ getD-replicate most-queues q no-operation 0 l))
+        (absent (λ k a b z. omega arith));
     nexts = λ i a b l. absurd (omega arith);
     head-long = ap length e ∙ length-replicate {A = ℕ} most-queues no-operation;
     next-long = long;

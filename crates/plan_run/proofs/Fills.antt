@@ -81,7 +81,8 @@ epoch-next p x j e clear =
     omega (arith, epoch-first p j)
 
 -- ---- one more in the own column
-own-column : (most one new x : ℕ) → one ≡ 1 → most < new → new ≤ 1 + most → x ≡ max new most → x ≤ most-operations → (most + one) % 65536 ≡ x
+own-column : (most one new x : ℕ) → one ≡ 1 → most < new → new ≤ 1 + most → x ≡ max new most → x ≤ most-operations →
+    (most + one) % 65536 ≡ x
 own-column most one new x a b c d e = omega arith
 
 other-column : (most one x : ℕ) → one ≡ 0 → x ≡ max 0 most → x ≤ most-operations → (most + one) % 65536 ≡ x
@@ -121,14 +122,19 @@ module _ (p : Plan) (n : ℕ) (queue source next unit : List ℕ) (shown : Run-g
 
   part-cell : (x k : ℕ) → k < 16 → Part x → cell rows x k ≡ cond (ltb x no-operation) (getD (row p x) k 0) 0
   unfolding cell Row-columns
-  part-cell x k l nothing = filled .others no-operation k (omega arith) (is-false (member no-operation r) (λ t. absurd (omega (arith, few, run-inside p n queue source shown r head prev ran places no-operation t)))) l
-  part-cell x k l (operation _ m d) = filled .ran x k m l ∙ sym (ap (λ (b : Bool). cond b (getD (row p x) k 0) 0) (lt-ltb x no-operation (omega (arith, few, direct-below p x j d .0))))
+  part-cell x k l nothing = filled .others no-operation k (omega arith)
+      (is-false (member no-operation r)
+      (λ t. absurd (omega (arith, few, run-inside p n queue source shown r head prev ran places no-operation t)))) l
+  part-cell x k l (operation _ m d) = filled .ran x k m l
+      ∙ sym (ap (λ (b : Bool). cond b (getD (row p x) k 0) 0)
+      (lt-ltb x no-operation (omega (arith, few, direct-below p x j d .0))))
 
   data Parts : List ℕ → Type 0 where
     none-left : Parts []
     one-more : (x : ℕ) (xs : List ℕ) → Part x → Parts xs → Parts (x ∷ xs)
 
-  parts-most : (k : ℕ) → k < 16 → (xs : List ℕ) → Parts xs → cells-most rows k xs ≡ most-of p k (filter (λ x. ltb x no-operation) xs)
+  parts-most : (k : ℕ) → k < 16 → (xs : List ℕ) → Parts xs → cells-most rows k xs ≡ most-of p k
+      (filter (λ x. ltb x no-operation) xs)
   unfolding cells-most most-of filter
   parts-most k l [] none-left = refl
   parts-most k l (x ∷ xs) (one-more _ _ h hs) =
@@ -140,8 +146,10 @@ module _ (p : Plan) (n : ℕ) (queue source next unit : List ℕ) (shown : Run-g
   part-known x nothing l = absurd (omega arith)
   part-known x (operation _ m d) l = (m, d)
 
-  parts-known : (xs : List ℕ) → Parts xs → (x : ℕ) → member x (filter (λ x. ltb x no-operation) xs) ≡ true → (member x r ≡ true) × (direct p x j ≡ true)
-  parts-known xs hs x m = part-known x (find xs hs (filter-among (λ x. ltb x no-operation) xs x m)) (ltb-true x no-operation (filter-passes (λ x. ltb x no-operation) xs x m))
+  parts-known : (xs : List ℕ) → Parts xs → (x : ℕ) → member x (filter (λ x. ltb x no-operation) xs) ≡ true →
+      (member x r ≡ true) × (direct p x j ≡ true)
+  parts-known xs hs x m = part-known x (find xs hs (filter-among (λ x. ltb x no-operation) xs x m))
+      (ltb-true x no-operation (filter-passes (λ x. ltb x no-operation) xs x m))
     where
       find : (xs : List ℕ) → Parts xs → member x xs ≡ true → Part x
       find [] none-left m = member-nil x m
@@ -283,7 +291,8 @@ module _ (p : Plan) (n : ℕ) (queue source next unit : List ℕ) (shown : Run-g
   filled-more rows′ long merged = record {
     ran = λ i k m l. either (member-snoc i r j m)
         (λ t. merged .elsewhere i k l (λ e. clash (member j r) (subst (λ (x : ℕ). member x r ≡ true) e t) (goes .fresh)) ∙ filled .ran i k t l)
-        (λ e. subst (λ (x : ℕ). getD rows′ (16 * x + k) 0 ≡ getD (row p x) k 0) e (merged .there long k l ∙ row-value k l));
+        (λ e. subst (λ (x : ℕ). getD rows′ (16 * x + k) 0 ≡ getD (row p x) k 0) e
+        (merged .there long k l ∙ row-value k l));
     others = λ i k b f l.
         let out : member i r ≡ false = is-false (member i r) (λ t. clash (member i (r ++ (j ∷ []))) (member-left i r (j ∷ []) t) f) in
         let ne : i ≡ j → ⊥ = λ e. clash (member i (r ++ (j ∷ []))) (ap (λ (x : ℕ). member x (r ++ (j ∷ []))) e ∙ member-last j r) f in

@@ -34,7 +34,8 @@ module _ (next : List ℕ → Option ℕ) where
       sym (ap (λ (x : ℕ). greedy next x r) (let z : n - i ≡ suc (n - (i + 1)) = omega arith in z) ∙ greedy-step (n - (i + 1)) r j e) ∙ h
 
 -- ---- the list after a step: the number ready and the operation, each where the list has the place
-module _ (n : ℕ) (list list₁ list₂ : List ℕ) (i j ready : ℕ) (inside : i < n) (few : j < no-operation) (small : ready < 65536)
+module _ (n : ℕ) (list list₁ list₂ : List ℕ) (i j ready : ℕ) (inside : i < n) (few : j < no-operation)
+    (small : ready < 65536)
     (first-is : list₁ ≡ set list (i + n) (ready % 4294967296)) (then-is : list₂ ≡ set list₁ i (j % 4294967296)) where
   first-long : length list₁ ≡ length list
   first-long = ap length first-is ∙ length-set list (i + n) (ready % 4294967296)
@@ -68,11 +69,14 @@ module _ (n : ℕ) (list list₁ list₂ : List ℕ) (i j ready : ℕ) (inside :
   pub step-past : (m : ℕ) → n + i < m → drop m list₂ ≡ drop m list
   step-past m l =
       ap (λ (x : List ℕ). drop m x) then-is ∙ drop-set-lt m list₁ i (j % 4294967296) (let h : i < m = omega arith in h)
-      ∙ ap (λ (x : List ℕ). drop m x) first-is ∙ drop-set-lt m list (i + n) (ready % 4294967296) (let h : i + n < m = omega arith in h)
+      ∙ ap (λ (x : List ℕ). drop m x) first-is ∙ drop-set-lt m list (i + n) (ready % 4294967296)
+      (let h : i + n < m = omega arith in h)
 
 -- ---- one step more
-module _ (p : Plan) (n : ℕ) (first r list list₁ list₂ : List ℕ) (i j ready : ℕ) (room : 2 * n ≤ length first) (listed : Listed p n r first list)
-    (many : length r ≡ i) (inside : i < n) (few : j < no-operation) (small : ready < 65536) (counted : ready ≡ number-ready p r)
+module _ (p : Plan) (n : ℕ) (first r list list₁ list₂ : List ℕ) (i j ready : ℕ) (room : 2 * n ≤ length first)
+    (listed : Listed p n r first list)
+    (many : length r ≡ i) (inside : i < n) (few : j < no-operation) (small : ready < 65536)
+    (counted : ready ≡ number-ready p r)
     (first-is : list₁ ≡ set list (i + n) (ready % 4294967296)) (then-is : list₂ ≡ set list₁ i (j % 4294967296)) where
   length-more : length (r ++ (j ∷ [])) ≡ i + 1
   length-more = length-append r (j ∷ []) ∙ omega (arith, many)
@@ -85,7 +89,8 @@ module _ (p : Plan) (n : ℕ) (first r list list₁ list₂ : List ℕ) (i j rea
     steps = λ k l. by-cases (eqb k i)
         (λ t. let e = eqb-true k i t in
         ap (λ (x : ℕ). getD list₂ x 0) e
-        ∙ step-at n list list₁ list₂ i j ready inside few small first-is then-is (let h : i < length list = omega (arith, listed .long) in h)
+        ∙ step-at n list list₁ list₂ i j ready inside few small first-is then-is
+        (let h : i < length list = omega (arith, listed .long) in h)
         ∙ sym (getD-at r j [] 0 k (many ∙ sym e)))
         (λ f. let ne = eqb-false k i f in
         let b : k < length r = omega (arith, length-more) in
@@ -93,12 +98,14 @@ module _ (p : Plan) (n : ℕ) (first r list list₁ list₂ : List ℕ) (i j rea
     readies = λ k l. by-cases (eqb k i)
         (λ t. let e = eqb-true k i t in
         ap (λ (x : ℕ). getD list₂ (n + x) 0) e
-        ∙ number-at n list list₁ list₂ i j ready inside few small first-is then-is (let h : n + i < length list = omega (arith, listed .long) in h)
+        ∙ number-at n list list₁ list₂ i j ready inside few small first-is then-is
+        (let h : n + i < length list = omega (arith, listed .long) in h)
         ∙ counted ∙ ap (λ (x : List ℕ). number-ready p x) (sym (take-at r (j ∷ []) k (many ∙ sym e))))
         (λ f. let ne = eqb-false k i f in
         let b : k < length r = omega (arith, length-more) in
         other (n + k) (λ z. absurd (omega arith)) (λ z. ne (let e : k ≡ i = omega arith in e)) ∙ listed .readies k b
         ∙ ap (λ (x : List ℕ). number-ready p x) (sym (take-append-le k r (j ∷ []) (let h : k ≤ length r = omega arith in h))));
-    past = step-past n list list₁ list₂ i j ready inside few small first-is then-is (2 * n) (omega arith) ∙ listed .past;
+    past = step-past n list list₁ list₂ i j ready inside few small first-is then-is (2 * n) (omega arith)
+        ∙ listed .past;
     long = step-long n list list₁ list₂ i j ready inside few small first-is then-is ∙ listed .long;
   }

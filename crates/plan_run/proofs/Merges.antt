@@ -36,7 +36,8 @@ module _ (rows : List ℕ) (j : ℕ) (row : List ℕ) where
   laid-none = record { there = λ h k l. absurd (not-suc-le-zero l); elsewhere = λ i k l ne. refl; long = refl }
 
   pub laid-more :
-      (k : ℕ) (old new : List ℕ) → j ≤ no-operation → k < 16 → Laid rows j row k old → new ≡ set old (16 * j + k) (getD row k 0) →
+      (k : ℕ) (old new : List ℕ) → j ≤ no-operation → k < 16 → Laid rows j row k old → new ≡ set old (16 * j + k)
+      (getD row k 0) →
       Laid rows j row (k + 1) new
   unfolding cell
   laid-more k old new few b h now-is = record {
@@ -46,7 +47,8 @@ module _ (rows : List ℕ) (j : ℕ) (row : List ℕ) where
         ∙ getD-set-same old (16 * j + k) (getD row k 0) 0 (let u : 16 * j + k < length old = omega (arith, h .long) in u)
         ∙ ap (λ (x : ℕ). getD row x 0) (sym q))
         (λ n. let ne = eqb-false m k n in
-        getD-set-other old (16 * j + k) (16 * j + m) (getD row k 0) 0 (λ z. ne (let u : m ≡ k = omega arith in u)) ∙ h .there long m (omega arith));
+        getD-set-other old (16 * j + k) (16 * j + m) (getD row k 0) 0 (λ z. ne (let u : m ≡ k = omega arith in u))
+        ∙ h .there long m (omega arith));
     elsewhere = λ i m l ne. ap (λ (x : List ℕ). getD x (16 * i + m) 0) now-is
         ∙ getD-set-other old (16 * j + k) (16 * i + m) (getD row k 0) 0 (λ z. ne (let u : i ≡ j = omega arith in u)) ∙ h .elsewhere i m l ne;
     long = ap length now-is ∙ length-set old (16 * j + k) (getD row k 0) ∙ h .long;
@@ -69,7 +71,8 @@ pub merged-past :
 unfolding cell
 merged-past rows unit j q a b c d rows-now n l merged =
     ext-getD 0 (drop (row-width * n) rows-now) (drop (row-width * n) rows)
-    (length-drop (row-width * n) rows-now ∙ ap (λ (x : ℕ). x - row-width * n) (merged .long) ∙ sym (length-drop (row-width * n) rows))
+    (length-drop (row-width * n) rows-now ∙ ap (λ (x : ℕ). x - row-width * n) (merged .long)
+    ∙ sym (length-drop (row-width * n) rows))
     (λ k _. getD-drop (row-width * n) rows-now k 0 ∙ ap (λ (x : ℕ). getD rows-now x 0) (place k)
     ∙ merged .elsewhere (n + k / row-width) (k % row-width) (omega arith) (λ z. omega arith)
     ∙ ap (λ (x : ℕ). getD rows x 0) (sym (place k)) ∙ sym (getD-drop (row-width * n) rows k 0))

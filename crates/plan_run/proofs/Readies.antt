@@ -53,7 +53,8 @@ module _ (p : Plan) (n : ℕ) (queue source : List ℕ) (shown : Run-given p n q
       at-rest x (on-operation _ u w m t) z =
           ran-one x (predecessors-run p (rules-good p (shown .sound) .0) r x j (unfold is-run in (places .a-run)) e (direct-by p x j u l (by-wait w m t))) z
 
-  free-enabled : (j : ℕ) → j < count p → ((k : ℕ) → k < j → op p k .queue ≡ op p j .queue → member k r ≡ true) → blocker-of source ran j ≡ no-operation → enabled p r j ≡ true
+  free-enabled : (j : ℕ) → j < count p → ((k : ℕ) → k < j → op p k .queue ≡ op p j .queue → member k r ≡ true) →
+      blocker-of source ran j ≡ no-operation → enabled p r j ≡ true
   free-enabled j l earlier e = predecessors-suffice p (rules-good p (shown .sound) .1) r j l (λ i d. of-why i (direct-below p i j d .0) (direct-why p i j d))
     where
       of-why : (i : ℕ) → i < count p → Why p i j → member i r ≡ true
@@ -107,7 +108,8 @@ module _ (p : Plan) (n : ℕ) (queue source : List ℕ) (shown : Run-given p n q
       })
 
   -- ---- one that cannot go is not
-  held-unready : (q x : ℕ) → Head p r q x → (x < no-operation → blocker-of source ran x ≡ no-operation → ⊥) → (i : ℕ) → op p i .queue ≡ q → ready p r i ≡ true → ⊥
+  held-unready : (q x : ℕ) → Head p r q x → (x < no-operation → blocker-of source ran x ≡ no-operation → ⊥) → (i : ℕ) →
+      op p i .queue ≡ q → ready p r i ≡ true → ⊥
   held-unready q x (finished h) held i e t = let w = ready-gives i t in clash (member i r) (h i (w .0) e) (w .1)
   held-unready q x (waiting _ l z f earlier) held i e t =
       let w = ready-gives i t in

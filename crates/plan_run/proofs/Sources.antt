@@ -71,7 +71,8 @@ three P a b c (suc (suc zero)) l = c
 three P a b c (suc (suc (suc k))) l = absurd (omega arith)
 
 module _ (ran : List ℕ) (a b : ℕ) where
-  held-none : (getD ran no-operation 0 ≡ 0 → ⊥) → held-by ran a b ≡ no-operation → (getD ran a 0 ≡ 0 → ⊥) × (b ≡ no-operation)
+  held-none : (getD ran no-operation 0 ≡ 0 → ⊥) → held-by ran a b ≡ no-operation → (getD ran a 0 ≡ 0 → ⊥)
+      × (b ≡ no-operation)
   held-none stays e = let ran-it : getD ran a 0 ≡ 0 → ⊥ = λ z. stays (ap (λ (x : ℕ). getD ran x 0) (sym (sym (held-yes ran a b z) ∙ e)) ∙ z) in (ran-it, sym (held-no ran a b ran-it) ∙ e)
 
   held-where : (x : ℕ) → held-by ran a b ≡ x → ((a ≡ x) × (getD ran x 0 ≡ 0)) ⊎ (b ≡ x)
@@ -85,25 +86,33 @@ module _ (source ran : List ℕ) (j : ℕ) where
   first-place : getD source (3 * j) 0 ≡ getD source (3 * j + 0) 0
   first-place = ap (λ (x : ℕ). getD source x 0) (let e : 3 * j ≡ 3 * j + 0 = omega arith in e)
 
-  pub blocker-none : ((k : ℕ) → k < 3 → getD ran (getD source (3 * j + k) 0) 0 ≡ 0 → ⊥) → blocker-of source ran j ≡ no-operation
+  pub blocker-none : ((k : ℕ) → k < 3 → getD ran (getD source (3 * j + k) 0) 0 ≡ 0 → ⊥) →
+      blocker-of source ran j ≡ no-operation
   unfolding blocker-of
   blocker-none h =
       rw first-place (held-no ran (getD source (3 * j + 0) 0) _ (h 0 (omega arith)) ∙ held-no ran (getD source (3 * j + 1) 0) _ (h 1 (omega arith))
       ∙ held-no ran (getD source (3 * j + 2) 0) no-operation (h 2 (omega arith)))
 
-  pub blocker-free : (getD ran no-operation 0 ≡ 0 → ⊥) → blocker-of source ran j ≡ no-operation → (k : ℕ) → k < 3 → getD ran (getD source (3 * j + k) 0) 0 ≡ 0 → ⊥
+  pub blocker-free : (getD ran no-operation 0 ≡ 0 → ⊥) → blocker-of source ran j ≡ no-operation → (k : ℕ) → k < 3 →
+      getD ran (getD source (3 * j + k) 0) 0 ≡ 0 → ⊥
   unfolding blocker-of
   blocker-free stays e =
-      let a = held-none ran (getD source (3 * j) 0) (held-by ran (getD source (3 * j + 1) 0) (held-by ran (getD source (3 * j + 2) 0) no-operation)) stays e in
-      let b = held-none ran (getD source (3 * j + 1) 0) (held-by ran (getD source (3 * j + 2) 0) no-operation) stays (a .1) in
+      let a = held-none ran (getD source (3 * j) 0)
+      (held-by ran (getD source (3 * j + 1) 0) (held-by ran (getD source (3 * j + 2) 0) no-operation)) stays e in
+      let b = held-none ran (getD source (3 * j + 1) 0) (held-by ran (getD source (3 * j + 2) 0) no-operation) stays
+      (a .1) in
       let c = held-none ran (getD source (3 * j + 2) 0) no-operation stays (b .1) in
       three (λ k. getD ran (getD source (3 * j + k) 0) 0 ≡ 0 → ⊥) (subst (λ (x : ℕ). getD ran x 0 ≡ 0 → ⊥) first-place (a .0)) (b .0) (c .0)
 
-  pub blocker-where : (x : ℕ) → blocker-of source ran j ≡ x → (x ≡ no-operation → ⊥) → (k : ℕ) × (k < 3) × (getD source (3 * j + k) 0 ≡ x) × (getD ran x 0 ≡ 0)
+  pub blocker-where : (x : ℕ) → blocker-of source ran j ≡ x → (x ≡ no-operation → ⊥) → (k : ℕ) × (k < 3)
+      × (getD source (3 * j + k) 0 ≡ x) × (getD ran x 0 ≡ 0)
   unfolding blocker-of
   blocker-where x e ne =
-      either (held-where ran (getD source (3 * j) 0) (held-by ran (getD source (3 * j + 1) 0) (held-by ran (getD source (3 * j + 2) 0) no-operation)) x e)
+      either (held-where ran (getD source (3 * j) 0)
+      (held-by ran (getD source (3 * j + 1) 0) (held-by ran (getD source (3 * j + 2) 0) no-operation)) x e)
       (λ w. (0, omega arith, sym first-place ∙ w .0, w .1))
-      (λ u. either (held-where ran (getD source (3 * j + 1) 0) (held-by ran (getD source (3 * j + 2) 0) no-operation) x u)
+      (λ u. either (held-where ran (getD source (3 * j + 1) 0)
+      (held-by ran (getD source (3 * j + 2) 0) no-operation) x u)
       (λ w. (1, omega arith, w .0, w .1))
-      (λ v. either (held-where ran (getD source (3 * j + 2) 0) no-operation x v) (λ w. (2, omega arith, w .0, w .1)) (λ z. absurd (ne (sym z)))))
+      (λ v. either (held-where ran (getD source (3 * j + 2) 0) no-operation x v) (λ w. (2, omega arith, w .0, w .1))
+      (λ z. absurd (ne (sym z)))))

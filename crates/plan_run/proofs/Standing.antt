@@ -116,7 +116,8 @@ module _ (p : Plan) (n : ℕ) (queue source next unit : List ℕ) (shown : Run-g
         subst (λ (x : ℕ). Last p (r ++ (j ∷ [])) k x)
         (sym (ap (λ (x : List ℕ). getD x k 0) prev-is ∙ getD-set-other prev q k j 0 (λ z. ne (sym z)))) (other-last k (getD prev k 0) ne (places .lasts k l)));
     has-run = ran-now;
-    none-run = ap (λ (x : List ℕ). getD x no-operation 0) ran-is ∙ getD-set-other ran j no-operation 1 0 (λ z. absurd (omega (arith, goes .inside, shown .sound .few-operations))) ∙ places .none-run;
+    none-run = ap (λ (x : List ℕ). getD x no-operation 0) ran-is ∙ getD-set-other ran j no-operation 1 0
+        (λ z. absurd (omega (arith, goes .inside, shown .sound .few-operations))) ∙ places .none-run;
     head-long = ap length head-is ∙ length-set head q (getD next j 0 % 65536) ∙ places .head-long;
     prev-long = ap length prev-is ∙ length-set prev q j ∙ places .prev-long;
     ran-long = ap length ran-is ∙ length-set ran j 1 ∙ places .ran-long;

@@ -58,7 +58,8 @@ module _ (p : Plan) (n : ℕ) (queue source next unit first : List ℕ) (shown :
             (getD next j 0 % 65536) head′ ran′ (st .head-is) (st .ran-is)
             (λ k u v m w. source-small p n queue source shown (getD head′ k 0) m (head-inside p (r ++ (j ∷ [])) k (getD head′ k 0) (places′ .heads k u) v) w)
             seen bit s-is bit-is ready′ waiter′ looked;
-        filled = filled-more p n queue source next unit shown tables r head prev ran places q j l g rows (going .filled) rows′ (going .rows-long) merged;
+        filled = filled-more p n queue source next unit shown tables r head prev ran places q j l g rows
+            (going .filled) rows′ (going .rows-long) merged;
         rows-long = merged .long ∙ going .rows-long;
         listed = listed-more p n first r list list₁ list₂ i j (ones ready) room (going .listed) (going .many) b few (omega (arith, ones-le 16 ready small)) counted e₁ e₂;
       }

@@ -90,14 +90,16 @@ pub record Stepped (j q : ℕ) (source next unit head prev ran rows head-now pre
       Merged rows unit j q (slot-of (getD prev q 0)) (slot-of (getD source (most-waits * j) 0)) (slot-of (getD source (most-waits * j + 1) 0))
       (slot-of (getD source (most-waits * j + 2) 0)) rows-now
 
--- The next operation x of queue q after i steps, whatever the columns show: the first from a start on; what ran of the queue is before the start.
+-- The next operation x of queue q after i steps, whatever the columns show: the first from a start on; what ran of the
+-- queue is before the start.
 pub record Ahead (queue : List ℕ) (n q i : ℕ) (list : List ℕ) (x : ℕ) : Type 0 where
   pub start : ℕ
   pub first : First queue q start n x
   pub before : (k : ℕ) → k < i → k < length list → getD queue (getD list k 0) 0 ≡ q → getD list k 0 < start
 
 -- the pass after i steps, whatever the columns show: every ready queue has a next operation
-pub record Bounds (queue : List ℕ) (n i : ℕ) (head : List ℕ) (ready : ℕ) (rows rows-now list list-now : List ℕ) : Type 0 where
+pub record Bounds (queue : List ℕ) (n i : ℕ) (head : List ℕ) (ready : ℕ)
+    (rows rows-now list list-now : List ℕ) : Type 0 where
   pub ahead : (q : ℕ) → q < most-queues → Ahead queue n q i list-now (getD head q 0)
   pub readies : (q : ℕ) → q < most-queues → has ready q ≡ true → getD head q 0 < no-operation
   pub head-long : length head ≡ most-queues

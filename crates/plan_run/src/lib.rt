@@ -25,9 +25,10 @@ const ALL_QUEUES: u32 = (1 << MOST_QUEUES) - 1;
 // A row with a one in the middle: the part of it that begins at width - q has the one in column q.
 const UNIT: usize = 2 * ROW_WIDTH;
 
-// The standard run into `list`, with the number ready before each step from place n on, and the row of each operation that ran into `rows`,
-// which are all zero before; how many operations ran. Where the columns show no plan, it is unspecified which operations below n run, in which
-// order, and what their rows are; where n is above 1,024 nothing is done.
+// The standard run into `list`, with the number ready before each step from place n on, and the row of each operation
+// that ran into `rows`, which are all zero before; how many operations ran. Where the columns show no plan, it is
+// unspecified which operations below n run, in which order, and what their rows are; where n is above 1,024 nothing is
+// done.
 pub fn run(
     n: u16,
     queue: &QueueColumn,

@@ -13,15 +13,23 @@ use Rattle.plan_format.proofs.Answers.{answer-long}
 use Rattle.plan_format.proofs.RoundTripRoom.{write-means}
 use Rattle.plan_bytes.specs.Writing.{Bytes-written}
 
-module _ {xs bytes₀ : List ℕ} {r : Told} {bytes : List ℕ} (n : Bytes-written xs bytes₀ r bytes) (z : r .number ≡ 0) where
+module _ {xs bytes₀ : List ℕ} {r : Told} {bytes : List ℕ} (n : Bytes-written xs bytes₀ r bytes)
+    (z : r .number ≡ 0) where
   front : take (length (spelled xs)) bytes ≡ spelled xs
   unfolding in-front
-  front = ap (λ (l : List ℕ). take (length (spelled xs)) l) (n .passed z) ∙ take-append-seam (spelled xs) (drop (length (spelled xs)) bytes₀)
+  front = ap (λ (l : List ℕ). take (length (spelled xs)) l) (n .passed z) ∙ take-append-seam (spelled xs)
+      (drop (length (spelled xs)) bytes₀)
 
   -- they fit the array that they were put into
   pub written-fits : r .answer ≤ length bytes
   written-fits =
-      omega (arith, answer-long (listed xs .fault) (spelled xs) (n .told) [] z, ap length front, length-take (length (spelled xs)) bytes)
+      omega (
+        arith,
+        answer-long (listed xs .fault) (spelled xs) (n .told) [] z,
+        ap length front,
+        length-take
+            (length (spelled xs)) bytes,
+      )
 
   -- and are in front
   pub written-front : (room : List ℕ) → in-front (take (r .answer) bytes) room ≡ in-front (spelled xs) room

@@ -40,7 +40,8 @@ module _ (queue rows : List ℕ) where
   unfolding seen
   seen-none last i l = rw (le-ltb last no-operation l)
 
-  pub seen-some : (last i x a b : ℕ) → last < no-operation → x ≡ getD queue i 0 → a ≡ getD rows (16 * i + x % 16) 0 → b ≡ getD rows (16 * last + x % 16) 0 →
+  pub seen-some : (last i x a b : ℕ) → last < no-operation → x ≡ getD queue i 0 → a ≡ getD rows (16 * i + x % 16) 0 →
+      b ≡ getD rows (16 * last + x % 16) 0 →
       leb a b ≡ seen queue rows last i
   unfolding seen
   seen-some last i x a b l e f g = rw (lt-ltb last no-operation l) (ordered-is queue rows i last x a b e f g)
@@ -67,7 +68,8 @@ module _ {queue rows mark operation : List ℕ} {b last many : ℕ} where
     judging-other h = record { rest = rw (shown-next mark operation many k more, ← m-is, ne-eqb (m / 2) b h) at (j .rest) }
 
     -- a mark on the buffer
-    pub judging-own : {i : ℕ} {s : Bool} {v′ : Verdict} → i ≡ getD operation k 0 % most-operations → m / 2 ≡ b → s ≡ seen queue rows last i →
+    pub judging-own : {i : ℕ} {s : Bool} {v′ : Verdict} → i ≡ getD operation k 0 % most-operations → m / 2 ≡ b →
+        s ≡ seen queue rows last i →
         v′ ≡ verdict-after (eqb (m % 2) 1) s (a && s) →
         Judging queue rows mark operation b last many v′ (a && s) (k + 1)
     unfolding verdict-from

@@ -30,14 +30,16 @@ unfolding highest-below
 highest-same zero f g h = refl
 highest-same (suc n) f g h = rw (h n (omega arith), highest-same n f g (λ i l. h i (omega arith)))
 
-last-of : (p : Plan) (queue : List ℕ) (q : ℕ) → Queue-column p queue → last-shown queue q (count p) ≡ place-or no-operation (last-on p q)
+last-of : (p : Plan) (queue : List ℕ) (q : ℕ) → Queue-column p queue →
+    last-shown queue q (count p) ≡ place-or no-operation (last-on p q)
 unfolding last-shown last-on Queue-column
 last-of p queue q shown =
     ap (λ (o : Option ℕ). place-or no-operation o)
     (highest-same (count p) (λ i. eqb (getD queue i 0) q) (λ i. eqb (op p i .queue) q) (λ i l. ap (λ (z : ℕ). eqb z q) (shown i l)))
 
 module _ {p : Plan} {n marks : ℕ} {queue mark operation rows : List ℕ} (shown : Verdict-given p n marks queue mark operation rows) where
-  seen-right : (q i : ℕ) → i < count p → seen queue rows (place-or no-operation (last-on p q)) i ≡ seen-by p (last-on p q) i
+  seen-right : (q i : ℕ) → i < count p → seen queue rows (place-or no-operation (last-on p q)) i ≡ seen-by p
+      (last-on p q) i
   unfolding seen seen-by place-or last-on
   seen-right q i l =
       by-option (last-on p q) (λ e. rw e)
@@ -101,7 +103,8 @@ verdict-right {p} {n} {marks} {queue} {mark} {operation} {rows} q b shown last-i
     let last-right = last-is ∙ ap (last-shown queue q) (sym (shown .many)) ∙ last-of p queue q (shown .queues-shown) in
     e
     ∙ rw (last-right, marks-shown p marks mark operation (shown .sound) (shown .few-buffers) (shown .marks-shown))
-    (from-same p (seen queue rows (place-or no-operation (last-on p q))) (λ i. seen-by p (last-on p q) i) b (λ i l. seen-right shown q i l)
+    (from-same p (seen queue rows (place-or no-operation (last-on p q))) (λ i. seen-by p (last-on p q) i) b
+    (λ i l. seen-right shown q i l)
     Fresh true (plan-marks p) known
     ∙ from-at (λ i. seen-by p (last-on p q) i) b Fresh true (plan-marks p)
     ∙ rw (of-plan p b) (at-verdict p (last-on p q) (buffer-marks p b) (last-mark (buffer-marks p b))))

@@ -58,7 +58,8 @@ loop-less c = search needs
 loop-again : tie.Need-loop-again Inv-loop μ-loop
 loop-again c = (
   omega arith,
-  raised-more _ _ _ _ _ _ _ _ (c .before .before .before .before .before .loop-test .taken) (c .before .before .u32-to-u64 .ensures) (c .before .raise .ensures .0)
+  raised-more _ _ _ _ _ _ _ _ (c .before .before .before .before .before .loop-test .taken)
+      (c .before .before .u32-to-u64 .ensures) (c .before .raise .ensures .0)
       ∙ c .before .before .before .before .before .before .loop .inv .1,
 )
 

@@ -89,7 +89,8 @@ loop-again : tie.Need-loop-again Inv-loop μ-loop
 loop-again c =
     let l = c .before .before .before .before .before .before .before .before .before .before .before .before .before .loop .inv in
     let on = c .before .before .before .before .before .before .before .before .before .before .before .before .loop-test .taken in (
-      putting-next (l .0) on (c .before .before .before .before .before .before .put16 .ensures) (code-is _ _ _ _ (c .before .before .before .before .before .before .before .before .before .before .u64-to-usize2 .ensures) (c .before .before .before .before .before .before .before .before .u64-to-usize3 .ensures)),
+      putting-next (l .0) on (c .before .before .before .before .before .before .put16 .ensures)
+          (code-is _ _ _ _ (c .before .before .before .before .before .before .before .before .before .before .u64-to-usize2 .ensures) (c .before .before .before .before .before .before .before .before .u64-to-usize3 .ensures)),
       putting-next (l .1) on (c .before .before .put162 .ensures) (small-is _ (c .before .before .before .before .before .before .before .before .before .before .before .before .before .before .before .before .before .before .pre .1)),
     )
 
@@ -102,8 +103,10 @@ same-length-2 c = putting-length (c .before .loop .inv .1)
 returns : tie.Need-returns Inv-loop μ-loop
 returns c =
     let l = c .before .loop .inv in
-    let done = c .loop-test .left in
-    (ap (λ (z : ℕ). z % 8) (c .before .before .u64-to-usize .ensures), (putting-end done (l .0), putting-end done (l .1)))
+    let done = c .loop-test .left in (
+      ap (λ (z : ℕ). z % 8) (c .before .before .u64-to-usize .ensures),
+      (putting-end done (l .0), putting-end done (l .1)),
+    )
 
 pub put-marks-spec : {M : Type 1} → statement M
 put-marks-spec =

@@ -86,7 +86,10 @@ loop-again : tie.Need-loop-again Inv-loop μ-loop
 loop-again c =
     let l = c .before .before .before .before .before .before .before .before .before .before .before .before .before .before .before .before .loop .inv in
     let on = c .before .before .before .before .before .before .before .before .before .before .before .before .before .before .before .loop-test .taken in (
-      putting-next (l .0) on (c .before .before .before .before .before .before .before .before .before .before .before .put16 .ensures) (ap (λ (z : ℕ). z % 65536) (c .before .before .before .before .before .before .before .before .before .before .before .before .u64-to-usize2 .ensures)),
+      putting-next (l .0) on
+          (c .before .before .before .before .before .before .before .before .before .before .before .put16 .ensures)
+          (ap (λ (z : ℕ). z % 65536)
+          (c .before .before .before .before .before .before .before .before .before .before .before .before .u64-to-usize2 .ensures)),
       putting-next (l .1) on (c .before .before .before .before .before .before .put64 .ensures) refl,
       putting-next (l .2) on (c .before .before .put162 .ensures) (small-is _ (c .before .before .before .before .before .before .before .before .before .before .before .before .before .before .before .before .before .before .before .before .before .before .pre .1)),
     )
@@ -103,8 +106,10 @@ same-length-3 c = putting-length (c .before .loop .inv .2)
 returns : tie.Need-returns Inv-loop μ-loop
 returns c =
     let l = c .before .loop .inv in
-    let done = c .loop-test .left in
-    (ap (λ (z : ℕ). z % 4) (c .before .before .u64-to-usize .ensures), (putting-end done (l .0), (putting-end done (l .1), putting-end done (l .2))))
+    let done = c .loop-test .left in (
+      ap (λ (z : ℕ). z % 4) (c .before .before .u64-to-usize .ensures),
+      (putting-end done (l .0), (putting-end done (l .1), putting-end done (l .2))),
+    )
 
 pub put-signals-spec : {M : Type 1} → statement M
 put-signals-spec =

@@ -103,8 +103,10 @@ same-length-2 c = putting-length (c .before .loop .inv .1)
 returns : tie.Need-returns Inv-loop μ-loop
 returns c =
     let l = c .before .loop .inv in
-    let done = c .loop-test .left in
-    (ap (λ (z : ℕ). z % 4) (c .before .before .u64-to-usize .ensures), (putting-end done (l .0), putting-end done (l .1)))
+    let done = c .loop-test .left in (
+      ap (λ (z : ℕ). z % 4) (c .before .before .u64-to-usize .ensures),
+      (putting-end done (l .0), putting-end done (l .1)),
+    )
 
 pub put-waits-spec : {M : Type 1} → statement M
 put-waits-spec =

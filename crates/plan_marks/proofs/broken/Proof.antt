@@ -19,7 +19,8 @@ min-usize-requires-2 c κs = search needs
 
 returns : tie.Need-returns
 returns c =
-    let e = lower-found _ _ _ _ _ _ _ _ _ _ (c .before .before .before .min-usize .ensures) (c .before .before .uses .ensures) (c .before .reuses .ensures) (c .min-usize2 .ensures) in
+    let e = lower-found _ _ _ _ _ _ _ _ _ _ (c .before .before .before .min-usize .ensures)
+    (c .before .before .uses .ensures) (c .before .reuses .ensures) (c .min-usize2 .ensures) in
     (e, λ p shown. e ∙ broken-found p _ _ _ _ _ _ shown)
 
 pub broken-spec : {M : Type 1} → statement M

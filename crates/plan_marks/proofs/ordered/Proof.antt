@@ -44,7 +44,8 @@ u16-to-usize-requires-3 : tie.Need-u16-to-usize-requires-3
 u16-to-usize-requires-3 c κs = search needs
 
 returns : tie.Need-returns
-returns c = λ l. ordered-cut _ _ _ _ _ _ _ l (c .before .before .before .before .u16-to-usize .ensures .0) (c .before .before .u16-to-usize2 .ensures .0) (c .u16-to-usize3 .ensures .0)
+returns c = λ l. ordered-cut _ _ _ _ _ _ _ l (c .before .before .before .before .u16-to-usize .ensures .0)
+    (c .before .before .u16-to-usize2 .ensures .0) (c .u16-to-usize3 .ensures .0)
 
 pub ordered-spec : {M : Type 1} → statement M
 ordered-spec =

@@ -41,7 +41,11 @@ early-requires : tie.Need-early-requires Inv-loop μ-loop
 early-requires c κs = (rw (c .freed .ensures) (c .before .before .before .before .before .before .before .loop .inv .low _), search needs)
 
 returns : tie.Need-returns Inv-loop μ-loop
-returns c = forward-early (c .before .before .before .before .before .before .before .before .before .loop .inv) (c .before .before .before .before .before .before .before .before .loop-test .taken) (ap (λ (z : ℕ). z % 512) (c .before .before .before .before .before .before .u16-to-usize .ensures .0)) (ap (λ (z : ℕ). z % most-operations) (c .before .before .before .before .u16-to-usize2 .ensures .0)) (c .before .before .freed .ensures) (c .before .early .ensures) (c .if1 .taken)
+returns c = forward-early (c .before .before .before .before .before .before .before .before .before .loop .inv)
+    (c .before .before .before .before .before .before .before .before .loop-test .taken)
+    (ap (λ (z : ℕ). z % 512) (c .before .before .before .before .before .before .u16-to-usize .ensures .0))
+    (ap (λ (z : ℕ). z % most-operations) (c .before .before .before .before .u16-to-usize2 .ensures .0))
+    (c .before .before .freed .ensures) (c .before .early .ensures) (c .if1 .taken)
 
 note-requires : tie.Need-note-requires Inv-loop μ-loop
 note-requires c κs = search needs
@@ -53,7 +57,15 @@ loop-less : tie.Need-loop-less Inv-loop μ-loop
 loop-less c = search needs
 
 loop-again : tie.Need-loop-again Inv-loop μ-loop
-loop-again c = forward-fine (c .before .before .before .before .before .before .before .before .before .before .before .loop .inv) (c .before .before .before .before .before .before .before .before .before .before .loop-test .taken) (ap (λ (z : ℕ). z % 512) (c .before .before .before .before .before .before .before .before .u16-to-usize .ensures .0)) (ap (λ (z : ℕ). z % most-operations) (c .before .before .before .before .before .before .u16-to-usize2 .ensures .0)) (c .before .before .before .before .freed .ensures) (c .before .before .before .early .ensures) (c .before .before .if1 .left) (c .note .ensures)
+loop-again c = forward-fine
+    (c .before .before .before .before .before .before .before .before .before .before .before .loop .inv)
+    (c .before .before .before .before .before .before .before .before .before .before .loop-test .taken)
+    (ap (λ (z : ℕ). z % 512)
+    (c .before .before .before .before .before .before .before .before .u16-to-usize .ensures .0))
+    (ap (λ (z : ℕ). z % most-operations)
+    (c .before .before .before .before .before .before .u16-to-usize2 .ensures .0))
+    (c .before .before .before .before .freed .ensures) (c .before .before .before .early .ensures)
+    (c .before .before .if1 .left) (c .note .ensures)
 
 returns-2 : tie.Need-returns-2 Inv-loop μ-loop
 returns-2 c = forward-end (c .loop-test .left) (c .before .loop .inv)

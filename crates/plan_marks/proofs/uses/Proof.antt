@@ -53,7 +53,15 @@ loop-less : tie.Need-loop-less Inv-loop μ-loop
 loop-less c = search needs
 
 loop-again : tie.Need-loop-again Inv-loop μ-loop
-loop-again c = backward-more (c .before .before .before .before .before .before .before .before .before .before .before .loop .inv) (c .before .before .before .before .before .before .before .before .before .before .loop-test .taken) (ap (λ (z : ℕ). z % 512) (c .before .before .before .before .before .before .before .before .u16-to-usize .ensures .0)) (ap (λ (z : ℕ). z % most-operations) (c .before .before .before .before .before .before .u16-to-usize2 .ensures .0)) (c .before .before .before .before .freed .ensures) (c .before .before .before .late .ensures) (c .before .before .pick .ensures) (c .note .ensures)
+loop-again c = backward-more
+    (c .before .before .before .before .before .before .before .before .before .before .before .loop .inv)
+    (c .before .before .before .before .before .before .before .before .before .before .loop-test .taken)
+    (ap (λ (z : ℕ). z % 512)
+    (c .before .before .before .before .before .before .before .before .u16-to-usize .ensures .0))
+    (ap (λ (z : ℕ). z % most-operations)
+    (c .before .before .before .before .before .before .u16-to-usize2 .ensures .0))
+    (c .before .before .before .before .freed .ensures) (c .before .before .before .late .ensures)
+    (c .before .before .pick .ensures) (c .note .ensures)
 
 returns : tie.Need-returns Inv-loop μ-loop
 returns c = backward-end (c .loop-test .left) (c .before .loop .inv)

@@ -34,7 +34,11 @@ returns-2 c =
     let woken = steps .before .before .before .before .before .before .before in
     let chained = woken .before .before .before .before in
     let all = steps .all .ensures in
-    let prepared : Prepared _ _ _ _ _ _ _ _ = record { chained = chained .chain .ensures; ran-is = refl; looked = woken .wake .ensures .1 } in (
+    let prepared : Prepared _ _ _ _ _ _ _ _ = record {
+      chained = chained .chain .ensures;
+      ran-is = refl;
+      looked = woken .wake .ensures .1;
+    } in (
       all .0 _ prepared,
       λ p shown cleared room. all .1 p _ shown cleared room prepared,
     )

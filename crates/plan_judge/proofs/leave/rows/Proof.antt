@@ -46,7 +46,8 @@ loop-again c =
     let a = c .before .before .before .before .before .before .args in
     let v = getD (a .from .now) (l .i) 0 in (
       omega arith,
-      ap (λ (x : ℕ). set (l .table) (l .i) x) (c .u16-to-u32 .ensures) ∙ ap (λ (xs : List ℕ). set xs (l .i) v) (l .inv .1)
+      ap (λ (x : ℕ). set (l .table) (l .i) x) (c .u16-to-u32 .ensures) ∙ ap (λ (xs : List ℕ). set xs (l .i) v)
+          (l .inv .1)
           ∙ front-more (a .from .now) (a .table .now) (l .i) 0 (omega arith) (omega arith),
       length-set (l .table) (l .i) (c .u16-to-u32 .result) ∙ l .inv .2,
     )

@@ -68,7 +68,8 @@ loop-again c =
       omega arith,
       simp length-set (top .loop .inv .1),
       merged-more f (top .loop .row) (top .loop .k) (c .sum .result) _ (top .loop .inv .1) (omega arith) (top .loop .inv .2)
-          (merged-is _ _ _ _ _ _ _ _ _ _ _ (ab .higher .ensures) (cd .higher2 .ensures) (most .max-u16 .ensures) (c .sum .ensures)) refl,
+          (merged-is _ _ _ _ _ _ _ _ _ _ _ (ab .higher .ensures) (cd .higher2 .ensures) (most .max-u16 .ensures)
+          (c .sum .ensures)) refl,
     )
 
 returns : tie.Need-returns Inv-loop μ-loop

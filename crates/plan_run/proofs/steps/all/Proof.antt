@@ -17,7 +17,8 @@ use Rattle.plan_run.proofs.Bounds.{bounds-none}
 abbrev Inv-loop : tie.InvT-loop
 Inv-loop n ready source next head₀ ran₀ waiter₀ rows₀ list₀ prev₀ unit word₀ i₀ head ran waiter rows list prev word i =
     (i ≤ n) × (word < 65536) × (length list ≡ length list₀)
-    × ((queue : List ℕ) → Prepared queue n source head₀ next ran₀ waiter₀ ready → Bounds queue n i head word rows₀ rows list₀ list)
+    × ((queue : List ℕ) → Prepared queue n source head₀ next ran₀ waiter₀ ready →
+    Bounds queue n i head word rows₀ rows list₀ list)
     × ((p : Plan) (queue : List ℕ) → Run-given p n queue source → Cleared rows₀ → 2 * n ≤ length list₀ → Prepared queue n source head₀ next ran₀ waiter₀ ready →
     Going p n i source head prev ran waiter word rows list₀ list)
 
@@ -68,9 +69,11 @@ loop-again c =
       turned .turn .ensures .0,
       omega (arith, turned .turn .kept .1 .1 .1 .1 .1 .1 .1 .1 .1 .1 .1 .0, top .loop .inv .2),
       λ queue prepared.
-          turned .turn .ensures .1 .0 queue _ _ (tables-are queue _ _ _ _ (prepared .chained) refl) (top .loop .inv .3 queue prepared),
+          turned .turn .ensures .1 .0 queue _ _ (tables-are queue _ _ _ _ (prepared .chained) refl)
+          (top .loop .inv .3 queue prepared),
       λ p queue shown cleared room prepared.
-          turned .turn .ensures .1 .1 p queue _ shown (tables-are queue _ _ _ _ (prepared .chained) refl) room (top .loop .inv .4 p queue shown cleared room prepared),
+          turned .turn .ensures .1 .1 p queue _ shown (tables-are queue _ _ _ _ (prepared .chained) refl) room
+          (top .loop .inv .4 p queue shown cleared room prepared),
     )
 
 same-length-2 : tie.Need-same-length-2 Inv-loop μ-loop

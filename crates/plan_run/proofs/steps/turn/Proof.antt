@@ -79,13 +79,19 @@ returns c =
       c .wake .ensures .0,
       (
         λ queue first-rows first tables bounds.
-            bounds-more queue (start .args .n) _ _ tables (start .pre .3) _ _ _ first-rows _ first _ bounds (start .pre .1) (start .pre .2)
-            _ _ (l .ensures .0) (l .ensures .1) (chosen .slot .ensures) _ _ (counted .put32 .ensures) (listed .put322 .ensures)
-            _ _ _ _ _ _ _ (stepped .step .ensures) _ _ (unit-shifted (l .result) 4294967296 (l .ensures .0) (omega arith)) _ _ _ (c .wake .ensures .1),
+            bounds-more queue (start .args .n) _ _ tables (start .pre .3) _ _ _ first-rows _ first _ bounds
+            (start .pre .1) (start .pre .2)
+            _ _ (l .ensures .0) (l .ensures .1) (chosen .slot .ensures) _ _ (counted .put32 .ensures)
+            (listed .put322 .ensures)
+            _ _ _ _ _ _ _ (stepped .step .ensures) _ _
+            (unit-shifted (l .result) 4294967296 (l .ensures .0) (omega arith)) _ _ _ (c .wake .ensures .1),
         λ p queue first shown tables room going.
-            turned p (start .args .n) queue _ _ _ first shown tables room _ _ _ _ _ _ _ _ going (start .pre .0) (start .pre .1) (start .pre .2)
-            _ _ (l .ensures .0) (l .ensures .1) (chosen .slot .ensures) _ _ (counted .put32 .ensures) (listed .put322 .ensures)
-            _ _ _ _ (stepped .step .ensures) _ _ (seen .get16 .ensures) (unit-shifted (l .result) 4294967296 (l .ensures .0) (omega arith))
+            turned p (start .args .n) queue _ _ _ first shown tables room _ _ _ _ _ _ _ _ going (start .pre .0)
+            (start .pre .1) (start .pre .2)
+            _ _ (l .ensures .0) (l .ensures .1) (chosen .slot .ensures) _ _ (counted .put32 .ensures)
+            (listed .put322 .ensures)
+            _ _ _ _ (stepped .step .ensures) _ _ (seen .get16 .ensures)
+            (unit-shifted (l .result) 4294967296 (l .ensures .0) (omega arith))
             _ _ (c .wake .ensures .1),
       ),
     )
