@@ -4,8 +4,8 @@ use mathlib.Core.List.{List, [], _∷_, _++_, append-assoc}
 use Prim.Native.Nat.{ℕ, suc, _+_, _-_, _≤_, _<_}
 use native.Mathlib.Numerals.{add-one}
 use native.Mathlib.Omega.{arith}
-use lib.ListN.{length, getD, set, take, drop, length-append, length-drop, List·getD-append}
-use lib.Seq.{length-take-le, take-suc, drop-cons, set-at, take-all, getD-append-add, getD-drop}
+use lib.ListN.{length, getD, set, take, drop, length-append, length-drop, take-append-drop, List·getD-append}
+use lib.Seq.{length-take-le, take-suc, drop-cons, drop-drop, set-at, take-all, getD-append-add, getD-drop}
 use Rattle.basics.specs.Lists.{in-front}
 
 module _ {A : Type 0} (new old : List A) where
@@ -44,3 +44,25 @@ module _ {A : Type 0} (new old : List A) where
       let e : k ≡ length new + j = omega arith in
       ap (λ (z : ℕ). getD (new ++ drop (length new) old) z d) e ∙ getD-append-add new (drop (length new) old) j d
       ∙ getD-drop (length new) old j d ∙ ap (λ (z : ℕ). getD old z d) (sym e)
+
+-- ---- lists that are alike past a place
+module _ {A : Type 0} where
+  pub past-later : (i k : ℕ) (xs ys : List A) → i ≤ k → drop i xs ≡ drop i ys → drop k xs ≡ drop k ys
+  past-later i k xs ys l e =
+      let later : i + (k - i) ≡ k = omega arith in
+      let on : (zs : List A) → drop (k - i) (drop i zs) ≡ drop k zs =
+      λ zs. drop-drop (k - i) i zs ∙ ap (λ (n : ℕ). drop n zs) later in
+      sym (on xs) ∙ ap (λ (zs : List A). drop (k - i) zs) e ∙ on ys
+
+  -- one of them is its own front over the other
+  pub front-taken : (k : ℕ) (xs ys : List A) → k ≤ length xs → drop k xs ≡ drop k ys → xs ≡ in-front (take k xs) ys
+  unfolding in-front
+  front-taken k xs ys l e =
+      sym (take-append-drop k xs)
+      ∙ ap (λ (zs : List A). take k xs ++ zs) (e ∙ ap (λ (n : ℕ). drop n ys) (sym (length-take-le k xs l)))
+
+  -- and what is written over all that differs is the same
+  pub front-alike : (new xs ys : List A) → drop (length new) xs ≡ drop (length new) ys →
+      in-front new xs ≡ in-front new ys
+  unfolding in-front
+  front-alike new xs ys e = ap (λ (zs : List A). new ++ zs) e

@@ -3,17 +3,15 @@ ghost use mathlib.Core.Path.{_≡_};
 ghost use Prim.Native.Nat.{_%_};
 ghost use lib.ListN.{getD, set};
 
-fn wide16(x: u16) -> usize
-    ensures { λ r. ⌜ r ≡ x ⌝ }
-{
-    x as usize
-}
-
 // The number at i.
 pub fn get16(a: &[u16], i: usize) -> usize
     ensures { λ r. ⌜ r ≡ getD (now (a .entry)) i 0 ⌝ }
 {
-    if i < a.len() { wide16(a[i]) } else { 0 }
+    if i < a.len() {
+        base_numbers::u16_to_usize(a[i])
+    } else {
+        0
+    }
 }
 
 // The lower sixteen bits of v, at i.

@@ -4,8 +4,8 @@ use mathlib.Core.List.{List}
 use Prim.Native.Nat.{ℕ}
 use Rattle.plan_format.specs.Stored.{scanned, plan-in}
 use Rattle.plan_format.proofs.Judged.{zero-not-given}
+use Rattle.plan_format.proofs.Plans.{scanned-limits}
 use Rattle.plan_columns.specs.Columns.{Columns, Owner-column}
-use Rattle.plan_columns.proofs.Limits.{limits}
 use Rattle.plan_load.specs.Loading.{Loads}
 use Rattle.plan_load.specs.declared.Loaded.{Loaded}
 use Rattle.plan_judge.specs.Given.{Check-given}
@@ -36,7 +36,7 @@ module _ {bs head : List ℕ} {cs : Columns} {r : Loaded} (l : Loads bs r head c
 
     pub loaded-given : (owner : List ℕ) → Owner-column (plan-in bs) owner → Check-given (plan-in bs) (r .operations) (r .signals) (r .marks) owner cs
     loaded-given owner o = record {
-      limits = limits bs loaded-clean;
+      limits = scanned-limits bs loaded-clean;
       many = sym (l .sizes .operations ∙ rw (zero-not-given (scanned bs .fault) loaded-clean));
       owners-shown = o;
       shown = l .columns z;

@@ -14,14 +14,13 @@ use Rattle.plan_format.specs.Refusal.{none-given, given}
 use Rattle.plan_format.specs.Sound.{Sound, rules-refusal}
 use Rattle.plan_format.specs.Stored.{scanned, plan-in, plan-refusal}
 use Rattle.plan_format.proofs.Judged.{zero-not-given, not-given-zero, or-else-none}
-use Rattle.plan_format.proofs.Plans.{sound-in}
+use Rattle.plan_format.proofs.Plans.{sound-in, scanned-limits}
 use Rattle.plan_order.specs.Check.{room-refusal, order-refusal, Leaves, untouched, zeros, rows-and-run, Outcome, outcome, or-then, check-outcome, left-in, table-left, Check-says}
 use Rattle.plan_order.specs.Rows.{rows}
 use Rattle.plan_order.specs.Promise.{Checked}
 use Rattle.plan_order.proofs.OutcomeMeaning.{passed-leaves}
 use Rattle.plan_order.proofs.Rows.{row-at, rows-at, rows-length}
 use Rattle.plan_columns.specs.Columns.{Source-column, Row-columns}
-use Rattle.plan_columns.proofs.Limits.{limits}
 use Rattle.checker.specs.Counting.{Sizes-told}
 use Rattle.checker.specs.Opening.{Lent, Read-plan, Opened-plan}
 use Rattle.checker.specs.declared.Counted.{Counted}
@@ -113,7 +112,7 @@ module _ {bs : List ℕ} {c : Counted} {t x l y : List ℕ} (sizes : Sizes-told 
       (rules-refusal (plan-in bs) .number ≡ 0 → Source-column (plan-in bs) (lent .source)) →
       Opened-plan (plan-in bs) (record { counted = c; signals = signals; marks = marks }) lent x
   opened-plan read-plan sources = record {
-    limits = limits bs read;
+    limits = scanned-limits bs read;
     sound = sound;
     passes = passes bs (length t) (length l) none-refused .order;
     queues-are = queues-are;

@@ -26,10 +26,6 @@ fn number(n: u64) {
     io::print_decimal(STDOUT_FILENO, n);
 }
 
-fn wide(x: u32) -> u64 {
-    x as u64
-}
-
 // A new line before every sixteenth number.
 fn turn(i: usize) {
     if i % 16 == 0 {
@@ -44,7 +40,7 @@ fn numbers(a: &[u32; 128], many: usize)
     let mut i = 0;
     while i < many {
         turn(i);
-        number(wide(a[i]));
+        number(base_numbers::u32_to_u64(a[i]));
         i += 1;
     }
     line_end();
@@ -54,7 +50,7 @@ fn numbers(a: &[u32; 128], many: usize)
 fn sizes(plan: &[u8]) {
     let c = checker::counts(plan);
     text(b"  counts");
-    number(wide(c.number));
+    number(base_numbers::u32_to_u64(c.number));
     number(c.place);
     number(c.queues as u64);
     number(c.semaphores as u64);
@@ -65,7 +61,7 @@ fn sizes(plan: &[u8]) {
 
 fn show(told: Told) {
     text(b"  check");
-    number(wide(told.number));
+    number(base_numbers::u32_to_u64(told.number));
     number(told.place);
     number(told.answer);
 }

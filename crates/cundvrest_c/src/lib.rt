@@ -69,8 +69,8 @@ pub extern "C" fn cundvrest_frontier(
     frontier: &mut [u64; lent::NUMBERS],
     told: &mut [u64; 3],
 )
-    ensures { λ _. ⌜ Frontier-right (now (plan .entry)) operation capacity (sent-of (now (told .exit)) (now (frontier .exit))) (now (table .entry)) (now (table .exit)) (now (list .entry)) (now (list .exit)) ⌝ }
-    ensures { λ _. ⌜ Sent-says (sent-of (now (told .exit)) (now (frontier .exit))) (now (told .exit)) (now (frontier .exit)) ⌝ }
+    ensures right { λ _. ⌜ Frontier-right (now (plan .entry)) operation capacity (sent-of (now (told .exit)) (now (frontier .exit))) (now (table .entry)) (now (table .exit)) (now (list .entry)) (now (list .exit)) ⌝ }
+    ensures says { λ _. ⌜ Sent-says (sent-of (now (told .exit)) (now (frontier .exit))) (now (told .exit)) (now (frontier .exit)) ⌝ }
 {
     let r = frontier_sent::frontier_of(plan, operation, capacity, table, list);
     lent::hand(r.number, r.place, r.frontier, frontier, told);
@@ -85,9 +85,9 @@ pub extern "C" fn cundvrest_merge(
     merged: &mut [u64; lent::NUMBERS],
     told: &mut [u64; 3],
 )
-    ensures { λ _. ⌜ Merge-says (merge (frontier-of (now (left .entry))) (frontier-of (now (right .entry))) capacity) (now (told .exit)) (now (merged .exit)) ⌝ }
-    ensures { λ _. ⌜ Merge-right (frontier-of (now (left .entry))) (frontier-of (now (right .entry))) capacity (merged-of (now (told .exit)) (now (merged .exit))) ⌝ }
-    ensures { λ _. ⌜ Oversized-refused (oversized (now (left .entry)) || oversized (now (right .entry)))
+    ensures says { λ _. ⌜ Merge-says (merge (frontier-of (now (left .entry))) (frontier-of (now (right .entry))) capacity) (now (told .exit)) (now (merged .exit)) ⌝ }
+    ensures right { λ _. ⌜ Merge-right (frontier-of (now (left .entry))) (frontier-of (now (right .entry))) capacity (merged-of (now (told .exit)) (now (merged .exit))) ⌝ }
+    ensures oversized_sides { λ _. ⌜ Oversized-refused (oversized (now (left .entry)) || oversized (now (right .entry)))
         (capable capacity) (now (told .exit)) ⌝ }
 {
     let r = lent::frontier(left).merge(lent::frontier(right), capacity);
@@ -104,9 +104,9 @@ pub extern "C" fn cundvrest_raise(
     raised: &mut [u64; lent::NUMBERS],
     told: &mut [u64; 3],
 )
-    ensures { λ _. ⌜ Merge-says (raise (frontier-of (now (old .entry))) axis epoch capacity) (now (told .exit)) (now (raised .exit)) ⌝ }
-    ensures { λ _. ⌜ Raise-right (frontier-of (now (old .entry))) axis epoch capacity (merged-of (now (told .exit)) (now (raised .exit))) ⌝ }
-    ensures { λ _. ⌜ Oversized-refused (oversized (now (old .entry))) (capable capacity) (now (told .exit)) ⌝ }
+    ensures says { λ _. ⌜ Merge-says (raise (frontier-of (now (old .entry))) axis epoch capacity) (now (told .exit)) (now (raised .exit)) ⌝ }
+    ensures right { λ _. ⌜ Raise-right (frontier-of (now (old .entry))) axis epoch capacity (merged-of (now (told .exit)) (now (raised .exit))) ⌝ }
+    ensures oversized_side { λ _. ⌜ Oversized-refused (oversized (now (old .entry))) (capable capacity) (now (told .exit)) ⌝ }
 {
     let r = lent::frontier(old).raise(axis, epoch, capacity);
     lent::hand(r.number, 0, r.frontier, raised, told);
@@ -119,9 +119,9 @@ pub extern "C" fn cundvrest_dominates(
     right: &[u64; lent::NUMBERS],
     told: &mut [u64; 3],
 )
-    ensures { λ _. ⌜ told-of (now (told .exit)) ≡ dominance-told (dominance (frontier-of (now (left .entry))) (frontier-of (now (right .entry)))) ⌝ }
-    ensures { λ _. ⌜ Dominance-means (frontier-of (now (left .entry))) (frontier-of (now (right .entry))) (dominance-of (told-of (now (told .exit)))) ⌝ }
-    ensures { λ _. ⌜ Oversized-refused (oversized (now (left .entry)) || oversized (now (right .entry))) true (now (told .exit)) ⌝ }
+    ensures says { λ _. ⌜ told-of (now (told .exit)) ≡ dominance-told (dominance (frontier-of (now (left .entry))) (frontier-of (now (right .entry)))) ⌝ }
+    ensures means { λ _. ⌜ Dominance-means (frontier-of (now (left .entry))) (frontier-of (now (right .entry))) (dominance-of (told-of (now (told .exit)))) ⌝ }
+    ensures oversized_sides { λ _. ⌜ Oversized-refused (oversized (now (left .entry)) || oversized (now (right .entry))) true (now (told .exit)) ⌝ }
 {
     let r = lent::frontier(left).dominates(lent::frontier(right));
     lent::tell(lent::dominance(r), told);

@@ -13,7 +13,7 @@ use borrow.Author.Tests.{ltb-true, eqb-true, eq-eqb, ne-eqb}
 use Rattle.basics.proofs.Tests.{by-cases}
 use Rattle.frontier.specs.declared.Frontier.{Frontier}
 use Rattle.frontier.specs.declared.Lookup.the-variants.{Listed, Absent}
-use Rattle.frontier.specs.declared.walks.Found.{Found}
+use Rattle.frontier.specs.declared.search.Found.{Found}
 use Rattle.frontier.specs.Entries.{Entry, most-entries, find, values-of, epochs-under}
 use Rattle.frontier.specs.Frontiers.{slot, slots, entries, well-formed}
 use Rattle.frontier.specs.Meaning.{Looked}

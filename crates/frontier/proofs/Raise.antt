@@ -15,7 +15,7 @@ use Rattle.basics.proofs.Tests.{by-cases}
 use Rattle.frontier.specs.declared.Frontier.{Frontier}
 use Rattle.frontier.specs.declared.Merged.{Merged}
 use Rattle.frontier.specs.declared.Lookup.the-variants.{Listed}
-use Rattle.frontier.specs.declared.walks.Found.{Found}
+use Rattle.frontier.specs.declared.search.Found.{Found}
 use Rattle.frontier.specs.Entries.{Entry, most-entries, rising-from, put, union}
 use Rattle.frontier.specs.Frontiers.{slot, slots, entries, pack, refusal, handed, joined, one-entry, raise}
 use Rattle.frontier.specs.Walks.{rest, Found-from, left-number}

@@ -10,7 +10,7 @@ use native.Mathlib.Omega.{arith}
 use lib.ListN.{getD}
 use borrow.Author.Tests.{le-leb, lt-leb}
 use Rattle.frontier.specs.declared.Lookup.the-variants.{Listed, Absent}
-use Rattle.frontier.specs.declared.walks.Found.{Found}
+use Rattle.frontier.specs.declared.search.Found.{Found}
 use Rattle.frontier.specs.Entries.{Entry, rising-from, find}
 use Rattle.frontier.specs.Frontiers.{slot, slots, met, reached}
 use Rattle.frontier.specs.Walks.{rest, floor, Found-from}

@@ -7,7 +7,7 @@ use lib.Dec.{ltb, leb}
 use lib.ListN.{length, getD}
 use Rattle.frontier.specs.declared.Frontier.{Frontier}
 use Rattle.frontier.specs.declared.Lookup.the-variants.{Listed}
-use Rattle.frontier.specs.declared.walks.Found.{Found}
+use Rattle.frontier.specs.declared.search.Found.{Found}
 use Rattle.frontier.specs.Entries.{Entry, most-entries, rising-from, find}
 use Rattle.frontier.specs.Frontiers.{slot, slots, well-formed, capable}
 

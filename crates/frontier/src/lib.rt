@@ -1,13 +1,15 @@
 // R59 to R68, sparse frontiers: vector clocks of at most sixteen entries, with lookup, merge, raise and dominance.
-mod walks; // walks over the lent slots of one or two frontiers
+mod cuts;
+mod form;
+mod search;
+mod unions;
 
-use walks::dominance_of;
-use walks::formed;
-use walks::join;
-use walks::judged;
-use walks::larger;
-use walks::lookup_from;
-use walks::merged;
+use form::formed;
+use form::judged;
+use search::dominance_of;
+use search::lookup_from;
+use unions::join;
+use unions::merged;
 ghost use mathlib.Core.Path.{_≡_};
 ghost use mathlib.Core.Bool.{false};
 ghost use mathlib.Core.List.{[]};
@@ -95,8 +97,8 @@ impl Frontier {
 
     // R61 to R63: the larger epoch of each axis, cut to the capacity.
     pub fn merge(self, other: Self, capacity: u32) -> Merged
-        ensures { λ r. ⌜ r ≡ merge self other capacity ⌝ }
-        ensures { λ r. ⌜ Merge-right self other capacity r ⌝ }
+        ensures answers { λ r. ⌜ r ≡ merge self other capacity ⌝ }
+        ensures right { λ r. ⌜ Merge-right self other capacity r ⌝ }
     {
         merged(
             &self.axes,
@@ -114,8 +116,8 @@ impl Frontier {
     // R64: one axis raised to an epoch. Where it is listed and the capacity holds every entry, that is the larger epoch
     // stored in this copy; else it is a merge.
     pub fn raise(mut self, axis: u64, epoch: u64, capacity: u32) -> Merged
-        ensures { λ r. ⌜ r ≡ raise self axis epoch capacity ⌝ }
-        ensures { λ r. ⌜ Raise-right self axis epoch capacity r ⌝ }
+        ensures answers { λ r. ⌜ r ≡ raise self axis epoch capacity ⌝ }
+        ensures right { λ r. ⌜ Raise-right self axis epoch capacity r ⌝ }
     {
         let len = self.len;
         let number = judged(&self.axes, &self.epochs, len, capacity);
@@ -127,7 +129,7 @@ impl Frontier {
             let answer = found.answer;
             if let Lookup::Listed(old) = answer {
                 let at = found.at;
-                self.epochs[at] = larger(old, epoch);
+                self.epochs[at] = base_numbers::max_u64(old, epoch);
                 return Merged {
                     number: 0,
                     frontier: self,
@@ -152,8 +154,8 @@ impl Frontier {
 
     // R68: whether every entry of the other is reached, as far as the taints let it be known.
     pub fn dominates(self, other: Self) -> Dominance
-        ensures { λ r. ⌜ r ≡ dominance self other ⌝ }
-        ensures { λ r. ⌜ Dominance-means self other r ⌝ }
+        ensures answers { λ r. ⌜ r ≡ dominance self other ⌝ }
+        ensures means { λ r. ⌜ Dominance-means self other r ⌝ }
     {
         dominance_of(
             &self.axes,

@@ -20,10 +20,6 @@ fn number(n: u64) {
     digits(n);
 }
 
-fn wide(x: u32) -> u64 {
-    x as u64
-}
-
 // The slots with an epoch, each as axis:epoch.
 fn entries<'a>(axes: &'a [u64; Frontier::SLOTS], epochs: &'a [u64; Frontier::SLOTS]) {
     let mut i: usize = 0;
@@ -39,7 +35,7 @@ fn entries<'a>(axes: &'a [u64; Frontier::SLOTS], epochs: &'a [u64; Frontier::SLO
 
 // The number of a change in place, and the frontier that is stored then: its length and its entries.
 fn show(m: Merged) {
-    number(wide(m.number));
+    number(base_numbers::u32_to_u64(m.number));
     let f = m.frontier;
     if f.tainted {
         text(b" tainted");
@@ -151,7 +147,7 @@ fn merges() {
 fn row(row: &[u32]) {
     let mut i: usize = 0;
     while i < row.len() {
-        number(wide(row[i]));
+        number(base_numbers::u32_to_u64(row[i]));
         i += 1;
     }
     text(b"\n");

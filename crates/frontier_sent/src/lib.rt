@@ -117,15 +117,13 @@ fn gather(head: &HeadNumbers, table: &[u32], queues: usize, first: usize) -> Fro
     let mut f = Frontier::empty();
     let mut q: usize = 0;
     while q < queues {
-        let raised = f.raise(head[1 + q], wide(table[first + q]), Frontier::MOST);
+        let raised = f.raise(
+            head[1 + q],
+            base_numbers::u32_to_u64(table[first + q]),
+            Frontier::MOST,
+        );
         f = raised.frontier;
         q += 1;
     }
     f
-}
-
-fn wide(x: u32) -> u64
-    ensures { λ r. ⌜ r ≡ x ⌝ }
-{
-    x as u64
 }

@@ -5,8 +5,8 @@ ghost use Rattle.lent_rows.specs.Rows.{row-reaches, reaching-row, As-it-
 // R71: the lent row that is at least the other in every column, the first where they are equal; else an empty part of
 // the first.
 pub fn reaching<'a>(first: &'a [u32], second: &'a [u32]) -> &'a [u32]
-    ensures { λ r. ⌜ As-it-lies (first .entry) (second .entry) r ⌝ }
-    ensures { λ r. ⌜ now r ≡ reaching-row (now (first .entry)) (now (second .entry)) ⌝ }
+    ensures as_it_lies { λ r. ⌜ As-it-lies (first .entry) (second .entry) r ⌝ }
+    ensures row { λ r. ⌜ now r ≡ reaching-row (now (first .entry)) (now (second .entry)) ⌝ }
 {
     if row_reaches(first, second) {
         return first;

@@ -1,11 +1,13 @@
 -- What a writing to the end answers: a refusal on the way, numbers after the end, or a whole plan. Assumes nothing.
 use mathlib.Core.Path.{_≡_, refl, sym, ap, _∙_, subst}
 use mathlib.Core.List.{List}
-use Prim.Native.Nat.{ℕ, _≤_, _<_}
+use Prim.Native.Nat.{ℕ, _*_, _≤_, _<_}
 use native.Mathlib.Omega.{arith}
 use lib.ListN.{length, take, drop, length-drop}
 use lib.Seq.{length-take-le}
 use borrow.Author.Tests.{eqb-false, ne-eqb}
+use Rattle.basics.specs.Lists.{in-front}
+use Rattle.basics.proofs.Fronts.{past-later, front-taken}
 use Rattle.plan_format.specs.Sizes.{plan-bytes}
 use Rattle.plan_format.specs.Refusal.{refusal, none-given, given}
 use Rattle.plan_format.specs.Grammar.{numbers, Scan, scan, ended, Spelling}
@@ -19,12 +21,13 @@ use Rattle.plan_bytes.specs.Writing.{fault-of, here, spelling, point-mos
 use Rattle.plan_bytes.specs.Writing.{Plan-written, Bytes-written}
 use Rattle.plan_bytes.proofs.Fields.{here-given, here-clean, fault-number}
 
-listed-is : {xs : List ℕ} {c : Cursor} {bytes : List ℕ} → Plan-written first-form xs c bytes →
+listed-is : {xs bytes₀ : List ℕ} {c : Cursor} {bytes : List ℕ} → Plan-written first-form xs bytes₀ c bytes →
     listed xs ≡ ended (here xs c)
 unfolding listed scanned-by first-form numbers
 listed-is p = ap ended (p .read)
 
-spelled-is : {xs : List ℕ} {c : Cursor} {bytes : List ℕ} → Plan-written first-form xs c bytes → c .number ≡ 0 →
+spelled-is : {xs bytes₀ : List ℕ} {c : Cursor} {bytes : List ℕ} → Plan-written first-form xs bytes₀ c bytes →
+    c .number ≡ 0 →
     spelled xs ≡ take (c .put) bytes
 unfolding spelled first-form spelling
 spelled-is p z = ap (λ (s : Spelling). s .made) (p .spell z)
@@ -36,27 +39,33 @@ fault-place : (c : Cursor) → (c .number ≡ 0 → ⊥) → fault-of c .place �
 unfolding fault-of refusal
 fault-place c z = rw (ne-eqb (c .number) 0 z)
 
-module _ {xs : List ℕ} {c : Cursor} {bytes : List ℕ} (p : Plan-written first-form xs c bytes)
+module _ {xs bytes₀ : List ℕ} {c : Cursor} {bytes : List ℕ} (p : Plan-written first-form xs bytes₀ c bytes)
     (long : length bytes ≡ plan-bytes) where
   few : c .put ≤ plan-bytes
   unfolding front-most operation-most point-most first-form
   few = omega (arith, p .few)
 
+  stays : drop (8 * c .at) bytes ≡ drop (8 * c .at) bytes₀
+  stays = past-later (c .put) (8 * c .at) bytes bytes₀ (p .by-eight) (p .past)
+
   -- a refusal on the way
-  pub written-refused : (c .number ≡ 0 → ⊥) → Bytes-written xs (record { number = c .number; place = c .at; answer = 0 }) bytes
+  pub written-refused : (c .number ≡ 0 → ⊥) →
+      Bytes-written xs bytes₀ (record { number = c .number; place = c .at; answer = 0 }) bytes
   unfolding here scan
   written-refused z =
       record {
         told =
             tells xs (here xs c) (listed-is p ∙ ended-stays (here xs c) (here-given xs c z))
             (record { number = sym (fault-number c z); place = sym (fault-place c z); answer-is = rw (here-given xs c z) });
-        bytes = λ e. absurd (z e);
+        passed = λ e. absurd (z e);
+        refused = λ _. stays;
         few = omega arith;
         long = long;
       }
 
   -- numbers after the last section
-  pub written-more : c .number ≡ 0 → c .at < length xs → Bytes-written xs (record { number = 3; place = c .at; answer = 0 }) bytes
+  pub written-more : c .number ≡ 0 → c .at < length xs →
+      Bytes-written xs bytes₀ (record { number = 3; place = c .at; answer = 0 }) bytes
   unfolding scan refusal given
   written-more z h =
       record {
@@ -65,13 +74,15 @@ module _ {xs : List ℕ} {c : Cursor} {bytes : List ℕ} (p : Plan-written first
             (listed-is p ∙ ap ended (here-clean xs c z)
             ∙ ended-more (drop (c .at) xs) (c .at) (take (c .at) xs) (λ e. omega (arith, length-drop (c .at) xs)))
             (record { number = refl; place = refl; answer-is = refl });
-        bytes = λ e. absurd (eqb-false 3 0 refl e);
+        passed = λ e. absurd (eqb-false 3 0 refl e);
+        refused = λ _. stays;
         few = omega arith;
         long = long;
       }
 
   -- a whole plan
-  pub written-whole : c .number ≡ 0 → length xs ≤ c .at → Bytes-written xs (record { number = c .number; place = 0; answer = c .put }) bytes
+  pub written-whole : c .number ≡ 0 → length xs ≤ c .at →
+      Bytes-written xs bytes₀ (record { number = c .number; place = 0; answer = c .put }) bytes
   unfolding scan none-given given
   written-whole z h =
       let l : length (spelled xs) ≡ c .put = ap length (spelled-is p z)
@@ -82,7 +93,9 @@ module _ {xs : List ℕ} {c : Cursor} {bytes : List ℕ} (p : Plan-written first
             (listed-is p ∙ ap ended (here-clean xs c z)
             ∙ ended-none (drop (c .at) xs) (c .at) (take (c .at) xs) (length-drop (c .at) xs ∙ omega arith))
             (record { number = z; place = refl; answer-is = sym l });
-        bytes = λ e. ap (λ (n : ℕ). take n bytes) l ∙ sym (spelled-is p z);
+        passed = λ e. front-taken (c .put) bytes bytes₀ (omega (arith, few)) (p .past)
+            ∙ ap (λ (front : List ℕ). in-front front bytes₀) (sym (spelled-is p z));
+        refused = λ e. absurd (e z);
         few = few;
         long = long;
       }

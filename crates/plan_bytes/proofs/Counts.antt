@@ -6,6 +6,7 @@ use Prim.Native.Nat.{ℕ, _+_, _*_}
 use native.Mathlib.Omega.{arith}
 use lib.ListN.{getD, take}
 use lib.Seq.{length-take-le}
+use Rattle.basics.proofs.Fronts.{past-later}
 use Rattle.plan_format.specs.Sizes.{most-queues, most-buffers, most-operations}
 use Rattle.plan_format.specs.Grammar.{Check, Grammar, field, counted, numbers, Scan, scan, read-by, Spelling, spell-by}
 use Rattle.plan_format.specs.Form.{Form, queue-count, any-number, new-axis, a-queue, operation, plan-grammar}
@@ -94,7 +95,7 @@ module _ (F : Form) where
         (operated (operation-below (F .semaphore-width) q m b)) (here xs c₃) known
 
     -- what the four sections write is the plan
-    pub plan-written : Plan-written F xs c₄ b₄
+    pub plan-written : Plan-written F xs b₀ c₄ b₄
     unfolding plan-grammar read-by spell-by here scan fault-of spelling axis-field size-field front-most
     plan-written =
         let sized = counted 0 most-buffers 2 size-field in
@@ -117,4 +118,10 @@ module _ (F : Form) where
               ∙ operations .spell e;
           inside = operations .inside;
           few = omega (arith, axes .few, owners .few, sizes .few, operations .few);
+          by-eight = omega (arith, axes .by-eight, owners .by-eight, sizes .by-eight, operations .by-eight);
+          past = operations .past
+              ∙ past-later (c₃ .put) (c₄ .put) b₃ b₂ (operations .more) (sizes .past)
+              ∙ past-later (c₂ .put) (c₄ .put) b₂ b₁ (omega (arith, sizes .more, operations .more)) (owners .past)
+              ∙ past-later (c₁ .put) (c₄ .put) b₁ b₀ (omega (arith, owners .more, sizes .more, operations .more))
+              (axes .past);
         }

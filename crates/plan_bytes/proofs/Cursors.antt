@@ -10,6 +10,7 @@ use lib.Dec.{eqb}
 use lib.ListN.{length, getD, take, drop}
 use borrow.Author.Tests.{eqb-true, eqb-false}
 use Rattle.basics.proofs.Tests.{by-cases}
+use Rattle.basics.proofs.Fronts.{past-later}
 use Rattle.plan_format.specs.Refusal.{given}
 use Rattle.plan_format.specs.Grammar.{Grammar, seq, counted, numbers, Scan, scan, times, count-check, read-by, Spelling}
 use Rattle.plan_format.specs.Grammar.{spell-field, spell-by}
@@ -38,8 +39,11 @@ module _ {xs : List ℕ} {c d r : Cursor} {bytes bytes₁ bytes₂ : List ℕ} w
         read = ap (λ (s : Scan). read-by numbers h s) (p .read) ∙ q .read;
         spell = λ e. ap (λ (s : Spelling). spell-by h s) (p .spell (clean-before q e)) ∙ q .spell e;
         inside = q .inside;
+        more = omega arith;
         few = omega arith;
+        by-eight = omega arith;
         as-long = q .as-long ∙ p .as-long;
+        past = q .past ∙ past-later _ _ bytes₁ bytes (q .more) (p .past);
       }
 
   -- one more
@@ -50,7 +54,16 @@ module _ {xs : List ℕ} {c d r : Cursor} {bytes bytes₁ bytes₂ : List ℕ} w
 -- none of a thing
 pub writes-none : (g : Grammar) (m : ℕ) (xs : List ℕ) (c : Cursor) (bytes : List ℕ) → c .at ≤ length xs → Writes (repeat 0 g) (m * 0) xs c bytes c bytes
 unfolding repeat read-by spell-by
-writes-none g m xs c bytes h = record { read = refl; spell = λ e. refl; inside = h; few = omega arith; as-long = refl }
+writes-none g m xs c bytes h = record {
+  read = refl;
+  spell = λ e. refl;
+  inside = h;
+  more = omega arith;
+  few = omega arith;
+  by-eight = omega arith;
+  as-long = refl;
+  past = refl;
+}
 
 spell-repeat : (n : ℕ) (g : Grammar) (s : Spelling) → spell-by (repeat n g) s ≡ times n (λ u. spell-by g u) s
 unfolding spell-by repeat times
@@ -74,8 +87,11 @@ writes-counted {g} {xs} {c} {start} {bytes = bytes} {bytes₁} {w = w} {most} m 
       spell = λ z. let s = clean-before q z in
           spell-counted 0 most w n g (spelling xs c bytes) (spelling xs start bytes₁) (p .writes .spell s) (p .value-read s ∙ sym e) ∙ q .spell z;
       inside = q .inside;
+      more = omega (arith, p .writes .more, q .more);
       few = omega (arith, mul-le-mul-left m (let h : n ≤ most = omega (arith, p .value-below) in h), p .writes .few, q .few);
+      by-eight = omega (arith, p .writes .by-eight, q .by-eight);
       as-long = q .as-long ∙ p .writes .as-long;
+      past = q .past ∙ past-later _ _ bytes₁ bytes (q .more) (p .writes .past);
     }
 
 -- a loop that met a refusal has written all that can be written
@@ -85,6 +101,9 @@ writes-stopped {xs} {start} {r} {bytes} {bytes-now} g m i n z h p =
       read = repeat-stops numbers g (here xs start) i n (ap (λ (s : Scan). given (s .fault)) (p .read) ∙ here-given xs r z) h ∙ p .read;
       spell = λ e. absurd (z e);
       inside = p .inside;
+      more = p .more;
       few = omega (arith, mul-le-mul-left m h, p .few);
+      by-eight = p .by-eight;
       as-long = p .as-long;
+      past = p .past;
     }

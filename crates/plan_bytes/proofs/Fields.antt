@@ -69,7 +69,16 @@ fault-clean c e = ap (λ (n : ℕ). cond (eqb n 0) none-given (refusal n (c .at)
 pub passed : {g : Grammar} {many : ℕ} {xs : List ℕ} {c : Cursor} {bytes : List ℕ} {v : ℕ} → (c .number ≡ 0 → ⊥) → c .at ≤ length xs → Writes g many xs c bytes (cursor (c .number) (c .at) (c .put) v) bytes
 unfolding here fault-of
 passed {g} {xs = xs} {c} z h =
-    record { read = read-stays numbers g (here xs c) (here-given xs c z); spell = λ e. absurd (z e); inside = h; few = omega arith; as-long = refl }
+    record {
+      read = read-stays numbers g (here xs c) (here-given xs c z);
+      spell = λ e. absurd (z e);
+      inside = h;
+      more = omega arith;
+      few = omega arith;
+      by-eight = omega arith;
+      as-long = refl;
+      past = refl;
+    }
 
 read-clean : (w : ℕ) (check : Check) (xs : List ℕ) (c : Cursor) → c .number ≡ 0 → read-by numbers (field w check) (here xs c) ≡ read-field numbers w (λ v. check (take (c .at) xs) v) (scan (drop (c .at) xs) (c .at) (take (c .at) xs) none-given)
 unfolding read-by scan
@@ -92,8 +101,11 @@ module _ {w : ℕ} {check : Check} {xs : List ℕ} {c : Cursor} {bytes : List �
         read = read-clean w check xs c clean ∙ e ∙ sym (here-fault xs n (c .at) (c .put) u z);
         spell = λ q. absurd (z q);
         inside = h;
+        more = omega arith;
         few = omega arith;
+        by-eight = omega arith;
         as-long = refl;
+        past = refl;
       }
 
   pub missing : {u : ℕ} → length xs ≤ c .at → Writes (field w check) w xs c bytes (cursor 1 (c .at) (c .put) u) bytes
@@ -106,9 +118,11 @@ module _ {w : ℕ} {check : Check} {xs : List ℕ} {c : Cursor} {bytes : List �
     pub wide : {u : ℕ} → check (take (c .at) xs) v ≡ 0 → 256 ^ w ≤ v → Writes (field w check) w xs c bytes (cursor 4 (c .at) (c .put) u) bytes
     wide e k = stopped (eqb-false 4 0 refl) (field-wide w (λ u. check (take (c .at) xs) u) (drop (c .at) xs) (c .at) (take (c .at) xs) (some-left xs (c .at) l) (rw (← front-is xs (c .at) v d) e) (rw (← front-is xs (c .at) v d) k))
 
-    pub kept : {bytes-now : List ℕ} → check (take (c .at) xs) v ≡ 0 → v < 256 ^ w → Puts w bytes (c .put) v bytes-now → Writes (field w check) w xs c bytes (cursor 0 (c .at + 1) (c .put + w) v) bytes-now
+    pub kept : {bytes-now : List ℕ} → w ≤ 8 → check (take (c .at) xs) v ≡ 0 → v < 256 ^ w →
+        Puts w bytes (c .put) v bytes-now → Writes (field w check) w xs c bytes
+        (cursor 0 (c .at + 1) (c .put + w) v) bytes-now
     unfolding here fault-of spelling spell-by spell-field
-    kept {bytes-now} e k q =
+    kept {bytes-now} narrow e k q =
         record {
           read =
               read-clean w check xs c clean
@@ -116,8 +130,11 @@ module _ {w : ℕ} {check : Check} {xs : List ℕ} {c : Cursor} {bytes : List �
               ∙ rw (drop-drop 1 (c .at) xs, ← front-is xs (c .at) v d, d, add-one (c .at), take-suc xs (c .at) 0 l);
           spell = λ z. rw (drop-drop 1 (c .at) xs, ← front-is xs (c .at) v d, q .front);
           inside = omega arith;
+          more = omega arith;
           few = omega arith;
+          by-eight = omega arith;
           as-long = q .as-long;
+          past = q .past;
         }
 
 -- ---- limited fields, whose number the cursor has
@@ -151,11 +168,12 @@ module _ {w limit over : ℕ} {xs : List ℕ} {c : Cursor} {bytes : List ℕ} wh
           value-below = omega arith;
         }
 
-    pub limited-kept : {bytes-now : List ℕ} → v < limit → v < 256 ^ w → Puts w bytes (c .put) v bytes-now → Limited w limit over xs c bytes (cursor 0 (c .at + 1) (c .put + w) v) bytes-now
+    pub limited-kept : {bytes-now : List ℕ} → w ≤ 8 → v < limit → v < 256 ^ w → Puts w bytes (c .put) v bytes-now →
+        Limited w limit over xs c bytes (cursor 0 (c .at + 1) (c .put + w) v) bytes-now
     unfolding limited here scan last-got
-    limited-kept m k q =
+    limited-kept narrow m k q =
         record {
-          writes = kept clean h l d (rw (lt-ltb v limit m)) k q;
+          writes = kept clean h l d narrow (rw (lt-ltb v limit m)) k q;
           value-is = λ e. rw (add-one (c .at), take-suc xs (c .at) 0 l, ← d) (last-snoc (take (c .at) xs) v);
           value-read = λ e. sym (d ∙ sym (front-number xs (c .at)));
           value-below = omega arith;

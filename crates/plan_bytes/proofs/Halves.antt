@@ -7,8 +7,9 @@ use native.Mathlib.Numerals.{add-one}
 use native.Mathlib.Omega.{arith}
 use lib.Arith.{mod-mul, digits-div, digits-mod}
 use lib.Dec.{lit<}
-use lib.ListN.{length, take, set, length-set}
-use lib.Seq.{take-suc-set}
+use lib.ListN.{length, take, drop, set, length-set}
+use lib.Seq.{take-suc-set, drop-set-lt}
+use Rattle.basics.proofs.Fronts.{past-later}
 use Rattle.plan_format.specs.Grammar.{digits}
 use Rattle.plan_bytes.specs.Writing.{Puts}
 
@@ -31,12 +32,15 @@ digits-low (suc m) v =
 
 -- a number is put by its halves
 pub joined : (w : ℕ) {bytes bytes₁ bytes₂ : List ℕ} {at v : ℕ} → Puts w bytes at (v % 256 ^ w) bytes₁ → Puts w bytes₁ (at + w) (v / 256 ^ w) bytes₂ → Puts (w + w) bytes at v bytes₂
-joined w {bytes} {bytes₂ = bytes₂} {at} {v} p q =
+joined w {bytes} {bytes₁} {bytes₂} {at} {v} p q =
     record {
       front =
           ap (λ (n : ℕ). take n bytes₂) (sym (add-assoc at w w)) ∙ q .front ∙ ap (λ (l : List ℕ). l ++ digits w (v / 256 ^ w)) (p .front)
           ∙ rw (digits-low w v, digits-split w w v) (append-assoc (take at bytes) (digits w v) (digits w (v / 256 ^ w)));
       as-long = q .as-long ∙ p .as-long;
+      past = ap (λ (n : ℕ). drop n bytes₂) (sym (add-assoc at w w)) ∙ q .past
+          ∙ past-later (at + w) (at + w + w) bytes₁ bytes (omega arith) (p .past)
+          ∙ ap (λ (n : ℕ). drop n bytes) (add-assoc at w w);
     }
 
 -- one byte
@@ -46,4 +50,5 @@ byte-put bytes at v h b =
     record {
       front = rw (add-one at, take-suc-set bytes at v h) (ap (λ (x : ℕ). take at bytes ++ (x ∷ [])) (let e : v ≡ v % 256 = omega arith in e));
       as-long = length-set bytes at v;
+      past = drop-set-lt (at + 1) bytes at v (omega arith);
     }

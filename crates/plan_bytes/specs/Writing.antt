@@ -6,6 +6,7 @@ use mathlib.Core.List.{List, [], _++_}
 use Prim.Native.Nat.{ℕ, _+_, _-_, _*_, _≤_}
 use lib.Dec.{eqb}
 use lib.ListN.{length, getD, take, drop}
+use Rattle.basics.specs.Lists.{in-front}
 use Rattle.plan_format.specs.Sizes.{most-queues, most-buffers, most-operations, most-waits, most-signals, most-marks}
 use Rattle.plan_format.specs.Sizes.{plan-bytes}
 use Rattle.plan_format.specs.Refusal.{Refusal, refusal, none-given}
@@ -32,18 +33,22 @@ pub record Room (many : ℕ) (xs : List ℕ) (c : Cursor) (bytes : List ℕ) : T
   pub room : c .put + many ≤ length bytes
 
 -- from the cursor `c` to the cursor `r` a thing is read from the list and, where there is no refusal, spelled, at most
--- so many bytes long
+-- so many bytes long and eight for each number; past the bytes put the array stays
 pub record Writes (g : Grammar) (many : ℕ) (xs : List ℕ) (c : Cursor) (bytes : List ℕ) (r : Cursor) (bytes-now : List ℕ) : Type 0 where
   pub read : read-by numbers g (here xs c) ≡ here xs r
   pub spell : r .number ≡ 0 → spell-by g (spelling xs c bytes) ≡ spelling xs r bytes-now
   pub inside : r .at ≤ length xs
+  pub more : c .put ≤ r .put
   pub few : r .put ≤ c .put + many
+  pub by-eight : r .put + 8 * c .at ≤ c .put + 8 * r .at
   pub as-long : length bytes-now ≡ length bytes
+  pub past : drop (r .put) bytes-now ≡ drop (r .put) bytes
 
--- the bytes of a number were put at a place
+-- the bytes of a number were put at a place, and nothing after them
 pub record Puts (width : ℕ) (bytes : List ℕ) (at v : ℕ) (bytes-now : List ℕ) : Type 0 where
   pub front : take (at + width) bytes-now ≡ take at bytes ++ digits width v
   pub as-long : length bytes-now ≡ length bytes
+  pub past : drop (at + width) bytes-now ≡ drop (at + width) bytes
 
 -- a limited field was written, and the cursor has its number: 0 where it is refused
 pub record Limited (width limit over : ℕ) (xs : List ℕ) (c : Cursor) (bytes : List ℕ) (r : Cursor) (bytes-now : List ℕ) : Type 0 where
@@ -63,16 +68,20 @@ unfoldable pub front-most : Form → ℕ
 front-most F = (1 + 8 * most-queues) + (F .semaphore-width + 1 * F .semaphores-most) + (2 + 4 * most-buffers)
 
 -- the whole list was read and spelled, but for its end; the lead bytes are not among the bytes
-pub record Plan-written (F : Form) (xs : List ℕ) (r : Cursor) (bytes-now : List ℕ) : Type 0 where
+pub record Plan-written (F : Form) (xs bytes : List ℕ) (r : Cursor) (bytes-now : List ℕ) : Type 0 where
   pub read : read-by numbers (plan-grammar F) (scan xs 0 [] none-given) ≡ here xs r
   pub spell : r .number ≡ 0 → spell-by (plan-grammar F) (record { left = xs; made = [] }) ≡ spelling xs r bytes-now
   pub inside : r .at ≤ length xs
   pub few : r .put ≤ front-most F + (2 + operation-most F * most-operations)
+  pub by-eight : r .put ≤ 8 * r .at
+  pub past : drop (r .put) bytes-now ≡ drop (r .put) bytes
 
--- R10, the writer before its room is judged: 1 to 5, or the length in bytes; past it, and on a refusal, the bytes are
--- unspecified
-pub record Bytes-written (xs : List ℕ) (r : Told) (bytes-now : List ℕ) : Type 0 where
+-- R10, the writer before its room is judged: 1 to 5, or the length in bytes as the answer. Past the bytes the array
+-- stays. Beside a refusal it stays past eight bytes for each number before the refused one; what is in front of that is
+-- unspecified.
+pub record Bytes-written (xs bytes : List ℕ) (r : Told) (bytes-now : List ℕ) : Type 0 where
   pub told : Tells (listed xs .fault) (length (spelled xs)) r
-  pub bytes : r .number ≡ 0 → take (length (spelled xs)) bytes-now ≡ spelled xs
+  pub passed : r .number ≡ 0 → bytes-now ≡ in-front (spelled xs) bytes
+  pub refused : (r .number ≡ 0 → ⊥) → drop (8 * r .place) bytes-now ≡ drop (8 * r .place) bytes
   pub few : r .answer ≤ plan-bytes
   pub long : length bytes-now ≡ plan-bytes

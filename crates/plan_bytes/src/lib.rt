@@ -12,9 +12,10 @@ use plan_format::refused;
 ghost use Rattle.plan_bytes.specs.Writing.{Bytes-written};
 
 // The bytes of a list of numbers in front of the array, with their length as the answer; or the first of refusals 1 to
-// 5. Past the bytes, and on a refusal, the array is unspecified.
+// 5. Past the bytes the array stays; beside a refusal it is unspecified up to eight bytes for each number before the
+// refused one, and stays past them.
 pub fn write_bytes(numbers: &[u64], bytes: &mut [u8; PLAN_BYTES]) -> Told
-    ensures { λ r. ⌜ Bytes-written (now (numbers .entry)) r (now (bytes .exit)) ⌝ }
+    ensures { λ r. ⌜ Bytes-written (now (numbers .entry)) (now (bytes .entry)) r (now (bytes .exit)) ⌝ }
 {
     let c = section::sections(numbers, bytes);
     let at = c.at;

@@ -88,7 +88,7 @@ fn entry(numbers: &[u64], i: usize) -> u64
 // The four sections; a count comes before its section.
 pub fn sections(numbers: &[u64], bytes: &mut [u8]) -> Cursor
     requires { ⌜ plan-bytes ≤ length (now bytes) ⌝ }
-    ensures { λ r. ⌜ Plan-written first-form (now (numbers .entry)) r (now (bytes .exit)) ⌝ }
+    ensures { λ r. ⌜ Plan-written first-form (now (numbers .entry)) (now (bytes .entry)) r (now (bytes .exit)) ⌝ }
 {
     let start = Cursor {
         number: 0,

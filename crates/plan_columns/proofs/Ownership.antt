@@ -8,22 +8,26 @@ use lib.ListN.{length, getD, take, drop, length-take}
 use lib.Seq.{sets, getD-take, getD-drop}
 use Rattle.basics.proofs.Stores.{sets-at}
 use Rattle.basics.proofs.Tables.{tabulate-length, tabulate-at}
+use Rattle.plan_format.specs.Sizes.{plan-numbers, most-semaphores}
 use Rattle.plan_format.specs.Plan.{Plan, queues}
 use Rattle.plan_columns.specs.Columns.{Owner-column}
 use Rattle.plan_columns.specs.Filling.{owner-numbers}
 
-pub owners-stored : (X before now : List ℕ) (first many at m : ℕ) → at ≡ min first 22868 → m ≡ min many 64 → now ≡ sets before 0 (owner-numbers X m at) →
-    now ≡ sets before 0 (owner-numbers X (min many 64) (min first 22868))
+pub owners-stored : (X before now : List ℕ) (first many at m : ℕ) → at ≡ min first plan-numbers →
+    m ≡ min many most-semaphores → now ≡ sets before 0 (owner-numbers X m at) →
+    now ≡ sets before 0 (owner-numbers X (min many most-semaphores) (min first plan-numbers))
 owners-stored X before now first many at m at-is m-is stored = stored ∙ rw (at-is, m-is)
 
 module _ (p : Plan) (X before now : List ℕ) (first many : ℕ) where
-  pub owners-shown : p .owners ≡ take many (drop first X) → first ≤ 22868 → many ≤ 64 → queues p ≤ 16 →
+  pub owners-shown : p .owners ≡ take many (drop first X) → first ≤ plan-numbers → many ≤ most-semaphores →
+      queues p ≤ 16 →
       ((s : ℕ) → s < length (p .owners) → getD (p .owners) s 0 < queues p) →
-      now ≡ sets before 0 (owner-numbers X (min many 64) (min first 22868)) → length before ≡ 64 → Owner-column p now
+      now ≡ sets before 0 (owner-numbers X (min many most-semaphores) (min first plan-numbers)) →
+      length before ≡ most-semaphores → Owner-column p now
   unfolding Owner-column
   owners-shown stand low few queues-few known stored size s l =
-      let at-is : min first 22868 ≡ first = omega arith in
-      let m-is : min many 64 ≡ many = omega arith in
+      let at-is : min first plan-numbers ≡ first = omega arith in
+      let m-is : min many most-semaphores ≡ many = omega arith in
       let f : ℕ → ℕ = λ j. getD X (first + j) 0 % 65536 in
       let cut = length-take many (drop first X) in
       let inside : s < many = omega (arith, ap (λ (z : List ℕ). length z) stand) in

@@ -7,6 +7,7 @@ use lib.ListN.{length, getD, drop, length-map, List·getD-map}
 use lib.Seq.{sets}
 use Rattle.basics.proofs.Stores.{sets-at}
 use Rattle.basics.proofs.Tables.{tabulate-length, tabulate-at}
+use Rattle.plan_format.specs.Sizes.{wait-places, signal-places, mark-places}
 use Rattle.plan_format.specs.Form.{first-form}
 use Rattle.plan_format.specs.Plan.{Point, Operation, Plan, empty-operation, count, op, operations-in}
 use Rattle.plan_order.specs.Precedence.{Signal, plan-signals}
@@ -84,7 +85,8 @@ module _ (p : Plan) (limits : Limits p) (X : List ℕ) (n first : ℕ) (stand : 
         (joined-at of 1 (λ i o. refl) 0 (p .operations) j 0 empty-operation l (omega arith)))
 
     -- a number of a wait
-    wait-shown : (h : Point → ℕ) → h no-point ≡ 0 → {f : Part} {before now : List ℕ} → parts X f n 0 first ≡ map h (joined three-waits 0 (p .operations)) → Column X f 3072 n first before now i at (3 * i) →
+    wait-shown : (h : Point → ℕ) → h no-point ≡ 0 → {f : Part} {before now : List ℕ} → parts X f n 0 first ≡ map h
+        (joined three-waits 0 (p .operations)) → Column X f wait-places n first before now i at (3 * i) →
         (j k : ℕ) → j < count p → k < 3 → getD now (3 * j + k) 0 ≡ h (wait-at p j k)
     unfolding count op wait-at
     wait-shown h z s c j k l u =
@@ -106,7 +108,7 @@ module _ (p : Plan) (limits : Limits p) (X : List ℕ) (n first : ℕ) (stand : 
     unfolding plan-signals
     all-signals = signals-joined 0 (p .operations)
 
-    few-signals : length (plan-signals p) ≤ 2048
+    few-signals : length (plan-signals p) ≤ signal-places
     unfolding count op
     few-signals =
         omega (
@@ -138,7 +140,7 @@ module _ (p : Plan) (limits : Limits p) (X : List ℕ) (n first : ℕ) (stand : 
     unfolding plan-marks
     all-marks = marks-joined 0 (p .operations)
 
-    few-marks : length (plan-marks p) ≤ 4096
+    few-marks : length (plan-marks p) ≤ mark-places
     unfolding count op
     few-marks =
         omega (

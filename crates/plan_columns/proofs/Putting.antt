@@ -8,6 +8,7 @@ use native.Mathlib.Omega.{arith}
 use lib.ListN.{length, set}
 use lib.Seq.{sets, length-sets}
 use Rattle.basics.specs.Lists.{tabulate-from}
+use Rattle.plan_format.specs.Sizes.{most-operations}
 
 pub record Putting (f : ℕ → ℕ) (place many : ℕ) (before now : List ℕ) (j : ℕ) : Type 0 where
   pub inside : j ≤ many
@@ -42,7 +43,7 @@ pub putting-front : {f : ℕ → ℕ} {many : ℕ} {before old new : List ℕ} {
 putting-front {j} b l e h = putting-next b l (e ∙ rw (zero-add j)) h
 
 -- what is stored of a small number is the number
-pub small-is : (i : ℕ) → i < 1024 → i % 65536 ≡ i
+pub small-is : (i : ℕ) → i < most-operations → i % 65536 ≡ i
 small-is i l = omega arith
 
 pub code-is : (a b x y : ℕ) → a ≡ x → b ≡ y → (2 * (a % 256) + b % 2) % 65536 ≡ 2 * (x % 256) + y % 2

@@ -7,7 +7,7 @@ use Prim.Native.Nat.{ℕ, suc, _+_, _*_, _≤_, _<_}
 use lib.ListN.{length, getD}
 use Rattle.plan_format.specs.Sizes.{most-waits, signal-places, mark-places, row-width, no-operation}
 use Rattle.plan_format.specs.Plan.{Point, Mark, Operation, Plan, count, op, queues}
-use Rattle.plan_order.specs.Precedence.{Signal, plan-signals, Resolution, free, on, never, resolve}
+use Rattle.plan_order.specs.Precedence.{Signal, plan-signals, Resolution, at-once, on, never, resolve}
 use Rattle.plan_order.specs.Rows.{row}
 
 -- the columns of operations, side by side: the queue of each; the semaphore and the value of each wait, three places to
@@ -101,7 +101,7 @@ pub record Mark-columns (p : Plan) (many : ℕ) (mark operation : List ℕ) : Ty
 
 -- the operation that a wait rests on; 1,024 for none
 unfoldable pub source-of : Resolution → ℕ
-source-of free = no-operation
+source-of at-once = no-operation
 source-of (on x) = x .operation
 source-of never = no-operation
 

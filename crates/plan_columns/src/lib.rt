@@ -54,13 +54,13 @@ pub struct Filled {
 // Fills the column of owners: `many` numbers from `first` on, cut to sixteen bits. It takes 64 at most, and a plan's
 // owners begin at 22,868 at most.
 pub fn owners(numbers: &[u64], first: usize, many: usize, owner: &mut OwnerColumn)
-    ensures { λ _. ⌜ now (owner .exit) ≡ sets (now (owner .entry)) 0 (owner-numbers (now (numbers .entry)) (min many most-semaphores) (min first plan-numbers)) ⌝ }
-    ensures { λ _. ⌜ ((p : Plan) → p .owners ≡ take many (drop first (now (numbers .entry))) → first ≤ plan-numbers → many ≤ most-semaphores → queues p ≤ most-queues → ((s : ℕ) → s < length (p .owners) → getD (p .owners) s 0 < queues p) → Owner-column p (now (owner .exit))) ⌝ }
+    ensures stored { λ _. ⌜ now (owner .exit) ≡ sets (now (owner .entry)) 0 (owner-numbers (now (numbers .entry)) (min many most-semaphores) (min first plan-numbers)) ⌝ }
+    ensures of_plans { λ _. ⌜ ((p : Plan) → p .owners ≡ take many (drop first (now (numbers .entry))) → first ≤ plan-numbers → many ≤ most-semaphores → queues p ≤ most-queues → ((s : ℕ) → s < length (p .owners) → getD (p .owners) s 0 < queues p) → Owner-column p (now (owner .exit))) ⌝ }
 {
     owned(
         numbers,
-        lower(first, PLAN_NUMBERS),
-        lower(many, MOST_SEMAPHORES),
+        base_numbers::min_usize(first, PLAN_NUMBERS),
+        base_numbers::min_usize(many, MOST_SEMAPHORES),
         owner,
     );
 }
@@ -111,7 +111,7 @@ pub fn add(
             marks: marks_before,
         };
     }
-    cells::put16(queue, operation, wide(window[0]));
+    cells::put16(queue, operation, base_numbers::u64_to_usize(window[0]));
     let w = put_waits(window, operation, wsem, wval);
     let signals_at = 2 + 2 * w;
     let s = put_signals(
@@ -134,11 +134,11 @@ pub fn add(
 // Stores the three waits of operation i, a wait for 0 in place of each that it lacks; gives how many it has.
 fn put_waits(window: &Window, i: usize, semaphore: &mut [u16], value: &mut [u64]) -> usize
     requires { ⌜ (i < most-operations) × (wait-places ≤ length (now semaphore)) × (wait-places ≤ length (now value)) ⌝ }
-    ensures { λ r. ⌜ r ≡ getD (now (window .entry)) 1 0 % 4 ⌝ }
-    ensures { λ r. ⌜ now (semaphore .exit) ≡ sets (now (semaphore .entry)) (3 * i) (wait-semaphores (now (window .entry)) r 1) ⌝ }
-    ensures { λ r. ⌜ now (value .exit) ≡ sets (now (value .entry)) (3 * i) (wait-values (now (window .entry)) r 1) ⌝ }
+    ensures many { λ r. ⌜ r ≡ getD (now (window .entry)) 1 0 % 4 ⌝ }
+    ensures semaphores { λ r. ⌜ now (semaphore .exit) ≡ sets (now (semaphore .entry)) (3 * i) (wait-semaphores (now (window .entry)) r 1) ⌝ }
+    ensures values { λ r. ⌜ now (value .exit) ≡ sets (now (value .entry)) (3 * i) (wait-values (now (window .entry)) r 1) ⌝ }
 {
-    let many = wide(window[1]) % 4;
+    let many = base_numbers::u64_to_usize(window[1]) % 4;
     for j in 0..3 {
         semaphore[3 * i + j] = low(waited(window[2 + 2 * j], j, many));
         value[3 * i + j] = waited(window[3 + 2 * j], j, many);
@@ -164,15 +164,19 @@ fn put_signals(
     operation: &mut [u16],
 ) -> usize
     requires { ⌜ (at ≤ 8) × (i < most-operations) × (had < 65536) ⌝ }
-    ensures { λ r. ⌜ r ≡ getD (now (window .entry)) at 0 % 4 ⌝ }
-    ensures { λ r. ⌜ now (semaphore .exit) ≡ sets (now (semaphore .entry)) had (signal-semaphores (now (window .entry)) r at) ⌝ }
-    ensures { λ r. ⌜ now (value .exit) ≡ sets (now (value .entry)) had (signal-values (now (window .entry)) r at) ⌝ }
-    ensures { λ r. ⌜ now (operation .exit) ≡ sets (now (operation .entry)) had (repeated r i) ⌝ }
+    ensures many { λ r. ⌜ r ≡ getD (now (window .entry)) at 0 % 4 ⌝ }
+    ensures semaphores { λ r. ⌜ now (semaphore .exit) ≡ sets (now (semaphore .entry)) had (signal-semaphores (now (window .entry)) r at) ⌝ }
+    ensures values { λ r. ⌜ now (value .exit) ≡ sets (now (value .entry)) had (signal-values (now (window .entry)) r at) ⌝ }
+    ensures operations { λ r. ⌜ now (operation .exit) ≡ sets (now (operation .entry)) had (repeated r i) ⌝ }
 {
-    let many = wide(window[at]) % 4;
+    let many = base_numbers::u64_to_usize(window[at]) % 4;
     let mut j = 0;
     while j < many {
-        cells::put16(semaphore, had + j, wide(window[at + 1 + 2 * j]));
+        cells::put16(
+            semaphore,
+            had + j,
+            base_numbers::u64_to_usize(window[at + 1 + 2 * j]),
+        );
         cells::put64(value, had + j, window[at + 2 + 2 * j]);
         cells::put16(operation, had + j, i);
         j += 1;
@@ -190,15 +194,15 @@ fn put_marks(
     operation: &mut [u16],
 ) -> usize
     requires { ⌜ (at ≤ 15) × (i < most-operations) × (had < 65536) ⌝ }
-    ensures { λ r. ⌜ r ≡ getD (now (window .entry)) at 0 % 8 ⌝ }
-    ensures { λ r. ⌜ now (mark .exit) ≡ sets (now (mark .entry)) had (codes-of-marks (now (window .entry)) r at) ⌝ }
-    ensures { λ r. ⌜ now (operation .exit) ≡ sets (now (operation .entry)) had (repeated r i) ⌝ }
+    ensures many { λ r. ⌜ r ≡ getD (now (window .entry)) at 0 % 8 ⌝ }
+    ensures marks { λ r. ⌜ now (mark .exit) ≡ sets (now (mark .entry)) had (codes-of-marks (now (window .entry)) r at) ⌝ }
+    ensures operations { λ r. ⌜ now (operation .exit) ≡ sets (now (operation .entry)) had (repeated r i) ⌝ }
 {
-    let many = wide(window[at]) % 8;
+    let many = base_numbers::u64_to_usize(window[at]) % 8;
     let mut j = 0;
     while j < many {
-        let b = wide(window[at + 1 + 2 * j]) % MOST_BUFFERS;
-        let f = wide(window[at + 2 + 2 * j]) % 2;
+        let b = base_numbers::u64_to_usize(window[at + 1 + 2 * j]) % MOST_BUFFERS;
+        let f = base_numbers::u64_to_usize(window[at + 2 + 2 * j]) % 2;
         cells::put16(mark, had + j, 2 * b + f);
         cells::put16(operation, had + j, i);
         j += 1;
@@ -213,23 +217,9 @@ fn number(numbers: &[u64], at: usize) -> usize
     cells::get64(numbers, at) as usize
 }
 
-// The same number.
-fn wide(x: u64) -> usize
-    ensures { λ r. ⌜ r ≡ x ⌝ }
-{
-    x as usize
-}
-
 // The lower sixteen bits.
 fn low(x: u64) -> u16
     ensures { λ r. ⌜ r ≡ x % 65536 ⌝ }
 {
     (x % 65536) as u16
-}
-
-// The lower of two.
-fn lower(a: usize, b: usize) -> usize
-    ensures { λ r. ⌜ r ≡ min a b ⌝ }
-{
-    if a < b { a } else { b }
 }

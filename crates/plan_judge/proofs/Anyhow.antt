@@ -1,16 +1,17 @@
 -- What the parts of the check answer by their columns alone, put together. Assumes nothing.
 use mathlib.Core.Path.{_≡_, refl, sym, ap, _∙_, subst}
 use mathlib.Core.Bool.{Bool, true, false, _||_, cond}
-use mathlib.Core.List.{List, _++_}
+use mathlib.Core.List.{List}
 use Prim.Native.Nat.{ℕ, _*_, _≤_, _<_}
 use native.Mathlib.Omega.{arith}
 use lib.Dec.{ltb}
-use lib.ListN.{length, take, drop, replicate, length-replicate, take-append-drop}
+use lib.ListN.{length, take, drop, replicate, length-replicate}
 use lib.Seq.{length-take-le}
 use borrow.Author.Tests.{lt-ltb, le-ltb}
 use Rattle.basics.specs.Lists.{in-front}
 use Rattle.basics.proofs.Tests.{by-cases, clash, or-left, or-right}
-use Rattle.plan_format.specs.Sizes.{row-width, most-operations}
+use Rattle.basics.proofs.Fronts.{front-taken, front-alike}
+use Rattle.plan_format.specs.Sizes.{row-width, row-places, most-operations}
 use Rattle.plan_format.specs.Refusal.{Refusal, refusal, none-given, given, or-else}
 use Rattle.plan_format.specs.Stored.{Tells}
 use Rattle.plan_format.specs.declared.Told.{Told}
@@ -19,10 +20,12 @@ use Rattle.plan_format.proofs.Judged.{zero-not-given, other-given, not-given-ze
 use Rattle.plan_rules.specs.Walks.{signals-walk, lasts-walk, zeros}
 use Rattle.plan_waits.specs.Waits.{waits-found, Sources}
 use Rattle.plan_run.specs.Run.{Bounded}
+use Rattle.plan_run.proofs.Bounds.{run-past}
 use Rattle.plan_stuck.specs.Zeros.{first-zero}
 use Rattle.plan_marks.specs.Passes.{first-broken}
 use Rattle.plan_judge.specs.Answering.{rules-by, Sources-by, order-by, Run-judged, Answers-by}
 use Rattle.plan_judge.specs.Leaving.{Room, Left}
+use Rattle.plan_judge.proofs.Inside.{order-inside}
 
 -- ---- 6 to 8
 module _ (n signals : ℕ) (owner queue wsem wval ssem sval sop : List ℕ) where
@@ -70,35 +73,37 @@ module _ (n ran marks i : ℕ) (queue mark mop rows : List ℕ) where
   order-passed l b e = tells (rw (le-ltb ran n l, ← e, le-ltb i n b))
 
 -- ---- what is left
-front-past : (new a b : List ℕ) → drop (length new) a ≡ drop (length new) b → in-front new a ≡ in-front new b
-unfolding in-front
-front-past new a b e = ap (λ (z : List ℕ). new ++ z) e
-
-front-taken : (k : ℕ) (a b : List ℕ) → k ≤ length a → drop k a ≡ drop k b → a ≡ in-front (take k a) b
-unfolding in-front
-front-taken k a b l e = sym (take-append-drop k a) ∙ ap (λ (z : List ℕ). take k a ++ z) (e ∙ ap (λ (m : ℕ). drop m b) (sym (length-take-le k a l)))
-
-module _ (n ran marks : ℕ) (queue mark mop rows : List ℕ) {rows₀ t t′ l l₁ l′ : List ℕ} {r : Told} (room : Room n t l)
-    (bounded : Bounded n ran rows₀ rows l l₁) (told-is : Tells (order-by n ran marks queue mark mop rows) 0 r) (left : Left (r .number) n rows t t′ l₁ l′) where
+module _ (n ran marks : ℕ) (queue mark mop rows : List ℕ) {t t′ l l₁ l′ : List ℕ} {r : Told} (room : Room n t l)
+    (bounded : Bounded n ran (replicate row-places 0) rows l l₁)
+    (told-is : Tells (order-by n ran marks queue mark mop rows) 0 r)
+    (left : Left (r .number) n rows t t′ l₁ l′) where
   run-judged : Run-judged n marks queue mark mop r t t′ l l′
   run-judged = record {
     ran = ran;
     rows = rows;
     run = take (2 * n) l₁;
-    few = bounded .few;
-    rows-long = left .long;
     run-long = length-take-le (2 * n) l₁ (omega (arith, bounded .long, room .in-list));
+    bounded = subst (λ (x : List ℕ). Bounded n ran (replicate row-places 0) rows l x) in-list bounded;
     tells = told-is;
+    place-inside = λ z.
+        subst (λ (k : ℕ). k < n) (sym (told-is .place))
+        (order-inside bounded (omega (arith, room .in-list)) marks queue mark mop (λ e. z (told-is .number ∙ e)));
     table-holds = by-cases (given (order-by n ran marks queue mark mop rows))
         (λ g. left .refused-table (not-none g) ∙ sym (ap (λ (b : Bool). in-front (cond b (replicate (row-width * n) 0) (take (row-width * n) rows)) t) g))
         (λ f. left .passed-table (is-none f) ∙ sym (ap (λ (b : Bool). in-front (cond b (replicate (row-width * n) 0) (take (row-width * n) rows)) t) f));
     list-holds = by-cases (given (order-by n ran marks queue mark mop rows))
-        (λ g. left .refused-list (not-none g) ∙ front-past (replicate (2 * n) 0) l₁ l (rw length-replicate (bounded .past))
+        (λ g. left .refused-list (not-none g) ∙ front-alike (replicate (2 * n) 0) l₁ l (rw length-replicate past)
         ∙ sym (ap (λ (b : Bool). in-front (cond b (replicate (2 * n) 0) (take (2 * n) l₁)) l) g))
-        (λ f. left .passed-list (is-none f) ∙ front-taken (2 * n) l₁ l (omega (arith, bounded .long, room .in-list)) (bounded .past)
+        (λ f. left .passed-list (is-none f) ∙ in-list
         ∙ sym (ap (λ (b : Bool). in-front (cond b (replicate (2 * n) 0) (take (2 * n) l₁)) l) f));
   }
     where
+      past : drop (2 * n) l₁ ≡ drop (2 * n) l
+      past = run-past bounded
+
+      in-list : l₁ ≡ in-front (take (2 * n) l₁) l
+      in-list = front-taken (2 * n) l₁ l (omega (arith, bounded .long, room .in-list)) past
+
       not-none : given (order-by n ran marks queue mark mop rows) ≡ true → r .number ≡ 0 → ⊥
       not-none g e = clash (given (order-by n ran marks queue mark mop rows)) g (zero-not-given (order-by n ran marks queue mark mop rows) (sym (told-is .number) ∙ e))
 

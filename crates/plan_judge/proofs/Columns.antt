@@ -7,10 +7,11 @@ use Rattle.plan_format.specs.Sizes.{most-operations}
 use Rattle.plan_format.specs.Plan.{Plan}
 use Rattle.plan_format.specs.Sound.{Sound}
 use Rattle.plan_format.specs.declared.Told.{Told}
+use Rattle.plan_format.proofs.Plans.{limits-sound}
 use Rattle.plan_format.proofs.Positions.{in-range, few-waits}
 use Rattle.plan_order.specs.Runs.{standard}
 use Rattle.plan_columns.specs.Columns.{Columns}
-use Rattle.plan_columns.proofs.Limits.{few-operations, limits-sound}
+use Rattle.plan_columns.proofs.Limits.{few-operations}
 use Rattle.plan_rules.specs.declared.Signalled.{Signalled}
 use Rattle.plan_rules.specs.Walks.{Signals-given, Judged}
 use Rattle.plan_waits.specs.Waits.{Waits-given}
@@ -65,7 +66,7 @@ module _ {p : Plan} {n signals marks : ℕ} {owner : List ℕ} {cs : Columns} (g
 -- ---- the order
 module _ {p : Plan} {n marks : ℕ} {queue source mark mop : List ℕ} (g : Order-given p n marks queue source mark mop) where
   pub order-sound : Sound p
-  order-sound = limits-sound (g .limits) (g .rules)
+  order-sound = limits-sound p (g .limits) (g .rules)
 
   pub order-few : n ≤ most-operations
   order-few = subst (λ (k : ℕ). k ≤ most-operations) (g .many) (few-operations (g .limits))

@@ -1,4 +1,5 @@
 pub mod Columns
 pub mod Untouched
 pub mod Orders
+pub mod Inside
 pub mod Anyhow

@@ -11,6 +11,7 @@ use lib.ListN.{length, getD, take, drop, replicate, length-replicate}
 use lib.Seq.{ext-getD, getD-take, length-take-le}
 use Rattle.basics.specs.Lists.{member, in-front, place-or}
 use Rattle.basics.proofs.Tests.{by-cases, by-option, clash}
+use Rattle.basics.proofs.Fronts.{front-alike}
 use Rattle.basics.proofs.Searches.{lowest-some}
 use Rattle.plan_format.specs.Sizes.{row-width}
 use Rattle.plan_format.specs.Refusal.{Refusal, refusal, none-given, given}
@@ -101,11 +102,6 @@ passed-means p e =
     (λ i m. absurd (let z : 10 ≡ 0 = rw m at e in omega arith))
 
 -- ---- what is left
--- what is written over the front is all that a front of that length keeps
-front-past : (new a b : List ℕ) → drop (length new) a ≡ drop (length new) b → in-front new a ≡ in-front new b
-unfolding in-front
-front-past new a b e = ap (λ (z : List ℕ). new ++ z) e
-
 rows-taken : (p : Plan) (rows-now : List ℕ) → row-width * count p ≤ length rows-now → Row-columns p (λ j. j < count p) rows-now → take (row-width * count p) rows-now ≡ rows p
 unfolding Row-columns
 rows-taken p rows-now room shows =
@@ -140,7 +136,8 @@ module _ (p : Plan) {n ran : ℕ} {rows-now : List ℕ} {r : Told} {t t′ l l�
       (record {
         tells = told-is;
         table-holds = left .refused-table z ∙ ap (λ (k : ℕ). in-front (replicate (row-width * k) 0) t) (sym many);
-        list-holds = left .refused-list z ∙ front-past (replicate (2 * n) 0) l₁ l (rw length-replicate (run .listed .past))
+        list-holds = left .refused-list z ∙ front-alike (replicate (2 * n) 0) l₁ l
+            (rw length-replicate (run .listed .past))
             ∙ ap (λ (k : ℕ). in-front (replicate (2 * k) 0) l) (sym many);
       })
 

@@ -1,18 +1,19 @@
--- R54 to R56: what the check answers and leaves by its columns alone, whether they show a plan or not; only what the
--- run gives is left open. Assumes nothing: these are definitions.
+-- R54 to R56: what the check answers and leaves by its columns alone, whether they show a plan or not; only the order of
+-- the run and its rows are unspecified. Assumes nothing: these are definitions.
 use mathlib.Core.Path.{_≡_}
 use mathlib.Core.Bool.{true, false, _||_, cond}
 use mathlib.Core.List.{List}
-use Prim.Native.Nat.{ℕ, _*_, _≤_}
+use Prim.Native.Nat.{ℕ, _*_, _<_}
 use lib.Dec.{ltb}
 use lib.ListN.{length, take, replicate}
 use Rattle.basics.specs.Lists.{in-front}
-use Rattle.plan_format.specs.Sizes.{most-operations, row-width}
+use Rattle.plan_format.specs.Sizes.{most-operations, row-width, row-places}
 use Rattle.plan_format.specs.Refusal.{Refusal, refusal, none-given, given, or-else}
 use Rattle.plan_format.specs.Stored.{Tells}
 use Rattle.plan_format.specs.declared.Told.{Told}
 use Rattle.plan_rules.specs.Walks.{signals-walk, lasts-walk, zeros}
 use Rattle.plan_waits.specs.Waits.{waits-found, Sources}
+use Rattle.plan_run.specs.Run.{Bounded}
 use Rattle.plan_stuck.specs.Zeros.{first-zero}
 use Rattle.plan_marks.specs.Passes.{first-broken}
 
@@ -34,16 +35,18 @@ order-by n ran marks queue mark mop rows =
     cond (ltb ran n) (refusal 10 (first-zero n queue rows))
     (cond (ltb (first-broken queue rows n marks mark mop) n) (refusal 11 (first-broken queue rows n marks mark mop)) none-given)
 
--- after a run of at most n steps, with the rows and the front of the list that it left: its judgement; zeros in front
--- of table and list where that is a refusal, else rows and list; and past them nothing is touched
+-- after a run, with the rows and the front of the list that it left: its judgement; zeros in front of table and list
+-- where that is a refusal, else rows and list; and past them nothing is touched. What the run leaves is bounded:
+-- operations below n, none twice, with one to sixteen queues ready before each, and a row of zeros for each that did
+-- not run. A refusal names an operation.
 pub record Run-judged (n marks : ℕ) (queue mark mop : List ℕ) (r : Told) (table table-now list list-now : List ℕ) : Type 0 where
   pub ran : ℕ
   pub rows : List ℕ
   pub run : List ℕ
-  pub few : ran ≤ n
-  pub rows-long : r .number ≡ 0 → row-width * n ≤ length rows
   pub run-long : length run ≡ 2 * n
+  pub bounded : Bounded n ran (replicate row-places 0) rows list (in-front run list)
   pub tells : Tells (order-by n ran marks queue mark mop rows) 0 r
+  pub place-inside : (r .number ≡ 0 → ⊥) → r .place < n
   pub table-holds : table-now ≡ in-front (cond (given (order-by n ran marks queue mark mop rows)) (replicate (row-width * n) 0) (take (row-width * n) rows)) table
   pub list-holds : list-now ≡ in-front (cond (given (order-by n ran marks queue mark mop rows)) (replicate (2 * n) 0) run) list
 

@@ -70,8 +70,8 @@ fn judge(
     mop: &MarkColumn,
     rows: &Rows,
 ) -> Told
-    ensures { λ r. ⌜ Tells (order-by n ran marks (now (queue .entry)) (now (mark .entry)) (now (mop .entry)) (now (rows .entry))) 0 r ⌝ }
-    ensures { λ r. ⌜ ((p : Plan) → Judge-given p n ran marks (now (queue .entry)) (now (mark .entry)) (now (mop .entry)) (now (rows .entry)) → Tells (order-refusal p) 0 r) ⌝ }
+    ensures told { λ r. ⌜ Tells (order-by n ran marks (now (queue .entry)) (now (mark .entry)) (now (mop .entry)) (now (rows .entry))) 0 r ⌝ }
+    ensures of_plans { λ r. ⌜ ((p : Plan) → Judge-given p n ran marks (now (queue .entry)) (now (mark .entry)) (now (mop .entry)) (now (rows .entry)) → Tells (order-refusal p) 0 r) ⌝ }
 {
     let many = n as usize;
     if ran < many {

@@ -40,13 +40,7 @@ fn rows(from: &[u16], table: &mut [u32], n: usize)
 {
     let mut i = 0;
     while i < n {
-        table[i] = wide32(from[i]);
+        table[i] = base_numbers::u16_to_u32(from[i]);
         i += 1;
     }
-}
-
-fn wide32(x: u16) -> u32
-    ensures { λ r. ⌜ r ≡ x ⌝ }
-{
-    x as u32
 }

@@ -23,8 +23,8 @@ ghost use Rattle.plan_judge.specs.Answering.{rules-by, Sources-by, Answe
 ghost use Rattle.plan_judge.specs.Given.{Check-given, Rules-given, Ruled};
 
 // Refusals 6 and 7, then 8, then 9, then the order: the answer, what is left in table and list, and the operation that
-// each wait rests on, in place of its semaphore. Where the columns show no plan within the limits, what the run gives
-// is unspecified: how many ran, the rows, and the front of the list.
+// each wait rests on, in place of its semaphore. Where the columns show no plan within the limits, it is unspecified
+// which operations run, in which order, and what their rows are.
 pub fn check_columns(
     n: u16,
     signals: usize,

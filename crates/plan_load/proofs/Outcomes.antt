@@ -19,8 +19,8 @@ use Rattle.plan_format.proofs.Operations.{operations-long}
 use Rattle.plan_format.proofs.Repeats.{read-repeat, repeat-stops}
 use Rattle.plan_format.proofs.Seams.{after-seam}
 use Rattle.plan_format.proofs.Sections.{plan-whole}
+use Rattle.plan_format.proofs.Plans.{scanned-limits}
 use Rattle.plan_columns.specs.Columns.{Columns, Head-column}
-use Rattle.plan_columns.proofs.Limits.{limits}
 use Rattle.plan_columns.proofs.Plans.{filling-end}
 use Rattle.plan_numbers.specs.declared.Head.{Head}
 use Rattle.plan_numbers.specs.declared.End.{End}
@@ -148,9 +148,25 @@ module _ (bs : List ℕ) (h : Head) (nums : List ℕ) (cs₀ : Columns) (head : 
         small : Small (h .queues) (h .semaphores) (h .buffers)
         unfolding queues
         small = record {
-          few-queues = omega (arith, limits bs clean .few-queues, ap (λ (p : Plan). length (p .axes)) plan-is, front .axes-long);
-          few-semaphores = omega (arith, limits bs clean .few-semaphores, ap (λ (p : Plan). length (p .owners)) plan-is, front .owners-long);
-          few-buffers = omega (arith, limits bs clean .few-buffers, ap (λ (p : Plan). length (p .sizes)) plan-is, front .sizes-long);
+          few-queues = omega (
+            arith,
+            scanned-limits bs clean .few-queues,
+            ap (λ (p : Plan). length (p .axes)) plan-is,
+            front .axes-long,
+          );
+          few-semaphores = omega (
+            arith,
+            scanned-limits bs clean .few-semaphores,
+            ap (λ (p : Plan). length (p .owners)) plan-is,
+            front .owners-long,
+          );
+          few-buffers = omega (
+            arith,
+            scanned-limits bs clean .few-buffers,
+            ap
+                (λ (p : Plan). length (p .sizes)) plan-is,
+            front .sizes-long,
+          );
         }
 
         operations-are : plan-in bs .operations ≡ operations-in (h .operations) (drop (length heading) (all ++ []))
@@ -214,7 +230,8 @@ module _ (bs : List ℕ) (h : Head) (nums : List ℕ) (cs₀ : Columns) (head : 
           };
           none = λ z. absurd (z refl);
           head-shown = λ _. load-head;
-          columns = λ _. filling-end (plan-in bs) (limits bs clean) (all ++ []) (h .operations) (length heading) operations-are done (l .filled small []);
+          columns = λ _. filling-end (plan-in bs) (scanned-limits bs clean) (all ++ []) (h .operations)
+              (length heading) operations-are done (l .filled small []);
         }
 
         pub load-owners : plan-in bs .owners ≡ take (h .semaphores) (drop (2 + h .queues) nums)

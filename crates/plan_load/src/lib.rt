@@ -48,8 +48,8 @@ pub fn load(
     mark: &mut MarkColumn,
     mop: &mut MarkColumn,
 ) -> Loaded
-    ensures { λ r. ⌜ Loads (now (plan .entry)) r (now (head .exit)) (columns (now (queue .exit)) (now (wsem .exit)) (now (wval .exit)) (now (ssem .exit)) (now (sval .exit)) (now (sop .exit)) (now (mark .exit)) (now (mop .exit))) ⌝ }
-    ensures { λ r. ⌜ (r .number ≡ 0 → Owner-column (plan-in (now (plan .entry))) (now (owner .exit))) ⌝ }
+    ensures loads { λ r. ⌜ Loads (now (plan .entry)) r (now (head .exit)) (columns (now (queue .exit)) (now (wsem .exit)) (now (wval .exit)) (now (ssem .exit)) (now (sval .exit)) (now (sop .exit)) (now (mark .exit)) (now (mop .exit))) ⌝ }
+    ensures owners { λ r. ⌜ (r .number ≡ 0 → Owner-column (plan-in (now (plan .entry))) (now (owner .exit))) ⌝ }
 {
     let h = plan_numbers::read_head(plan, head);
     if h.number != 0 {
@@ -119,8 +119,8 @@ fn columns(
     mop: &mut MarkColumn,
 ) -> Loaded
     requires { ⌜ Head-read (now plan) h (now head) × (h .number ≡ 0) ⌝ }
-    ensures { λ r. ⌜ Loads (now (plan .entry)) r (now (head .exit)) (columns (now (queue .exit)) (now (wsem .exit)) (now (wval .exit)) (now (ssem .exit)) (now (sval .exit)) (now (sop .exit)) (now (mark .exit)) (now (mop .exit))) ⌝ }
-    ensures { λ r. ⌜ (r .number ≡ 0 → Owner-column (plan-in (now (plan .entry))) (now (owner .exit))) ⌝ }
+    ensures loads { λ r. ⌜ Loads (now (plan .entry)) r (now (head .exit)) (columns (now (queue .exit)) (now (wsem .exit)) (now (wval .exit)) (now (ssem .exit)) (now (sval .exit)) (now (sop .exit)) (now (mark .exit)) (now (mop .exit))) ⌝ }
+    ensures owners { λ r. ⌜ (r .number ≡ 0 → Owner-column (plan-in (now (plan .entry))) (now (owner .exit))) ⌝ }
 {
     plan_columns::owners(head, 2 + h.queues as usize, h.semaphores as usize, owner);
     operations(plan, h, queue, wsem, wval, ssem, sval, sop, mark, mop)

@@ -12,6 +12,7 @@ use lib.Seq.{getD-set-same, getD-set-other}
 use borrow.Author.Tests.{ltb-true, ltb-false, eqb-true, eqb-false, eq-eqb, ne-eqb}
 use Rattle.basics.specs.Lists.{place-or}
 use Rattle.basics.proofs.Tests.{by-cases, by-option, clash, either}
+use Rattle.plan_format.specs.Sizes.{no-operation, mark-places}
 use Rattle.plan_format.specs.Plan.{Plan, count}
 use Rattle.plan_format.specs.Sound.{Sound}
 use Rattle.plan_order.specs.Precedence.{before, at-or-before}
@@ -60,7 +61,7 @@ module _ (met : Ask → Bool) where
 
 -- ---- the table
 unfoldable code : Option ℕ → ℕ
-code none = 1024
+code none = no-operation
 code (some g) = g
 
 record Shows (table : List ℕ) (last : ℕ → Option ℕ) : Type 0 where
@@ -69,7 +70,11 @@ record Shows (table : List ℕ) (last : ℕ → Option ℕ) : Type 0 where
 
 shows-none : Shows none-noted (λ b. none)
 unfolding code
-shows-none = record { size = length-replicate {A = ℕ} 512 1024; frees = λ b l. getD-replicate 512 (b * 2 + 1) 1024 0 (omega arith) }
+shows-none = record {
+  size = length-replicate {A = ℕ} 512 no-operation;
+  frees = λ b l. getD-replicate 512
+      (b * 2 + 1) no-operation 0 (omega arith);
+}
 
 module _ (last : ℕ → Option ℕ) (m : Marked) where
   after-free : (b : ℕ) → eqb (m .buffer) b ≡ true → eqb (m .kind) 1 ≡ true → after last m b ≡ some (m .by)
@@ -217,7 +222,7 @@ module _ (p : Plan) (sound : Sound p) (few : length (p .sizes) ≤ 256) (f : Lis
       (λ m. omega (arith, b .asked, unmet-least forced 0 (count p) rs a (reuses-rising (plan-marks p) none-yet 0 (marks-rising p)) m (b .unforced)))))
 
 -- ---- the lower of the two
-pub lower-found : (n many cut a b r : ℕ) (queue mark operation rows : List ℕ) → cut ≡ min many 4096 →
+pub lower-found : (n many cut a b r : ℕ) (queue mark operation rows : List ℕ) → cut ≡ min many mark-places →
     a ≡ first-late queue rows n (shown-from mark operation cut 0) → b ≡ first-early queue rows n none-noted (shown-from mark operation cut 0) →
     r ≡ min a b → r ≡ first-broken queue rows n many mark operation
 unfolding first-broken
@@ -228,7 +233,7 @@ pub broken-found : (p : Plan) (n many : ℕ) (queue mark operation rows : List �
 unfolding first-broken
 broken-found p n many queue mark operation rows c =
     let known = marks-known p (c .sound) in
-    let all : min many 4096 ≡ many = omega (arith, c .marks-shown .few) in
+    let all : min many mark-places ≡ many = omega (arith, c .marks-shown .few) in
     rw (
       all,
       ← c .many,

@@ -10,6 +10,7 @@ use borrow.Author.Tests.{leb-true, le-leb, lt-ltb, le-ltb, eqb-true, eq-eqb}
 use lib.ListN.{getD}
 use Rattle.basics.proofs.Tests.{by-cases, clash, is-false, and-left, and-right, and-both, or-cases, or-left, or-right, either}
 use Rattle.basics.proofs.Tallies.{tally-mono}
+use Rattle.plan_format.specs.Sizes.{no-operation}
 use Rattle.plan_format.specs.Plan.{Plan, count, op}
 use Rattle.plan_format.specs.Sound.{Sound}
 use Rattle.plan_order.specs.Precedence.{before, at-or-before}
@@ -25,21 +26,27 @@ module _ (p : Plan) (sound : Sound p) (queue rows : List ℕ) (queues-shown : Qu
   -- a use and the free of its holding
   pub late-right : (i g : ℕ) → i < count p → g < count p → late queue rows i g ≡ not (at-or-before p i g)
   unfolding late
-  late-right i g a b = rw (lt-ltb g 1024 (omega (arith, sound .few-operations)), ordered-right p sound queue rows queues-shown rows-shown i g a b)
+  late-right i g a b = rw (
+    lt-ltb g no-operation (omega (arith, sound .few-operations)),
+    ordered-right p sound queue rows queues-shown rows-shown i g a b,
+  )
 
-  pub late-nothing : (i : ℕ) → late queue rows i 1024 ≡ false
+  pub late-nothing : (i : ℕ) → late queue rows i no-operation ≡ false
   unfolding late
-  late-nothing i = rw (le-ltb 1024 1024 (omega arith))
+  late-nothing i = rw (le-ltb no-operation no-operation (omega arith))
 
   -- a mark and the free before its holding
-  pub early-nothing : (i : ℕ) → early queue rows 1024 i ≡ false
+  pub early-nothing : (i : ℕ) → early queue rows no-operation i ≡ false
   unfolding early
-  early-nothing i = rw (le-ltb 1024 1024 (omega arith))
+  early-nothing i = rw (le-ltb no-operation no-operation (omega arith))
 
   pub early-right : (f : List ℕ) → is-full p f ≡ true → (g i : ℕ) → g < count p → i < count p → early queue rows g i ≡ not (before p g i)
   unfolding early at-or-before
   early-right f full g i a b =
-      rw (lt-ltb g 1024 (omega (arith, sound .few-operations)), ordered-right p sound queue rows queues-shown rows-shown g i a b)
+      rw (
+        lt-ltb g no-operation (omega (arith, sound .few-operations)),
+        ordered-right p sound queue rows queues-shown rows-shown g i a b,
+      )
       (by-cases (eqb g i)
       (λ t. rw t (sym (ap (λ (b : Bool). not b) (subst (λ (z : ℕ). before p g z ≡ false) (eqb-true g i t) (not-itself p (rules-good p sound .0) f full g)))))
       (λ n. rw n))

@@ -11,6 +11,7 @@ use lib.ListN.{getD, set, replicate}
 use borrow.Author.Tests.{ltb-true, ltb-false, ne-eqb}
 use Rattle.basics.specs.Lists.{tabulate-from}
 use Rattle.basics.proofs.Tests.{by-cases}
+use Rattle.plan_format.specs.Sizes.{no-operation, most-operations}
 use Rattle.plan_columns.specs.Shown.{mark-of, shown-from, ordered}
 use Rattle.plan_columns.proofs.Marks.{shown-none, shown-next}
 use Rattle.plan_columns.proofs.Ordered.{ordered-is}
@@ -23,14 +24,14 @@ noted-at m i last = let e : m / 2 * 2 + m % 2 ≡ m = omega arith in rw e
 
 -- no number of it is above 1,024
 abbrev Low : List ℕ → Type 0
-Low xs = (k : ℕ) → getD xs k 0 ≤ 1024
+Low xs = (k : ℕ) → getD xs k 0 ≤ no-operation
 
-low-none : (n : ℕ) → Low (replicate n 1024)
+low-none : (n : ℕ) → Low (replicate n no-operation)
 low-none zero k = omega arith
 low-none (suc n) zero = omega arith
 low-none (suc n) (suc k) = low-none n k
 
-low-set : (xs : List ℕ) (m i : ℕ) → i ≤ 1024 → Low xs → Low (set xs m i)
+low-set : (xs : List ℕ) (m i : ℕ) → i ≤ no-operation → Low xs → Low (set xs m i)
 low-set [] m i l h k = h k
 low-set (x ∷ xs) zero i l h zero = l
 low-set (x ∷ xs) zero i l h (suc k) = h (suc k)
@@ -40,18 +41,21 @@ low-set (x ∷ xs) (suc m) i l h (suc k) = low-set xs m i l (λ k. h (suc k)) k
 -- ---- tests
 module _ (queue rows : List ℕ) where
   -- a number below 1,024 is its own remainder
-  pub ordered-cut : (i j x a b : ℕ) → i < 1024 → x ≡ getD queue (i % 1024) 0 → a ≡ getD rows (16 * i + x % 16) 0 → b ≡ getD rows (16 * j + x % 16) 0 →
+  pub ordered-cut : (i j x a b : ℕ) → i < most-operations → x ≡ getD queue (i % most-operations) 0 →
+      a ≡ getD rows (16 * i + x % 16) 0 → b ≡ getD rows (16 * j + x % 16) 0 →
       leb a b ≡ ordered queue rows i j
   ordered-cut i j x a b l e f g = ordered-is queue rows i j x a b (rw (mod-eq-of-lt l) at e) f g
 
-  pub late-is : (i g : ℕ) (r : Bool) → r ≡ ordered queue rows i g → (ltb g 1024 && not r) ≡ late queue rows i g
+  pub late-is : (i g : ℕ) (r : Bool) → r ≡ ordered queue rows i g → (ltb g no-operation && not r) ≡ late queue rows i g
   unfolding late
   late-is i g r e = rw e
 
   -- 1,024 is no operation
-  pub early-is : (g i : ℕ) (r : Bool) → i < 1024 → (g < 1024 → r ≡ ordered queue rows g i) → (eqb g i || (ltb g 1024 && not r)) ≡ early queue rows g i
+  pub early-is : (g i : ℕ) (r : Bool) → i < most-operations → (g < no-operation → r ≡ ordered queue rows g i) →
+      (eqb g i || (ltb g no-operation && not r)) ≡ early queue rows g i
   unfolding early
-  early-is g i r l e = by-cases (ltb g 1024) (λ t. rw (t, e (ltb-true g 1024 t))) (λ f. rw (f, ne-eqb g i (omega (arith, ltb-false g 1024 f))))
+  early-is g i r l e = by-cases (ltb g no-operation) (λ t. rw (t, e (ltb-true g no-operation t)))
+      (λ f. rw (f, ne-eqb g i (omega (arith, ltb-false g no-operation f))))
 
 -- ---- the marks of the columns, one at a time
 
@@ -78,7 +82,7 @@ module _ {queue rows mark operation : List ℕ} {n many : ℕ} where
 
   -- a mark is tested where it is a use, and noted
   module _ {last : List ℕ} {lowest k m i : ℕ} (b : Backward queue rows mark operation n many last lowest k) (more : 0 < k)
-      (m-is : m ≡ getD mark (k - 1) 0 % 512) (i-is : i ≡ getD operation (k - 1) 0 % 1024) where
+      (m-is : m ≡ getD mark (k - 1) 0 % 512) (i-is : i ≡ getD operation (k - 1) 0 % most-operations) where
     here : shown-from mark operation (many - (k - 1)) (k - 1) ≡ mark-of m i ∷ shown-from mark operation (many - k) k
     here =
         let e : k - 1 + 1 ≡ k = omega arith in
@@ -111,7 +115,8 @@ module _ {queue rows mark operation : List ℕ} {n many : ℕ} where
   forward-end {k} l b = rw (shown-none mark operation many k l) at (b .rest)
 
   module _ {last : List ℕ} {k m i g : ℕ} {t : Bool} (b : Forward queue rows mark operation n many last k) (more : k < many)
-      (m-is : m ≡ getD mark k 0 % 512) (i-is : i ≡ getD operation k 0 % 1024) (g-is : g ≡ free-in last (m / 2)) (t-is : t ≡ early queue rows g i) where
+      (m-is : m ≡ getD mark k 0 % 512) (i-is : i ≡ getD operation k 0 % most-operations)
+      (g-is : g ≡ free-in last (m / 2)) (t-is : t ≡ early queue rows g i) where
     first : shown-from mark operation (many - k) k ≡ mark-of m i ∷ shown-from mark operation (many - (k + 1)) (k + 1)
     first = rw (m-is, i-is) (shown-next mark operation many k more)
 

@@ -13,7 +13,7 @@ use plan_format::limits::NO_OPERATION_STORED;
 use plan_format::limits::ROW_WIDTH;
 ghost use mathlib.Core.Path.{_≡_};
 ghost use mathlib.Core.Bool.{cond};
-ghost use Prim.Native.Nat.{_/_, _<_, _≤_, min};
+ghost use Prim.Native.Nat.{_/_, _<_, _≤_};
 ghost use Rattle.plan_format.specs.Sizes.{most-operations, mark-places, no-operation};
 ghost use Rattle.plan_format.specs.Plan.{Plan};
 ghost use Rattle.plan_order.specs.Holdings.{broken as broken-mark};
@@ -32,21 +32,14 @@ pub fn broken(
     mop: &MarkColumn,
     rows: &Rows,
 ) -> usize
-    ensures { λ r. ⌜ r ≡ first-broken (now (queue .entry)) (now (rows .entry)) n marks (now (mark .entry)) (now (mop .entry)) ⌝ }
-    ensures { λ r. ⌜ ((p : Plan) → Marks-given p n marks (now (queue .entry)) (now (mark .entry)) (now (mop .entry)) (now (rows .entry)) → r ≡ place-or n (broken-mark p)) ⌝ }
+    ensures found { λ r. ⌜ r ≡ first-broken (now (queue .entry)) (now (rows .entry)) n marks (now (mark .entry)) (now (mop .entry)) ⌝ }
+    ensures of_plans { λ r. ⌜ ((p : Plan) → Marks-given p n marks (now (queue .entry)) (now (mark .entry)) (now (mop .entry)) (now (rows .entry)) → r ≡ place-or n (broken-mark p)) ⌝ }
 {
     let none = n as usize;
-    let many = lower(marks, MARK_PLACES);
+    let many = base_numbers::min_usize(marks, MARK_PLACES);
     let a = uses(none, many, queue, mark, mop, rows);
     let b = reuses(none, many, queue, mark, mop, rows);
-    lower(a, b)
-}
-
-// The lower of two.
-fn lower(a: usize, b: usize) -> usize
-    ensures { λ r. ⌜ r ≡ min a b ⌝ }
-{
-    if a < b { a } else { b }
+    base_numbers::min_usize(a, b)
 }
 
 // The lowest operation with a use that isn't forced to come no later than the free of its holding; n where there is
@@ -67,8 +60,8 @@ fn uses(
     let mut k = marks;
     while 0 < k {
         k -= 1;
-        let m = wide(mark[k]) % MARK_CODES;
-        let i = wide(mop[k]) % MOST_OPERATIONS;
+        let m = base_numbers::u16_to_usize(mark[k]) % MARK_CODES;
+        let i = base_numbers::u16_to_usize(mop[k]) % MOST_OPERATIONS;
         let free = freed(&last, m);
         lowest = pick((m % 2 == 0) & late(queue, rows, i, free), i, lowest);
         note(&mut last, m, i);
@@ -91,8 +84,8 @@ fn reuses(
     let mut last = [NO_OPERATION_STORED; MARK_CODES];
     let mut k = 0;
     while k < marks {
-        let m = wide(mark[k]) % MARK_CODES;
-        let i = wide(mop[k]) % MOST_OPERATIONS;
+        let m = base_numbers::u16_to_usize(mark[k]) % MARK_CODES;
+        let i = base_numbers::u16_to_usize(mop[k]) % MOST_OPERATIONS;
         let free = freed(&last, m);
         if early(queue, rows, free, i) {
             return i;
@@ -120,14 +113,15 @@ fn early(queue: &QueueColumn, rows: &Rows, free: usize, i: usize) -> bool
     (free == i) | ((free < NO_OPERATION) & !ordered(queue, rows, free, i))
 }
 
-// Whether i is j or before j, by the column of i's queue in their rows. Where i is 1,024 the answer is unspecified.
+// Whether i is j or before j, by the column of i's queue in their rows. Where i is no operation the answer is
+// unspecified.
 fn ordered(queue: &QueueColumn, rows: &Rows, i: usize, j: usize) -> bool
     requires { ⌜ (i ≤ no-operation) × (j ≤ no-operation) ⌝ }
     ensures { λ r. ⌜ (i < most-operations → r ≡ is-ordered (now (queue .entry)) (now (rows .entry)) i j) ⌝ }
 {
-    let q = wide(queue[i % MOST_OPERATIONS]) % ROW_WIDTH;
-    let own = wide(rows[ROW_WIDTH * i + q]);
-    let other = wide(rows[ROW_WIDTH * j + q]);
+    let q = base_numbers::u16_to_usize(queue[i % MOST_OPERATIONS]) % ROW_WIDTH;
+    let own = base_numbers::u16_to_usize(rows[ROW_WIDTH * i + q]);
+    let other = base_numbers::u16_to_usize(rows[ROW_WIDTH * j + q]);
     own <= other
 }
 
@@ -136,7 +130,7 @@ fn freed(last: &[u16; MARK_CODES], m: usize) -> usize
     requires { ⌜ m < mark-codes ⌝ }
     ensures { λ r. ⌜ r ≡ free-in (now (last .entry)) (m / 2) ⌝ }
 {
-    wide(last[m / 2 * 2 + 1])
+    base_numbers::u16_to_usize(last[m / 2 * 2 + 1])
 }
 
 // Notes that i has a mark.
@@ -152,11 +146,4 @@ fn pick(first: bool, a: usize, b: usize) -> usize
     ensures { λ r. ⌜ r ≡ cond first a b ⌝ }
 {
     if first { a } else { b }
-}
-
-// A number of sixteen bits, to compute with.
-fn wide(x: u16) -> usize
-    ensures { λ r. ⌜ r ≡ x ⌝ }
-{
-    x as usize
 }

@@ -2,12 +2,12 @@
 -- Assumes nothing.
 use mathlib.Core.Path.{_≡_, refl, sym, ap, _∙_, subst}
 use mathlib.Core.List.{List}
-use Prim.Native.Nat.{ℕ, _+_, _-_, _*_, _≤_}
+use Prim.Native.Nat.{ℕ, _+_, _*_, _≤_}
 use native.Mathlib.Nat.{mul-le-mul-left, mul-suc}
 use native.Mathlib.Numerals.{add-one}
 use native.Mathlib.Omega.{arith}
 use lib.ListN.{length, take, drop}
-use lib.Seq.{drop-drop}
+use Rattle.basics.proofs.Fronts.{past-later}
 use Rattle.plan_format.specs.Refusal.{given}
 use Rattle.plan_format.specs.Grammar.{Grammar, seq, counted, bytes, Scan, scan, count-check, read-by}
 use Rattle.plan_format.specs.Sections.{repeat, limited}
@@ -18,13 +18,6 @@ use Rattle.plan_numbers.specs.Reading.{fault-of, here, Past, Reads, Limi
 use Rattle.plan_numbers.proofs.Fields.{here-given, fault-none, value-last}
 
 -- ---- the array past the numbers
-past-later : (i k : ℕ) (xs ys : List ℕ) → i ≤ k → drop i xs ≡ drop i ys → drop k xs ≡ drop k ys
-past-later i k xs ys l e =
-    let later : i + (k - i) ≡ k = omega arith in
-    let on : (zs : List ℕ) → drop (k - i) (drop i zs) ≡ drop k zs = λ zs. drop-drop (k - i) i zs
-    ∙ ap (λ (n : ℕ). drop n zs) later in
-    sym (on xs) ∙ ap (λ (zs : List ℕ). drop (k - i) zs) e ∙ on ys
-
 pub past-then : {i k : ℕ} {xs ys zs : List ℕ} → i ≤ k → Past i xs ys → Past k ys zs → Past k xs zs
 past-then {i} {k} {xs} {ys} l p q =
     record { as-long = q .as-long ∙ p .as-long; past = q .past ∙ past-later i k ys xs l (p .past) }

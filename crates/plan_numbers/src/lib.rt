@@ -93,7 +93,7 @@ pub fn read_operation(
 {
     let start = Cursor {
         number: 0,
-        at: lower(at, plan.len()),
+        at: base_numbers::min_usize(at, plan.len()),
         got: 0,
         value: 0,
     };
@@ -103,13 +103,6 @@ pub fn read_operation(
         at: end.at,
         got: end.got,
     }
-}
-
-// The lower of two.
-fn lower(a: usize, b: usize) -> usize
-    ensures { λ r. ⌜ r ≡ min a b ⌝ }
-{
-    if a < b { a } else { b }
 }
 
 // A number of operations, cut to the most that a plan has.
@@ -174,9 +167,9 @@ pub fn read_rest(
     ensures array { λ _. ⌜ now (numbers .exit) ≡ in-front (rest-scan (now (plan .entry)) at h (now (head .entry)) .got) (now (numbers .entry)) ⌝ }
     ensures few { λ r. ⌜ r .answer ≤ plan-numbers ⌝ }
 {
-    let before = lower(h.got, HEAD_NUMBERS);
+    let before = base_numbers::min_usize(h.got, HEAD_NUMBERS);
     copy(head, before, numbers);
-    let place = lower(at, plan.len());
+    let place = base_numbers::min_usize(at, plan.len());
     let start = Cursor {
         number: h.number,
         at: place,

@@ -1,21 +1,14 @@
 // Little-endian words of 1, 2, 4 and 8 bytes, each made of two halves; compiled, a word is one load.
-ghost use mathlib.Core.Path.{_≡_};
 ghost use Prim.Native.Nat.{_+_, _≤_};
 ghost use lib.ListN.{length};
 ghost use Rattle.plan_numbers.specs.Reading.{Word};
-
-fn wide(x: u8) -> u64
-    ensures { λ r. ⌜ r ≡ x ⌝ }
-{
-    x as u64
-}
 
 // The byte at `at`.
 pub fn word1(plan: &[u8], at: usize) -> u64
     requires { ⌜ at + 1 ≤ length (now plan) ⌝ }
     ensures { λ r. ⌜ Word 1 (now (plan .entry)) at r ⌝ }
 {
-    wide(plan[at])
+    base_numbers::u8_to_u64(plan[at])
 }
 
 // The number in two bytes from `at`.

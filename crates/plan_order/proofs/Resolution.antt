@@ -13,7 +13,8 @@ use lib.ListN.{length, getD}
 use borrow.Author.Tests.{ltb-true, ltb-false, leb-true, le-leb, eqb-true, eqb-false, eq-eqb}
 use Rattle.basics.proofs.Tests.{by-cases, by-option, clash, and-left, and-right, and-both, either}
 use Rattle.plan_format.specs.Plan.{Point, Operation, Plan, empty-operation, count, op}
-use Rattle.plan_order.specs.Precedence.{Signal, signals-of, signals-from, plan-signals, reaches, nearer, nearest, Resolution, free, on, never, resolution-of, resolve, rests-on}
+use Rattle.plan_order.specs.Precedence.{Signal, signals-of, signals-from, plan-signals, reaches, nearer, nearest}
+use Rattle.plan_order.specs.Precedence.{Resolution, at-once, on, never, resolution-of, resolve, rests-on}
 use Rattle.plan_order.proofs.Signals.{signals-value, value-here, value-there, value-cons}
 
 abbrev pub no-point : Point
@@ -166,7 +167,7 @@ pub record Rests (p : Plan) (w : Point) (x : Signal) : Type 0 where
   pub least : (i v : ℕ) → i < count p → signals-value (w .semaphore) v (op p i .signals) ≡ true → w .value ≤ v → x .value ≤ v
 
 pub data Resolved (p : Plan) (w : Point) : Resolution → Type 0 where
-  at-zero : w .value ≡ 0 → Resolved p w free
+  at-zero : w .value ≡ 0 → Resolved p w at-once
   at-signal : (x : Signal) → Rests p w x → Resolved p w (on x)
   at-none : 0 < w .value → ((i v : ℕ) → i < count p → signals-value (w .semaphore) v (op p i .signals) ≡ true → v < w .value) → Resolved p w never
 
@@ -217,7 +218,7 @@ module _ (p : Plan) (w : Point) where
   rests-gives i e = rests-of (resolve p w) resolve-is i e
     where
       rests-of : (r : Resolution) → Resolved p w r → (i : ℕ) → rests-on r i ≡ true → (x : Signal) × Rests p w x × (x .operation ≡ i)
-      rests-of free d i e = absurd (false≢true (unfold rests-on in e))
+      rests-of at-once d i e = absurd (false≢true (unfold rests-on in e))
       rests-of (on x) (at-signal _ t) i e = (x, t, eqb-true (x .operation) i (unfold rests-on in e))
       rests-of never d i e = absurd (false≢true (unfold rests-on in e))
 
@@ -227,6 +228,6 @@ module _ (p : Plan) (w : Point) where
   rests-somewhere pos k v l g h = rests-of (resolve p w) resolve-is
     where
       rests-of : (r : Resolution) → Resolved p w r → (x : Signal) × Rests p w x × (rests-on r (x .operation) ≡ true)
-      rests-of free (at-zero z) = absurd (omega arith)
+      rests-of at-once (at-zero z) = absurd (omega arith)
       rests-of (on x) (at-signal _ t) = (x, t, unfold rests-on in (eq-eqb (x .operation) (x .operation) refl))
       rests-of never (at-none a none-such) = absurd (omega (arith, none-such k v l g))

@@ -45,7 +45,7 @@ nearest w (x ∷ xs) = cond (reaches w x) (some (nearer x (nearest w xs))) (near
 -- R17, resolution: a wait for a value above 0 rests on the signal with the least value that reaches it, or never ends,
 -- which is refusal 8; R18: a wait for 0 rests on nothing
 pub data Resolution : Type 0 where
-  free : Resolution
+  at-once : Resolution
   on : Signal → Resolution
   never : Resolution
 
@@ -54,10 +54,10 @@ resolution-of none = never
 resolution-of (some x) = on x
 
 unfoldable pub resolve : Plan → (wait : Point) → Resolution
-resolve p w = cond (eqb (w .value) 0) free (resolution-of (nearest w (plan-signals p)))
+resolve p w = cond (eqb (w .value) 0) at-once (resolution-of (nearest w (plan-signals p)))
 
 unfoldable pub rests-on : Resolution → (i : ℕ) → Bool
-rests-on free i = false
+rests-on at-once i = false
 rests-on (on x) i = eqb (x .operation) i
 rests-on never i = false
 

@@ -9,6 +9,7 @@ use lib.ListN.{length, getD, set, replicate, length-set, length-replicate, getD-
 use lib.Seq.{getD-set-same, getD-set-other}
 use borrow.Author.Tests.{eqb-true, eqb-false}
 use Rattle.basics.proofs.Tests.{by-cases}
+use Rattle.plan_format.specs.Sizes.{no-operation, most-operations, most-queues}
 use Rattle.plan_run.specs.Queues.{First, found, absent, Chained}
 
 -- an operation that is not on the queue goes before
@@ -21,16 +22,19 @@ first-back queue q k n x ne (absent h) =
     (λ f. h i (omega (arith, eqb-false i k f)) b z))
 
 -- sixteen bits hold it
-pub first-small : (queue : List ℕ) (q start n x : ℕ) → n ≤ 1024 → First queue q start n x → x ≤ 1024
+pub first-small : (queue : List ℕ) (q start n x : ℕ) → n ≤ most-operations → First queue q start n x → x ≤ no-operation
 first-small queue q start n x few (found _ l u e h) = omega arith
-first-small queue q start n x few (absent h) = le-refl 1024
+first-small queue q start n x few (absent h) = le-refl no-operation
 
-module _ (queue : List ℕ) (n : ℕ) (few : n ≤ 1024) where
-  pub chained-none : (head next : List ℕ) → head ≡ replicate 16 1024 → length next ≡ 1024 → Chained queue n n head next
+module _ (queue : List ℕ) (n : ℕ) (few : n ≤ most-operations) where
+  pub chained-none : (head next : List ℕ) → head ≡ replicate most-queues no-operation → length next ≡ most-operations →
+      Chained queue n n head next
   chained-none head next e long = record {
-    heads = λ q l. subst (λ (x : ℕ). First queue q n n x) (sym (ap (λ (x : List ℕ). getD x q 0) e ∙ getD-replicate 16 q 1024 0 l)) (absent (λ k a b z. omega arith));
+    heads = λ q l. subst (λ (x : ℕ). First queue q n n x)
+        (sym (ap (λ (x : List ℕ). getD x q 0) e ∙ getD-replicate most-queues q no-operation 0 l))
+        (absent (λ k a b z. omega arith));
     nexts = λ i a b l. absurd (omega arith);
-    head-long = ap length e ∙ length-replicate {A = ℕ} 16 1024;
+    head-long = ap length e ∙ length-replicate {A = ℕ} most-queues no-operation;
     next-long = long;
   }
 

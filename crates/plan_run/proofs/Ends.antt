@@ -14,10 +14,11 @@ use Rattle.basics.proofs.Members.{member-nil}
 use Rattle.basics.proofs.Elements.{replicate-at}
 use Rattle.order.specs.Greedy.{greedy}
 use Rattle.order.proofs.Runs.{runs-nil}
+use Rattle.plan_format.specs.Sizes.{no-operation, row-places, most-queues}
 use Rattle.plan_format.specs.Plan.{Plan, count}
 use Rattle.plan_order.specs.Runs.{enabled, is-run, next, number-ready, ready-numbers, standard, run-list}
 use Rattle.plan_columns.specs.Columns.{Queue-column, Row-columns}
-use Rattle.plan_run.specs.Words.{has}
+use Rattle.plan_run.specs.Words.{has, all-queues}
 use Rattle.plan_run.specs.Queues.{First, found, absent, Chained, Looked}
 use Rattle.plan_run.specs.Run.{Run-given, Cleared, Rows-of, Listed, Ran}
 use Rattle.plan_run.specs.State.{Head, waiting, finished, Last, unused, Places, Watch, Going, Tables, Prepared}
@@ -29,14 +30,14 @@ use Rattle.plan_run.proofs.Listings.{greedy-stays}
 use Rattle.plan_run.proofs.Turns.{head-inside}
 
 -- rows as an array of zeros
-pub cleared-by : (rows : List ℕ) → rows ≡ replicate 16416 0 → Cleared rows
+pub cleared-by : (rows : List ℕ) → rows ≡ replicate row-places 0 → Cleared rows
 cleared-by rows e = record {
-  long = ap length e ∙ length-replicate {A = ℕ} 16416 0;
-  zeros = λ k. ap (λ (x : List ℕ). getD x k 0) e ∙ replicate-at 16416 0 k;
+  long = ap length e ∙ length-replicate {A = ℕ} row-places 0;
+  zeros = λ k. ap (λ (x : List ℕ). getD x k 0) e ∙ replicate-at row-places 0 k;
 }
 
-pub cleared : Cleared (replicate 16416 0)
-cleared = cleared-by (replicate 16416 0) refl
+pub cleared : Cleared (replicate row-places 0)
+cleared = cleared-by (replicate row-places 0) refl
 
 pub tables-are : (queue : List ℕ) (n : ℕ) (head next unit : List ℕ) → Chained queue 0 n head next → unit ≡ set (replicate 32 0) 16 1 → Tables queue n next unit
 tables-are queue n head next unit chained e = record {
@@ -54,32 +55,43 @@ module _ (p : Plan) (n : ℕ) (queue source head next : List ℕ) (shown : Run-g
       waiting x l (sym (shown .queues x l) ∙ e) refl (λ k u z. absurd (clear k zero-le u (shown .queues k (omega arith) ∙ z)))
   first-head q x (absent clear) = finished (λ k u z. absurd (clear k zero-le (omega (arith, shown .many)) (shown .queues k u ∙ z)))
 
-  module _ (prev ran : List ℕ) (prev-is : prev ≡ replicate 16 1024) (ran-is : ran ≡ set (replicate 1025 0) 1024 1) where
+  module _ (prev ran : List ℕ) (prev-is : prev ≡ replicate most-queues no-operation)
+      (ran-is : ran ≡ set (replicate (no-operation + 1) 0) no-operation 1) where
     first-places : Places p [] head prev ran
     unfolding is-run member
     first-places = record {
       a-run = runs-nil (count p) (enabled p) [];
       heads = λ q l. first-head q (getD head q 0) (chained .heads q l);
-      lasts = λ q l. subst (λ (x : ℕ). Last p [] q x) (sym (ap (λ (x : List ℕ). getD x q 0) prev-is ∙ getD-replicate 16 q 1024 0 l)) (unused (λ k m e. member-nil k m));
-      has-run = λ j l. ap (λ (x : List ℕ). getD x j 0) ran-is ∙ getD-set-other (replicate 1025 0) 1024 j 1 0 (λ z. absurd (omega arith)) ∙ replicate-at 1025 0 j;
-      none-run = ap (λ (x : List ℕ). getD x 1024 0) ran-is
-          ∙ getD-set-same (replicate 1025 0) 1024 1 0 (let h : 1024 < length (replicate {A = ℕ} 1025 0) = omega (arith, length-replicate {A = ℕ} 1025 0) in h);
+      lasts = λ q l. subst (λ (x : ℕ). Last p [] q x)
+          (sym (ap (λ (x : List ℕ). getD x q 0) prev-is ∙ getD-replicate most-queues q no-operation 0 l))
+          (unused (λ k m e. member-nil k m));
+      has-run = λ j l. ap (λ (x : List ℕ). getD x j 0) ran-is
+          ∙ getD-set-other (replicate (no-operation + 1) 0) no-operation j 1 0 (λ z. absurd (omega arith))
+          ∙ replicate-at (no-operation + 1) 0 j;
+      none-run = ap (λ (x : List ℕ). getD x no-operation 0) ran-is
+          ∙ getD-set-same (replicate (no-operation + 1) 0) no-operation 1 0
+          (let h : no-operation < length (replicate {A = ℕ} (no-operation + 1) 0) = omega
+          (arith, length-replicate {A = ℕ} (no-operation + 1) 0) in h);
       head-long = chained .head-long;
-      prev-long = ap length prev-is ∙ length-replicate {A = ℕ} 16 1024;
-      ran-long = ap length ran-is ∙ length-set {A = ℕ} (replicate 1025 0) 1024 1 ∙ length-replicate {A = ℕ} 1025 0;
+      prev-long = ap length prev-is ∙ length-replicate {A = ℕ} most-queues no-operation;
+      ran-long = ap length ran-is ∙ length-set {A = ℕ} (replicate (no-operation + 1) 0) no-operation 1
+          ∙ length-replicate {A = ℕ} (no-operation + 1) 0;
     }
 
-    first-watch : (ready : ℕ) (waiter : List ℕ) → Looked 65535 0 head source ran (replicate 1025 0) ready waiter → Watch source head ran waiter ready
+    first-watch : (ready : ℕ) (waiter : List ℕ) → Looked all-queues 0 head source ran
+        (replicate (no-operation + 1) 0) ready waiter → Watch source head ran waiter ready
     first-watch ready waiter looked = record {
       readies = λ k l. looked .readies k l ∙ rw (has-none k, has-all 16 k l);
-      noted = λ k l h f. noted-by 65535 0 head source ran (replicate 1025 0) ready waiter looked k l (has-all 16 k l)
+      noted = λ k l h f. noted-by all-queues 0 head source ran
+          (replicate (no-operation + 1) 0) ready waiter looked k l (has-all 16 k l)
           (λ m b. source-small p n queue source shown (getD head k 0) m (head-inside p [] k (getD head k 0) (first-places .heads k l) h) b) h f;
-      long = looked .long ∙ length-replicate {A = ℕ} 1025 0;
+      long = looked .long ∙ length-replicate {A = ℕ} (no-operation + 1) 0;
     }
 
 pub started :
     (p : Plan) (n : ℕ) (queue source head next ran waiter : List ℕ) (ready : ℕ) (rows list prev : List ℕ) → Run-given p n queue source → Cleared rows →
-    Prepared queue n source head next ran waiter ready → prev ≡ replicate 16 1024 → Going p n 0 source head prev ran waiter ready rows list list
+    Prepared queue n source head next ran waiter ready → prev ≡ replicate most-queues no-operation →
+    Going p n 0 source head prev ran waiter ready rows list list
 unfolding standard member Row-columns
 started p n queue source head next ran waiter ready rows list prev shown cleared prepared prev-is =
     let chained = prepared .chained in

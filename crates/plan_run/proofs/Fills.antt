@@ -8,7 +8,7 @@ use Prim.Native.Nat.{ℕ, zero, suc, _+_, _-_, _*_, _%_, _≤_, _<_, max}
 use native.Mathlib.Nat.{le-trans}
 use native.Mathlib.Omega.{arith}
 use lib.Dec.{ltb, leb, eqb}
-use lib.ListN.{getD}
+use lib.ListN.{length, getD}
 use borrow.Author.Tests.{ltb-true, ltb-false, lt-ltb, leb-true, leb-false, eqb-true, eqb-false, eq-eqb, ne-eqb}
 use Rattle.basics.specs.Lists.{member, filter, tally}
 use Rattle.basics.proofs.Tests.{by-cases, clash, is-false, or-left, or-right, either}
@@ -17,6 +17,7 @@ use Rattle.basics.proofs.Filters.{filter-has, filter-passes, filter-among}
 use Rattle.basics.proofs.Tallies.{tally-same, tally-ends, tally-le}
 use Rattle.order.specs.Closure.{once}
 use Rattle.order.proofs.Extensions.{chain-steps}
+use Rattle.plan_format.specs.Sizes.{row-places, no-operation, most-operations}
 use Rattle.plan_format.specs.Plan.{Plan, count, op}
 use Rattle.plan_order.specs.Precedence.{same-queue, direct, before, at-or-before}
 use Rattle.plan_order.specs.Promise.{most-of, Row-epoch, Row-step}
@@ -81,21 +82,22 @@ epoch-next p x j e clear =
     omega (arith, epoch-first p j)
 
 -- ---- one more in the own column
-own-column : (most one new x : ℕ) → one ≡ 1 → most < new → new ≤ 1 + most → x ≡ max new most → x ≤ 1024 → (most + one) % 65536 ≡ x
+own-column : (most one new x : ℕ) → one ≡ 1 → most < new → new ≤ 1 + most → x ≡ max new most → x ≤ most-operations →
+    (most + one) % 65536 ≡ x
 own-column most one new x a b c d e = omega arith
 
-other-column : (most one x : ℕ) → one ≡ 0 → x ≡ max 0 most → x ≤ 1024 → (most + one) % 65536 ≡ x
+other-column : (most one x : ℕ) → one ≡ 0 → x ≡ max 0 most → x ≤ most-operations → (most + one) % 65536 ≡ x
 other-column most one x a b c = omega arith
 
 module _ (p : Plan) (n : ℕ) (queue source next unit : List ℕ) (shown : Run-given p n queue source) (tables : Tables queue n next unit)
     (r head prev ran : List ℕ) (places : Places p r head prev ran) (q j : ℕ) (inside : q < 16)
     (goes : Goes p n queue source shown r head prev ran places q j) (rows : List ℕ) (filled : Rows-of p r rows) where
-  few : count p ≤ 1024
+  few : count p ≤ most-operations
   few = shown .sound .few-operations
 
   -- ---- what is merged: an operation that has run and is directly before j, or nothing
   data Part : ℕ → Type 0 where
-    nothing : Part 1024
+    nothing : Part no-operation
     operation : (x : ℕ) → member x r ≡ true → direct p x j ≡ true → Part x
 
   last-part : (x : ℕ) → Last p r q x → Part x
@@ -119,29 +121,36 @@ module _ (p : Plan) (n : ℕ) (queue source next unit : List ℕ) (shown : Run-g
   part-slot x nothing = refl
   part-slot x (operation _ m d) = omega (arith, few, direct-below p x j d .0)
 
-  part-cell : (x k : ℕ) → k < 16 → Part x → cell rows x k ≡ cond (ltb x 1024) (getD (row p x) k 0) 0
+  part-cell : (x k : ℕ) → k < 16 → Part x → cell rows x k ≡ cond (ltb x no-operation) (getD (row p x) k 0) 0
   unfolding cell Row-columns
-  part-cell x k l nothing = filled .others 1024 k (omega arith) (is-false (member 1024 r) (λ t. absurd (omega (arith, few, run-inside p n queue source shown r head prev ran places 1024 t)))) l
-  part-cell x k l (operation _ m d) = filled .ran x k m l ∙ sym (ap (λ (b : Bool). cond b (getD (row p x) k 0) 0) (lt-ltb x 1024 (omega (arith, few, direct-below p x j d .0))))
+  part-cell x k l nothing = filled .others no-operation k (omega arith)
+      (is-false (member no-operation r)
+      (λ t. absurd (omega (arith, few, run-inside p n queue source shown r head prev ran places no-operation t)))) l
+  part-cell x k l (operation _ m d) = filled .ran x k m l
+      ∙ sym (ap (λ (b : Bool). cond b (getD (row p x) k 0) 0)
+      (lt-ltb x no-operation (omega (arith, few, direct-below p x j d .0))))
 
   data Parts : List ℕ → Type 0 where
     none-left : Parts []
     one-more : (x : ℕ) (xs : List ℕ) → Part x → Parts xs → Parts (x ∷ xs)
 
-  parts-most : (k : ℕ) → k < 16 → (xs : List ℕ) → Parts xs → cells-most rows k xs ≡ most-of p k (filter (λ x. ltb x 1024) xs)
+  parts-most : (k : ℕ) → k < 16 → (xs : List ℕ) → Parts xs → cells-most rows k xs ≡ most-of p k
+      (filter (λ x. ltb x no-operation) xs)
   unfolding cells-most most-of filter
   parts-most k l [] none-left = refl
   parts-most k l (x ∷ xs) (one-more _ _ h hs) =
-      by-cases (ltb x 1024)
+      by-cases (ltb x no-operation)
       (λ t. rw t (ap₂ (λ (y z : ℕ). max y z) (part-cell x k l h ∙ ap (λ (b : Bool). cond b (getD (row p x) k 0) 0) t) (parts-most k l xs hs)))
       (λ f. rw f (let z : cell rows x k ≡ 0 = part-cell x k l h ∙ ap (λ (b : Bool). cond b (getD (row p x) k 0) 0) f in omega (arith, parts-most k l xs hs)))
 
-  part-known : (x : ℕ) → Part x → x < 1024 → (member x r ≡ true) × (direct p x j ≡ true)
+  part-known : (x : ℕ) → Part x → x < no-operation → (member x r ≡ true) × (direct p x j ≡ true)
   part-known x nothing l = absurd (omega arith)
   part-known x (operation _ m d) l = (m, d)
 
-  parts-known : (xs : List ℕ) → Parts xs → (x : ℕ) → member x (filter (λ x. ltb x 1024) xs) ≡ true → (member x r ≡ true) × (direct p x j ≡ true)
-  parts-known xs hs x m = part-known x (find xs hs (filter-among (λ x. ltb x 1024) xs x m)) (ltb-true x 1024 (filter-passes (λ x. ltb x 1024) xs x m))
+  parts-known : (xs : List ℕ) → Parts xs → (x : ℕ) → member x (filter (λ x. ltb x no-operation) xs) ≡ true →
+      (member x r ≡ true) × (direct p x j ≡ true)
+  parts-known xs hs x m = part-known x (find xs hs (filter-among (λ x. ltb x no-operation) xs x m))
+      (ltb-true x no-operation (filter-passes (λ x. ltb x no-operation) xs x m))
     where
       find : (xs : List ℕ) → Parts xs → member x xs ≡ true → Part x
       find [] none-left m = member-nil x m
@@ -169,11 +178,11 @@ module _ (p : Plan) (n : ℕ) (queue source next unit : List ℕ) (shown : Run-g
   place-among (suc (suc (suc k))) l = absurd (omega arith)
 
   ks : List ℕ
-  ks = filter (λ x. ltb x 1024) four
+  ks = filter (λ x. ltb x no-operation) four
 
   ks-has : (x : ℕ) → x < count p → member x four ≡ true → member x ks ≡ true
   unfolding ks
-  ks-has x l m = filter-has (λ x. ltb x 1024) four x m (lt-ltb x 1024 (omega (arith, few)))
+  ks-has x l m = filter-has (λ x. ltb x no-operation) four x m (lt-ltb x no-operation (omega (arith, few)))
 
   directs : (x : ℕ) → member x ks ≡ true → direct p x j ≡ true
   unfolding ks
@@ -276,14 +285,15 @@ module _ (p : Plan) (n : ℕ) (queue source next unit : List ℕ) (shown : Run-g
       (le-trans (row-small p k j l) few)))
 
   pub filled-more :
-      (rows′ : List ℕ) →
+      (rows′ : List ℕ) → length rows ≡ row-places →
       Merged rows unit j q (slot-of (getD prev q 0)) (slot-of (getD source (3 * j) 0)) (slot-of (getD source (3 * j + 1) 0)) (slot-of (getD source (3 * j + 2) 0)) rows′ →
       Rows-of p (r ++ (j ∷ [])) rows′
   unfolding Row-columns cell
-  filled-more rows′ merged = record {
+  filled-more rows′ long merged = record {
     ran = λ i k m l. either (member-snoc i r j m)
         (λ t. merged .elsewhere i k l (λ e. clash (member j r) (subst (λ (x : ℕ). member x r ≡ true) e t) (goes .fresh)) ∙ filled .ran i k t l)
-        (λ e. subst (λ (x : ℕ). getD rows′ (16 * x + k) 0 ≡ getD (row p x) k 0) e (merged .there k l ∙ row-value k l));
+        (λ e. subst (λ (x : ℕ). getD rows′ (16 * x + k) 0 ≡ getD (row p x) k 0) e
+        (merged .there long k l ∙ row-value k l));
     others = λ i k b f l.
         let out : member i r ≡ false = is-false (member i r) (λ t. clash (member i (r ++ (j ∷ []))) (member-left i r (j ∷ []) t) f) in
         let ne : i ≡ j → ⊥ = λ e. clash (member i (r ++ (j ∷ []))) (ap (λ (x : ℕ). member x (r ++ (j ∷ []))) e ∙ member-last j r) f in

@@ -8,5 +8,6 @@ pub mod Readies
 pub mod Standing
 pub mod Fills
 pub mod Listings
+pub mod Bounds
 pub mod Turns
 pub mod Ends

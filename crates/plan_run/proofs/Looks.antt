@@ -12,6 +12,7 @@ use lib.Pow.{pow-lt}
 use lib.Seq.{getD-set-same, getD-set-other, set-out}
 use borrow.Author.Tests.{ltb-true, ltb-false, le-ltb, lt-ltb, eqb-true, eqb-false, eq-eqb, ne-eqb}
 use Rattle.basics.proofs.Tests.{by-cases, clash, and-both, or-cases, or-left, or-right, either}
+use Rattle.plan_format.specs.Sizes.{no-operation}
 use Rattle.plan_run.specs.Words.{has, Lowest-bit}
 use Rattle.plan_run.specs.Queues.{held-by, blocker-of, can-go, Looked}
 use Rattle.plan_run.proofs.Words.{has-none, has-cut, has-unit, has-or, has-split}
@@ -43,11 +44,13 @@ module _ (source ran : List ℕ) (j : ℕ) (a x : ℕ) (a-is : a ≡ getD source
 
       pub held-third : z ≡ 0 → c ≡ blocker-of source ran j
       unfolding blocker-of
-      held-third e = rw (← a-is, ← b-is, ← c-is) (sym (passed (held-by ran c 1024) ∙ held-yes ran c 1024 (sym z-is ∙ e)))
+      held-third e = rw (← a-is, ← b-is, ← c-is)
+          (sym (passed (held-by ran c no-operation) ∙ held-yes ran c no-operation (sym z-is ∙ e)))
 
-      pub held-none : (z ≡ 0 → ⊥) → 1024 ≡ blocker-of source ran j
+      pub held-none : (z ≡ 0 → ⊥) → no-operation ≡ blocker-of source ran j
       unfolding blocker-of
-      held-none z-ran = rw (← a-is, ← b-is, ← c-is) (sym (passed (held-by ran c 1024) ∙ held-no ran c 1024 (λ u. z-ran (z-is ∙ u))))
+      held-none z-ran = rw (← a-is, ← b-is, ← c-is)
+          (sym (passed (held-by ran c no-operation) ∙ held-no ran c no-operation (λ u. z-ran (z-is ∙ u))))
 
 -- ---- the bit of a queue
 unit-small : (q : ℕ) → q < 16 → 2 ^ q < 65536
@@ -122,7 +125,7 @@ module _ (head source ran : List ℕ) where
         (λ t. rw (none-go k (unit-only q k t), and-false (has (2 ^ q) k)) (sym (or-false (has ready k))))
         (λ f. rw f (sym (or-false (has ready k))))
 
-    pub looked-closed : 1024 ≤ j → Looked (2 ^ q) ready head source ran waiter ready waiter
+    pub looked-closed : no-operation ≤ j → Looked (2 ^ q) ready head source ran waiter ready waiter
     looked-closed h = record {
       readies = λ k l. not-added (λ i t. closed t) k;
       kept = λ i k l m. m;
@@ -131,10 +134,12 @@ module _ (head source ran : List ℕ) where
     }
       where
         closed : {k : ℕ} → q ≡ k → can-go head source ran k ≡ false
-        closed t = unfold can-go in (ap (λ (x : ℕ). can-go head source ran x) (sym t) ∙ rw (le-ltb (getD head q 0) 1024 (rw is-head at h)))
+        closed t = unfold can-go in
+            (ap (λ (x : ℕ). can-go head source ran x) (sym t)
+            ∙ rw (le-ltb (getD head q 0) no-operation (rw is-head at h)))
 
     pub looked-free :
-        j < 1024 → (b : ℕ) → b ≡ blocker-of source ran j → b ≡ 1024 → (unit : ℕ) → unit ≡ 2 ^ q →
+        j < no-operation → (b : ℕ) → b ≡ blocker-of source ran j → b ≡ no-operation → (unit : ℕ) → unit ≡ 2 ^ q →
         Looked (2 ^ q) ready head source ran waiter (bitOr ready unit) waiter
     looked-free h b b-is z unit u = record {
       readies = λ k m. has-or ready unit k ∙ ap (λ (x : Bool). has ready k || x) (ap (λ (x : ℕ). has x k) u ∙ added k);
@@ -143,11 +148,14 @@ module _ (head source ran : List ℕ) where
       long = refl;
     }
       where
-        e : blocker-of source ran (getD head q 0) ≡ 1024
+        e : blocker-of source ran (getD head q 0) ≡ no-operation
         e = ap (λ (x : ℕ). blocker-of source ran x) (sym is-head) ∙ sym b-is ∙ z
 
         goes : can-go head source ran q ≡ true
-        goes = unfold can-go in (and-both (ltb (getD head q 0) 1024) (eqb (blocker-of source ran (getD head q 0)) 1024) (lt-ltb (getD head q 0) 1024 (rw is-head at h)) (eq-eqb (blocker-of source ran (getD head q 0)) 1024 e))
+        goes = unfold can-go in
+            (and-both (ltb (getD head q 0) no-operation) (eqb (blocker-of source ran (getD head q 0)) no-operation)
+            (lt-ltb (getD head q 0) no-operation (rw is-head at h))
+            (eq-eqb (blocker-of source ran (getD head q 0)) no-operation e))
 
         added : (k : ℕ) → has (2 ^ q) k ≡ (has (2 ^ q) k && can-go head source ran k)
         added k =
@@ -156,7 +164,8 @@ module _ (head source ran : List ℕ) where
             (λ f. rw f)
 
     noted-at :
-        length waiter ≡ 1025 → (b : ℕ) → b ≡ blocker-of source ran j → (b ≡ 1024 → ⊥) → (unit : ℕ) → unit ≡ 2 ^ q →
+        length waiter ≡ no-operation + 1 → (b : ℕ) → b ≡ blocker-of source ran j → (b ≡ no-operation → ⊥) →
+        (unit : ℕ) → unit ≡ 2 ^ q →
         Looked (2 ^ q) ready head source ran waiter ready (set waiter b (bitOr (getD waiter b 0) unit % 65536))
     noted-at long b b-is ne unit u = record {
       readies = λ k m. not-added (λ i t. stays t) k;
@@ -175,22 +184,27 @@ module _ (head source ran : List ℕ) where
 
         stays : {k : ℕ} → q ≡ k → can-go head source ran k ≡ false
         stays t = unfold can-go in (ap (λ (x : ℕ). can-go head source ran x) (sym t)
-            ∙ rw (ne-eqb (blocker-of source ran (getD head q 0)) 1024 (λ z. ne (e ∙ z))) (and-false (ltb (getD head q 0) 1024)))
+            ∙ rw (ne-eqb (blocker-of source ran (getD head q 0)) no-operation (λ z. ne (e ∙ z)))
+            (and-false (ltb (getD head q 0) no-operation)))
 
-        marked : (k : ℕ) → k < 16 → b < 1025 → (has (getD waiter b 0) k || has unit k) ≡ true → has (getD (set waiter b (bitOr (getD waiter b 0) unit % 65536)) b 0) k ≡ true
+        marked : (k : ℕ) → k < 16 → b < no-operation + 1 → (has (getD waiter b 0) k || has unit k) ≡ true →
+            has (getD (set waiter b (bitOr (getD waiter b 0) unit % 65536)) b 0) k ≡ true
         marked k m v t =
             rw (getD-set-same waiter b (bitOr (getD waiter b 0) unit % 65536) 0 (let h : b < length waiter = omega arith in h))
             (has-cut 16 (bitOr (getD waiter b 0) unit) k m ∙ has-or (getD waiter b 0) unit k ∙ t)
 
         same : (i k : ℕ) → k < 16 → i ≡ b → has (getD waiter i 0) k ≡ true → has (getD (set waiter b (bitOr (getD waiter b 0) unit % 65536)) i 0) k ≡ true
         same i k m z t =
-            by-cases (ltb b 1025)
+            by-cases (ltb b (no-operation + 1))
             (λ y. subst (λ (x : ℕ). has (getD (set waiter b (bitOr (getD waiter b 0) unit % 65536)) x 0) k ≡ true) (sym z)
-            (marked k m (ltb-true b 1025 y) (or-left (has (getD waiter b 0) k) (has unit k) (ap (λ (x : ℕ). has (getD waiter x 0) k) (sym z) ∙ t))))
-            (λ y. rw (set-out waiter b (bitOr (getD waiter b 0) unit % 65536) (let h : length waiter ≤ b = omega (arith, ltb-false b 1025 y) in h)) t)
+            (marked k m (ltb-true b (no-operation + 1) y)
+            (or-left (has (getD waiter b 0) k) (has unit k) (ap (λ (x : ℕ). has (getD waiter x 0) k) (sym z) ∙ t))))
+            (λ y. rw (set-out waiter b (bitOr (getD waiter b 0) unit % 65536)
+            (let h : length waiter ≤ b = omega (arith, ltb-false b (no-operation + 1) y) in h)) t)
 
     pub looked-held :
-        length waiter ≡ 1025 → (b : ℕ) → b ≡ blocker-of source ran j → (b ≡ 1024 → ⊥) → (unit : ℕ) → unit ≡ 2 ^ q →
+        length waiter ≡ no-operation + 1 → (b : ℕ) → b ≡ blocker-of source ran j → (b ≡ no-operation → ⊥) →
+        (unit : ℕ) → unit ≡ 2 ^ q →
         (w : ℕ) → w ≡ getD waiter b 0 → (waiter-now : List ℕ) → waiter-now ≡ set waiter b (bitOr w unit % 65536) →
         Looked (2 ^ q) ready head source ran waiter ready waiter-now
     looked-held long b b-is ne unit u w w-is waiter-now now-is =

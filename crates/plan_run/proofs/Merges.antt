@@ -1,14 +1,15 @@
 -- Rows merged and laid down, column by column. Assumes nothing.
 use mathlib.Core.Path.{_≡_, refl, sym, ap, ap₂, _∙_}
 use mathlib.Core.List.{List}
-use Prim.Native.Nat.{ℕ, _+_, _-_, _*_, _%_, _≤_, _<_, max}
-use native.Mathlib.Nat.{not-suc-le-zero}
+use Prim.Native.Nat.{ℕ, _+_, _-_, _*_, _/_, _%_, _≤_, _<_, max}
+use native.Mathlib.Nat.{not-suc-le-zero, div-add-mod}
 use native.Mathlib.Omega.{arith}
 use lib.Dec.{eqb}
-use lib.ListN.{length, getD, set, length-set}
-use lib.Seq.{getD-set-same, getD-set-other}
+use lib.ListN.{length, getD, set, drop, length-set, length-drop}
+use lib.Seq.{getD-set-same, getD-set-other, getD-drop, ext-getD}
 use borrow.Author.Tests.{eqb-true, eqb-false}
 use Rattle.basics.proofs.Tests.{by-cases}
+use Rattle.plan_format.specs.Sizes.{row-width, no-operation}
 use Rattle.plan_run.specs.Merge.{cell, largest, Laid, Merged}
 
 -- ---- a row merged
@@ -32,20 +33,22 @@ merged-more f row k v row-now long b h e now-is m l =
 -- ---- a row laid down
 module _ (rows : List ℕ) (j : ℕ) (row : List ℕ) where
   pub laid-none : Laid rows j row 0 rows
-  laid-none = record { there = λ k l. absurd (not-suc-le-zero l); elsewhere = λ i k l ne. refl; long = refl }
+  laid-none = record { there = λ h k l. absurd (not-suc-le-zero l); elsewhere = λ i k l ne. refl; long = refl }
 
   pub laid-more :
-      (k : ℕ) (old new : List ℕ) → length rows ≡ 16416 → j ≤ 1024 → k < 16 → Laid rows j row k old → new ≡ set old (16 * j + k) (getD row k 0) →
+      (k : ℕ) (old new : List ℕ) → j ≤ no-operation → k < 16 → Laid rows j row k old → new ≡ set old (16 * j + k)
+      (getD row k 0) →
       Laid rows j row (k + 1) new
   unfolding cell
-  laid-more k old new long few b h now-is = record {
-    there = λ m l. ap (λ (x : List ℕ). getD x (16 * j + m) 0) now-is ∙ by-cases (eqb m k)
+  laid-more k old new few b h now-is = record {
+    there = λ long m l. ap (λ (x : List ℕ). getD x (16 * j + m) 0) now-is ∙ by-cases (eqb m k)
         (λ t. let q = eqb-true m k t in
         ap (λ (x : ℕ). getD (set old (16 * j + k) (getD row k 0)) (16 * j + x) 0) q
         ∙ getD-set-same old (16 * j + k) (getD row k 0) 0 (let u : 16 * j + k < length old = omega (arith, h .long) in u)
         ∙ ap (λ (x : ℕ). getD row x 0) (sym q))
         (λ n. let ne = eqb-false m k n in
-        getD-set-other old (16 * j + k) (16 * j + m) (getD row k 0) 0 (λ z. ne (let u : m ≡ k = omega arith in u)) ∙ h .there m (omega arith));
+        getD-set-other old (16 * j + k) (16 * j + m) (getD row k 0) 0 (λ z. ne (let u : m ≡ k = omega arith in u))
+        ∙ h .there long m (omega arith));
     elsewhere = λ i m l ne. ap (λ (x : List ℕ). getD x (16 * i + m) 0) now-is
         ∙ getD-set-other old (16 * j + k) (16 * i + m) (getD row k 0) 0 (λ z. ne (let u : i ≡ j = omega arith in u)) ∙ h .elsewhere i m l ne;
     long = ap length now-is ∙ length-set old (16 * j + k) (getD row k 0) ∙ h .long;
@@ -56,7 +59,23 @@ pub merged-laid :
     ((k : ℕ) → k < 16 → getD row k 0 ≡ (largest rows a b c d k + getD unit (16 - q + k) 0) % 65536) → Laid rows j row 16 rows-now →
     Merged rows unit j q a′ b′ c′ d′ rows-now
 merged-laid rows unit j q a b c d a′ b′ c′ d′ row rows-now ea eb ec ed h laid = record {
-  there = λ k l. laid .there k l ∙ h k l ∙ rw (ea, eb, ec, ed);
+  there = λ long k l. laid .there long k l ∙ h k l ∙ rw (ea, eb, ec, ed);
   elsewhere = laid .elsewhere;
   long = laid .long;
 }
+
+-- a row below n leaves every row from n on
+pub merged-past :
+    (rows unit : List ℕ) (j q a b c d : ℕ) (rows-now : List ℕ) (n : ℕ) → j < n → Merged rows unit j q a b c d rows-now →
+    drop (row-width * n) rows-now ≡ drop (row-width * n) rows
+unfolding cell
+merged-past rows unit j q a b c d rows-now n l merged =
+    ext-getD 0 (drop (row-width * n) rows-now) (drop (row-width * n) rows)
+    (length-drop (row-width * n) rows-now ∙ ap (λ (x : ℕ). x - row-width * n) (merged .long)
+    ∙ sym (length-drop (row-width * n) rows))
+    (λ k _. getD-drop (row-width * n) rows-now k 0 ∙ ap (λ (x : ℕ). getD rows-now x 0) (place k)
+    ∙ merged .elsewhere (n + k / row-width) (k % row-width) (omega arith) (λ z. omega arith)
+    ∙ ap (λ (x : ℕ). getD rows x 0) (sym (place k)) ∙ sym (getD-drop (row-width * n) rows k 0))
+  where
+    place : (k : ℕ) → row-width * n + k ≡ row-width * (n + k / row-width) + k % row-width
+    place k = omega (arith, div-add-mod k row-width)

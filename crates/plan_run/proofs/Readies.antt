@@ -15,6 +15,7 @@ use Rattle.basics.proofs.Tests.{by-cases, by-option, clash, is-false, and-left,
 use Rattle.basics.proofs.Tallies.{tally-same, tally-further, tally-ends}
 use Rattle.basics.proofs.Searches.{first-some, first-is, lowest-some, lowest-is, some-is, none-is}
 use Rattle.order.proofs.Runs.{can-below, can-fresh, can-enabled, can-by, run-below}
+use Rattle.plan_format.specs.Sizes.{no-operation}
 use Rattle.plan_format.specs.Plan.{Plan, count, op, queues}
 use Rattle.plan_order.specs.Runs.{enabled, ready, is-run, ready-on, next, number-ready}
 use Rattle.plan_order.proofs.Demand3.{rules-good}
@@ -41,11 +42,11 @@ module _ (p : Plan) (n : ℕ) (queue source : List ℕ) (shown : Run-given p n q
       by-cases (member i r) (λ t. t)
       (λ f. absurd (ne (places .has-run i (omega (arith, shown .sound .few-operations)) ∙ ap (λ (b : Bool). cond b 1 0) f)))
 
-  sentinel : getD ran 1024 0 ≡ 0 → ⊥
+  sentinel : getD ran no-operation 0 ≡ 0 → ⊥
   sentinel z = omega (arith, places .none-run)
 
   -- ---- nothing holds an operation exactly if all that is directly before it has run
-  enabled-free : (j : ℕ) → j < count p → enabled p r j ≡ true → blocker-of source ran j ≡ 1024
+  enabled-free : (j : ℕ) → j < count p → enabled p r j ≡ true → blocker-of source ran j ≡ no-operation
   enabled-free j l e = blocker-none source ran j (λ k b z. at-rest (getD source (3 * j + k) 0) (source-is p n queue source shown j k l b) z)
     where
       at-rest : (x : ℕ) → Rest p j x → getD ran x 0 ≡ 0 → ⊥
@@ -53,7 +54,8 @@ module _ (p : Plan) (n : ℕ) (queue source : List ℕ) (shown : Run-given p n q
       at-rest x (on-operation _ u w m t) z =
           ran-one x (predecessors-run p (rules-good p (shown .sound) .0) r x j (unfold is-run in (places .a-run)) e (direct-by p x j u l (by-wait w m t))) z
 
-  free-enabled : (j : ℕ) → j < count p → ((k : ℕ) → k < j → op p k .queue ≡ op p j .queue → member k r ≡ true) → blocker-of source ran j ≡ 1024 → enabled p r j ≡ true
+  free-enabled : (j : ℕ) → j < count p → ((k : ℕ) → k < j → op p k .queue ≡ op p j .queue → member k r ≡ true) →
+      blocker-of source ran j ≡ no-operation → enabled p r j ≡ true
   free-enabled j l earlier e = predecessors-suffice p (rules-good p (shown .sound) .1) r j l (λ i d. of-why i (direct-below p i j d .0) (direct-why p i j d))
     where
       of-why : (i : ℕ) → i < count p → Why p i j → member i r ≡ true
@@ -81,7 +83,7 @@ module _ (p : Plan) (n : ℕ) (queue source : List ℕ) (shown : Run-given p n q
     pub earlier : (k : ℕ) → k < j → op p k .queue ≡ q → member k r ≡ true
     pub is-ready : ready p r j ≡ true
 
-  head-goes : (q x : ℕ) → Head p r q x → x < 1024 → blocker-of source ran x ≡ 1024 → Goes q x
+  head-goes : (q x : ℕ) → Head p r q x → x < no-operation → blocker-of source ran x ≡ no-operation → Goes q x
   head-goes q x (waiting _ l e f earlier) u b = record {
     inside = l;
     on-queue = e;
@@ -107,7 +109,8 @@ module _ (p : Plan) (n : ℕ) (queue source : List ℕ) (shown : Run-given p n q
       })
 
   -- ---- one that cannot go is not
-  held-unready : (q x : ℕ) → Head p r q x → (x < 1024 → blocker-of source ran x ≡ 1024 → ⊥) → (i : ℕ) → op p i .queue ≡ q → ready p r i ≡ true → ⊥
+  held-unready : (q x : ℕ) → Head p r q x → (x < no-operation → blocker-of source ran x ≡ no-operation → ⊥) → (i : ℕ) →
+      op p i .queue ≡ q → ready p r i ≡ true → ⊥
   held-unready q x (finished h) held i e t = let w = ready-gives i t in clash (member i r) (h i (w .0) e) (w .1)
   held-unready q x (waiting _ l z f earlier) held i e t =
       let w = ready-gives i t in

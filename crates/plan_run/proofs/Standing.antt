@@ -13,6 +13,7 @@ use Rattle.basics.specs.Lists.{member}
 use Rattle.basics.proofs.Tests.{by-cases, clash, is-false, either}
 use Rattle.basics.proofs.Members.{member-left, member-snoc, member-last}
 use Rattle.order.proofs.Runs.{runs-snoc}
+use Rattle.plan_format.specs.Sizes.{no-operation, most-operations}
 use Rattle.plan_format.specs.Plan.{Plan, count, op}
 use Rattle.plan_order.specs.Runs.{enabled, ready, is-run}
 use Rattle.plan_order.proofs.Readiness.{queue-in}
@@ -69,7 +70,7 @@ module _ (p : Plan) (n : ℕ) (queue source next unit : List ℕ) (shown : Run-g
       let l : j < n = omega (arith, goes .inside, shown .many) in
       let qj : getD queue j 0 ≡ q = column j (goes .inside) ∙ goes .on-queue in
       let f : First queue q (suc j) n (getD next j 0) = subst (λ (x : ℕ). First queue x (suc j) n (getD next j 0)) qj (tables .nexts j l (rw qj inside)) in
-      let few : n ≤ 1024 = omega (arith, shown .many, shown .sound .few-operations) in
+      let few : n ≤ most-operations = omega (arith, shown .many, shown .sound .few-operations) in
       let small : getD next j 0 < 65536 = omega (arith, first-small queue q (suc j) n (getD next j 0) few f) in
       subst (λ (x : ℕ). Head p (r ++ (j ∷ [])) q x)
       (sym (ap (λ (x : List ℕ). getD x q 0) head-is
@@ -91,7 +92,7 @@ module _ (p : Plan) (n : ℕ) (queue source next unit : List ℕ) (shown : Run-g
       unused (λ i t z. either (member-snoc i r j t) (λ u. h i u z) (λ s. ne (sym (goes .on-queue) ∙ ap (λ (y : ℕ). op p y .queue) s ∙ z)))
 
   -- ---- what has run
-  ran-now : (i : ℕ) → i < 1024 → getD ran′ i 0 ≡ cond (member i (r ++ (j ∷ []))) 1 0
+  ran-now : (i : ℕ) → i < no-operation → getD ran′ i 0 ≡ cond (member i (r ++ (j ∷ []))) 1 0
   ran-now i l = ap (λ (x : List ℕ). getD x i 0) ran-is ∙ by-cases (eqb i j)
       (λ t. let e = eqb-true i j t in
       ap (λ (x : ℕ). getD (set ran j 1) x 0) e ∙ getD-set-same ran j 1 0 (let h : j < length ran = omega (arith, places .ran-long) in h)
@@ -115,7 +116,8 @@ module _ (p : Plan) (n : ℕ) (queue source next unit : List ℕ) (shown : Run-g
         subst (λ (x : ℕ). Last p (r ++ (j ∷ [])) k x)
         (sym (ap (λ (x : List ℕ). getD x k 0) prev-is ∙ getD-set-other prev q k j 0 (λ z. ne (sym z)))) (other-last k (getD prev k 0) ne (places .lasts k l)));
     has-run = ran-now;
-    none-run = ap (λ (x : List ℕ). getD x 1024 0) ran-is ∙ getD-set-other ran j 1024 1 0 (λ z. absurd (omega (arith, goes .inside, shown .sound .few-operations))) ∙ places .none-run;
+    none-run = ap (λ (x : List ℕ). getD x no-operation 0) ran-is ∙ getD-set-other ran j no-operation 1 0
+        (λ z. absurd (omega (arith, goes .inside, shown .sound .few-operations))) ∙ places .none-run;
     head-long = ap length head-is ∙ length-set head q (getD next j 0 % 65536) ∙ places .head-long;
     prev-long = ap length prev-is ∙ length-set prev q j ∙ places .prev-long;
     ran-long = ap length ran-is ∙ length-set ran j 1 ∙ places .ran-long;

@@ -8,6 +8,7 @@ use native.Mathlib.Omega.{arith}
 use lib.Bits.{bitOr}
 use lib.Count.{ones, ones-le}
 use lib.ListN.{length, getD, set, length-append}
+use Rattle.plan_format.specs.Sizes.{no-operation}
 use Rattle.plan_format.specs.Plan.{Plan, count}
 use Rattle.plan_order.specs.Runs.{standard, next as next-of}
 use Rattle.plan_run.specs.Words.{Lowest-bit}
@@ -21,7 +22,7 @@ use Rattle.plan_run.proofs.Standing.{places-more}
 use Rattle.plan_run.proofs.Fills.{filled-more}
 use Rattle.plan_run.proofs.Listings.{greedy-left, listed-more}
 
-pub head-inside : (p : Plan) (r : List ℕ) (q x : ℕ) → Head p r q x → x < 1024 → x < count p
+pub head-inside : (p : Plan) (r : List ℕ) (q x : ℕ) → Head p r q x → x < no-operation → x < count p
 head-inside p r q x (waiting _ l e f h) b = l
 head-inside p r q x (finished h) b = absurd (omega arith)
 
@@ -45,9 +46,9 @@ module _ (p : Plan) (n : ℕ) (queue source next unit first : List ℕ) (shown :
       let g : Goes p n queue source shown r head prev ran places q j = subst (λ (x : ℕ). Goes p n queue source shown r head prev ran places q x) jh (goes p n queue source shown r head prev ran places q l t) in
       let chosen : next-of p r ≡ some j = lowest-next p n queue source shown r head prev ran places ready bits q l low ∙ ap (λ (x : ℕ). some x) jh in
       let counted = ones-ready p n queue source shown r head prev ran places ready bits small in
-      let few : j < 1024 = omega (arith, g .inside, shown .sound .few-operations) in
+      let few : j < no-operation = omega (arith, g .inside, shown .sound .few-operations) in
       let places′ = places-more p n queue source next unit shown tables r head prev ran places q j l g head′ prev′ ran′ (st .head-is) (st .prev-is) (st .ran-is) in
-      let merged = st .rows-are (going .rows-long) in
+      let merged = st .rows-are in
       record {
         run = r ++ (j ∷ []);
         many = length-append r (j ∷ []) ∙ omega (arith, going .many);
@@ -57,7 +58,8 @@ module _ (p : Plan) (n : ℕ) (queue source next unit first : List ℕ) (shown :
             (getD next j 0 % 65536) head′ ran′ (st .head-is) (st .ran-is)
             (λ k u v m w. source-small p n queue source shown (getD head′ k 0) m (head-inside p (r ++ (j ∷ [])) k (getD head′ k 0) (places′ .heads k u) v) w)
             seen bit s-is bit-is ready′ waiter′ looked;
-        filled = filled-more p n queue source next unit shown tables r head prev ran places q j l g rows (going .filled) rows′ merged;
+        filled = filled-more p n queue source next unit shown tables r head prev ran places q j l g rows
+            (going .filled) rows′ (going .rows-long) merged;
         rows-long = merged .long ∙ going .rows-long;
         listed = listed-more p n first r list list₁ list₂ i j (ones ready) room (going .listed) (going .many) b few (omega (arith, ones-le 16 ready small)) counted e₁ e₂;
       }

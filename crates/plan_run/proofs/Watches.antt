@@ -11,6 +11,7 @@ use lib.ListN.{length, getD, set}
 use lib.Seq.{getD-set-same, getD-set-other}
 use borrow.Author.Tests.{ltb-true, lt-ltb, eqb-true, eqb-false, eq-eqb}
 use Rattle.basics.proofs.Tests.{by-cases, clash, is-false, and-left, and-right, and-both, or-left, or-right}
+use Rattle.plan_format.specs.Sizes.{no-operation}
 use Rattle.plan_run.specs.Words.{has}
 use Rattle.plan_run.specs.Queues.{blocker-of, can-go, Looked}
 use Rattle.plan_run.specs.State.{Noted, Watch}
@@ -19,36 +20,44 @@ use Rattle.plan_run.proofs.Sources.{blocker-none, blocker-free, blocker
 
 -- ---- a queue that can go
 module _ (head source ran : List ℕ) (q : ℕ) where
-  pub go-gives : can-go head source ran q ≡ true → (getD head q 0 < 1024) × (blocker-of source ran (getD head q 0) ≡ 1024)
+  pub go-gives : can-go head source ran q ≡ true → (getD head q 0 < no-operation)
+      × (blocker-of source ran (getD head q 0) ≡ no-operation)
   unfolding can-go
   go-gives t =
-      let a = ltb (getD head q 0) 1024 in
-      let b = eqb (blocker-of source ran (getD head q 0)) 1024 in
-      (ltb-true (getD head q 0) 1024 (and-left a b t), eqb-true (blocker-of source ran (getD head q 0)) 1024 (and-right a b t))
+      let a = ltb (getD head q 0) no-operation in
+      let b = eqb (blocker-of source ran (getD head q 0)) no-operation in (
+        ltb-true (getD head q 0) no-operation (and-left a b t),
+        eqb-true
+            (blocker-of source ran (getD head q 0)) no-operation (and-right a b t),
+      )
 
-  pub go-by : getD head q 0 < 1024 → blocker-of source ran (getD head q 0) ≡ 1024 → can-go head source ran q ≡ true
+  pub go-by : getD head q 0 < no-operation → blocker-of source ran (getD head q 0) ≡ no-operation →
+      can-go head source ran q ≡ true
   unfolding can-go
   go-by l e =
-      and-both (ltb (getD head q 0) 1024) (eqb (blocker-of source ran (getD head q 0)) 1024) (lt-ltb (getD head q 0) 1024 l)
-      (eq-eqb (blocker-of source ran (getD head q 0)) 1024 e)
+      and-both (ltb (getD head q 0) no-operation) (eqb (blocker-of source ran (getD head q 0)) no-operation)
+      (lt-ltb (getD head q 0) no-operation l)
+      (eq-eqb (blocker-of source ran (getD head q 0)) no-operation e)
 
 -- a queue that was looked at and cannot go is noted at what holds it
 pub noted-by :
     (mask ready : ℕ) (head source ran waiter : List ℕ) (ready′ : ℕ) (waiter′ : List ℕ) → Looked mask ready head source ran waiter ready′ waiter′ →
-    (k : ℕ) → k < 16 → has mask k ≡ true → ((m : ℕ) → m < 3 → getD source (3 * getD head k 0 + m) 0 ≤ 1024) →
-    getD head k 0 < 1024 → can-go head source ran k ≡ false → Noted head source ran waiter′ k
+    (k : ℕ) → k < 16 → has mask k ≡ true → ((m : ℕ) → m < 3 → getD source (3 * getD head k 0 + m) 0 ≤ no-operation) →
+    getD head k 0 < no-operation → can-go head source ran k ≡ false → Noted head source ran waiter′ k
 noted-by mask ready head source ran waiter ready′ waiter′ looked k l m small h f =
     let b = blocker-of source ran (getD head k 0) in
-    let ne : b ≡ 1024 → ⊥ = λ z. clash (can-go head source ran k) (go-by head source ran k h z) f in
+    let ne : b ≡ no-operation → ⊥ = λ z. clash (can-go head source ran k) (go-by head source ran k h z) f in
     let w = blocker-where source ran (getD head k 0) b refl ne in
-    let few : b < 1024 = omega (arith, small (w .0) (w .1), w .2) in
+    let few : b < no-operation = omega (arith, small (w .0) (w .1), w .2) in
     record { place = w .0; at = b; few = w .1; source-is = w .2; inside = few; held = w .3; marked = looked .noted k b l m h refl few }
 
-module _ (source head ran waiter : List ℕ) (ready : ℕ) (watch : Watch source head ran waiter ready) (none-run : getD ran 1024 0 ≡ 1)
-    (head-long : length head ≡ 16) (ran-long : length ran ≡ 1025)
-    (q j : ℕ) (inside : q < 16) (there : has ready q ≡ true) (small : j < 1024)
+module _ (source head ran waiter : List ℕ) (ready : ℕ) (watch : Watch source head ran waiter ready)
+    (none-run : getD ran no-operation 0 ≡ 1)
+    (head-long : length head ≡ 16) (ran-long : length ran ≡ no-operation + 1)
+    (q j : ℕ) (inside : q < 16) (there : has ready q ≡ true) (small : j < no-operation)
     (after : ℕ) (head′ ran′ : List ℕ) (head-is : head′ ≡ set head q after) (ran-is : ran′ ≡ set ran j 1)
-    (sources-small : (k : ℕ) → k < 16 → getD head′ k 0 < 1024 → (m : ℕ) → m < 3 → getD source (3 * getD head′ k 0 + m) 0 ≤ 1024)
+    (sources-small : (k : ℕ) → k < 16 → getD head′ k 0 < no-operation → (m : ℕ) → m < 3 →
+    getD source (3 * getD head′ k 0 + m) 0 ≤ no-operation)
     (seen bit : ℕ) (seen-is : seen ≡ getD waiter j 0) (bit-is : bit ≡ 2 ^ q) (ready′ : ℕ) (waiter′ : List ℕ)
     (looked : Looked (bitOr (seen % 65536) bit) (ready - bit) head′ source ran′ waiter ready′ waiter′) where
   head-other : (k : ℕ) → (q ≡ k → ⊥) → getD head′ k 0 ≡ getD head k 0
@@ -66,11 +75,11 @@ module _ (source head ran waiter : List ℕ) (ready : ℕ) (watch : Watch source
       (λ t. absurd (let e : getD ran′ i 0 ≡ 1 = ap (λ (x : ℕ). getD ran′ x 0) (eqb-true i j t) ∙ ran-same in omega arith))
       (λ f. sym (ran-other i (eqb-false i j f)) ∙ z)
 
-  sentinel : getD ran 1024 0 ≡ 0 → ⊥
+  sentinel : getD ran no-operation 0 ≡ 0 → ⊥
   sentinel z = omega arith
 
-  sentinel′ : getD ran′ 1024 0 ≡ 0 → ⊥
-  sentinel′ z = sentinel (ran-still 1024 z)
+  sentinel′ : getD ran′ no-operation 0 ≡ 0 → ⊥
+  sentinel′ z = sentinel (ran-still no-operation z)
 
   -- ---- the words
   mask-bits : (k : ℕ) → k < 16 → has (bitOr (seen % 65536) bit) k ≡ (has (getD waiter j 0) k || eqb q k)
@@ -114,7 +123,8 @@ module _ (source head ran waiter : List ℕ) (ready : ℕ) (watch : Watch source
       (λ t. rw (t, no-fewer k ne t))
       (λ u. rw u (by-cases (can-go head′ source ran′ k) (λ t. rw (t, woken k l ne u t)) (λ v. rw (v, and-false (has (bitOr (seen % 65536) bit) k)))))))
 
-  noted-old : (k : ℕ) → k < 16 → has (bitOr (seen % 65536) bit) k ≡ false → getD head′ k 0 < 1024 → can-go head′ source ran′ k ≡ false → Noted head′ source ran′ waiter′ k
+  noted-old : (k : ℕ) → k < 16 → has (bitOr (seen % 65536) bit) k ≡ false → getD head′ k 0 < no-operation →
+      can-go head′ source ran′ k ≡ false → Noted head′ source ran′ waiter′ k
   noted-old k l m h f =
       let either-bit = sym (mask-bits k l) ∙ m in
       let ne : q ≡ k → ⊥ = λ z. clash (has (getD waiter j 0) k || eqb q k) (or-right (has (getD waiter j 0) k) (eqb q k) (eq-eqb q k z)) either-bit in

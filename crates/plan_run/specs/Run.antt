@@ -6,7 +6,7 @@ use mathlib.Core.List.{List}
 use Prim.Native.Nat.{ℕ, _+_, _*_, _≤_, _<_}
 use lib.ListN.{length, getD, take, drop}
 use Rattle.basics.specs.Lists.{member, in-front}
-use Rattle.plan_format.specs.Sizes.{most-operations, most-waits, row-width, row-places}
+use Rattle.plan_format.specs.Sizes.{most-queues, most-operations, most-waits, row-width, row-places}
 use Rattle.plan_format.specs.Plan.{Plan, count, op}
 use Rattle.plan_format.specs.Sound.{Sound}
 use Rattle.plan_order.specs.Runs.{number-ready, standard, run-list}
@@ -38,12 +38,24 @@ pub record Listed (p : Plan) (n : ℕ) (run list list-now : List ℕ) : Type 0 w
   pub past : drop (2 * n) list-now ≡ drop (2 * n) list
   pub long : length list-now ≡ length list
 
--- whatever the columns show: no more than n operations ran, the list is as long as before and the same past 2 n, and
--- where there are no places for n operations nothing is done
+-- Whatever the columns show, and for a list of any length: what ran is in the front of the list, each an operation
+-- below n and none twice; from place n on is how many queues were ready, one to sixteen. The rest of the list stays,
+-- and so does each row of an operation that did not run, those from n on among them. Which operations ran, in which
+-- order, and their rows are unspecified. With no places for n operations nothing is done.
 pub record Bounded (n answer : ℕ) (rows rows-now list list-now : List ℕ) : Type 0 where
   pub few : answer ≤ n
+  pub steps : (k : ℕ) → k < answer → k < length list → getD list-now k 0 < n
+  pub once : (i k : ℕ) → i < k → k < answer → k < length list → getD list-now i 0 ≡ getD list-now k 0 → ⊥
+  pub readies : (k : ℕ) → k < answer → n + k < length list → (1 ≤ getD list-now (n + k) 0)
+      × (getD list-now (n + k) 0 ≤ most-queues)
+  pub between : (k : ℕ) → answer ≤ k → k < n → getD list-now k 0 ≡ getD list k 0
+  pub past : drop (n + answer) list-now ≡ drop (n + answer) list
   pub long : length list-now ≡ length list
-  pub past : drop (2 * n) list-now ≡ drop (2 * n) list
+  pub unlaid :
+      answer ≤ length list → (j q : ℕ) → q < row-width → ((k : ℕ) → k < answer → getD list-now k 0 ≡ j → ⊥) →
+      getD rows-now (row-width * j + q) 0 ≡ getD rows (row-width * j + q) 0
+  pub rows-past : drop (row-width * n) rows-now ≡ drop (row-width * n) rows
+  pub rows-long : length rows-now ≡ length rows
   pub over : most-operations < n → (answer ≡ 0) × (rows-now ≡ rows) × (list-now ≡ list)
 
 -- the whole pass

@@ -9,10 +9,10 @@ use Rattle.order.specs.Greedy.{greedy}
 use Rattle.plan_format.specs.Sizes.{most-queues, most-operations, most-waits, row-width, row-places, no-operation}
 use Rattle.plan_format.specs.Plan.{Plan, count, op}
 use Rattle.plan_order.specs.Runs.{is-run, next, standard}
-use Rattle.plan_run.specs.Words.{has}
+use Rattle.plan_run.specs.Words.{has, all-queues}
 use Rattle.plan_run.specs.Queues.{First, Chained, can-go, Looked}
 use Rattle.plan_run.specs.Merge.{Merged}
-use Rattle.plan_run.specs.Run.{Rows-of, Listed}
+use Rattle.plan_run.specs.Run.{Rows-of, Listed, Bounded}
 
 -- the next operation of queue q: the first that has not run; 1,024 where each has
 pub data Head (p : Plan) (r : List ℕ) (q : ℕ) : ℕ → Type 0 where
@@ -75,7 +75,7 @@ pub record Tables (queue : List ℕ) (n : ℕ) (next unit : List ℕ) : Type 0 w
 pub record Prepared (queue : List ℕ) (n : ℕ) (source head next ran waiter : List ℕ) (ready : ℕ) : Type 0 where
   pub chained : Chained queue 0 n head next
   pub ran-is : ran ≡ set (replicate (no-operation + 1) 0) no-operation 1
-  pub looked : Looked 65535 0 head source ran (replicate (no-operation + 1) 0) ready waiter
+  pub looked : Looked all-queues 0 head source ran (replicate (no-operation + 1) 0) ready waiter
 
 -- operation numbers past 1,024 read as 1,024
 abbrev pub slot-of : ℕ → ℕ
@@ -87,6 +87,20 @@ pub record Stepped (j q : ℕ) (source next unit head prev ran rows head-now pre
   pub prev-is : prev-now ≡ set prev q j
   pub ran-is : ran-now ≡ set ran j 1
   pub rows-are :
-      length rows ≡ row-places →
       Merged rows unit j q (slot-of (getD prev q 0)) (slot-of (getD source (most-waits * j) 0)) (slot-of (getD source (most-waits * j + 1) 0))
       (slot-of (getD source (most-waits * j + 2) 0)) rows-now
+
+-- The next operation x of queue q after i steps, whatever the columns show: the first from a start on; what ran of the
+-- queue is before the start.
+pub record Ahead (queue : List ℕ) (n q i : ℕ) (list : List ℕ) (x : ℕ) : Type 0 where
+  pub start : ℕ
+  pub first : First queue q start n x
+  pub before : (k : ℕ) → k < i → k < length list → getD queue (getD list k 0) 0 ≡ q → getD list k 0 < start
+
+-- the pass after i steps, whatever the columns show: every ready queue has a next operation
+pub record Bounds (queue : List ℕ) (n i : ℕ) (head : List ℕ) (ready : ℕ)
+    (rows rows-now list list-now : List ℕ) : Type 0 where
+  pub ahead : (q : ℕ) → q < most-queues → Ahead queue n q i list-now (getD head q 0)
+  pub readies : (q : ℕ) → q < most-queues → has ready q ≡ true → getD head q 0 < no-operation
+  pub head-long : length head ≡ most-queues
+  pub bounded : Bounded n i rows rows-now list list-now

@@ -19,12 +19,16 @@ ghost use Rattle.plan_run.specs.Run.{Run-given, Cleared, Bounded, Ran};
 // A place for each operation, and one for none.
 const SLOTS: usize = NO_OPERATION + 1;
 
+// The word with a bit for every queue.
+const ALL_QUEUES: u32 = (1 << MOST_QUEUES) - 1;
+
 // A row with a one in the middle: the part of it that begins at width - q has the one in column q.
 const UNIT: usize = 2 * ROW_WIDTH;
 
 // The standard run into `list`, with the number ready before each step from place n on, and the row of each operation
-// that ran into `rows`, which are all zero before; how many operations ran. Where the columns show no plan, the rows,
-// the first 2 n of the list and an answer up to n are unspecified; where n is above 1,024 nothing is done.
+// that ran into `rows`, which are all zero before; how many operations ran. Where the columns show no plan, it is
+// unspecified which operations below n run, in which order, and what their rows are; where n is above 1,024 nothing is
+// done.
 pub fn run(
     n: u16,
     queue: &QueueColumn,
@@ -32,8 +36,8 @@ pub fn run(
     rows: &mut Rows,
     list: &mut [u32],
 ) -> usize
-    ensures { λ r. ⌜ Bounded n r (now (rows .entry)) (now (rows .exit)) (now (list .entry)) (now (list .exit)) ⌝ }
-    ensures { λ r. ⌜ ((p : Plan) → Run-given p n (now (queue .entry)) (now (source .entry)) → Cleared (now (rows .entry)) → 2 * n ≤ length (now (list .entry)) →
+    ensures bounds { λ r. ⌜ Bounded n r (now (rows .entry)) (now (rows .exit)) (now (list .entry)) (now (list .exit)) ⌝ }
+    ensures of_plans { λ r. ⌜ ((p : Plan) → Run-given p n (now (queue .entry)) (now (source .entry)) → Cleared (now (rows .entry)) → 2 * n ≤ length (now (list .entry)) →
         Ran p n r (now (rows .exit)) (now (list .entry)) (now (list .exit))) ⌝ }
 {
     let many = n as usize;
@@ -46,7 +50,7 @@ pub fn run(
     let mut waiter = [0u16; SLOTS];
     ran[NO_OPERATION] = 1;
     queues::chain(many, queue, &mut head, &mut next);
-    let ready = queues::wake(65535, 0, &head, source, &ran, &mut waiter);
+    let ready = queues::wake(ALL_QUEUES, 0, &head, source, &ran, &mut waiter);
     steps::all(
         many,
         ready,

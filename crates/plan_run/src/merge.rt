@@ -4,27 +4,15 @@ use plan_columns::Rows;
 use plan_format::limits::ROW_WIDTH;
 ghost use mathlib.Core.Path.{_≡_};
 ghost use Prim.Native.Nat.{ℕ, _+_, _-_, _*_, _%_, _≤_, _<_, max};
-ghost use lib.ListN.{length, getD};
-ghost use Rattle.plan_format.specs.Sizes.{row-width, row-places, no-operation};
+ghost use lib.ListN.{getD};
+ghost use Rattle.plan_format.specs.Sizes.{row-width, no-operation};
 ghost use Rattle.plan_run.specs.Merge.{largest, Laid};
-
-fn larger(a: u16, b: u16) -> u16
-    ensures { λ r. ⌜ r ≡ max a b ⌝ }
-{
-    if a < b { b } else { a }
-}
-
-fn wide(x: u16) -> u32
-    ensures { λ r. ⌜ r ≡ x ⌝ }
-{
-    x as u32
-}
 
 // The lower sixteen bits of the sum.
 fn sum(a: u16, b: u16) -> u16
     ensures { λ r. ⌜ r ≡ (a + b) % 65536 ⌝ }
 {
-    ((wide(a) + wide(b)) % 65536) as u16
+    ((base_numbers::u16_to_u32(a) + base_numbers::u16_to_u32(b)) % 65536) as u16
 }
 
 // The larger of two rows in a column.
@@ -32,7 +20,7 @@ fn higher(rows: &Rows, a: usize, b: usize, k: usize) -> u16
     requires { ⌜ (a ≤ no-operation) × (b ≤ no-operation) × (k < row-width) ⌝ }
     ensures { λ r. ⌜ r ≡ max (getD (now (rows .entry)) (row-width * a + k) 0) (getD (now (rows .entry)) (row-width * b + k) 0) ⌝ }
 {
-    larger(rows[ROW_WIDTH * a + k], rows[ROW_WIDTH * b + k])
+    base_numbers::max_u16(rows[ROW_WIDTH * a + k], rows[ROW_WIDTH * b + k])
 }
 
 // The largest of four rows in each column, and what `unit` has for it, shifted to column q.
@@ -53,7 +41,7 @@ pub fn merge(
     for k in 0..ROW_WIDTH {
         let ab = higher(rows, a, b, k);
         let cd = higher(rows, c, d, k);
-        row[k] = sum(larger(ab, cd), unit[from + k]);
+        row[k] = sum(base_numbers::max_u16(ab, cd), unit[from + k]);
     }
     row
 }
@@ -61,7 +49,7 @@ pub fn merge(
 // A row written at operation j.
 pub fn lay(rows: &mut Rows, j: usize, row: [u16; ROW_WIDTH])
     requires { ⌜ j ≤ no-operation ⌝ }
-    ensures { λ _. ⌜ (length (now (rows .entry)) ≡ row-places → Laid (now (rows .entry)) j row row-width (now (rows .exit))) ⌝ }
+    ensures { λ _. ⌜ Laid (now (rows .entry)) j row row-width (now (rows .exit)) ⌝ }
 {
     for k in 0..ROW_WIDTH {
         rows[ROW_WIDTH * j + k] = row[k];

@@ -3,6 +3,7 @@ use crate::SLOTS;
 use plan_columns::QueueColumn;
 use plan_columns::WaitColumn;
 use plan_format::limits::MOST_QUEUES;
+use plan_format::limits::MOST_WAITS;
 use plan_format::limits::NO_OPERATION;
 ghost use mathlib.Core.Path.{_≡_};
 ghost use Prim.Native.Nat.{_<_, _≤_, _^_};
@@ -31,15 +32,15 @@ fn blocker(j: usize, source: &WaitColumn, ran: &[u16; SLOTS]) -> usize
     requires { ⌜ j < 65536 ⌝ }
     ensures { λ r. ⌜ r ≡ blocker-of (now (source .entry)) (now (ran .entry)) j ⌝ }
 {
-    let a = cells::get16(source, 3 * j);
+    let a = cells::get16(source, MOST_WAITS * j);
     if cells::get16(ran, a) == 0 {
         return a;
     }
-    let b = cells::get16(source, 3 * j + 1);
+    let b = cells::get16(source, MOST_WAITS * j + 1);
     if cells::get16(ran, b) == 0 {
         return b;
     }
-    let c = cells::get16(source, 3 * j + 2);
+    let c = cells::get16(source, MOST_WAITS * j + 2);
     if cells::get16(ran, c) == 0 {
         return c;
     }

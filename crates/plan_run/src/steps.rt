@@ -7,18 +7,19 @@ use plan_columns::QueueColumn;
 use plan_columns::Rows;
 use plan_columns::WaitColumn;
 use plan_format::limits::MOST_QUEUES;
+use plan_format::limits::MOST_WAITS;
 use plan_format::limits::NO_OPERATION;
 use plan_format::limits::NO_OPERATION_STORED;
 use plan_format::limits::ROW_WIDTH;
 ghost use mathlib.Core.Path.{_≡_};
 ghost use mathlib.Core.List.{List};
 ghost use Prim.Native.Nat.{ℕ, _+_, _*_, _<_, _≤_};
-ghost use lib.ListN.{length, getD, drop};
-ghost use Rattle.plan_format.specs.Sizes.{most-queues, most-operations, row-places, no-operation};
+ghost use lib.ListN.{length, getD};
+ghost use Rattle.plan_format.specs.Sizes.{most-queues, most-operations, most-waits, no-operation};
 ghost use Rattle.plan_format.specs.Plan.{Plan};
 ghost use Rattle.plan_run.specs.Merge.{Merged};
-ghost use Rattle.plan_run.specs.Run.{Run-given, Cleared, Ran};
-ghost use Rattle.plan_run.specs.State.{Tables, Prepared, slot-of, Stepped, Going};
+ghost use Rattle.plan_run.specs.Run.{Run-given, Cleared, Bounded, Ran};
+ghost use Rattle.plan_run.specs.State.{Tables, Prepared, slot-of, Stepped, Going, Bounds};
 
 // An operation number; past 1,024 it reads as 1,024, whose row is zero.
 fn slot(a: &[u16], i: usize) -> usize
@@ -38,14 +39,13 @@ fn fill(
     rows: &mut Rows,
 )
     requires { ⌜ (j ≤ no-operation) × (q < most-queues) ⌝ }
-    ensures { λ _. ⌜ (length (now (rows .entry)) ≡ row-places →
-        Merged (now (rows .entry)) (now (unit .entry)) j q (slot-of (getD (now (prev .entry)) q 0)) (slot-of (getD (now (source .entry)) (3 * j) 0))
-        (slot-of (getD (now (source .entry)) (3 * j + 1) 0)) (slot-of (getD (now (source .entry)) (3 * j + 2) 0)) (now (rows .exit))) ⌝ }
+    ensures { λ _. ⌜ Merged (now (rows .entry)) (now (unit .entry)) j q (slot-of (getD (now (prev .entry)) q 0)) (slot-of (getD (now (source .entry)) (most-waits * j) 0))
+        (slot-of (getD (now (source .entry)) (most-waits * j + 1) 0)) (slot-of (getD (now (source .entry)) (most-waits * j + 2) 0)) (now (rows .exit)) ⌝ }
 {
     let last = slot(prev, q);
-    let a = slot(source, 3 * j);
-    let b = slot(source, 3 * j + 1);
-    let c = slot(source, 3 * j + 2);
+    let a = slot(source, MOST_WAITS * j);
+    let b = slot(source, MOST_WAITS * j + 1);
+    let c = slot(source, MOST_WAITS * j + 2);
     let row = merge::merge(rows, unit, q, last, a, b, c);
     merge::lay(rows, j, row);
 }
@@ -89,7 +89,11 @@ pub fn turn(
     list: &mut [u32],
 ) -> u32
     requires { ⌜ (0 < ready) × (ready < 65536) × (i < n) × (n ≤ most-operations) ⌝ }
-    ensures { λ r. ⌜ (r < 65536) × (drop (2 * n) (now (list .exit)) ≡ drop (2 * n) (now (list .entry))) × ((p : Plan) (queue first : List ℕ) → Run-given p n queue (now (source .entry)) → Tables queue n (now (next .entry)) (now (unit .entry)) →
+    ensures small { λ r. ⌜ r < 65536 ⌝ }
+    ensures bounds { λ r. ⌜ ((queue first-rows first : List ℕ) → Tables queue n (now (next .entry)) (now (unit .entry)) →
+        Bounds queue n i (now (head .entry)) ready first-rows (now (rows .entry)) first (now (list .entry)) →
+        Bounds queue n (i + 1) (now (head .exit)) r first-rows (now (rows .exit)) first (now (list .exit))) ⌝ }
+    ensures of_plans { λ r. ⌜ ((p : Plan) (queue first : List ℕ) → Run-given p n queue (now (source .entry)) → Tables queue n (now (next .entry)) (now (unit .entry)) →
         2 * n ≤ length first →
         Going p n i (now (source .entry)) (now (head .entry)) (now (prev .entry)) (now (ran .entry)) (now (waiter .entry)) ready (now (rows .entry)) first (now (list .entry)) →
         Going p n (i + 1) (now (source .entry)) (now (head .exit)) (now (prev .exit)) (now (ran .exit)) (now (waiter .exit)) r (now (rows .exit)) first (now (list .exit))) ⌝ }
@@ -116,8 +120,9 @@ pub fn all(
     list: &mut [u32],
 ) -> usize
     requires { ⌜ (ready < 65536) × (n ≤ most-operations) ⌝ }
-    ensures { λ r. ⌜ (r ≤ n) × (length (now (list .exit)) ≡ length (now (list .entry))) × (drop (2 * n) (now (list .exit)) ≡ drop (2 * n) (now (list .entry))) ⌝ }
-    ensures { λ r. ⌜ ((p : Plan) (queue : List ℕ) → Run-given p n queue (now (source .entry)) → Cleared (now (rows .entry)) → 2 * n ≤ length (now (list .entry)) →
+    ensures bounds { λ r. ⌜ ((queue : List ℕ) → Prepared queue n (now (source .entry)) (now (head .entry)) (now (next .entry)) (now (ran .entry)) (now (waiter .entry)) ready →
+        Bounded n r (now (rows .entry)) (now (rows .exit)) (now (list .entry)) (now (list .exit))) ⌝ }
+    ensures of_plans { λ r. ⌜ ((p : Plan) (queue : List ℕ) → Run-given p n queue (now (source .entry)) → Cleared (now (rows .entry)) → 2 * n ≤ length (now (list .entry)) →
         Prepared queue n (now (source .entry)) (now (head .entry)) (now (next .entry)) (now (ran .entry)) (now (waiter .entry)) ready →
         Ran p n r (now (rows .exit)) (now (list .entry)) (now (list .exit))) ⌝ }
 {

@@ -17,10 +17,6 @@ fn number(n: u64) {
     io::print_decimal(STDOUT_FILENO, n);
 }
 
-fn wide(x: u32) -> u64 {
-    x as u64
-}
-
 // A new line before every sixteenth number.
 fn turn(i: usize) {
     if i % 16 == 0 {
@@ -35,7 +31,7 @@ fn numbers(a: &[u32; 128], many: usize)
     let mut i = 0;
     while i < many {
         turn(i);
-        number(wide(a[i]));
+        number(base_numbers::u32_to_u64(a[i]));
         i += 1;
     }
     line_end();
@@ -43,7 +39,7 @@ fn numbers(a: &[u32; 128], many: usize)
 
 fn show(told: Told) {
     text(b"  reuse");
-    number(wide(told.number));
+    number(base_numbers::u32_to_u64(told.number));
     number(told.place);
     number(told.answer);
     line_end();
@@ -53,8 +49,8 @@ fn show(told: Told) {
 fn head(name: &[u8], queue: u32, buffer: u32) {
     text(name);
     text(b", asked for");
-    number(wide(queue));
-    number(wide(buffer));
+    number(base_numbers::u32_to_u64(queue));
+    number(base_numbers::u32_to_u64(buffer));
     line_end();
 }
 

@@ -9,6 +9,7 @@ use lib.Dec.{leb, eqb}
 use lib.ListN.{getD}
 use borrow.Author.Tests.{eq-eqb, ne-eqb, lt-ltb, le-ltb}
 use Rattle.basics.specs.Lists.{highest-below, place-or}
+use Rattle.plan_format.specs.Sizes.{no-operation, most-operations}
 use Rattle.plan_order.specs.declared.Verdict.{Verdict}
 use Rattle.plan_order.specs.declared.Verdict.the-variants.{Fresh}
 use Rattle.plan_columns.specs.Shown.{shown-from}
@@ -18,7 +19,7 @@ use Rattle.questions.specs.ReusePass.{last-shown, seen, verdict-after, v
 
 -- ---- the queue's last operation, from the last to the first
 module _ (queue : List ℕ) (q : ℕ) where
-  pub last-none : (i : ℕ) → i ≤ 0 → 1024 ≡ last-shown queue q i
+  pub last-none : (i : ℕ) → i ≤ 0 → no-operation ≡ last-shown queue q i
   unfolding last-shown highest-below place-or
   last-none i l = let z : i ≡ 0 = omega arith in rw z
 
@@ -35,14 +36,15 @@ module _ (queue : List ℕ) (q : ℕ) where
 
 -- ---- whether an operation is seen
 module _ (queue rows : List ℕ) where
-  pub seen-none : (last i : ℕ) → 1024 ≤ last → false ≡ seen queue rows last i
+  pub seen-none : (last i : ℕ) → no-operation ≤ last → false ≡ seen queue rows last i
   unfolding seen
-  seen-none last i l = rw (le-ltb last 1024 l)
+  seen-none last i l = rw (le-ltb last no-operation l)
 
-  pub seen-some : (last i x a b : ℕ) → last < 1024 → x ≡ getD queue i 0 → a ≡ getD rows (16 * i + x % 16) 0 → b ≡ getD rows (16 * last + x % 16) 0 →
+  pub seen-some : (last i x a b : ℕ) → last < no-operation → x ≡ getD queue i 0 → a ≡ getD rows (16 * i + x % 16) 0 →
+      b ≡ getD rows (16 * last + x % 16) 0 →
       leb a b ≡ seen queue rows last i
   unfolding seen
-  seen-some last i x a b l e f g = rw (lt-ltb last 1024 l) (ordered-is queue rows i last x a b e f g)
+  seen-some last i x a b l e f g = rw (lt-ltb last no-operation l) (ordered-is queue rows i last x a b e f g)
 
 -- ---- the marks, from the first to the last
 -- the verdict from here is that of the whole
@@ -66,7 +68,8 @@ module _ {queue rows mark operation : List ℕ} {b last many : ℕ} where
     judging-other h = record { rest = rw (shown-next mark operation many k more, ← m-is, ne-eqb (m / 2) b h) at (j .rest) }
 
     -- a mark on the buffer
-    pub judging-own : {i : ℕ} {s : Bool} {v′ : Verdict} → i ≡ getD operation k 0 % 1024 → m / 2 ≡ b → s ≡ seen queue rows last i →
+    pub judging-own : {i : ℕ} {s : Bool} {v′ : Verdict} → i ≡ getD operation k 0 % most-operations → m / 2 ≡ b →
+        s ≡ seen queue rows last i →
         v′ ≡ verdict-after (eqb (m % 2) 1) s (a && s) →
         Judging queue rows mark operation b last many v′ (a && s) (k + 1)
     unfolding verdict-from

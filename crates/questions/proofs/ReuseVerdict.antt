@@ -11,6 +11,7 @@ use borrow.Author.Tests.{lt-ltb}
 use Rattle.basics.specs.Lists.{all, highest-below, place-or}
 use Rattle.basics.proofs.Tests.{by-cases, by-option}
 use Rattle.basics.proofs.Searches.{highest-some}
+use Rattle.plan_format.specs.Sizes.{no-operation}
 use Rattle.plan_format.specs.Plan.{Plan, count, op}
 use Rattle.plan_order.specs.Holdings.{Placed, is-free, buffer-marks}
 use Rattle.plan_order.specs.Reuse.{last-on, seen-by, last-mark, verdict-on, verdict}
@@ -29,21 +30,23 @@ unfolding highest-below
 highest-same zero f g h = refl
 highest-same (suc n) f g h = rw (h n (omega arith), highest-same n f g (λ i l. h i (omega arith)))
 
-last-of : (p : Plan) (queue : List ℕ) (q : ℕ) → Queue-column p queue → last-shown queue q (count p) ≡ place-or 1024 (last-on p q)
+last-of : (p : Plan) (queue : List ℕ) (q : ℕ) → Queue-column p queue →
+    last-shown queue q (count p) ≡ place-or no-operation (last-on p q)
 unfolding last-shown last-on Queue-column
 last-of p queue q shown =
-    ap (λ (o : Option ℕ). place-or 1024 o)
+    ap (λ (o : Option ℕ). place-or no-operation o)
     (highest-same (count p) (λ i. eqb (getD queue i 0) q) (λ i. eqb (op p i .queue) q) (λ i l. ap (λ (z : ℕ). eqb z q) (shown i l)))
 
 module _ {p : Plan} {n marks : ℕ} {queue mark operation rows : List ℕ} (shown : Verdict-given p n marks queue mark operation rows) where
-  seen-right : (q i : ℕ) → i < count p → seen queue rows (place-or 1024 (last-on p q)) i ≡ seen-by p (last-on p q) i
+  seen-right : (q i : ℕ) → i < count p → seen queue rows (place-or no-operation (last-on p q)) i ≡ seen-by p
+      (last-on p q) i
   unfolding seen seen-by place-or last-on
   seen-right q i l =
       by-option (last-on p q) (λ e. rw e)
       (λ j e. let inside : j < count p = highest-some (count p) (λ i. eqb (op p i .queue) q) j e .inside in
       rw (
         e,
-        lt-ltb j 1024 (omega (arith, shown .sound .few-operations)),
+        lt-ltb j no-operation (omega (arith, shown .sound .few-operations)),
         ordered-right p (shown .sound) queue rows (shown .queues-shown) (shown .rows-shown) i j l inside,
       ))
 
@@ -100,7 +103,8 @@ verdict-right {p} {n} {marks} {queue} {mark} {operation} {rows} q b shown last-i
     let last-right = last-is ∙ ap (last-shown queue q) (sym (shown .many)) ∙ last-of p queue q (shown .queues-shown) in
     e
     ∙ rw (last-right, marks-shown p marks mark operation (shown .sound) (shown .few-buffers) (shown .marks-shown))
-    (from-same p (seen queue rows (place-or 1024 (last-on p q))) (λ i. seen-by p (last-on p q) i) b (λ i l. seen-right shown q i l)
+    (from-same p (seen queue rows (place-or no-operation (last-on p q))) (λ i. seen-by p (last-on p q) i) b
+    (λ i l. seen-right shown q i l)
     Fresh true (plan-marks p) known
     ∙ from-at (λ i. seen-by p (last-on p q) i) b Fresh true (plan-marks p)
     ∙ rw (of-plan p b) (at-verdict p (last-on p q) (buffer-marks p b) (last-mark (buffer-marks p b))))

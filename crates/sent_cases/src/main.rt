@@ -24,10 +24,6 @@ fn number(n: u64) {
     digits(n);
 }
 
-fn wide(x: u32) -> u64 {
-    x as u64
-}
-
 // The slots with an epoch, each as axis:epoch.
 fn entries<'a>(axes: &'a [u64; 16], epochs: &'a [u64; 16]) {
     let mut i: usize = 0;
@@ -51,11 +47,11 @@ fn taint(tainted: bool) {
 
 fn show(operation: u32, capacity: u32, sent: Sent) {
     text(b"  ");
-    digits(wide(operation));
+    digits(base_numbers::u32_to_u64(operation));
     text(b" at");
-    number(wide(capacity));
+    number(base_numbers::u32_to_u64(capacity));
     text(b":");
-    number(wide(sent.number));
+    number(base_numbers::u32_to_u64(sent.number));
     number(sent.place);
     let f = sent.frontier;
     taint(f.tainted);
@@ -110,7 +106,7 @@ fn answer(d: Dominance) {
         Dominance::Yes => text(b"  yes\n"),
         Dominance::No => text(b"  no\n"),
         Dominance::Unknown => text(b"  unknown\n"),
-        Dominance::Refused(n) => number(wide(n)),
+        Dominance::Refused(n) => number(base_numbers::u32_to_u64(n)),
     }
 }
 
@@ -135,7 +131,7 @@ fn numbers(a: &[u32; 64], many: usize)
     let mut i = 0;
     while i < many {
         turn(i);
-        number(wide(a[i]));
+        number(base_numbers::u32_to_u64(a[i]));
         i += 1;
     }
     line_end();

@@ -1,7 +1,6 @@
 // Text made in lent room, of which the first `at` bytes are taken. What goes past the end of the room is left out. Each
 // function hands back where its text ends.
 ghost use mathlib.Core.List.{[], _∷_};
-ghost use mathlib.Core.Path.{_≡_};
 ghost use lib.ListN.{take};
 ghost use Rattle.text.specs.Text.{Puts, decimal, after-blank, blanked, spaced, refused-text};
 
@@ -46,12 +45,6 @@ pub fn next(out: &mut [u8], at: usize, n: u64) -> usize
     number(out, end, n)
 }
 
-fn wide(n: u32) -> u64
-    ensures { λ r. ⌜ r ≡ n ⌝ }
-{
-    n as u64
-}
-
 // Numbers, each after a blank.
 pub fn list(out: &mut [u8], at: usize, numbers: &[u32]) -> usize
     ensures { λ r. ⌜ Puts (blanked (now (numbers .entry))) (now (out .entry)) at (now (out .exit)) r ⌝ }
@@ -59,7 +52,7 @@ pub fn list(out: &mut [u8], at: usize, numbers: &[u32]) -> usize
     let mut end = at;
     let mut i = 0;
     while i < numbers.len() {
-        end = next(out, end, wide(numbers[i]));
+        end = next(out, end, base_numbers::u32_to_u64(numbers[i]));
         i += 1;
     }
     end

@@ -5,14 +5,14 @@ use borrow.Author.Needs.{needs}
 use Rattle.cells.proofs.get16.Statement.{statement}
 use Rattle.cells.proofs.get16.Tie as tie
 
-mul-wide16 : tie.Need-mul-wide16
-mul-wide16 c = search needs
+mul-u16-to-usize : tie.Need-mul-u16-to-usize
+mul-u16-to-usize c = search needs
 
-shared-slice-read-wide16 : tie.Need-shared-slice-read-wide16
-shared-slice-read-wide16 c = search needs
+shared-slice-read-u16-to-usize : tie.Need-shared-slice-read-u16-to-usize
+shared-slice-read-u16-to-usize c = search needs
 
-wide16-requires : tie.Need-wide16-requires
-wide16-requires c κs = search needs
+u16-to-usize-requires : tie.Need-u16-to-usize-requires
+u16-to-usize-requires c κs = search needs
 
 returns : tie.Need-returns
 returns c = search needs
@@ -22,4 +22,4 @@ returns-2 c = sym (List·getD-eq-default (c .before .before .args .a .now) 0 (c 
 
 pub get16-spec : {M : Type 1} → statement M
 get16-spec =
-    tie.close (tie.spec mul-wide16 shared-slice-read-wide16 wide16-requires returns returns-2)
+    tie.close (tie.spec mul-u16-to-usize shared-slice-read-u16-to-usize u16-to-usize-requires returns returns-2)

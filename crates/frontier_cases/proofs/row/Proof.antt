@@ -14,14 +14,14 @@ abbrev μ-loop : tie.MeasureT-loop
 loop-holds : tie.Need-loop-holds Inv-loop μ-loop
 loop-holds c = search needs
 
-mul-wide : tie.Need-mul-wide Inv-loop μ-loop
-mul-wide c = search needs
+mul-u32-to-u64 : tie.Need-mul-u32-to-u64 Inv-loop μ-loop
+mul-u32-to-u64 c = search needs
 
-shared-slice-read-wide : tie.Need-shared-slice-read-wide Inv-loop μ-loop
-shared-slice-read-wide c = search needs
+shared-slice-read-u32-to-u64 : tie.Need-shared-slice-read-u32-to-u64 Inv-loop μ-loop
+shared-slice-read-u32-to-u64 c = search needs
 
-wide-requires : tie.Need-wide-requires Inv-loop μ-loop
-wide-requires c κs = search needs
+u32-to-u64-requires : tie.Need-u32-to-u64-requires Inv-loop μ-loop
+u32-to-u64-requires c κs = search needs
 
 number-requires : tie.Need-number-requires Inv-loop μ-loop
 number-requires c κs = search needs
@@ -51,9 +51,9 @@ row-spec =
     Inv-loop
     μ-loop
     loop-holds
-    mul-wide
-    shared-slice-read-wide
-    wide-requires
+    mul-u32-to-u64
+    shared-slice-read-u32-to-u64
+    u32-to-u64-requires
     number-requires
     add-i
     loop-less

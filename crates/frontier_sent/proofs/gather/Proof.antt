@@ -34,17 +34,17 @@ mul-raise c = search needs
 element-copy-out-raise : tie.Need-element-copy-out-raise Inv-loop μ-loop
 element-copy-out-raise c = search needs
 
-add-wide : tie.Need-add-wide Inv-loop μ-loop
-add-wide c = search needs
+add-u32-to-u64 : tie.Need-add-u32-to-u64 Inv-loop μ-loop
+add-u32-to-u64 c = search needs
 
-mul-wide : tie.Need-mul-wide Inv-loop μ-loop
-mul-wide c = search needs
+mul-u32-to-u64 : tie.Need-mul-u32-to-u64 Inv-loop μ-loop
+mul-u32-to-u64 c = search needs
 
-shared-slice-read-wide : tie.Need-shared-slice-read-wide Inv-loop μ-loop
-shared-slice-read-wide c = search needs
+shared-slice-read-u32-to-u64 : tie.Need-shared-slice-read-u32-to-u64 Inv-loop μ-loop
+shared-slice-read-u32-to-u64 c = search needs
 
-wide-requires : tie.Need-wide-requires Inv-loop μ-loop
-wide-requires c κs = search needs
+u32-to-u64-requires : tie.Need-u32-to-u64-requires Inv-loop μ-loop
+u32-to-u64-requires c κs = search needs
 
 raise-requires : tie.Need-raise-requires Inv-loop μ-loop
 raise-requires c κs = search needs
@@ -58,7 +58,8 @@ loop-less c = search needs
 loop-again : tie.Need-loop-again Inv-loop μ-loop
 loop-again c = (
   omega arith,
-  raised-more _ _ _ _ _ _ _ _ (c .before .before .before .before .before .loop-test .taken) (c .before .before .wide .ensures) (c .before .raise .ensures .0)
+  raised-more _ _ _ _ _ _ _ _ (c .before .before .before .before .before .loop-test .taken)
+      (c .before .before .u32-to-u64 .ensures) (c .before .raise .ensures .0)
       ∙ c .before .before .before .before .before .before .loop .inv .1,
 )
 
@@ -77,10 +78,10 @@ gather-spec =
     add-raise
     mul-raise
     element-copy-out-raise
-    add-wide
-    mul-wide
-    shared-slice-read-wide
-    wide-requires
+    add-u32-to-u64
+    mul-u32-to-u64
+    shared-slice-read-u32-to-u64
+    u32-to-u64-requires
     raise-requires
     add-q
     loop-less

@@ -11,11 +11,11 @@ use Rattle.plan_columns.proofs.add.Tie as tie
 returns : tie.Need-returns
 returns c = (λ l. absurd (omega (arith, c .if1 .taken)), λ _. (refl, refl, refl))
 
-element-copy-out-wide : tie.Need-element-copy-out-wide
-element-copy-out-wide c = search needs
+element-copy-out-u64-to-usize : tie.Need-element-copy-out-u64-to-usize
+element-copy-out-u64-to-usize c = search needs
 
-wide-requires : tie.Need-wide-requires
-wide-requires c κs = search needs
+u64-to-usize-requires : tie.Need-u64-to-usize-requires
+u64-to-usize-requires c κs = search needs
 
 put16-requires : tie.Need-put16-requires
 put16-requires c κs = search needs
@@ -57,7 +57,7 @@ returns-2 c =
     let (s, signals) = c .before .before .before .put-signals .ensures in
     let (m, marks) = c .put-marks .ensures in (
       λ _. record {
-        queues-added = record { stored = c .before .before .before .before .before .before .before .before .before .before .put16 .ensures ∙ ap (λ (z : ℕ). set (a .queue .now) (a .i) (z % 65536)) (c .before .before .before .before .before .before .before .before .before .before .before .wide .ensures); size = c .before .before .before .before .before .before .before .before .before .before .before .before .before .put16-arg .given .0 .1 };
+        queues-added = record { stored = c .before .before .before .before .before .before .before .before .before .before .put16 .ensures ∙ ap (λ (z : ℕ). set (a .queue .now) (a .i) (z % 65536)) (c .before .before .before .before .before .before .before .before .before .before .before .u64-to-usize .ensures); size = c .before .before .before .before .before .before .before .before .before .before .before .before .before .put16-arg .given .0 .1 };
         wait-semaphores-added = wait-semaphores-put _ 0 w s m (a .i) (waits .0) (c .before .before .before .before .before .before .before .before .before .put-waits-arg .given .0 .1);
         wait-values-added = wait-values-put _ 0 w s m (a .i) (waits .1) (c .before .before .before .before .before .before .before .before .put-waits-arg2 .given .0 .1);
         signal-semaphores-added = signal-semaphores-put _ 0 w s m (a .i) (signals .0) (c .before .before .before .before .before .before .put-signals-arg .given .0 .1);
@@ -77,8 +77,8 @@ add-spec =
     tie.close
     (tie.spec
     returns
-    element-copy-out-wide
-    wide-requires
+    element-copy-out-u64-to-usize
+    u64-to-usize-requires
     put16-requires
     put-waits-requires
     mul-signals-at

@@ -4,11 +4,11 @@ use Rattle.plan_columns.proofs.Ownership.{owners-stored, owners-shown}
 use Rattle.plan_columns.proofs.owners.Statement.{statement}
 use Rattle.plan_columns.proofs.owners.Tie as tie
 
-lower-requires : tie.Need-lower-requires
-lower-requires c κs = search needs
+min-usize-requires : tie.Need-min-usize-requires
+min-usize-requires c κs = search needs
 
-lower-requires-2 : tie.Need-lower-requires-2
-lower-requires-2 c κs = search needs
+min-usize-requires-2 : tie.Need-min-usize-requires-2
+min-usize-requires-2 c κs = search needs
 
 owned-requires : tie.Need-owned-requires
 owned-requires c κs = search needs
@@ -16,8 +16,9 @@ owned-requires c κs = search needs
 returns : tie.Need-returns
 returns c =
     let start = c .before .before .before .before .before .args in
-    let e = owners-stored (start .numbers .now) (start .owner .now) _ _ _ _ _ (c .before .before .before .lower .ensures) (c .before .before .lower2 .ensures) (c .owned .ensures) in
+    let e = owners-stored (start .numbers .now) (start .owner .now) _ _ _ _ _
+    (c .before .before .before .min-usize .ensures) (c .before .before .min-usize2 .ensures) (c .owned .ensures) in
     (e, λ p stand low few queues known. owners-shown p (start .numbers .now) (start .owner .now) _ _ _ stand low few queues known e (c .before .owned-arg .given .0 .1))
 
 pub owners-spec : {M : Type 1} → statement M
-owners-spec = tie.close (tie.spec lower-requires lower-requires-2 owned-requires returns)
+owners-spec = tie.close (tie.spec min-usize-requires min-usize-requires-2 owned-requires returns)

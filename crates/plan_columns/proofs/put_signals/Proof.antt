@@ -13,14 +13,14 @@ Inv-loop window at i had semaphore₀ value₀ operation₀ many j₀ semaphore 
 abbrev μ-loop : tie.MeasureT-loop
 μ-loop window at i had semaphore₀ value₀ operation₀ many j₀ semaphore value operation j = many - j
 
-mul-wide : tie.Need-mul-wide Inv-loop μ-loop
-mul-wide c = search needs
+mul-u64-to-usize : tie.Need-mul-u64-to-usize Inv-loop μ-loop
+mul-u64-to-usize c = search needs
 
-element-copy-out-wide : tie.Need-element-copy-out-wide Inv-loop μ-loop
-element-copy-out-wide c = search needs
+element-copy-out-u64-to-usize : tie.Need-element-copy-out-u64-to-usize Inv-loop μ-loop
+element-copy-out-u64-to-usize c = search needs
 
-wide-requires : tie.Need-wide-requires Inv-loop μ-loop
-wide-requires c κs = search needs
+u64-to-usize-requires : tie.Need-u64-to-usize-requires Inv-loop μ-loop
+u64-to-usize-requires c κs = search needs
 
 loop-holds : tie.Need-loop-holds Inv-loop μ-loop
 loop-holds c = (putting-none, putting-none, putting-none)
@@ -28,23 +28,23 @@ loop-holds c = (putting-none, putting-none, putting-none)
 add-put16 : tie.Need-add-put16 Inv-loop μ-loop
 add-put16 c = search needs
 
-add-wide : tie.Need-add-wide Inv-loop μ-loop
-add-wide c = search needs
+add-u64-to-usize : tie.Need-add-u64-to-usize Inv-loop μ-loop
+add-u64-to-usize c = search needs
 
-mul-wide-2 : tie.Need-mul-wide-2 Inv-loop μ-loop
-mul-wide-2 c = search needs
+mul-u64-to-usize-2 : tie.Need-mul-u64-to-usize-2 Inv-loop μ-loop
+mul-u64-to-usize-2 c = search needs
 
-add-wide-2 : tie.Need-add-wide-2 Inv-loop μ-loop
-add-wide-2 c = search needs
+add-u64-to-usize-2 : tie.Need-add-u64-to-usize-2 Inv-loop μ-loop
+add-u64-to-usize-2 c = search needs
 
-mul-wide-3 : tie.Need-mul-wide-3 Inv-loop μ-loop
-mul-wide-3 c = search needs
+mul-u64-to-usize-3 : tie.Need-mul-u64-to-usize-3 Inv-loop μ-loop
+mul-u64-to-usize-3 c = search needs
 
-element-copy-out-wide-2 : tie.Need-element-copy-out-wide-2 Inv-loop μ-loop
-element-copy-out-wide-2 c = search needs
+element-copy-out-u64-to-usize-2 : tie.Need-element-copy-out-u64-to-usize-2 Inv-loop μ-loop
+element-copy-out-u64-to-usize-2 c = search needs
 
-wide-requires-2 : tie.Need-wide-requires-2 Inv-loop μ-loop
-wide-requires-2 c κs = search needs
+u64-to-usize-requires-2 : tie.Need-u64-to-usize-requires-2 Inv-loop μ-loop
+u64-to-usize-requires-2 c κs = search needs
 
 put16-requires : tie.Need-put16-requires Inv-loop μ-loop
 put16-requires c κs = search needs
@@ -86,7 +86,10 @@ loop-again : tie.Need-loop-again Inv-loop μ-loop
 loop-again c =
     let l = c .before .before .before .before .before .before .before .before .before .before .before .before .before .before .before .before .loop .inv in
     let on = c .before .before .before .before .before .before .before .before .before .before .before .before .before .before .before .loop-test .taken in (
-      putting-next (l .0) on (c .before .before .before .before .before .before .before .before .before .before .before .put16 .ensures) (ap (λ (z : ℕ). z % 65536) (c .before .before .before .before .before .before .before .before .before .before .before .before .wide2 .ensures)),
+      putting-next (l .0) on
+          (c .before .before .before .before .before .before .before .before .before .before .before .put16 .ensures)
+          (ap (λ (z : ℕ). z % 65536)
+          (c .before .before .before .before .before .before .before .before .before .before .before .before .u64-to-usize2 .ensures)),
       putting-next (l .1) on (c .before .before .before .before .before .before .put64 .ensures) refl,
       putting-next (l .2) on (c .before .before .put162 .ensures) (small-is _ (c .before .before .before .before .before .before .before .before .before .before .before .before .before .before .before .before .before .before .before .before .before .before .pre .1)),
     )
@@ -103,8 +106,10 @@ same-length-3 c = putting-length (c .before .loop .inv .2)
 returns : tie.Need-returns Inv-loop μ-loop
 returns c =
     let l = c .before .loop .inv in
-    let done = c .loop-test .left in
-    (ap (λ (z : ℕ). z % 4) (c .before .before .wide .ensures), (putting-end done (l .0), (putting-end done (l .1), putting-end done (l .2))))
+    let done = c .loop-test .left in (
+      ap (λ (z : ℕ). z % 4) (c .before .before .u64-to-usize .ensures),
+      (putting-end done (l .0), (putting-end done (l .1), putting-end done (l .2))),
+    )
 
 pub put-signals-spec : {M : Type 1} → statement M
 put-signals-spec =
@@ -112,17 +117,17 @@ put-signals-spec =
     (tie.spec
     Inv-loop
     μ-loop
-    mul-wide
-    element-copy-out-wide
-    wide-requires
+    mul-u64-to-usize
+    element-copy-out-u64-to-usize
+    u64-to-usize-requires
     loop-holds
     add-put16
-    add-wide
-    mul-wide-2
-    add-wide-2
-    mul-wide-3
-    element-copy-out-wide-2
-    wide-requires-2
+    add-u64-to-usize
+    mul-u64-to-usize-2
+    add-u64-to-usize-2
+    mul-u64-to-usize-3
+    element-copy-out-u64-to-usize-2
+    u64-to-usize-requires-2
     put16-requires
     add-put64
     add-put64-2

@@ -14,11 +14,11 @@ Inv-loop window i semaphore₀ value₀ many j₀ semaphore value j = Putting (�
 abbrev μ-loop : tie.MeasureT-loop
 μ-loop window i semaphore₀ value₀ many j₀ semaphore value j = 3 - j
 
-element-copy-out-wide : tie.Need-element-copy-out-wide Inv-loop μ-loop
-element-copy-out-wide c = search needs
+element-copy-out-u64-to-usize : tie.Need-element-copy-out-u64-to-usize Inv-loop μ-loop
+element-copy-out-u64-to-usize c = search needs
 
-wide-requires : tie.Need-wide-requires Inv-loop μ-loop
-wide-requires c κs = search needs
+u64-to-usize-requires : tie.Need-u64-to-usize-requires Inv-loop μ-loop
+u64-to-usize-requires c κs = search needs
 
 loop-holds : tie.Need-loop-holds Inv-loop μ-loop
 loop-holds c = (putting-none, putting-none)
@@ -103,8 +103,10 @@ same-length-2 c = putting-length (c .before .loop .inv .1)
 returns : tie.Need-returns Inv-loop μ-loop
 returns c =
     let l = c .before .loop .inv in
-    let done = c .loop-test .left in
-    (ap (λ (z : ℕ). z % 4) (c .before .before .wide .ensures), (putting-end done (l .0), putting-end done (l .1)))
+    let done = c .loop-test .left in (
+      ap (λ (z : ℕ). z % 4) (c .before .before .u64-to-usize .ensures),
+      (putting-end done (l .0), putting-end done (l .1)),
+    )
 
 pub put-waits-spec : {M : Type 1} → statement M
 put-waits-spec =
@@ -112,8 +114,8 @@ put-waits-spec =
     (tie.spec
     Inv-loop
     μ-loop
-    element-copy-out-wide
-    wide-requires
+    element-copy-out-u64-to-usize
+    u64-to-usize-requires
     loop-holds
     mul-waited
     add-waited

@@ -4,7 +4,7 @@ use native.Mathlib.Omega.{arith}
 use borrow.Author.Needs.{needs}
 use Rattle.plan_format.proofs.Plans.{scanned-limits}
 use Rattle.plan_format.proofs.Positions.{owners-in}
-use Rattle.plan_columns.proofs.Limits.{limits, few-queues}
+use Rattle.plan_columns.proofs.Limits.{few-queues}
 use Rattle.plan_load.proofs.Outcomes.{head-few, head-semaphores}
 use Rattle.plan_load.proofs.columns.Statement.{statement}
 use Rattle.plan_load.proofs.columns.Tie as tie
@@ -25,7 +25,10 @@ returns c =
       o .0,
       λ e.
           let clean = sym (o .0 .number) ∙ e in
-          c .before .before .before .before .before .before .before .before .before .owners .ensures .1 _ (o .1 e) (omega (arith, head-few head z)) (omega (arith, limits _ clean .few-semaphores, head-semaphores head z (o .1 e))) (few-queues (limits _ clean)) (owners-in (scanned-limits _ clean)),
+          c .before .before .before .before .before .before .before .before .before .owners .ensures .1 _ (o .1 e)
+          (omega (arith, head-few head z))
+          (omega (arith, scanned-limits _ clean .few-semaphores, head-semaphores head z (o .1 e)))
+          (few-queues (scanned-limits _ clean)) (owners-in (scanned-limits _ clean)),
     )
 
 pub columns-spec : {M : Type 1} → statement M

@@ -5,8 +5,8 @@ use Rattle.plan_marks.proofs.Found.{lower-found, broken-found}
 use Rattle.plan_marks.proofs.broken.Statement.{statement}
 use Rattle.plan_marks.proofs.broken.Tie as tie
 
-lower-requires : tie.Need-lower-requires
-lower-requires c κs = search needs
+min-usize-requires : tie.Need-min-usize-requires
+min-usize-requires c κs = search needs
 
 uses-requires : tie.Need-uses-requires
 uses-requires c κs = search needs
@@ -14,14 +14,15 @@ uses-requires c κs = search needs
 reuses-requires : tie.Need-reuses-requires
 reuses-requires c κs = search needs
 
-lower-requires-2 : tie.Need-lower-requires-2
-lower-requires-2 c κs = search needs
+min-usize-requires-2 : tie.Need-min-usize-requires-2
+min-usize-requires-2 c κs = search needs
 
 returns : tie.Need-returns
 returns c =
-    let e = lower-found _ _ _ _ _ _ _ _ _ _ (c .before .before .before .lower .ensures) (c .before .before .uses .ensures) (c .before .reuses .ensures) (c .lower2 .ensures) in
+    let e = lower-found _ _ _ _ _ _ _ _ _ _ (c .before .before .before .min-usize .ensures)
+    (c .before .before .uses .ensures) (c .before .reuses .ensures) (c .min-usize2 .ensures) in
     (e, λ p shown. e ∙ broken-found p _ _ _ _ _ _ shown)
 
 pub broken-spec : {M : Type 1} → statement M
 broken-spec =
-    tie.close (tie.spec lower-requires uses-requires reuses-requires lower-requires-2 returns)
+    tie.close (tie.spec min-usize-requires uses-requires reuses-requires min-usize-requires-2 returns)

@@ -3,6 +3,7 @@
 use mathlib.Core.Path.{ap}
 use Prim.Native.Nat.{ℕ, _%_}
 use borrow.Author.Needs.{needs}
+use Rattle.plan_format.specs.Sizes.{most-operations}
 use Rattle.plan_marks.proofs.Turns.{Backward, backward-none, backward-end, backward-more}
 use Rattle.plan_marks.proofs.uses.Statement.{statement}
 use Rattle.plan_marks.proofs.uses.Tie as tie
@@ -19,23 +20,23 @@ loop-holds c = backward-none
 sub-k : tie.Need-sub-k Inv-loop μ-loop
 sub-k c = search needs
 
-mul-wide : tie.Need-mul-wide Inv-loop μ-loop
-mul-wide c = search needs
+mul-u16-to-usize : tie.Need-mul-u16-to-usize Inv-loop μ-loop
+mul-u16-to-usize c = search needs
 
-element-copy-out-wide : tie.Need-element-copy-out-wide Inv-loop μ-loop
-element-copy-out-wide c = search needs
+element-copy-out-u16-to-usize : tie.Need-element-copy-out-u16-to-usize Inv-loop μ-loop
+element-copy-out-u16-to-usize c = search needs
 
-wide-requires : tie.Need-wide-requires Inv-loop μ-loop
-wide-requires c κs = search needs
+u16-to-usize-requires : tie.Need-u16-to-usize-requires Inv-loop μ-loop
+u16-to-usize-requires c κs = search needs
 
-mul-wide-2 : tie.Need-mul-wide-2 Inv-loop μ-loop
-mul-wide-2 c = search needs
+mul-u16-to-usize-2 : tie.Need-mul-u16-to-usize-2 Inv-loop μ-loop
+mul-u16-to-usize-2 c = search needs
 
-element-copy-out-wide-2 : tie.Need-element-copy-out-wide-2 Inv-loop μ-loop
-element-copy-out-wide-2 c = search needs
+element-copy-out-u16-to-usize-2 : tie.Need-element-copy-out-u16-to-usize-2 Inv-loop μ-loop
+element-copy-out-u16-to-usize-2 c = search needs
 
-wide-requires-2 : tie.Need-wide-requires-2 Inv-loop μ-loop
-wide-requires-2 c κs = search needs
+u16-to-usize-requires-2 : tie.Need-u16-to-usize-requires-2 Inv-loop μ-loop
+u16-to-usize-requires-2 c κs = search needs
 
 freed-requires : tie.Need-freed-requires Inv-loop μ-loop
 freed-requires c κs = search needs
@@ -53,7 +54,15 @@ loop-less : tie.Need-loop-less Inv-loop μ-loop
 loop-less c = search needs
 
 loop-again : tie.Need-loop-again Inv-loop μ-loop
-loop-again c = backward-more (c .before .before .before .before .before .before .before .before .before .before .before .loop .inv) (c .before .before .before .before .before .before .before .before .before .before .loop-test .taken) (ap (λ (z : ℕ). z % 512) (c .before .before .before .before .before .before .before .before .wide .ensures)) (ap (λ (z : ℕ). z % 1024) (c .before .before .before .before .before .before .wide2 .ensures)) (c .before .before .before .before .freed .ensures) (c .before .before .before .late .ensures) (c .before .before .pick .ensures) (c .note .ensures)
+loop-again c = backward-more
+    (c .before .before .before .before .before .before .before .before .before .before .before .loop .inv)
+    (c .before .before .before .before .before .before .before .before .before .before .loop-test .taken)
+    (ap (λ (z : ℕ). z % 512)
+    (c .before .before .before .before .before .before .before .before .u16-to-usize .ensures .0))
+    (ap (λ (z : ℕ). z % most-operations)
+    (c .before .before .before .before .before .before .u16-to-usize2 .ensures .0))
+    (c .before .before .before .before .freed .ensures) (c .before .before .before .late .ensures)
+    (c .before .before .pick .ensures) (c .note .ensures)
 
 returns : tie.Need-returns Inv-loop μ-loop
 returns c = backward-end (c .loop-test .left) (c .before .loop .inv)
@@ -66,12 +75,12 @@ uses-spec =
     μ-loop
     loop-holds
     sub-k
-    mul-wide
-    element-copy-out-wide
-    wide-requires
-    mul-wide-2
-    element-copy-out-wide-2
-    wide-requires-2
+    mul-u16-to-usize
+    element-copy-out-u16-to-usize
+    u16-to-usize-requires
+    mul-u16-to-usize-2
+    element-copy-out-u16-to-usize-2
+    u16-to-usize-requires-2
     freed-requires
     late-requires
     pick-requires

@@ -5,14 +5,14 @@ use Rattle.plan_numbers.proofs.Rests.{rest-told, rest-few}
 use Rattle.plan_numbers.proofs.read_rest.Statement.{statement}
 use Rattle.plan_numbers.proofs.read_rest.Tie as tie
 
-lower-requires : tie.Need-lower-requires
-lower-requires c κs = search needs
+min-usize-requires : tie.Need-min-usize-requires
+min-usize-requires c κs = search needs
 
 copy-requires : tie.Need-copy-requires
 copy-requires c κs = search needs
 
-lower-requires-2 : tie.Need-lower-requires-2
-lower-requires-2 c κs = search needs
+min-usize-requires-2 : tie.Need-min-usize-requires-2
+min-usize-requires-2 c κs = search needs
 
 few-requires : tie.Need-few-requires
 few-requires c κs = search needs
@@ -34,15 +34,15 @@ returns c =
     let p = several .several .ensures in
     let asked = copy-requires (copied .before) (copied .copy .lifetimes) in
     let room = several-requires (several .before) (several .several .lifetimes) .room in
-    let law = rest-told (a .plan .now) (a .head .now) (a .numbers .now) (a .at) (a .h) (place .lower2 .ensures)
-    (before .lower .ensures)
+    let law = rest-told (a .plan .now) (a .head .now) (a .numbers .now) (a .at) (a .h) (place .min-usize2 .ensures)
+    (before .min-usize .ensures)
     (few .few .ensures) (copied .copy .ensures) (asked .0) (asked .1) room p in
     let told = law .0 (c .finished .result) (c .finished .ensures) in (
       told,
       (
         law .1,
-        rest-few (a .plan .now) (a .head .now) (a .numbers .now) (a .at) (a .h) (place .lower2 .ensures)
-            (before .lower .ensures) (few .few .ensures)
+        rest-few (a .plan .now) (a .head .now) (a .numbers .now) (a .at) (a .h) (place .min-usize2 .ensures)
+            (before .min-usize .ensures) (few .few .ensures)
             (copied .copy .ensures) (asked .0) (asked .1) room p (c .finished .result) told,
       ),
     )
@@ -51,9 +51,9 @@ pub read-rest-spec : {M : Type 1} → statement M
 read-rest-spec =
     tie.close
     (tie.spec
-    lower-requires
+    min-usize-requires
     copy-requires
-    lower-requires-2
+    min-usize-requires-2
     few-requires
     several-requires
     finished-requires

@@ -2,12 +2,14 @@
 use borrow.Author.Needs.{needs}
 use Rattle.plan_run.proofs.run.Statement.{statement}
 use Rattle.plan_run.proofs.run.Tie as tie
+use Rattle.plan_run.specs.State.{Prepared}
+use Rattle.plan_run.proofs.Bounds.{bounded-none}
 use mathlib.Core.Path.{refl}
 use native.Mathlib.Omega.{arith}
 
 returns : tie.Need-returns
 returns c = (
-  record { few = omega arith; long = refl; past = refl; over = λ l. (refl, refl, refl) },
+  bounded-none _ _ _,
   λ p shown cleared room. absurd (omega (arith, shown .sound .few-operations, shown .many)),
 )
 
@@ -31,10 +33,14 @@ returns-2 c =
     let steps = c .before .before in
     let woken = steps .before .before .before .before .before .before .before in
     let chained = woken .before .before .before .before in
-    let all = steps .all .ensures in (
-      record { few = all .0 .0; long = all .0 .1; past = all .0 .2; over = λ l. absurd (omega arith) },
-      λ p shown cleared room.
-          all .1 p _ shown cleared room (record { chained = chained .chain .ensures; ran-is = refl; looked = woken .wake .ensures .1 }),
+    let all = steps .all .ensures in
+    let prepared : Prepared _ _ _ _ _ _ _ _ = record {
+      chained = chained .chain .ensures;
+      ran-is = refl;
+      looked = woken .wake .ensures .1;
+    } in (
+      all .0 _ prepared,
+      λ p shown cleared room. all .1 p _ shown cleared room prepared,
     )
 
 pub run-spec : {M : Type 1} → statement M

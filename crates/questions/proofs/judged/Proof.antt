@@ -2,6 +2,7 @@
 use mathlib.Core.Path.{ap}
 use Prim.Native.Nat.{ℕ, _-_, _%_}
 use borrow.Author.Needs.{needs}
+use Rattle.plan_format.specs.Sizes.{most-operations}
 use Rattle.questions.proofs.ReuseTurns.{Judging, judging-none, judging-end, judging-other, judging-own}
 use Rattle.questions.proofs.judged.Statement.{statement}
 use Rattle.questions.proofs.judged.Tie as tie
@@ -37,7 +38,7 @@ loop-again : tie.Need-loop-again Inv-loop μ-loop
 loop-again c =
     judging-own (c .before .before .before .before .before .before .loop .inv) (c .before .before .before .before .before .loop-test .taken)
     (ap (λ (z : ℕ). z % 512) (c .before .before .before .before .get16 .ensures))
-    (ap (λ (z : ℕ). z % 1024) (c .before .before .before .get162 .ensures)) (c .before .before .if1 .taken)
+    (ap (λ (z : ℕ). z % most-operations) (c .before .before .before .get162 .ensures)) (c .before .before .if1 .taken)
     (c .before .seen .ensures) (c .after .ensures)
 
 loop-less-2 : tie.Need-loop-less-2 Inv-loop μ-loop

@@ -18,14 +18,14 @@ loop-holds : tie.Need-loop-holds Inv-loop μ-loop
 unfolding blanked
 loop-holds c = (omega arith, puts-none _ _)
 
-mul-wide : tie.Need-mul-wide Inv-loop μ-loop
-mul-wide c = search needs
+mul-u32-to-u64 : tie.Need-mul-u32-to-u64 Inv-loop μ-loop
+mul-u32-to-u64 c = search needs
 
-shared-slice-read-wide : tie.Need-shared-slice-read-wide Inv-loop μ-loop
-shared-slice-read-wide c = omega arith
+shared-slice-read-u32-to-u64 : tie.Need-shared-slice-read-u32-to-u64 Inv-loop μ-loop
+shared-slice-read-u32-to-u64 c = omega arith
 
-wide-requires : tie.Need-wide-requires Inv-loop μ-loop
-wide-requires c κs = search needs
+u32-to-u64-requires : tie.Need-u32-to-u64-requires Inv-loop μ-loop
+u32-to-u64-requires c κs = search needs
 
 next-requires : tie.Need-next-requires Inv-loop μ-loop
 next-requires c κs = search needs
@@ -37,8 +37,14 @@ loop-less : tie.Need-loop-less Inv-loop μ-loop
 loop-less c = omega arith
 
 loop-again : tie.Need-loop-again Inv-loop μ-loop
-loop-again c =
-    (omega arith, puts-number (c .before .before .before .before .before .before .before .before .before .before .args .numbers .now) (c .before .before .before .before .before .before .before .loop .i) (omega arith) (c .before .before .before .before .before .before .before .loop .inv .1) (rw (c .before .before .before .wide .ensures) at (c .before .before .next .ensures)))
+loop-again c = (
+  omega arith,
+  puts-number
+      (c .before .before .before .before .before .before .before .before .before .before .args .numbers .now)
+      (c .before .before .before .before .before .before .before .loop .i) (omega arith)
+      (c .before .before .before .before .before .before .before .loop .inv .1)
+      (rw (c .before .before .before .u32-to-u64 .ensures) at (c .before .before .next .ensures)),
+)
 
 same-length : tie.Need-same-length Inv-loop μ-loop
 same-length c = puts-length (c .before .loop .inv .1)
@@ -49,4 +55,4 @@ returns c = puts-list (c .before .before .before .before .args .numbers .now) (c
 pub list-spec : {M : Type 1} → statement M
 list-spec =
     tie.close
-    (tie.spec Inv-loop μ-loop loop-holds mul-wide shared-slice-read-wide wide-requires next-requires add-i loop-less loop-again same-length returns)
+    (tie.spec Inv-loop μ-loop loop-holds mul-u32-to-u64 shared-slice-read-u32-to-u64 u32-to-u64-requires next-requires add-i loop-less loop-again same-length returns)

@@ -53,8 +53,8 @@ lookup-from-requires c κs = (search needs, fits (c .before .before .before .bef
 enum-known-answer : tie.Need-enum-known-answer
 enum-known-answer c = search needs
 
-larger-requires : tie.Need-larger-requires
-larger-requires c κs = search needs
+max-u64-requires : tie.Need-max-u64-requires
+max-u64-requires c κs = search needs
 
 mul-self : tie.Need-mul-self
 mul-self c = record { fits = omega (arith, listed (c .before .before)) }
@@ -70,7 +70,7 @@ returns-2 c =
     raise-all _ _ _ _ _
     (raise-stored (entry .before .before .before .before .before .before .args .t1) _ _ _ _
     (entry .before .before .judged .ensures) (entry .before .if1 .left) _ _ _
-    (found .lookup-from .ensures) (c .before .before .answer .given .1) (c .larger .ensures) (entry .if2 .taken))
+    (found .lookup-from .ensures) (c .before .before .answer .given .1) (c .max-u64 .ensures) (entry .if2 .taken))
 
 enum-told : tie.Need-enum-told
 enum-told c = search needs
@@ -107,7 +107,7 @@ raise-spec =
     returns
     lookup-from-requires
     enum-known-answer
-    larger-requires
+    max-u64-requires
     mul-self
     element-write-self
     returns-2

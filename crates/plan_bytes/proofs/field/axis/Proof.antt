@@ -58,7 +58,10 @@ unfolding axis-field
 returns-4 c =
     let s = c .before .before .before .before .before .before .before .before .before .before .before .before .before .before in
     rw (c .past .ensures)
-    (kept (c .before .before .before .before .before .before .before .before .before .before .if1 .left) (s .pre .inside) (c .before .before .before .before .before .before .before .before .before .if2 .left) refl (axis-new _ _ _ (c .before .before .before .before .before .before .repeated .ensures) (c .before .before .before .before .before .if3 .left))
+    (kept (c .before .before .before .before .before .before .before .before .before .before .if1 .left)
+    (s .pre .inside) (c .before .before .before .before .before .before .before .before .before .if2 .left) refl
+    (omega arith) (axis-new _ _ _ (c .before .before .before .before .before .before .repeated .ensures)
+    (c .before .before .before .before .before .if3 .left))
     (omega (arith, c .before .before .before .before .before .before .before .before .shared-slice-known2 .given (s .args .c .at))) (c .before .before .before .put8 .ensures))
 
 pub axis-spec : {M : Type 1} → statement M

@@ -1,5 +1,6 @@
 -- `pair` meets its contract, by the law of each way out.
 use mathlib.Core.Path.{refl}
+use native.Mathlib.Omega.{arith}
 use borrow.Author.Needs.{needs}
 use Rattle.plan_bytes.proofs.Fields.{limited-passed, limited-missing, limited-over, limited-wide, limited-kept}
 use Rattle.plan_bytes.proofs.field.pair.Statement.{statement}
@@ -54,7 +55,8 @@ same-length c = search needs
 returns-5 : tie.Need-returns-5
 returns-5 c =
     rw (c .past .ensures)
-    (limited-kept (c .before .before .before .before .before .before .before .before .before .if1 .left) (c .before .before .before .before .before .before .before .before .before .before .before .before .before .pre .0 .inside) (c .before .before .before .before .before .before .before .before .if2 .left) refl (c .before .before .before .before .before .before .if3 .left) (c .before .before .before .before .before .if4 .left) (c .before .before .before .put2 .ensures))
+    (limited-kept (c .before .before .before .before .before .before .before .before .before .if1 .left)
+    (c .before .before .before .before .before .before .before .before .before .before .before .before .before .pre .0 .inside) (c .before .before .before .before .before .before .before .before .if2 .left) refl (omega arith) (c .before .before .before .before .before .before .if3 .left) (c .before .before .before .before .before .if4 .left) (c .before .before .before .put2 .ensures))
 
 pub pair-spec : {M : Type 1} → statement M
 pair-spec =

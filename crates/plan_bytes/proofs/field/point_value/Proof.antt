@@ -37,7 +37,8 @@ unfolding any-number
 returns-3 c =
     let s = c .before .before .before .before .before .before .before .before .before .before .before in
     rw (c .past .ensures)
-    (kept (c .before .before .before .before .before .before .before .if1 .left) (s .pre .inside) (c .before .before .before .before .before .before .if2 .left) refl refl
+    (kept (c .before .before .before .before .before .before .before .if1 .left) (s .pre .inside)
+    (c .before .before .before .before .before .before .if2 .left) refl (omega arith) refl
     (omega (arith, c .before .before .before .before .before .shared-slice-known2 .given (s .args .c .at))) (c .before .before .before .put8 .ensures))
 
 pub point-value-spec : {M : Type 1} → statement M

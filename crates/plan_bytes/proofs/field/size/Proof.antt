@@ -1,5 +1,6 @@
 -- `size` meets its contract, by the law of each way out.
 use mathlib.Core.Path.{refl}
+use native.Mathlib.Omega.{arith}
 use borrow.Author.Needs.{needs}
 use Rattle.plan_format.specs.Form.{any-number}
 use Rattle.plan_format.specs.Sections.{size-field}
@@ -46,7 +47,8 @@ returns-4 : tie.Need-returns-4
 unfolding size-field any-number
 returns-4 c =
     rw (c .past .ensures)
-    (kept (c .before .before .before .before .before .before .before .before .if1 .left) (c .before .before .before .before .before .before .before .before .before .before .before .before .pre .inside) (c .before .before .before .before .before .before .before .if2 .left) refl refl (c .before .before .before .before .before .if3 .left) (c .before .before .before .put4 .ensures))
+    (kept (c .before .before .before .before .before .before .before .before .if1 .left)
+    (c .before .before .before .before .before .before .before .before .before .before .before .before .pre .inside) (c .before .before .before .before .before .before .before .if2 .left) refl (omega arith) refl (c .before .before .before .before .before .if3 .left) (c .before .before .before .put4 .ensures))
 
 pub size-spec : {M : Type 1} → statement M
 size-spec =

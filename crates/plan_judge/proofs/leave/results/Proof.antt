@@ -45,11 +45,11 @@ same-length-3 c = search needs
 returns-2 : tie.Need-returns-2
 returns-2 c =
     record {
-      long = λ z. absurd (c .before .before .before .before .before .before .before .before .if1 .left z);
-      passed-table = λ z. absurd (c .before .before .before .before .before .before .before .before .if1 .left z);
-      passed-list = λ z. absurd (c .before .before .before .before .before .before .before .before .if1 .left z);
-      refused-table = λ _. c .before .before .before .before .before .before .zeros .ensures;
-      refused-list = λ _. c .before .before .zeros2 .ensures;
+      long = λ z. absurd (omega arith);
+      passed-table = λ z. absurd (omega arith);
+      passed-list = λ z. absurd (omega arith);
+      refused-table = λ _. search needs;
+      refused-list = λ _. search needs;
     }
 
 pub results-spec : {M : Type 1} → statement M

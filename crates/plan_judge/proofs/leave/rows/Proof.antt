@@ -19,14 +19,14 @@ abbrev μ-loop : tie.MeasureT-loop
 loop-holds : tie.Need-loop-holds Inv-loop μ-loop
 loop-holds c = (omega arith, sym (front-none (c .before .before .args .from .now) (c .before .before .args .table .now)), refl)
 
-mul-wide32 : tie.Need-mul-wide32 Inv-loop μ-loop
-mul-wide32 c = search needs
+mul-u16-to-u32 : tie.Need-mul-u16-to-u32 Inv-loop μ-loop
+mul-u16-to-u32 c = search needs
 
-shared-slice-read-wide32 : tie.Need-shared-slice-read-wide32 Inv-loop μ-loop
-shared-slice-read-wide32 c = search needs
+shared-slice-read-u16-to-u32 : tie.Need-shared-slice-read-u16-to-u32 Inv-loop μ-loop
+shared-slice-read-u16-to-u32 c = search needs
 
-wide32-requires : tie.Need-wide32-requires Inv-loop μ-loop
-wide32-requires c κs = search needs
+u16-to-u32-requires : tie.Need-u16-to-u32-requires Inv-loop μ-loop
+u16-to-u32-requires c κs = search needs
 
 mul-table : tie.Need-mul-table Inv-loop μ-loop
 mul-table c = search needs
@@ -46,9 +46,10 @@ loop-again c =
     let a = c .before .before .before .before .before .before .args in
     let v = getD (a .from .now) (l .i) 0 in (
       omega arith,
-      ap (λ (x : ℕ). set (l .table) (l .i) x) (c .wide32 .ensures) ∙ ap (λ (xs : List ℕ). set xs (l .i) v) (l .inv .1)
+      ap (λ (x : ℕ). set (l .table) (l .i) x) (c .u16-to-u32 .ensures) ∙ ap (λ (xs : List ℕ). set xs (l .i) v)
+          (l .inv .1)
           ∙ front-more (a .from .now) (a .table .now) (l .i) 0 (omega arith) (omega arith),
-      length-set (l .table) (l .i) (c .wide32 .result) ∙ l .inv .2,
+      length-set (l .table) (l .i) (c .u16-to-u32 .result) ∙ l .inv .2,
     )
 
 same-length : tie.Need-same-length Inv-loop μ-loop
@@ -64,4 +65,4 @@ returns c =
 pub rows-spec : {M : Type 1} → statement M
 rows-spec =
     tie.close
-    (tie.spec Inv-loop μ-loop loop-holds mul-wide32 shared-slice-read-wide32 wide32-requires mul-table slice-write-table add-i loop-less loop-again same-length returns)
+    (tie.spec Inv-loop μ-loop loop-holds mul-u16-to-u32 shared-slice-read-u16-to-u32 u16-to-u32-requires mul-table slice-write-table add-i loop-less loop-again same-length returns)

@@ -5,19 +5,19 @@ use Rattle.plan_numbers.proofs.Words.{byte-word}
 use Rattle.plan_numbers.proofs.word.word1.Statement.{statement}
 use Rattle.plan_numbers.proofs.word.word1.Tie as tie
 
-shared-slice-read-wide : tie.Need-shared-slice-read-wide
-shared-slice-read-wide c = search needs
+shared-slice-read-u8-to-u64 : tie.Need-shared-slice-read-u8-to-u64
+shared-slice-read-u8-to-u64 c = search needs
 
-wide-requires : tie.Need-wide-requires
-wide-requires c κs = search needs
+u8-to-u64-requires : tie.Need-u8-to-u64-requires
+u8-to-u64-requires c κs = search needs
 
 returns : tie.Need-returns
 returns c =
     let a = c .before .before .before .args in
-    byte-word (a .plan .now) (a .at) (c .wide .result) (omega arith) (c .wide .ensures)
+    byte-word (a .plan .now) (a .at) (c .u8-to-u64 .result) (omega arith) (c .u8-to-u64 .ensures)
     (omega (arith, c .before .shared-slice-known2 .given (a .at)))
 
 pub word1-spec : {M : Type 1} → statement M
 word1-spec =
     tie.close
-    (tie.spec shared-slice-read-wide wide-requires returns)
+    (tie.spec shared-slice-read-u8-to-u64 u8-to-u64-requires returns)

@@ -5,18 +5,17 @@ use Rattle.plan_run.proofs.merge.lay.Tie as tie
 use mathlib.Core.Path.{_≡_, refl}
 use Prim.Native.Nat.{_-_, _≤_}
 use native.Mathlib.Omega.{arith}
-use lib.ListN.{length}
 use Rattle.plan_run.specs.Merge.{Laid}
 use Rattle.plan_run.proofs.Merges.{laid-none, laid-more}
 
 abbrev Inv-loop : tie.InvT-loop
-Inv-loop rows₀ j row k₀ rows k = (k ≤ 16) × (length rows₀ ≡ 16416 → Laid rows₀ j row k rows)
+Inv-loop rows₀ j row k₀ rows k = (k ≤ 16) × Laid rows₀ j row k rows
 
 abbrev μ-loop : tie.MeasureT-loop
 μ-loop rows₀ j row k₀ rows k = 16 - k
 
 loop-holds : tie.Need-loop-holds Inv-loop μ-loop
-loop-holds c = (omega arith, λ h. laid-none _ _ _)
+loop-holds c = (omega arith, laid-none _ _ _)
 
 mul-rows : tie.Need-mul-rows Inv-loop μ-loop
 mul-rows c = search needs
@@ -45,7 +44,7 @@ loop-less c = search needs
 loop-again : tie.Need-loop-again Inv-loop μ-loop
 loop-again c = (
   omega arith,
-  λ h. laid-more _ _ _ _ _ _ h (c .before .before .pre) (omega arith) (c .before .loop .inv .1 h) refl,
+  laid-more _ _ _ _ _ _ (c .before .before .pre) (omega arith) (c .before .loop .inv .1) refl,
 )
 
 returns : tie.Need-returns Inv-loop μ-loop

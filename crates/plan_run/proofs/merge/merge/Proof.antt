@@ -30,8 +30,8 @@ higher-requires c κs = search needs
 higher-requires-2 : tie.Need-higher-requires-2 Inv-loop μ-loop
 higher-requires-2 c κs = search needs
 
-larger-requires : tie.Need-larger-requires Inv-loop μ-loop
-larger-requires c κs = search needs
+max-u16-requires : tie.Need-max-u16-requires Inv-loop μ-loop
+max-u16-requires c κs = search needs
 
 add-sum : tie.Need-add-sum Inv-loop μ-loop
 add-sum c = search needs
@@ -69,7 +69,8 @@ loop-again c =
       omega arith,
       simp length-set (top .loop .inv .1),
       merged-more f (top .loop .row) (top .loop .k) (c .sum .result) _ (top .loop .inv .1) (omega arith) (top .loop .inv .2)
-          (merged-is _ _ _ _ _ _ _ _ _ _ _ (ab .higher .ensures) (cd .higher2 .ensures) (most .larger .ensures) (c .sum .ensures)) refl,
+          (merged-is _ _ _ _ _ _ _ _ _ _ _ (ab .higher .ensures) (cd .higher2 .ensures) (most .max-u16 .ensures)
+          (c .sum .ensures)) refl,
     )
 
 returns : tie.Need-returns Inv-loop μ-loop
@@ -85,7 +86,7 @@ merge-spec =
     loop-holds
     higher-requires
     higher-requires-2
-    larger-requires
+    max-u16-requires
     add-sum
     mul-sum
     element-copy-out-sum

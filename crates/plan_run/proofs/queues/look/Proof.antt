@@ -1,8 +1,10 @@
 -- `queues::look` looks at one queue. Assumes nothing.
 use borrow.Author.Needs.{needs}
+use Rattle.plan_format.specs.Sizes.{no-operation}
 use Rattle.plan_run.proofs.queues.look.Statement.{statement}
 use Rattle.plan_run.proofs.queues.look.Tie as tie
 use mathlib.Core.Path.{_≡_}
+use Prim.Native.Nat.{_+_}
 use lib.ListN.{length}
 use native.Mathlib.Omega.{arith}
 use lib.Bits.{or-lt}
@@ -46,7 +48,7 @@ returns-3 : tie.Need-returns-3
 returns-3 c =
     let held = c .before .before .before .before .before in
     let start = held .before .before .before .before .before in
-    let long : length (now (start .args .waiter)) ≡ 1025 = search needs in (
+    let long : length (now (start .args .waiter)) ≡ no-operation + 1 = search needs in (
       start .pre .1,
       looked-held _ _ _ _ _ _ _ (held .before .before .before .get16 .ensures) long _ (held .before .blocker .ensures) (held .if2 .left)
           _ (unit-shifted (start .args .q) 18446744073709551616 (start .pre .0) (omega arith)) _ (c .before .before .get162 .ensures) _ (c .put16 .ensures),

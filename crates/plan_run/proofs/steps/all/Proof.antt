@@ -3,19 +3,22 @@
 use borrow.Author.Needs.{needs}
 use Rattle.plan_run.proofs.steps.all.Statement.{statement}
 use Rattle.plan_run.proofs.steps.all.Tie as tie
-use mathlib.Core.Path.{_≡_, refl, _∙_}
+use mathlib.Core.Path.{_≡_, refl}
 use mathlib.Core.List.{List}
 use Prim.Native.Nat.{ℕ, _-_, _*_, _≤_, _<_}
 use native.Mathlib.Omega.{arith}
-use lib.ListN.{length, drop}
+use lib.ListN.{length}
 use Rattle.plan_format.specs.Plan.{Plan}
 use Rattle.plan_run.specs.Run.{Run-given, Cleared}
-use Rattle.plan_run.specs.State.{Prepared, Going}
+use Rattle.plan_run.specs.State.{Prepared, Going, Bounds}
 use Rattle.plan_run.proofs.Ends.{tables-are, started, ended-early, ended-full}
+use Rattle.plan_run.proofs.Bounds.{bounds-none}
 
 abbrev Inv-loop : tie.InvT-loop
 Inv-loop n ready source next head₀ ran₀ waiter₀ rows₀ list₀ prev₀ unit word₀ i₀ head ran waiter rows list prev word i =
-    (i ≤ n) × (word < 65536) × (length list ≡ length list₀) × (drop (2 * n) list ≡ drop (2 * n) list₀)
+    (i ≤ n) × (word < 65536) × (length list ≡ length list₀)
+    × ((queue : List ℕ) → Prepared queue n source head₀ next ran₀ waiter₀ ready →
+    Bounds queue n i head word rows₀ rows list₀ list)
     × ((p : Plan) (queue : List ℕ) → Run-given p n queue source → Cleared rows₀ → 2 * n ≤ length list₀ → Prepared queue n source head₀ next ran₀ waiter₀ ready →
     Going p n i source head prev ran waiter word rows list₀ list)
 
@@ -30,7 +33,7 @@ loop-holds c = (
   omega arith,
   c .before .pre .0,
   refl,
-  refl,
+  λ queue prepared. bounds-none queue _ _ _ _ _ _ _ _ _ prepared,
   λ p queue shown cleared room prepared. started p _ queue _ _ _ _ _ _ _ _ _ shown cleared prepared refl,
 )
 
@@ -40,7 +43,7 @@ same-length c = search needs
 returns : tie.Need-returns Inv-loop μ-loop
 returns c =
     let inv = c .before .before .loop .inv in (
-      (inv .0, inv .2, inv .3),
+      λ queue prepared. inv .3 queue prepared .bounded,
       λ p queue shown cleared room prepared.
           ended-early p _ queue _ shown _ _ _ _ _ _ _ _ _ room (inv .4 p queue shown cleared room prepared) (c .if1 .taken),
     )
@@ -65,9 +68,12 @@ loop-again c =
       omega (arith, test .loop-test .taken),
       turned .turn .ensures .0,
       omega (arith, turned .turn .kept .1 .1 .1 .1 .1 .1 .1 .1 .1 .1 .1 .0, top .loop .inv .2),
-      turned .turn .ensures .1 ∙ top .loop .inv .3,
+      λ queue prepared.
+          turned .turn .ensures .1 .0 queue _ _ (tables-are queue _ _ _ _ (prepared .chained) refl)
+          (top .loop .inv .3 queue prepared),
       λ p queue shown cleared room prepared.
-          turned .turn .ensures .2 p queue _ shown (tables-are queue _ _ _ _ (prepared .chained) refl) room (top .loop .inv .4 p queue shown cleared room prepared),
+          turned .turn .ensures .1 .1 p queue _ shown (tables-are queue _ _ _ _ (prepared .chained) refl) room
+          (top .loop .inv .4 p queue shown cleared room prepared),
     )
 
 same-length-2 : tie.Need-same-length-2 Inv-loop μ-loop
@@ -76,7 +82,7 @@ same-length-2 c = search needs
 returns-2 : tie.Need-returns-2 Inv-loop μ-loop
 returns-2 c =
     let inv = c .before .loop .inv in (
-      (inv .0, inv .2, inv .3),
+      λ queue prepared. inv .3 queue prepared .bounded,
       λ p queue shown cleared room prepared.
           ended-full p _ queue _ shown _ _ _ _ _ _ _ _ _ room (inv .4 p queue shown cleared room prepared) (omega (arith, inv .0)),
     )

@@ -44,8 +44,9 @@ returns c =
     let second = third .before .before in
     let first = second .before .before in
     let last = first .before .before in
-    λ h. merged-laid _ _ _ _ _ _ _ _ _ _ _ _ _ _ (last .slot .ensures) (first .slot2 .ensures) (second .slot3 .ensures) (third .slot4 .ensures)
-    (row .merge .ensures) (c .lay .ensures h)
+    merged-laid _ _ _ _ _ _ _ _ _ _ _ _ _ _ (last .slot .ensures) (first .slot2 .ensures) (second .slot3 .ensures)
+    (third .slot4 .ensures)
+    (row .merge .ensures) (c .lay .ensures)
 
 pub fill-spec : {M : Type 1} → statement M
 fill-spec =

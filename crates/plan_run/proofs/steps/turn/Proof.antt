@@ -6,7 +6,7 @@ use native.Mathlib.Omega.{arith}
 use lib.Count.{ones-le}
 use Rattle.plan_run.proofs.Words.{has-le}
 use Rattle.plan_run.proofs.Looks.{unit-shifted, shifted-small, mask-small}
-use Rattle.plan_run.proofs.Listings.{list-past}
+use Rattle.plan_run.proofs.Bounds.{bounds-more}
 use Rattle.plan_run.proofs.Turns.{turned}
 
 lowest-requires : tie.Need-lowest-requires
@@ -77,12 +77,23 @@ returns c =
     let start = low .before .before in
     let l = low .lowest in (
       c .wake .ensures .0,
-      list-past _ _ _ _ _ _ _ (start .pre .2) (counted .put32 .ensures) (listed .put322 .ensures),
-      λ p queue first shown tables room going.
-          turned p (start .args .n) queue _ _ _ first shown tables room _ _ _ _ _ _ _ _ going (start .pre .0) (start .pre .1) (start .pre .2)
-          _ _ (l .ensures .0) (l .ensures .1) (chosen .slot .ensures) _ _ (counted .put32 .ensures) (listed .put322 .ensures)
-          _ _ _ _ (stepped .step .ensures) _ _ (seen .get16 .ensures) (unit-shifted (l .result) 4294967296 (l .ensures .0) (omega arith))
-          _ _ (c .wake .ensures .1),
+      (
+        λ queue first-rows first tables bounds.
+            bounds-more queue (start .args .n) _ _ tables (start .pre .3) _ _ _ first-rows _ first _ bounds
+            (start .pre .1) (start .pre .2)
+            _ _ (l .ensures .0) (l .ensures .1) (chosen .slot .ensures) _ _ (counted .put32 .ensures)
+            (listed .put322 .ensures)
+            _ _ _ _ _ _ _ (stepped .step .ensures) _ _
+            (unit-shifted (l .result) 4294967296 (l .ensures .0) (omega arith)) _ _ _ (c .wake .ensures .1),
+        λ p queue first shown tables room going.
+            turned p (start .args .n) queue _ _ _ first shown tables room _ _ _ _ _ _ _ _ going (start .pre .0)
+            (start .pre .1) (start .pre .2)
+            _ _ (l .ensures .0) (l .ensures .1) (chosen .slot .ensures) _ _ (counted .put32 .ensures)
+            (listed .put322 .ensures)
+            _ _ _ _ (stepped .step .ensures) _ _ (seen .get16 .ensures)
+            (unit-shifted (l .result) 4294967296 (l .ensures .0) (omega arith))
+            _ _ (c .wake .ensures .1),
+      ),
     )
 
 pub turn-spec : {M : Type 1} → statement M

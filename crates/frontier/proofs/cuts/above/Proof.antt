@@ -1,0 +1,13 @@
+-- `above` meets its contract: by the epoch, at equal epochs by the axis. Assumes nothing.
+use Rattle.frontier.proofs.Exceeds.{test-axis, test-epoch}
+use Rattle.frontier.proofs.cuts.above.Statement.{statement}
+use Rattle.frontier.proofs.cuts.above.Tie as tie
+
+returns : tie.Need-returns
+returns c = test-axis _ _ (c .before .before .if1 .taken)
+
+returns-2 : tie.Need-returns-2
+returns-2 c = test-epoch _ _ (c .before .before .if1 .left)
+
+pub above-spec : {M : Type 1} → statement M
+above-spec = tie.close (tie.spec returns returns-2)

@@ -1,0 +1,38 @@
+-- `leads_at` meets its contract: by the two lengths, then the axes. Assumes nothing.
+use borrow.Author.Needs.{needs}
+use Rattle.frontier.proofs.Join.{leads-none, leads-alone, leads-both}
+use Rattle.frontier.proofs.unions.leads_at.Statement.{statement}
+use Rattle.frontier.proofs.unions.leads_at.Tie as tie
+
+returns : tie.Need-returns
+returns c xe ye = leads-none _ _ _ _ _ (c .if1 .taken)
+
+returns-2 : tie.Need-returns-2
+returns-2 c xe ye = leads-alone _ _ _ _ _ _ _ _ (c .before .if1 .left) (c .if2 .taken)
+
+mul-result : tie.Need-mul-result
+mul-result c = search needs
+
+element-copy-out-result : tie.Need-element-copy-out-result
+element-copy-out-result c = search needs
+
+mul-result-2 : tie.Need-mul-result-2
+mul-result-2 c = search needs
+
+element-copy-out-result-2 : tie.Need-element-copy-out-result-2
+element-copy-out-result-2 c = search needs
+
+returns-3 : tie.Need-returns-3
+returns-3 c xe ye = leads-both _ _ _ _ _ _ _ _ (c .before .before .before .if1 .left) (c .before .before .if2 .left)
+
+pub leads-at-spec : {M : Type 1} → statement M
+leads-at-spec =
+    tie.close
+    (tie.spec
+    returns
+    returns-2
+    mul-result
+    element-copy-out-result
+    mul-result-2
+    element-copy-out-result-2
+    returns-3)

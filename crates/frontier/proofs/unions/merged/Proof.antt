@@ -1,0 +1,71 @@
+-- `merged` meets its contract: the refusals in their order, then the union and its cut. Assumes nothing.
+use mathlib.Core.Path.{_≡_, sym, _∙_}
+use mathlib.Core.Bool.{true}
+use borrow.Author.Tests.{not-true, not-false}
+use borrow.Author.Needs.{needs}
+use Rattle.frontier.specs.declared.Frontier.{Frontier}
+use Rattle.frontier.specs.Frontiers.{entries, well-formed}
+use Rattle.frontier.specs.Walks.{of-slots, left-number}
+use Rattle.frontier.proofs.Merge.{Left-accepted, left-accepted, refused-first, refused-right, joins, merged}
+use Rattle.frontier.proofs.unions.merged.Statement.{statement}
+use Rattle.frontier.proofs.unions.merged.Tie as tie
+
+abbrev left-of : tie.Start → Frontier
+left-of s = of-slots (s .args .xa .now) (s .args .xe .now) (s .args .xn) (s .args .xt)
+
+abbrev right-of : tie.Start → Frontier
+right-of s = of-slots (s .args .ya .now) (s .args .ye .now) (s .args .yn) (s .args .yt)
+
+left-judged : (c : tie.Else1) →
+    Left-accepted (left-of (c .before .before)) (right-of (c .before .before)) (c .before .before .args .capacity)
+unfolding left-number well-formed entries
+left-judged c = left-accepted _ _ _ _ (c .before .judged .ensures) (c .if1 .left)
+
+right-formed : (c : tie.Else2) → well-formed (right-of (c .before .before .before .before)) ≡ true
+unfolding well-formed entries
+right-formed c = sym (c .before .formed .ensures) ∙ not-false _ (c .if2 .left)
+
+judged-requires : tie.Need-judged-requires
+judged-requires c κs = search needs
+
+refused-requires : tie.Need-refused-requires
+refused-requires c κs = search needs
+
+returns : tie.Need-returns
+unfolding left-number well-formed entries
+returns c = c .refused .ensures
+    ∙ refused-first (left-of (c .before .before .before)) _ _ _ (c .before .before .judged .ensures)
+    (c .before .if1 .taken)
+
+formed-requires : tie.Need-formed-requires
+formed-requires c κs = search needs
+
+refused-requires-2 : tie.Need-refused-requires-2
+refused-requires-2 c κs = search needs
+
+returns-2 : tie.Need-returns-2
+unfolding left-number well-formed entries
+returns-2 c = c .refused2 .ensures
+    ∙ refused-right _ _ _ (left-judged (c .before .before .before)) (sym (c .before .before .formed .ensures)
+    ∙ not-true _ (c .before .if2 .taken))
+
+join-requires : tie.Need-join-requires
+unfolding entries
+join-requires c κs = joins _ _ _ (left-judged (c .before .before)) (right-formed c)
+
+returns-3 : tie.Need-returns-3
+unfolding entries
+returns-3 c = merged _ _ _ _ (left-judged (c .before .before .before)) (right-formed (c .before)) (c .join .ensures)
+
+pub merged-spec : {M : Type 1} → statement M
+merged-spec =
+    tie.close
+    (tie.spec
+    judged-requires
+    refused-requires
+    returns
+    formed-requires
+    refused-requires-2
+    returns-2
+    join-requires
+    returns-3)
