@@ -21,7 +21,8 @@ use Rattle.plan_format.proofs.Judged.{zero-not-given, or-else-none}
 use Rattle.plan_format.proofs.RoundTrip.{listed-scanned, spelled-scanned, scanned-spelled}
 use Rattle.plan_format.proofs.Plans.{listed-within}
 use Rattle.plan_format.proofs.Taking.{takes-plans}
-use Rattle.plan_format.proofs.RoomMeaning.{read-filled, write-filled}
+use Rattle.plan_format.proofs.RoomMeaning.{read-refuses, write-refuses, read-filled, write-filled}
+use Rattle.plan_format.proofs.ReadingMeaning.{scanned-means, listed-means}
 
 -- the elements of a slice of bytes
 pub bytes-by : (bs : List ℕ) → ((i : ℕ) → getD bs i 0 < 256) → all-bytes bs ≡ true
@@ -66,6 +67,8 @@ module _ (bs : List ℕ) (b : all-bytes bs ≡ true) (r : Told) (o x : List ℕ)
       let taken : r .number ≡ 0 → listed (scanned bs .got) .fault ≡ none-given =
       λ z. ap (λ (s : Scan). s .fault) (listed-scanned bs b (no-fault z)) in
       record {
+        reading = scanned-means bs;
+        refuses = read-refuses bs r o x w;
         filled = read-filled bs r o x w;
         within = λ z. takes-plans .read bs b .0 (no-fault z) .0;
         numbers = λ z. numbers-in-room z
@@ -89,6 +92,8 @@ module _ (xs : List ℕ) (r : Told) (o x : List ℕ) (w : Write-says xs r o x) w
 
   pub write-means : Write-means xs r o x
   write-means = record {
+    reading = listed-means xs;
+    refuses = write-refuses xs r o x w;
     filled = write-filled xs r o x w;
     within = λ z. listed-within xs (not-refused z) .0;
     bytes = λ z.
