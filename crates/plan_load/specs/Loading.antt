@@ -54,6 +54,10 @@ pub record Keeps (n : ℕ) (r : Loaded) (cs cs′ : Columns) : Type 0 where
   pub taken : r .number ≡ 0 → Kept-past (r .operations) (r .signals) (r .marks) cs cs′
   pub refused : (r .number ≡ 0 → ⊥) → Kept-past n (3 * n) (7 * n) cs cs′
 
+-- the numbers of the head, up to its refusal
+unfoldable pub head-got : (bytes : List ℕ) → List ℕ
+head-got bs = head-scan bs .got
+
 -- how many operations the head tells; 0 beside a refusal of the head
 unfoldable pub head-operations : (bytes : List ℕ) → ℕ
 head-operations bs = unless-refused (head-scan bs) (last-got (head-scan bs))
@@ -61,8 +65,8 @@ head-operations bs = unless-refused (head-scan bs) (last-got (head-scan bs))
 -- the head's numbers, up to its refusal, are in front of what was lent for them; its owners, cut to sixteen bits, are
 -- in front of theirs, which stays beside a refusal of the head
 pub record Left (bytes : List ℕ) (r : Loaded) (head head-now owner owner-now : List ℕ) (cs cs′ : Columns) : Type 0 where
-  pub head-is : head-now ≡ in-front (head-scan bytes .got) head
+  pub head-is : head-now ≡ in-front (head-got bytes) head
   pub owner-is : owner-now ≡ cond (given (head-scan bytes .fault)) owner
-      (sets owner 0 (owner-numbers head-now (min (semaphore-count (head-scan bytes .got)) most-semaphores)
-      (min (2 + queue-count (head-scan bytes .got)) plan-numbers)))
+      (sets owner 0 (owner-numbers head-now (min (semaphore-count (head-got bytes)) most-semaphores)
+      (min (2 + queue-count (head-got bytes)) plan-numbers)))
   pub keeps : Keeps (head-operations bytes) r cs cs′
