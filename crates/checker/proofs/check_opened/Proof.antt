@@ -4,9 +4,10 @@ use mathlib.Core.Path.{_∙_}
 use borrow.Author.Needs.{needs}
 use Rattle.plan_format.proofs.Telling.{tells-as}
 use Rattle.plan_order.proofs.Checks.{checked}
+use Rattle.plan_judge.proofs.Kept.{sources-kept}
 use Rattle.checker.proofs.Told.{not-read, read-says}
 use Rattle.checker.proofs.Columns.{loaded-none, loaded-read, loaded-clean, loaded-given}
-use Rattle.checker.proofs.Left.{sources-kept, left-refused, left-judged}
+use Rattle.checker.proofs.Left.{left-refused, left-judged}
 use Rattle.checker.proofs.Passed.{opened-plan}
 use Rattle.checker.proofs.check_opened.Statement.{statement}
 use Rattle.checker.proofs.check_opened.Tie as tie
