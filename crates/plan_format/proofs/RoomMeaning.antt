@@ -1,6 +1,6 @@
 -- Room: 9 exactly if it is too short, and only after the faults of a reading. Assumes nothing.
 use mathlib.Core.Path.{_≡_, refl, sym, ap, ap₂, _∙_, subst}
-use mathlib.Core.Bool.{Bool, false, cond}
+use mathlib.Core.Bool.{Bool, true, false, cond}
 use mathlib.Core.List.{List, _∷_, _++_}
 use Prim.Native.Nat.{ℕ, _≤_}
 use native.Mathlib.Omega.{arith}
@@ -74,6 +74,16 @@ unfolding write-refusal
 write-room xs k = room-after (listed xs .fault) (length (spelled xs)) k (listed-number xs)
 
 -- ---- what is handed back and left
+-- past the length nothing is touched
+fills-past : (f : Refusal) (new : List ℕ) (r : Told) (o x : List ℕ) → Fills f new r o x → (k : ℕ) → length new ≤ k →
+    getD x k 0 ≡ getD o k 0
+unfolding Fills
+fills-past f new r o x w k l = ap (λ (y : List ℕ). getD y k 0) (w .1) ∙ past (given f)
+  where
+    past : (b : Bool) → getD (cond b o (in-front new o)) k 0 ≡ getD o k 0
+    past true = refl
+    past false = front-past new o k 0 l
+
 module _ (numbers : List ℕ) (fault : Refusal) (new : List ℕ) (r : Told) (o x : List ℕ) where
   filled : Room-after numbers fault (length new) (length o) (or-else fault (room-for (length new) (length o))) →
       Fills (or-else fault (room-for (length new) (length o))) new r o x → Filled new r o x
@@ -92,7 +102,7 @@ module _ (numbers : List ℕ) (fault : Refusal) (new : List ℕ) (r : Told) (o x
         place-told = λ z. t .place ∙ m .then-room (fault-none z) .enough (fits z) .1;
         long = λ z. ap (λ (y : List ℕ). length y) (front z) ∙ front-length new o (fits z);
         holds = λ z k l. ap (λ (y : List ℕ). getD y k 0) (front z) ∙ front-at new o k 0 l;
-        past = λ z k l. ap (λ (y : List ℕ). getD y k 0) (front z) ∙ front-past new o k 0 l;
+        past = λ z. fills-past f new r o x w;
       }
 
 -- the refusal that was told is the one that was given
