@@ -12,7 +12,6 @@ use Rattle.plan_order.specs.Check.{order-refusal}
 use Rattle.plan_columns.specs.Columns.{Columns, columns, Head-column, Queue-column, Signal-columns, Mark-columns}
 use Rattle.plan_columns.specs.Columns.{Source-column, Row-columns}
 use Rattle.plan_load.specs.Loading.{Kept-past, head-got, head-operations}
-use Rattle.checker.specs.declared.Counted.{Counted}
 use Rattle.checker.specs.declared.Opened.{Opened}
 
 -- what is lent to the check for those who ask further: the numbers before the operations, the queue of each operation,

@@ -71,7 +71,8 @@ module _ {xs : List ℕ} {c : Cursor} {bytes : List ℕ} (p : Plan-written first
       }
 
   -- a whole plan
-  pub written-whole : c .number ≡ 0 → length xs ≤ c .at → Bytes-written xs (record { number = c .number; place = 0; answer = c .put }) bytes
+  pub written-whole : c .number ≡ 0 → length xs ≤ c .at →
+      Bytes-written xs (record { number = 0; place = 0; answer = c .put }) bytes
   unfolding scan none-given given
   written-whole z h =
       let l : length (spelled xs) ≡ c .put = ap length (spelled-is p z)
@@ -81,7 +82,7 @@ module _ {xs : List ℕ} {c : Cursor} {bytes : List ℕ} (p : Plan-written first
             tells xs (scan (drop (c .at) xs) (c .at) (take (c .at) xs) none-given)
             (listed-is p ∙ ap ended (here-clean xs c z)
             ∙ ended-none (drop (c .at) xs) (c .at) (take (c .at) xs) (length-drop (c .at) xs ∙ omega arith))
-            (record { number = z; place = refl; answer-is = sym l });
+            (record { number = refl; place = refl; answer-is = sym l });
         bytes = λ e. ap (λ (n : ℕ). take n bytes) l ∙ sym (spelled-is p z);
         few = few;
         long = long;

@@ -2,21 +2,20 @@
 use mathlib.Core.Path.{_≡_, refl, sym, ap, ap₂, _∙_}
 use mathlib.Core.Bool.{true}
 use mathlib.Core.List.{List, [], _∷_}
-use Prim.Native.Nat.{ℕ, zero, suc, _<_}
-use native.Mathlib.Omega.{arith}
+use Prim.Native.Nat.{ℕ, suc, _<_}
 use lib.Dec.{ltb}
 use lib.ListN.{length, getD, take}
 use lib.Seq.{take-at}
 use borrow.Author.Tests.{lt-ltb}
 use Rattle.basics.specs.Lists.{all, in-front}
 use Rattle.basics.proofs.Tests.{and-both}
-use Rattle.plan_format.specs.Refusal.{Refusal, none-given, given, or-else}
+use Rattle.plan_format.specs.Refusal.{Refusal, none-given, or-else}
 use Rattle.plan_format.specs.Grammar.{Scan, scan}
 use Rattle.plan_format.specs.Plan.{plan-of}
 use Rattle.plan_format.specs.Stored.{all-bytes, scanned, listed, spelled, plan-in, room-for, Fills, Read-says}
 use Rattle.plan_format.specs.Stored.{Write-says, read-refusal, write-refusal}
 use Rattle.plan_format.specs.declared.Told.{Told}
-use Rattle.plan_format.specs.Meaning.{Filled, Read-means, Write-means}
+use Rattle.plan_format.specs.Meaning.{Read-means, Write-means}
 use Rattle.plan_format.proofs.Judged.{zero-not-given, or-else-none}
 use Rattle.plan_format.proofs.RoundTrip.{listed-scanned, spelled-scanned, scanned-spelled}
 use Rattle.plan_format.proofs.Plans.{listed-within}

@@ -5,7 +5,7 @@ use mathlib.Core.Bool.{true}
 use mathlib.Core.List.{List}
 use Prim.Native.Nat.{ℕ}
 use lib.ListN.{length, drop, replicate}
-use Rattle.plan_format.specs.Refusal.{Refusal, or-else}
+use Rattle.plan_format.specs.Refusal.{or-else}
 use Rattle.plan_format.specs.Sizes.{head-numbers}
 use Rattle.plan_format.specs.Stored.{all-bytes, room-for, Fills}
 use Rattle.plan_format.specs.declared.Told.{Told}
