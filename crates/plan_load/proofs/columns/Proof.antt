@@ -22,8 +22,7 @@ returns : tie.Need-returns
 returns c =
     let (head, z) = c .before .before .before .before .before .before .before .before .before .before .before .before .before .pre in
     let o = c .operations .ensures _ head z in
-    let stored = c .before .before .before .before .before .before .before .before .before .owners .ensures in
-    (
+    let stored = c .before .before .before .before .before .before .before .before .before .owners .ensures in (
       o .0,
       (
         λ e.
