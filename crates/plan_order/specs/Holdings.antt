@@ -1,6 +1,6 @@
 -- Holdings: one lifetime of a buffer each, from its first mark to its free; when a run keeps a buffer, and which marks
 -- are broken. Assumes nothing: these are definitions.
-use mathlib.Core.Bool.{Bool, false, _&&_, _||_, not, cond}
+use mathlib.Core.Bool.{Bool, true, false, _&&_, _||_, not, cond}
 use mathlib.Core.List.{List, [], _∷_, _++_}
 use mathlib.Core.Option.{Option, none, some}
 use Prim.Native.Nat.{ℕ, suc}

@@ -21,7 +21,7 @@ use ghost.Atoms.{Atoms}
 use contract.Lifetimes.{Lfts}
 use contract.Monad.{Fun, fact}
 use contract.Running.{givenOf, tables, tablesOf}
-use types.Kit.{Given, ‵, raw, _⊛_, ⋆, some, _$_, _∵_, !, qed, by, move, keep, drop, use1, use3, split}
+use types.Kit.{Given, ‵, raw, _⊛_, given, ⋆, some, later, _$_, _∵_, !, qed, by, move, keep, drop, use1, use3, split}
 use types.Kit.{join, learn, pick, fsplit, fjoin}
 use types.Kit.{feqL, suffices, frame, await, done}
 use types.Run.{look, init, forget, stop, hop, fld, from, load, addr, of-opd, and-then, no-more, assigns, land, returns}
@@ -38,7 +38,7 @@ use denote.Signature.{plain, namedLft}
 use denote.Slice.{sliceVal, MutSlice, Room, finally, slice-vals, mut-slice-tells}
 use denote.Steps.{owned, peeks, heard, nothing}
 use denote.Struct.Laws as LL
-use denote.Struct.Rest.{ownAt, own-open, own-out}
+use denote.Struct.Rest.{all-own, ownAt, rest, own-open, own-out}
 use denote.Struct.Values.{Values}
 use denote.Triple.Statement.{Contract, Triple}
 use denote.Triple.Call.{calls-at}
