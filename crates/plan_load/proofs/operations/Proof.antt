@@ -6,6 +6,7 @@ use Prim.Native.Nat.{ℕ, _-_, _*_, _≤_}
 use native.Mathlib.Omega.{arith}
 use borrow.Author.Needs.{needs}
 use borrow.Author.Tests.{eqb-false}
+use Rattle.plan_format.specs.Sizes.{most-operations}
 use Rattle.plan_columns.specs.Columns.{columns}
 use Rattle.plan_numbers.specs.Reading.{Head-read}
 use Rattle.plan_load.proofs.Loading.{Load, load-none, load-next, few-more}
@@ -16,7 +17,7 @@ use Rattle.plan_load.proofs.operations.Tie as tie
 
 abbrev Inv-loop : tie.InvT-loop
 Inv-loop plan h queue₀ wsem₀ wval₀ ssem₀ sval₀ sop₀ mark₀ mop₀ many window₀ at₀ signals₀ marks₀ i₀ queue wsem wval ssem sval sop mark mop window at signals marks i =
-    (many ≡ h .operations) × (many ≤ 1024) × (i ≤ many) × (signals ≤ 3 * i) × (marks ≤ 7 * i)
+    (many ≡ h .operations) × (many ≤ most-operations) × (i ≤ many) × (signals ≤ 3 * i) × (marks ≤ 7 * i)
     × ((nums : List ℕ) → Head-read plan h nums → h .number ≡ 0 → Load 1 plan h nums (columns queue₀ wsem₀ wval₀ ssem₀ sval₀ sop₀ mark₀ mop₀) (columns queue wsem wval ssem sval sop mark mop) i at signals marks)
 
 abbrev μ-loop : tie.MeasureT-loop
