@@ -9,7 +9,7 @@ use arguments::Asked;
 use libc::STDOUT_FILENO;
 use plan_format::limits::PLAN_BYTES;
 use plan_format::limits::PLAN_NUMBERS;
-use report_input::Question;
+use print_input::Question;
 
 // One byte, and one number, more than the longest plan has: so many decide the answer to an input of any length.
 const FIRST_BYTES: usize = PLAN_BYTES + 1;
@@ -26,7 +26,7 @@ fn on_plan(question: Question, out: &mut [u8]) -> usize {
     if read.failed {
         return 0;
     }
-    report_input::on_first(question, &plan, read.kept, out)
+    print_input::on_first(question, &plan, read.kept, out)
 }
 
 // The stored plan of the numbers of standard input.
@@ -41,7 +41,7 @@ fn write(out: &mut [u8]) -> usize {
         usage::bad_number(s.before, s.fault);
         return 0;
     }
-    report_input::written(&list, s.kept, out)
+    print_input::written(&list, s.kept, out)
 }
 
 // The text of what is asked; of length 0 where a line on standard error says why there is none.
