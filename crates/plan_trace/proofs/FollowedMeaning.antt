@@ -157,6 +157,15 @@ module _ (p : Plan) (xs : List ℕ) where
   few-of _ (at-last h) = run-short xs h
   few-of _ (at-step k l h d) = omega (arith, run-short (take k xs) h, length-take-le k xs (omega arith))
 
+  -- the steps before the one that departs, or all, are a run
+  run-of : (x : Found) → Ends x → is-run p (take (x .step) xs) ≡ true
+  unfolding found
+  run-of _ (at-last h) = rw (take-length xs) h
+  run-of _ (at-step k l h d) = h
+
+  pub followed-run : is-run p (take (followed p xs .step) xs) ≡ true
+  followed-run = run-of (followed p xs) ends
+
 module _ (p : Plan) (xs ys : List ℕ) (same : take (suc (count p)) xs ≡ take (suc (count p)) ys) where
   abbrev front : ℕ
   front = suc (count p)

@@ -9,7 +9,7 @@ use lib.Dec.{ltb, leb, eqb}
 use lib.ListN.{length}
 use borrow.Author.Tests.{ltb-true, ltb-false, lt-ltb, le-ltb, leb-true, leb-false, le-leb, eqb-true, eqb-false, eq-eqb}
 use Rattle.basics.specs.Lists.{member}
-use Rattle.basics.proofs.Tests.{by-cases, is-false, and-left, and-right, and-both, either}
+use Rattle.basics.proofs.Tests.{by-cases, clash, is-false, and-left, and-right, and-both, either}
 use Rattle.plan_format.specs.Sizes.{step-bytes, state-size}
 use Rattle.plan_format.specs.Refusal.{Refusal, refusal, none-given, given, or-else}
 use Rattle.plan_format.specs.RefusalNumbers.{None-or, trace-numbers}
@@ -52,6 +52,9 @@ module _ (ts : List ℕ) where
       (λ e. inl (leb-true step-bytes (length ts) t, eqb-true (length ts) (step-place (step-count ts)) e))
       (λ e. inr (inr (eqb-false (length ts) (step-place (step-count ts)) e))))
       (λ f. inr (inl (leb-false step-bytes (length ts) f)))
+
+  pub not-formed : trace-formed ts ≡ false → Ill-formed ts
+  not-formed f = either formed-or-ill (λ w. clash (trace-formed ts) (formed-by w) f) (λ w. w)
 
 -- ---- the question's own refusals
 module _ (ts : List ℕ) (s : ℕ) where
@@ -99,6 +102,9 @@ module _ (ts : List ℕ) (s : ℕ) where
   answer-if f (ill-case e h w) z = absurd (omega (arith, e .0))
   answer-if f (answer-case e h w) z = (h, w)
 
+  pub own-none : own-refusal ts s .number ≡ 0 → (state-size ≤ s) × Well-formed ts
+  own-none z = answer-if (own-refusal ts s) own-case z
+
 module _ (bs ts : List ℕ) (t l s : ℕ) where
   abbrev own : Refusal
   own = own-refusal ts s
@@ -121,7 +127,7 @@ module _ (bs ts : List ℕ) (t l s : ℕ) where
   unfolding trace-outcome
   gives-asked n i z r = asking.gives-asked bs t l own n i z r
 
-  leaves-are : here .leaves ≡ checked .leaves
+  pub leaves-are : here .leaves ≡ checked .leaves
   unfolding trace-outcome
   leaves-are = asking.asked-leaves bs t l own
 
