@@ -1,4 +1,6 @@
 // What a recorded trace is found to be, held against a plan. The definitions are in specs/, their theorems in proofs/.
+pub mod numbers;
+
 use plan_format::limits::MOST_QUEUES;
 
 // How many operations of each queue have run.

@@ -1,3 +1,4 @@
+-- `tell` goes from the first signal on: the state from here is the whole. Assumes nothing.
 use mathlib.Core.Path.{refl, ap, _∙_}
 use Rattle.ask_trace.specs.Raising.{raised-from}
 use Prim.Native.Nat.{_-_}
