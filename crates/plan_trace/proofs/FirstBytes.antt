@@ -7,15 +7,16 @@ use Prim.Native.Nat.{ℕ, zero, suc, _+_, _<_}
 use native.Mathlib.Omega.{arith}
 use lib.Dec.{ltb, leb, eqb}
 use lib.ListN.{length, getD}
+use lib.Seq.{ext-getD}
 use borrow.Author.Tests.{ltb-true, leb-true, leb-false, eqb-true}
 use Rattle.basics.specs.Lists.{all}
 use Rattle.basics.proofs.Tests.{by-cases, is-false, and-left, and-right}
 use Rattle.plan_format.specs.Sizes.{step-bytes, most-steps, trace-bytes}
 use Rattle.plan_format.specs.Refusal.{refusal}
 use Rattle.plan_format.specs.Stored.{all-bytes}
-use Rattle.plan_trace.specs.Trace.{step-count, step-place, trace-steps, trace-formed, trace-refusal}
+use Rattle.plan_trace.specs.Trace.{step-count, step-place, step-at, trace-steps, trace-formed, trace-refusal}
 use Rattle.plan_trace.specs.Promise.{Traced-alike, Same-trace, First-trace-bytes}
-use Rattle.plan_trace.proofs.Steps.{count-is}
+use Rattle.plan_trace.proofs.Steps.{count-is, step-is, steps-many, steps-each}
 use Rattle.plan_trace.proofs.Alike.{same-at, same-long, same-short}
 
 bytes-low : (bs : List ℕ) → all-bytes bs ≡ true → (i : ℕ) → getD bs i 0 < 256
@@ -49,23 +50,32 @@ module _ (ts us : List ℕ) (bytes : all-bytes ts ≡ true) (same : Same-trace t
   few-steps : step-count ts < suc most-steps
   few-steps = omega (arith, count-is ts, bytes-low ts bytes 0, bytes-low ts bytes 1)
 
-  short-alike : length ts < front → Traced-alike ts us
-  short-alike l = let e = same-short front ts us same l in record { refusal = ap trace-refusal e; steps = λ z. ap trace-steps e }
+  step-alike : (k : ℕ) → k < step-count ts → step-at ts k ≡ step-at us k
+  step-alike k l =
+      step-is ts k
+      ∙ omega (
+        arith,
+        same-at front ts us same (step-place k) (omega (arith, few-steps)),
+        same-at front ts us same (suc (step-place k)) (omega (arith, few-steps)),
+      )
+      ∙ sym (step-is us k)
 
-  long-alike : trace-bytes < length ts → Traced-alike ts us
-  unfolding refusal
-  long-alike l =
-      let ill = long-ill ts few-steps l in
-      record {
-        refusal = ill ∙ sym (long-ill us (omega (arith, counts-alike, few-steps)) (same-long front ts us same front (omega arith) (omega arith)));
-        steps = λ z. absurd (let n : 22 ≡ 0 = rw ill at z in omega arith);
-      }
+  steps-alike : trace-steps ts ≡ trace-steps us
+  steps-alike =
+      ext-getD 0 (trace-steps ts) (trace-steps us) (steps-many ts ∙ counts-alike ∙ sym (steps-many us)) (λ k l.
+      let inside : k < step-count ts = omega (arith, steps-many ts) in
+      steps-each ts k inside ∙ step-alike k inside ∙ sym (steps-each us k (omega (arith, counts-alike))))
+
+  refusal-alike : trace-refusal ts ≡ trace-refusal us
+  refusal-alike =
+      by-cases (leb (length ts) trace-bytes)
+      (λ t. ap trace-refusal (same-short front ts us same (omega (arith, leb-true (length ts) trace-bytes t))))
+      (λ f. let l = leb-false (length ts) trace-bytes f in
+      long-ill ts few-steps l
+      ∙ sym (long-ill us (omega (arith, counts-alike, few-steps)) (same-long front ts us same front (omega arith) (omega arith))))
 
   pub trace-alike : Traced-alike ts us
-  trace-alike =
-      by-cases (leb (length ts) trace-bytes)
-      (λ t. short-alike (omega (arith, leb-true (length ts) trace-bytes t)))
-      (λ f. long-alike (leb-false (length ts) trace-bytes f))
+  trace-alike = record { refusal = refusal-alike; steps = steps-alike }
 
 pub first-trace-bytes : First-trace-bytes
 unfolding First-trace-bytes

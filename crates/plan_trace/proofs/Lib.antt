@@ -9,3 +9,4 @@ pub mod Progress
 pub mod Tops
 pub mod QuestionMeaning
 pub mod Promises
+pub mod SaysAlike

@@ -47,7 +47,7 @@ pub record Trace-right (bytes trace : List ℕ) (r : Told) (x : Traced) (table t
 -- two traces that no question tells apart
 pub record Traced-alike (ts us : List ℕ) : Type 0 where
   pub refusal : trace-refusal ts ≡ trace-refusal us
-  pub steps : trace-refusal ts .number ≡ 0 → trace-steps ts ≡ trace-steps us
+  pub steps : trace-steps ts ≡ trace-steps us
 
 -- one byte more than the longest trace has decides all that is answered
 abbrev pub Same-trace : (ts us : List ℕ) → Type 0
