@@ -17,7 +17,16 @@ use Rattle.plan_format.specs.Stored.{plan-in, Tells}
 use Rattle.plan_format.specs.declared.Told.{Told}
 use Rattle.plan_format.proofs.Judged.{zero-not-given, other-given, not-given-zero}
 use Rattle.plan_format.proofs.Positions.{few-waits}
-use Rattle.plan_order.specs.Check.{rows-and-run, Leaves, Outcome, outcome, check-outcome, table-left, list-left, Check-says}
+use Rattle.plan_order.specs.Check.{
+  rows-and-run,
+  Leaves,
+  Outcome,
+  outcome,
+  check-outcome,
+  table-left,
+  list-left,
+  Check-says,
+}
 use Rattle.plan_order.specs.Precedence.{plan-signals}
 use Rattle.plan_order.specs.Promise.{Checked}
 use Rattle.plan_order.proofs.Demand3.{demand-3}
@@ -59,20 +68,23 @@ module _ {p : Plan} {o : Opened} {c : Lent} {table : List ℕ} (opened : Opened-
         full = safe .0 .1;
       }
 
-  pub signals-of : Shown-signals p (o .counted .operations) (o .signals) (c .queue) (c .source) table (c .signal-semaphore) (c .signal-value)
+  pub signals-of : Shown-signals p (o .counted .operations) (o .signals) (c .queue) (c .source) table
+      (c .signal-semaphore) (c .signal-value)
       (c .signal-operation)
   signals-of = record {
     shown = shown-of;
     few-semaphores = opened .limits .few-semaphores;
     signals-in = λ k l.
-        let inside = plan-inside p (opened .limits .few-semaphores) (opened .sound .in-range) _ (mem-at (plan-signals p) no-signal k l) in
+        let inside = plan-inside p (opened .limits .few-semaphores) (opened .sound .in-range) _
+        (mem-at (plan-signals p) no-signal k l) in
         (inside .operation, inside .semaphore);
     signals-shown = opened .read .signals-shown;
   }
 
 -- ---- what the code hands back
 module _ (o : Opened) (queue source ssem sval sop rows ts old : List ℕ) (f : Told)
-    (tells : Tells (first-refusal (o .counted) ts (length old)) 0 f) (c : Counted) (c-is : c ≡ counted-as (o .counted) (f .number) (f .place)) where
+    (tells : Tells (first-refusal (o .counted) ts (length old)) 0 f) (c : Counted)
+    (c-is : c ≡ counted-as (o .counted) (f .number) (f .place)) where
   abbrev first : Refusal
   first = first-refusal (o .counted) ts (length old)
 
@@ -113,10 +125,12 @@ module _ (o : Opened) (queue source ssem sval sop rows ts old : List ℕ) (f : T
     enough-room =
         by-cases (eqb (o .counted .number) 0)
         (λ a. own-none ts (length old)
-        (sym (ap (λ (z : Refusal). z .number) (then-own (o .counted) ts (length old) (eqb-true (o .counted .number) 0 a)))
+        (sym (ap (λ (z : Refusal). z .number) (then-own (o .counted) ts (length old)
+        (eqb-true (o .counted .number) 0 a)))
         ∙ sym (tells .number) ∙ none) .0)
         (λ a. let bad = eqb-false (o .counted .number) 0 a in
-        absurd (bad (unfold refusal in (sym (ap (λ (z : Refusal). z .number) (check-first (o .counted) ts (length old) bad)) ∙ sym (tells .number) ∙ none))))
+        absurd (bad (unfold refusal in (sym (ap (λ (z : Refusal). z .number)
+        (check-first (o .counted) ts (length old) bad)) ∙ sym (tells .number) ∙ none))))
 
 -- ---- what the question says
 module _ (bs ts t x l y s : List ℕ) (o : Opened) (c : Lent)
@@ -141,23 +155,27 @@ module _ (bs ts t x l y s : List ℕ) (o : Opened) (c : Lent)
       by-cases (eqb (o .counted .number) 0)
       (λ a. let z = eqb-true (o .counted .number) 0 a in
       then-own (o .counted) ts (length s) z
-      ∙ sym (ap (λ (w : Outcome). w .refusal) (then-asked bs ts (length t) (length l) (length s) (sym (checked .number) ∙ z))))
+      ∙ sym (ap (λ (w : Outcome). w .refusal)
+      (then-asked bs ts (length t) (length l) (length s) (sym (checked .number) ∙ z))))
       (λ a. let bad = eqb-false (o .counted .number) 0 a in
       check-first (o .counted) ts (length s) bad
       ∙ (λ i. record { number = checked .number i; place = checked .place i })
-      ∙ sym (ap (λ (w : Outcome). w .refusal) (plan-first bs ts (length t) (length l) (length s) (λ z. bad (checked .number ∙ z)))))
+      ∙ sym (ap (λ (w : Outcome). w .refusal)
+      (plan-first bs ts (length t) (length l) (length s) (λ z. bad (checked .number ∙ z)))))
 
   -- no refusal: the plan passes, and there is room
   passes : given here ≡ false → o .counted .number ≡ 0
   passes f =
       by-cases (eqb (o .counted .number) 0) (λ a. eqb-true (o .counted .number) 0 a)
       (λ a. let bad = eqb-false (o .counted .number) 0 a in
-      clash (given here) (ap given (check-first (o .counted) ts (length s) bad) ∙ other-given (refusal (o .counted .number) (o .counted .place)) (unfold refusal in bad)) f)
+      clash (given here) (ap given (check-first (o .counted) ts (length s) bad) ∙
+      other-given (refusal (o .counted .number) (o .counted .place)) (unfold refusal in bad)) f)
 
   room : given here ≡ false → state-size ≤ length s
   room f =
       own-none ts (length s)
-      (sym (ap (λ (z : Refusal). z .number) (then-own (o .counted) ts (length s) (passes f))) ∙ not-given-zero here f) .0
+      (sym (ap (λ (z : Refusal). z .number) (then-own (o .counted) ts (length s) (passes f))) ∙
+      not-given-zero here f) .0
 
   -- what was walked
   walk-is : given here ≡ false → walked o (c .queue) (c .source) x ts ≡ traced-of plan steps
@@ -167,13 +185,16 @@ module _ (bs ts t x l y s : List ℕ) (o : Opened) (c : Lent)
   unfolding traced-by
   traced-is = by-cases (given here) (λ g. rw g) (λ f. rw f (walk-is f))
 
-  state-is : state-by o (c .queue) (c .source) (c .signal-semaphore) (c .signal-value) (c .signal-operation) x ts s ≡ state-left here plan steps s
+  state-is : state-by o (c .queue) (c .source) (c .signal-semaphore) (c .signal-value) (c .signal-operation) x ts s ≡
+      state-left here plan steps s
   unfolding state-by state-left traced-of trace-state
   state-is =
       by-cases (given here) (λ g. rw g)
       (λ f. rw (f, walk-is f)
-      (state-right plan (o .counted .operations) (o .signals) (c .queue) (c .source) x (c .signal-semaphore) (c .signal-value)
-      (c .signal-operation) (signals-of (opened (passes f))) (steps-followed plan steps) (followed-run plan steps) s (room f)))
+      (state-right plan (o .counted .operations) (o .signals) (c .queue) (c .source) x (c .signal-semaphore)
+      (c .signal-value)
+      (c .signal-operation) (signals-of (opened (passes f))) (steps-followed plan steps) (followed-run plan steps) s
+      (room f)))
 
   -- the number of what was followed
   answer-is : number-of (cond (given here) nothing-traced (walked o (c .queue) (c .source) x ts) .followed) ≡
@@ -194,7 +215,8 @@ module _ (bs ts t x l y s : List ℕ) (o : Opened) (c : Lent)
           tells = record {
             number = ap (λ (z : Refusal). z .number) refusal-is;
             place = ap (λ (z : Refusal). z .place) refusal-is;
-            answer-is = answer-is ∙ ap (λ (z : Refusal). cond (given z) 0 (number-of (followed plan steps .followed))) refusal-is;
+            answer-is = answer-is ∙ ap (λ (z : Refusal). cond (given z) 0 (number-of (followed plan steps .followed)))
+                refusal-is;
           };
           table-holds = checked .says .table-holds ∙ ap (λ (v : Leaves). table-left v plan t) (sym left);
           list-holds = checked .says .list-holds ∙ ap (λ (v : Leaves). list-left v plan l) (sym left);
@@ -209,7 +231,8 @@ module _ (bs ts t x l y s : List ℕ) (o : Opened) (c : Lent)
   asked r now e h = rw (e, h) (trace-right bs ts _ _ t x l y s _ says-all)
 
 -- the counts are those of the check
-pub sizes-kept : (bs queue source rows ts : List ℕ) (o : Opened) (s : ℕ) (r : TraceTold) → r ≡ answer-by o queue source rows ts s →
+pub sizes-kept : (bs queue source rows ts : List ℕ) (o : Opened) (s : ℕ) (r : TraceTold) →
+    r ≡ answer-by o queue source rows ts s →
     Sizes-told bs (o .counted) → Sizes-told bs (r .counted)
 unfolding answer-by
 sizes-kept bs queue source rows ts o s r e h = rw e h

@@ -33,10 +33,29 @@ use Rattle.plan_trace.specs.declared.Followed.{Followed}
 use Rattle.plan_trace.specs.declared.Traced.{Traced}
 use Rattle.plan_trace.specs.Trace.{unmet-wait, judged, departs, Found, found, at-end, follow, followed}
 use Rattle.plan_trace.specs.State.{queue-count, queue-counts, no-counts, traced, traced-of}
-use Rattle.plan_trace.proofs.Reasons.{Judged, unknown, repeated, not-first, unmet-at, follows, judged-case, departs-ready}
+use Rattle.plan_trace.proofs.Reasons.{
+  Judged,
+  unknown,
+  repeated,
+  not-first,
+  unmet-at,
+  follows,
+  judged-case,
+  departs-ready,
+}
 use Rattle.plan_trace.proofs.StateMeaning.{counts-at, counts-long}
 use Rattle.plan_trace.proofs.Progress.{rested, own-entry as entry-own, run-is, first-is, wait-is, counts-more}
-use Rattle.ask_trace.specs.Walk.{place-of, own-entry, count-of, ran-at, held-at, held, judged-shown, counts-after, walk-from}
+use Rattle.ask_trace.specs.Walk.{
+  place-of,
+  own-entry,
+  count-of,
+  ran-at,
+  held-at,
+  held,
+  judged-shown,
+  counts-after,
+  walk-from,
+}
 
 -- a sound plan with a full run, shown by its columns, what its waits rest on, and its rows
 pub record Shown (p : Plan) (n : ℕ) (queue source rows : List ℕ) : Type 0 where
@@ -118,7 +137,8 @@ module _ (p : Plan) (n : ℕ) (queue source rows : List ℕ) (shown : Shown p n 
         held queue source rows (queue-counts p r) j k ≡ not (rested r (resolve p (wait-at p j k)))
     unfolding held Source-column columns.wait-at
     held-source j k l b =
-        rw (uncut j l) (of-source (wait-at p j k) (resolve p (wait-at p j k)) (resolve-is p (wait-at p j k)) (most-waits * j + k)
+        rw (uncut j l) (of-source (wait-at p j k) (resolve p (wait-at p j k)) (resolve-is p (wait-at p j k))
+        (most-waits * j + k)
         (shown .sources-shown j k l b))
 
     held-right : (j k : ℕ) → j < count p → k < length (op p j .waits) →
@@ -139,7 +159,8 @@ module _ (p : Plan) (n : ℕ) (queue source rows : List ℕ) (shown : Shown p n 
     unfolding unmet-wait
     unmet-right j l =
         lowest-cut (length (op p j .waits)) most-waits (λ k. held queue source rows (queue-counts p r) j k)
-        (λ k. not (wait-met p r (wait-at p j k))) (shown .few-waits j l) (λ k b. held-right j k l b) (λ k a b. held-past j k l a b)
+        (λ k. not (wait-met p r (wait-at p j k))) (shown .few-waits j l) (λ k b. held-right j k l b)
+        (λ k a b. held-past j k l a b)
 
     -- ---- one step
     judged-right : (j : ℕ) → judged-shown n queue source rows (queue-counts p r) j ≡ judged p r j
@@ -190,7 +211,8 @@ module _ (p : Plan) (n : ℕ) (queue source rows : List ℕ) (shown : Shown p n 
   unfolding queue-count member tally
   none-run q =
       let f : ℕ → Bool = λ k. eqb (op p k .queue) q && member k [] in
-      let most : tally (count p) f ≤ 0 = tally-ends 0 (count p) f (λ k a b. and-false (eqb (op p k .queue) q)) in omega arith
+      let most : tally (count p) f ≤ 0 = tally-ends 0 (count p) f (λ k a b. and-false (eqb (op p k .queue) q)) in
+      omega arith
 
   counts-none : queue-counts p [] ≡ no-counts
   counts-none =

@@ -57,7 +57,8 @@ module _ (counts old : List ℕ) (room : state-size ≤ length old) where
       now ≡ set st i x → Beginning counts old (i + 1) now
   beginning-more i x st now b l e f = record {
     inside = omega arith;
-    stored = f ∙ rw (b .stored, e, ← begun-at i l) (front-more (begun counts) old i 0 (omega (arith, begun-size)) (omega arith));
+    stored = f ∙ rw (b .stored, e, ← begun-at i l)
+        (front-more (begun counts) old i 0 (omega (arith, begun-size)) (omega arith));
   }
 
   pub beginning-long : (i : ℕ) (st : List ℕ) → Beginning counts old i st → length st ≡ length old
@@ -66,7 +67,8 @@ module _ (counts old : List ℕ) (room : state-size ≤ length old) where
       ∙ front-length (take i (begun counts)) old
       (omega (arith, length-take-le i (begun counts) (omega (arith, begun-size, b .inside)), b .inside))
 
-  pub beginning-end : (i : ℕ) (st : List ℕ) → Beginning counts old i st → state-size ≤ i → st ≡ in-front (begun counts) old
+  pub beginning-end : (i : ℕ) (st : List ℕ) → Beginning counts old i st → state-size ≤ i →
+      st ≡ in-front (begun counts) old
   beginning-end i st b l = b .stored ∙ front-all (begun counts) old i (omega (arith, begun-size))
 
   pub begun-long : length (in-front (begun counts) old) ≡ length old
@@ -91,10 +93,13 @@ module _ (queue rows counts ssem sval sop : List ℕ) where
       now ≡ raised-by queue rows counts ssem sval sop k st → Raising many whole (k + 1) now
   unfolding raised-from
   raising-more many k whole st now w l f =
-      let e : many - k ≡ suc (many - (k + 1)) = omega arith in record { rest = rw (f, add-one k) (rw (e, add-one k) at (w .rest)) }
+      let e : many - k ≡ suc (many - (k + 1)) = omega arith in
+      record { rest = rw (f, add-one k) (rw (e, add-one k) at (w .rest)) }
 
-  pub raised-yes : (k i s v : ℕ) (st now : List ℕ) → i ≡ getD sop k 0 → s ≡ getD ssem k 0 % most-semaphores → v ≡ getD sval k 0 →
-      ran-at queue rows counts i ≡ true → now ≡ higher st (most-queues + s) v → now ≡ raised-by queue rows counts ssem sval sop k st
+  pub raised-yes : (k i s v : ℕ) (st now : List ℕ) → i ≡ getD sop k 0 → s ≡ getD ssem k 0 % most-semaphores →
+      v ≡ getD sval k 0 →
+      ran-at queue rows counts i ≡ true → now ≡ higher st (most-queues + s) v →
+      now ≡ raised-by queue rows counts ssem sval sop k st
   unfolding raised-by
   raised-yes k i s v st now i-is s-is v-is t e = rw (← i-is, t, ← s-is, ← v-is) e
 
@@ -107,14 +112,16 @@ module _ (queue rows counts ssem sval sop : List ℕ) where
   shown-top : (at left k : ℕ) → ℕ
   shown-top at zero k = 0
   shown-top at (suc left) k =
-      max (cond (eqb (most-queues + getD ssem k 0 % most-semaphores) at && ran-at queue rows counts (getD sop k 0)) (getD sval k 0) 0)
+      max (cond (eqb (most-queues + getD ssem k 0 % most-semaphores) at && ran-at queue rows counts (getD sop k 0))
+      (getD sval k 0) 0)
       (shown-top at left (suc k))
 
   higher-long : (st : List ℕ) (at v : ℕ) → length (higher st at v) ≡ length st
   unfolding higher
   higher-long st at v = length-set st at (max (getD st at 0) v)
 
-  higher-at : (st : List ℕ) (s v at : ℕ) → at < length st → getD (higher st s v) at 0 ≡ max (getD st at 0) (cond (eqb s at) v 0)
+  higher-at : (st : List ℕ) (s v at : ℕ) → at < length st →
+      getD (higher st s v) at 0 ≡ max (getD st at 0) (cond (eqb s at) v 0)
   unfolding higher
   higher-at st s v at l =
       by-cases (eqb s at)
@@ -150,14 +157,16 @@ module _ (queue rows counts ssem sval sop : List ℕ) where
       let b = ran-at queue rows counts (getD sop k 0) in
       let s = most-queues + getD ssem k 0 % most-semaphores in
       let v = getD sval k 0 in
-      raised-at left (suc k) (cond b (higher st s v) st) at (omega (arith, next-long b st s v)) ∙ omega (arith, next-at b st s v at l)
+      raised-at left (suc k) (cond b (higher st s v) st) at (omega (arith, next-long b st s v)) ∙
+      omega (arith, next-at b st s v at l)
 
   -- outside the semaphores' places nothing is raised
   none-there : (at left k : ℕ) → ((s : ℕ) → most-queues + s % most-semaphores ≡ at → ⊥) → shown-top at left k ≡ 0
   unfolding shown-top
   none-there at zero k h = refl
   none-there at (suc left) k h =
-      rw (ne-eqb (most-queues + getD ssem k 0 % most-semaphores) at (h (getD ssem k 0)), none-there at left (suc k) h) (omega arith)
+      rw (ne-eqb (most-queues + getD ssem k 0 % most-semaphores) at (h (getD ssem k 0)), none-there at left (suc k) h)
+      (omega arith)
 
 -- ---- the plan's signals
 -- a plan with its signals, and a part of a run of it
@@ -165,7 +174,8 @@ pub record Shown-signals (p : Plan) (n signals : ℕ) (queue source rows ssem sv
   pub shown : Shown p n queue source rows
   pub few-semaphores : length (p .owners) ≤ most-semaphores
   pub signals-in : (k : ℕ) → k < length (plan-signals p) →
-      (getD (plan-signals p) k no-signal .operation < count p) × (getD (plan-signals p) k no-signal .semaphore < length (p .owners))
+      (getD (plan-signals p) k no-signal .operation < count p) ×
+      (getD (plan-signals p) k no-signal .semaphore < length (p .owners))
   pub signals-shown : Signal-columns p signals ssem sval sop
 
 module _ (p : Plan) (n signals : ℕ) (queue source rows ssem sval sop : List ℕ)
@@ -200,7 +210,8 @@ module _ (p : Plan) (n signals : ℕ) (queue source rows ssem sval sop : List �
       shown-top queue rows counted ssem sval sop (most-queues + s) left k ≡ top s ran (drop k (plan-signals p))
   unfolding shown-top top
   shown-is s zero k e =
-      let end : k ≡ length (plan-signals p) = omega (arith, x .signals-shown .all) in rw (end, drop-length (plan-signals p))
+      let end : k ≡ length (plan-signals p) = omega (arith, x .signals-shown .all) in
+      rw (end, drop-length (plan-signals p))
   shown-is s (suc left) k e =
       let l : k < signals = omega arith in
       rw (
@@ -225,7 +236,8 @@ module _ (p : Plan) (n signals : ℕ) (queue source rows ssem sval sop : List �
     start-long = begun-long counted old room
 
     start-at : (i : ℕ) → i < state-size → getD start i 0 ≡ getD counted i 0
-    start-at i l = front-at (begun counted) old i 0 (omega (arith, begun-size counted old room)) ∙ begun-at counted old room i l
+    start-at i l = front-at (begun counted) old i 0 (omega (arith, begun-size counted old room)) ∙
+        begun-at counted old room i l
 
     abbrev final : List ℕ
     final = raised-from queue rows counted ssem sval sop signals 0 start
@@ -264,13 +276,16 @@ module _ (p : Plan) (n signals : ℕ) (queue source rows ssem sval sop : List �
         final-at i l
         ∙ rw (
           front-past (begun counted) old i 0 (omega (arith, begun-size counted old room)),
-          none-there queue rows counted ssem sval sop i signals 0 (λ s z. omega (arith, mod-lt s {m = most-semaphores} (omega arith))),
+          none-there queue rows counted ssem sval sop i signals 0
+              (λ s z. omega (arith, mod-lt s {m = most-semaphores} (omega arith))),
           front-past (state-of p r) old i 0 (omega (arith, state-long p r)),
         ) (omega arith)
 
-    pub state-right : raised-from queue rows counted ssem sval sop signals 0 (in-front (begun counted) old) ≡ in-front (state-of p r) old
+    pub state-right : raised-from queue rows counted ssem sval sop signals 0 (in-front (begun counted) old) ≡ in-front
+        (state-of p r) old
     state-right =
-        let long : length final ≡ length old = raised-long queue rows counted ssem sval sop signals 0 start ∙ start-long in
+        let long : length final ≡ length old = raised-long queue rows counted ssem sval sop signals 0 start ∙
+        start-long in
         ext-getD 0 final new (long ∙ sym (front-length (state-of p r) old (omega (arith, state-long p r)))) (λ i l.
         by-cases (ltb i most-queues) (λ t. at-queue i (ltb-true i most-queues t))
         (λ f. let low : most-queues ≤ i = ltb-false i most-queues f in

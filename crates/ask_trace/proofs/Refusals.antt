@@ -20,7 +20,8 @@ no-answer : (b : Bool) → _≡_ {A = ℕ} 0 (cond b 0 0)
 no-answer true = refl
 no-answer false = refl
 
-tells-of : (f : Refusal) (n i : ℕ) (r : Told) → Refuses f n i → r ≡ record { number = n; place = i; answer = 0 } → Tells f 0 r
+tells-of : (f : Refusal) (n i : ℕ) (r : Told) → Refuses f n i → r ≡ record { number = n; place = i; answer = 0 } →
+    Tells f 0 r
 tells-of f n i r w e =
     subst (Tells f 0) (sym e) (record { number = sym (w .0); place = sym (w .1); answer-is = no-answer (given f) })
 
@@ -33,9 +34,11 @@ module _ (c : Counted) (ts : List ℕ) (s : ℕ) where
   unfolding first-refusal or-else refusal
   then-own z = rw (zero-not-given (refusal (c .number) (c .place)) z)
 
-  pub check-tells : (c .number ≡ 0 → ⊥) → Tells (first-refusal c ts s) 0 (record { number = c .number; place = c .place; answer = 0 })
+  pub check-tells : (c .number ≡ 0 → ⊥) → Tells (first-refusal c ts s) 0
+      (record { number = c .number; place = c .place; answer = 0 })
   unfolding refusal
-  check-tells h = rw (check-first h) (tells-of (refusal (c .number) (c .place)) (c .number) (c .place) _ (refl, refl) refl)
+  check-tells h = rw (check-first h) (tells-of (refusal (c .number) (c .place)) (c .number) (c .place) _ (refl, refl)
+      refl)
 
   module _ (z : c .number ≡ 0) where
     pub short-tells : (r : Told) → s < state-size → r ≡ record { number = 9; place = state-size; answer = 0 } →

@@ -20,7 +20,17 @@ use Rattle.plan_trace.specs.declared.Followed.the-variants.{Full, Unfinished, U
 use Rattle.plan_trace.specs.Trace.{step-count, step-at, trace-steps, trace-formed, of-wait, departs, at-end}
 use Rattle.plan_trace.specs.State.{no-counts, traced}
 use Rattle.plan_trace.proofs.Steps.{two-bytes-are}
-use Rattle.ask_trace.specs.Walk.{place-of, own-entry, count-of, ran-at, held-at, held, judged-shown, counts-after, walk-from}
+use Rattle.ask_trace.specs.Walk.{
+  place-of,
+  own-entry,
+  count-of,
+  ran-at,
+  held-at,
+  held,
+  judged-shown,
+  counts-after,
+  walk-from,
+}
 
 -- ---- two bytes
 pub byte-past : (bs : List ℕ) (at : ℕ) → length bs ≤ at → 0 ≡ getD bs at 0
@@ -70,7 +80,8 @@ module _ (queue source rows counts : List ℕ) where
       k ≡ place-or most-waits (lowest-below most-waits (held queue source rows counts j))
   unfolding place-or
   unmet-at j k l t h =
-      let e = lowest-is most-waits (held queue source rows counts j) k (record { inside = l; passes = t; lower = h }) in rw e
+      let e = lowest-is most-waits (held queue source rows counts j) k (record { inside = l; passes = t; lower = h }) in
+      rw e
 
   pub unmet-nowhere : (j k : ℕ) → most-waits ≤ k → ((i : ℕ) → i < k → held queue source rows counts j i ≡ false) →
       most-waits ≡ place-or most-waits (lowest-below most-waits (held queue source rows counts j))
@@ -95,15 +106,29 @@ module _ (queue source rows counts : List ℕ) where
           NotFirst j ≡ judged-shown n queue source rows counts j
       unfolding judged-shown ran-at
       judge-late a l =
-          rw (lt-leb n j known, ← x-is, ← count-is j q q-is, lt-leb x (getD counts q 0) a, lt-ltb (suc (getD counts q 0)) x (omega arith))
+          rw (
+            lt-leb n j known,
+            ← x-is,
+            ← count-is j q q-is,
+            lt-leb x (getD counts q 0) a,
+            lt-ltb (suc (getD counts q 0)) x (omega arith),
+          )
 
       pub judge-waits : getD counts q 0 < x → x - getD counts q 0 ≤ 1 →
-          of-wait j (lowest-below most-waits (λ k. held queue source rows counts j k)) ≡ judged-shown n queue source rows counts j
+          of-wait j (lowest-below most-waits (λ k. held queue source rows counts j k)) ≡ judged-shown n queue source
+          rows counts j
       unfolding judged-shown ran-at
       judge-waits a l =
-          rw (lt-leb n j known, ← x-is, ← count-is j q q-is, lt-leb x (getD counts q 0) a, le-ltb (suc (getD counts q 0)) x (omega arith))
+          rw (
+            lt-leb n j known,
+            ← x-is,
+            ← count-is j q q-is,
+            lt-leb x (getD counts q 0) a,
+            le-ltb (suc (getD counts q 0)) x (omega arith),
+          )
 
-  pub none-found : (j k : ℕ) → k ≡ place-or most-waits (lowest-below most-waits (λ k. held queue source rows counts j k)) → most-waits ≤ k →
+  pub none-found : (j k : ℕ) → k ≡ place-or most-waits
+      (lowest-below most-waits (λ k. held queue source rows counts j k)) → most-waits ≤ k →
       Unfinished ≡ of-wait j (lowest-below most-waits (λ k. held queue source rows counts j k))
   unfolding of-wait place-or
   none-found j k e l =
@@ -134,10 +159,12 @@ module _ (n : ℕ) (queue source rows trace : List ℕ) where
 
   pub walking-none : Walking no-counts 0
   unfolding trace-steps
-  walking-none = let e : step-count trace - 0 ≡ step-count trace = omega arith in record { inside = omega arith; rest = rw e }
+  walking-none = let e : step-count trace - 0 ≡ step-count trace = omega arith in
+      record { inside = omega arith; rest = rw e }
 
   next-step : (k : ℕ) → k < step-count trace →
-      tabulate-from (step-count trace - k) k (λ k. step-at trace k) ≡ step-at trace k ∷ tabulate-from (step-count trace - (k + 1)) (k + 1) (λ k. step-at trace k)
+      tabulate-from (step-count trace - k) k (λ k. step-at trace k) ≡ step-at trace k ∷ tabulate-from
+      (step-count trace - (k + 1)) (k + 1) (λ k. step-at trace k)
   unfolding tabulate-from
   next-step k l = let e : step-count trace - k ≡ suc (step-count trace - (k + 1)) = omega arith in rw (e, add-one k)
 
@@ -147,12 +174,19 @@ module _ (n : ℕ) (queue source rows trace : List ℕ) where
     unfolding walk-from tabulate-from
     walking-end l f e = let z : step-count trace - k ≡ 0 = omega arith in rw e (rw z at (w .rest))
 
-    module _ (j : ℕ) (f : Followed) (l : k < step-count trace) (j-is : j ≡ step-at trace k) (f-is : f ≡ judged-shown n queue source rows counts j) where
-      pub walking-departs : departs f ≡ true → traced k counts f ≡ walk-from n queue source rows no-counts 0 (trace-steps trace)
+    module _ (j : ℕ) (f : Followed) (l : k < step-count trace) (j-is : j ≡ step-at trace k)
+        (f-is : f ≡ judged-shown n queue source rows counts j) where
+      pub walking-departs : departs f ≡ true →
+          traced k counts f ≡ walk-from n queue source rows no-counts 0 (trace-steps trace)
       unfolding walk-from
       walking-departs d = rw (next-step k l, ← j-is, ← f-is, d) at (w .rest)
 
-      pub walking-more : departs f ≡ false → (q x : ℕ) → q ≡ place-of queue j → x ≡ own-entry queue rows j → Walking (set counts q x) (k + 1)
+      pub walking-more : departs f ≡ false → (q x : ℕ) → q ≡ place-of queue j → x ≡ own-entry queue rows j →
+          Walking (set counts q x) (k + 1)
       unfolding walk-from counts-after
       walking-more d q x q-is x-is =
-          record { inside = omega arith; rest = rw (q-is, x-is, add-one k) (rw (next-step k l, ← j-is, ← f-is, d, add-one k) at (w .rest)) }
+          record {
+            inside = omega arith;
+            rest = rw (q-is, x-is, add-one k)
+                (rw (next-step k l, ← j-is, ← f-is, d, add-one k) at (w .rest));
+          }

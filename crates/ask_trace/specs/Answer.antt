@@ -1,4 +1,5 @@
--- What the question hands back and leaves for an opened plan, by its columns alone (R84). Assumes nothing: these are definitions.
+-- What the question hands back and leaves for an opened plan, by its columns alone (R84). Assumes nothing: these are
+-- definitions.
 use mathlib.Core.Bool.{cond}
 use mathlib.Core.List.{List}
 use Prim.Native.Nat.{ℕ}

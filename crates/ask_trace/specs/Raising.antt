@@ -1,5 +1,5 @@
--- The state by the columns of a plan: the counts of the queues, then one pass over the signals (R83). Assumes nothing: these are
--- definitions.
+-- The state by the columns of a plan: the counts of the queues, then one pass over the signals (R83). Assumes nothing:
+-- these are definitions.
 use mathlib.Core.Bool.{cond}
 use mathlib.Core.List.{List}
 use Prim.Native.Nat.{ℕ, zero, suc, _+_, _%_, max}
@@ -18,7 +18,8 @@ higher st at v = set st at (max (getD st at 0) v)
 -- by the k-th signal, if its operation has run
 unfoldable pub raised-by : (queue rows counts ssem sval sop : List ℕ) → (k : ℕ) → (state : List ℕ) → List ℕ
 raised-by queue rows counts ssem sval sop k st =
-    cond (ran-at queue rows counts (getD sop k 0)) (higher st (most-queues + getD ssem k 0 % most-semaphores) (getD sval k 0)) st
+    cond (ran-at queue rows counts (getD sop k 0))
+    (higher st (most-queues + getD ssem k 0 % most-semaphores) (getD sval k 0)) st
 
 -- by so many signals from k on
 unfoldable pub raised-from : (queue rows counts ssem sval sop : List ℕ) → (left k : ℕ) → (state : List ℕ) → List ℕ

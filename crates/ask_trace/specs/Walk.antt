@@ -1,5 +1,5 @@
--- A trace walked over the columns of a plan and its rows; `counts` is how many operations of each queue have run. Positions are cut to
--- their bits, which changes none in range. Assumes nothing: these are definitions.
+-- A trace walked over the columns of a plan and its rows; `counts` is how many operations of each queue have run.
+-- Positions are cut to their bits, which changes none in range. Assumes nothing: these are definitions.
 use mathlib.Core.Bool.{Bool, _&&_, not, cond}
 use mathlib.Core.List.{List, [], _∷_}
 use Prim.Native.Nat.{ℕ, suc, _+_, _*_, _%_}
@@ -30,7 +30,8 @@ ran-at queue rows counts i = leb (own-entry queue rows i) (count-of queue counts
 
 -- the wait at a place rests on an operation that has not run
 unfoldable pub held-at : (queue source rows counts : List ℕ) → (at : ℕ) → Bool
-held-at queue source rows counts at = ltb (getD source at 0) no-operation && not (ran-at queue rows counts (getD source at 0))
+held-at queue source rows counts at = ltb (getD source at 0) no-operation && not
+    (ran-at queue rows counts (getD source at 0))
 
 unfoldable pub held : (queue source rows counts : List ℕ) → (j k : ℕ) → Bool
 held queue source rows counts j k = held-at queue source rows counts (most-waits * (j % most-operations) + k)

@@ -32,8 +32,8 @@ pub struct TraceTold {
     pub traced: Traced,
 }
 
-// Holds a trace against a plan: what was followed, and the state before the step that departs or at the end. The check's refusals come
-// first, then too little room for the state, then a badly formed trace.
+// Holds a trace against a plan: what was followed, and the state before the step that departs or at the end. The
+// check's refusals come first, then too little room for the state, then a badly formed trace.
 pub fn trace_question(
     plan: &[u8],
     trace: &[u8],

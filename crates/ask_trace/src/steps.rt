@@ -1,5 +1,6 @@
-// A trace walked over the columns of a plan and its rows: each step is judged by the counts of the queues. An operation's own entry of
-// its row is its epoch: the operation has run if that is at most its queue's count, and at one more it is next.
+// A trace walked over the columns of a plan and its rows: each step is judged by the counts of the queues. An
+// operation's own entry of its row is its epoch: the operation has run if that is at most its queue's count, and at one
+// more it is next.
 use plan_format::limits::MOST_OPERATIONS;
 use plan_format::limits::MOST_QUEUES;
 use plan_format::limits::MOST_WAITS;
@@ -20,7 +21,8 @@ ghost use Rattle.plan_trace.specs.Trace.{trace-formed, trace-steps, departs as 
 ghost use Rattle.plan_trace.specs.State.{no-counts};
 ghost use Rattle.ask_trace.specs.Walk.{place-of, own-entry, ran-at, held-at, held, judged-shown, walk-from};
 
-// The walk from the first step on, over a plan of n operations. After n steps that depart nowhere, the next one departs.
+// The walk from the first step on, over a plan of n operations. After n steps that depart nowhere, the next one
+// departs.
 pub(crate) fn walk(n: usize, queue: &[u16], source: &[u16], table: &[u32], trace: &[u8]) -> Traced
     ensures { λ r. ⌜ r ≡ walk-from n (now (queue .entry)) (now (source .entry)) (now (table .entry)) no-counts 0 (trace-steps (now (trace .entry))) ⌝ }
 {
@@ -94,8 +96,8 @@ fn unmet(queue: &[u16], source: &[u16], table: &[u32], counts: &QueueCounts, j: 
     MOST_WAITS
 }
 
-// Whether the wait at a place rests on an operation that has not run. Both are worked out whatever the wait is, so that no branch
-// depends on whether there is a wait.
+// Whether the wait at a place rests on an operation that has not run. Both are worked out whatever the wait is, so that
+// no branch depends on whether there is a wait.
 fn holds(queue: &[u16], source: &[u16], table: &[u32], counts: &QueueCounts, at: usize) -> bool
     ensures { λ r. ⌜ r ≡ held-at (now (queue .entry)) (now (source .entry)) (now (table .entry)) (now (counts .entry)) at ⌝ }
 {

@@ -1,5 +1,5 @@
-// The C interface of the question on a recorded trace, declared in include/cundvrest.h: it lends what it is lent to the proved function
-// and stores what comes back.
+// The C interface of the question on a recorded trace, declared in include/cundvrest.h: it lends what it is lent to the
+// proved function and stores what comes back.
 use plan_format::Told;
 use plan_trace::Traced;
 use plan_trace::numbers;

@@ -1,4 +1,5 @@
-// Standard input, or the file of a trace, read to its end. A read that fails is no end: it is said on standard error, and nothing is judged.
+// Standard input, or the file of a trace, read to its end. A read that fails is no end: it is said on standard error,
+// and nothing is judged.
 use crate::usage;
 use libc::STDIN_FILENO;
 ghost use mathlib.Core.Path.{_≡_};
@@ -71,8 +72,8 @@ fn beyond(fd: i32, kept: usize) -> Input
     }
 }
 
-// The first bytes of the input, as many as there is room for, once all of it has been read. The turns only count down, so that the loop is
-// seen to end: no input uses them up.
+// The first bytes of the input, as many as there is room for, once all of it has been read. The turns only count down,
+// so that the loop is seen to end: no input uses them up.
 fn all(fd: i32, room: &mut [u8]) -> Input
     ensures { λ r. ⌜ r .kept ≤ length (now (room .exit)) ⌝ }
 {

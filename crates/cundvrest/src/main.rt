@@ -12,8 +12,8 @@ use plan_format::limits::PLAN_NUMBERS;
 use plan_format::limits::TRACE_BYTES;
 use report_input::Question;
 
-// One byte, and one number, more than the longest plan has, and one byte more than the longest trace: so many decide the answer to an input
-// of any length.
+// One byte, and one number, more than the longest plan has, and one byte more than the longest trace: so many decide
+// the answer to an input of any length.
 const FIRST_BYTES: usize = PLAN_BYTES + 1;
 
 const FIRST_NUMBERS: usize = PLAN_NUMBERS + 1;

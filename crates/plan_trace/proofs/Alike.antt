@@ -19,4 +19,5 @@ module _ (n : ℕ) (xs ys : List ℕ) (same : take n xs ≡ take n ys) where
   -- a list that ends inside the front
   pub same-short : length xs < n → xs ≡ ys
   same-short l =
-      sym (take-all n xs (omega arith)) ∙ same ∙ take-all n ys (omega (arith, length-take n xs, length-take n ys, ap length same))
+      sym (take-all n xs (omega arith)) ∙ same ∙
+      take-all n ys (omega (arith, length-take n xs, length-take n ys, ap length same))

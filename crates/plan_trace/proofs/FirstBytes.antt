@@ -1,5 +1,5 @@
--- One byte more than the longest trace has decides what is answered: a trace that is longer is badly formed, whatever follows.
--- Assumes nothing.
+-- One byte more than the longest trace has decides what is answered: a trace that is longer is badly formed, whatever
+-- follows. Assumes nothing.
 use mathlib.Core.Path.{_≡_, refl, sym, ap, _∙_}
 use mathlib.Core.Bool.{true, false, _&&_}
 use mathlib.Core.List.{List, [], _∷_}
@@ -72,7 +72,8 @@ module _ (ts us : List ℕ) (bytes : all-bytes ts ≡ true) (same : Same-trace t
       (λ t. ap trace-refusal (same-short front ts us same (omega (arith, leb-true (length ts) trace-bytes t))))
       (λ f. let l = leb-false (length ts) trace-bytes f in
       long-ill ts few-steps l
-      ∙ sym (long-ill us (omega (arith, counts-alike, few-steps)) (same-long front ts us same front (omega arith) (omega arith))))
+      ∙ sym (long-ill us (omega (arith, counts-alike, few-steps))
+      (same-long front ts us same front (omega arith) (omega arith))))
 
   pub trace-alike : Traced-alike ts us
   trace-alike = record { refusal = refusal-alike; steps = steps-alike }

@@ -1,4 +1,5 @@
--- What was followed: a full run, an unfinished one, or the first step that departs and why, each exactly if. Assumes nothing.
+-- What was followed: a full run, an unfinished one, or the first step that departs and why, each exactly if. Assumes
+-- nothing.
 use mathlib.Core.Path.{_≡_, refl, sym, ap, _∙_, subst, subst₂}
 use mathlib.Core.Bool.{true, false, not, false≢true}
 use mathlib.Core.Logic.{_⊎_, _↔_}
@@ -29,15 +30,18 @@ module _ (p : Plan) (xs : List ℕ) where
   -- ---- how a trace ends
   pub data Ends : Found → Type 0 where
     at-last : is-run p xs ≡ true → Ends (found (length xs) (at-end (count p) (length xs)))
-    at-step : (k : ℕ) → k < length xs → is-run p (take k xs) ≡ true → departs (judged p (take k xs) (getD xs k 0)) ≡ true → Ends (found k (judged p (take k xs) (getD xs k 0)))
+    at-step : (k : ℕ) → k < length xs → is-run p (take k xs) ≡ true →
+        departs (judged p (take k xs) (getD xs k 0)) ≡ true → Ends (found k (judged p (take k xs) (getD xs k 0)))
 
   -- one step further is a run exactly if it does not depart
-  step-run : (k : ℕ) → k < length xs → is-run p (take k xs) ≡ true → departs (judged p (take k xs) (getD xs k 0)) ≡ not (is-run p (take (suc k) xs))
+  step-run : (k : ℕ) → k < length xs → is-run p (take k xs) ≡ true →
+      departs (judged p (take k xs) (getD xs k 0)) ≡ not (is-run p (take (suc k) xs))
   step-run k l h =
       departs-ready p (take k xs) (getD xs k 0) ∙ ap not (ready-adds p (take k xs) (getD xs k 0) h)
       ∙ ap (λ (z : List ℕ). not (is-run p z)) (sym (take-suc xs k 0 l))
 
-  ends-from : (left k : ℕ) → left + k ≡ length xs → is-run p (take k xs) ≡ true → Ends (follow p (take k xs) (drop k xs))
+  ends-from : (left k : ℕ) → left + k ≡ length xs → is-run p (take k xs) ≡ true →
+      Ends (follow p (take k xs) (drop k xs))
   unfolding follow
   ends-from zero k e h =
       let same : k ≡ length xs = omega arith in
@@ -47,7 +51,8 @@ module _ (p : Plan) (xs : List ℕ) where
       rw (drop-cons xs k 0 l)
       (by-cases (departs (judged p (take k xs) (getD xs k 0)))
       (λ t. rw (t, length-take-le k xs (omega arith)) (at-step k l h t))
-      (λ f. rw (f, ← take-suc xs k 0 l) (ends-from left (suc k) (omega arith) (not-false (is-run p (take (suc k) xs)) (sym (step-run k l h) ∙ f)))))
+      (λ f. rw (f, ← take-suc xs k 0 l) (ends-from left (suc k) (omega arith)
+      (not-false (is-run p (take (suc k) xs)) (sym (step-run k l h) ∙ f)))))
 
   pub ends : Ends (followed p xs)
   unfolding followed is-run
@@ -57,7 +62,8 @@ module _ (p : Plan) (xs : List ℕ) where
   end-full : (k : ℕ) → (at-end (count p) k ≡ Full) ↔ (k ≡ count p)
   unfolding at-end
   end-full k = (
-    (λ e. by-cases (eqb k (count p)) (λ t. eqb-true k (count p) t) (λ f. absurd (let u : Unfinished ≡ Full = rw f at e in let z : _≡_ {A = ℕ} 0 1 = cc in omega arith))),
+    (λ e. by-cases (eqb k (count p)) (λ t. eqb-true k (count p) t)
+        (λ f. absurd (let u : Unfinished ≡ Full = rw f at e in let z : _≡_ {A = ℕ} 0 1 = cc in omega arith))),
     (λ e. rw (eq-eqb k (count p) e)),
   )
 
@@ -73,15 +79,18 @@ module _ (p : Plan) (xs : List ℕ) where
   end-stays k = by-cases (eqb k (count p)) (λ t. rw t) (λ f. rw f)
 
   -- a departing step leaves no run
-  no-run-at : (k : ℕ) → k < length xs → is-run p (take k xs) ≡ true → departs (judged p (take k xs) (getD xs k 0)) ≡ true → is-run p (take (suc k) xs) ≡ false
+  no-run-at : (k : ℕ) → k < length xs → is-run p (take k xs) ≡ true →
+      departs (judged p (take k xs) (getD xs k 0)) ≡ true → is-run p (take (suc k) xs) ≡ false
   no-run-at k l h d = not-true (is-run p (take (suc k) xs)) (sym (step-run k l h) ∙ d)
 
   run-prefix : (k : ℕ) → k ≤ length xs → is-run p xs ≡ true → is-run p (take k xs) ≡ true
   unfolding is-run
   run-prefix k l h = run-take (count p) (λ r j. enabled p r j) xs h k l
 
-  not-a-run : (k : ℕ) → k < length xs → is-run p (take k xs) ≡ true → departs (judged p (take k xs) (getD xs k 0)) ≡ true → is-run p xs ≡ false
-  not-a-run k l h d = is-false (is-run p xs) (λ t. clash (is-run p (take (suc k) xs)) (run-prefix (suc k) l t) (no-run-at k l h d))
+  not-a-run : (k : ℕ) → k < length xs → is-run p (take k xs) ≡ true →
+      departs (judged p (take k xs) (getD xs k 0)) ≡ true → is-run p xs ≡ false
+  not-a-run k l h d = is-false (is-run p xs)
+      (λ t. clash (is-run p (take (suc k) xs)) (run-prefix (suc k) l t) (no-run-at k l h d))
 
   stays : {f : Followed} → departs f ≡ true → (f ≡ Full → ⊥) × (f ≡ Unfinished → ⊥)
   unfolding departs
@@ -120,7 +129,8 @@ module _ (p : Plan) (xs : List ℕ) where
   -- ---- the first step that departs
   departs-of : (x : Found) → Ends x → (k : ℕ) (f : Followed) → departs f ≡ true → x ≡ found k f → Departs p xs k f
   unfolding found
-  departs-of _ (at-last h) k f d e = absurd (false≢true (sym (end-stays (length xs)) ∙ ap (λ (x : Found). departs (x .followed)) e ∙ d))
+  departs-of _ (at-last h) k f d e = absurd
+      (false≢true (sym (end-stays (length xs)) ∙ ap (λ (x : Found). departs (x .followed)) e ∙ d))
   departs-of _ (at-step m l h d) k f _ e =
       let at : m ≡ k = ap (λ (x : Found). x .step) e in
       let why : judged p (take m xs) (getD xs m 0) ≡ f = ap (λ (x : Found). x .followed) e in
@@ -139,13 +149,18 @@ module _ (p : Plan) (xs : List ℕ) where
       (run-take (count p) (λ r j. enabled p r j) (take k xs) h m (omega (arith, length-take-le k xs b)))
 
   of-departs : (x : Found) → Ends x → (k : ℕ) (f : Followed) → Departs p xs k f → x ≡ found k f
-  of-departs _ (at-last h) k f w = clash (is-run p (take (suc k) xs)) (run-prefix (suc k) (w .inside) h) (is-false (is-run p (take (suc k) xs)) (λ t. w .no-run (run-means p (take (suc k) xs) .0 t)))
+  of-departs _ (at-last h) k f w = clash (is-run p (take (suc k) xs)) (run-prefix (suc k) (w .inside) h)
+      (is-false (is-run p (take (suc k) xs)) (λ t. w .no-run (run-means p (take (suc k) xs) .0 t)))
   of-departs _ (at-step m l h d) k f w =
       by-cases (ltb m k)
-      (λ t. clash (is-run p (take (suc m) xs)) (run-less (suc m) k (ltb-true m k t) (omega (arith, w .inside)) (run-means p (take k xs) .1 (w .a-run))) (no-run-at m l h d))
+      (λ t. clash (is-run p (take (suc m) xs))
+      (run-less (suc m) k (ltb-true m k t) (omega (arith, w .inside)) (run-means p (take k xs) .1 (w .a-run)))
+      (no-run-at m l h d))
       (λ g. by-cases (eqb m k)
-      (λ t. ap (λ (i : ℕ). found i (judged p (take i xs) (getD xs i 0))) (eqb-true m k t) ∙ ap (found k) (breaks-is p (take k xs) (getD xs k 0) f (w .reason)))
-      (λ ne. absurd (w .no-run (run-means p (take (suc k) xs) .0 (run-less (suc k) m (omega (arith, ltb-false m k g, eqb-false m k ne)) (omega arith) h)))))
+      (λ t. ap (λ (i : ℕ). found i (judged p (take i xs) (getD xs i 0))) (eqb-true m k t) ∙
+      ap (found k) (breaks-is p (take k xs) (getD xs k 0) f (w .reason)))
+      (λ ne. absurd (w .no-run (run-means p (take (suc k) xs) .0
+      (run-less (suc k) m (omega (arith, ltb-false m k g, eqb-false m k ne)) (omega arith) h)))))
 
   -- ---- at most one step more than the plan has operations is looked at
   run-short : (r : List ℕ) → is-run p r ≡ true → length r ≤ count p
@@ -178,7 +193,8 @@ module _ (p : Plan) (xs ys : List ℕ) (same : take (suc (count p)) xs ≡ take 
         inside = same-long front xs ys same (suc k) (omega arith) (w .inside);
         a-run = subst (Run-means p) before (w .a-run);
         no-run = λ t. w .no-run (subst (Run-means p) (sym after) t);
-        reason = subst₂ (λ (r : List ℕ) (j : ℕ). Breaks p r j f) before (same-at front xs ys same k (omega arith)) (w .reason);
+        reason = subst₂ (λ (r : List ℕ) (j : ℕ). Breaks p r j f) before (same-at front xs ys same k (omega arith))
+            (w .reason);
       }
 
   decided-of : (x : Found) → Ends p xs x → x ≡ followed p xs → x ≡ followed p ys
@@ -187,7 +203,8 @@ module _ (p : Plan) (xs ys : List ℕ) (same : take (suc (count p)) xs ≡ take 
   decided-of _ (at-step k l h d) e =
       let f = judged p (take k xs) (getD xs k 0) in
       let w = departs-of p xs (found k f) (at-step k l h d) k f d refl in
-      sym (of-departs p ys (followed p ys) (ends p ys) k f (departs-alike k f (few-of p xs (found k f) (at-step k l h d)) w))
+      sym (of-departs p ys (followed p ys) (ends p ys) k f
+      (departs-alike k f (few-of p xs (found k f) (at-step k l h d)) w))
 
 module _ (p : Plan) (xs : List ℕ) where
   pub followed-means : Followed-means p xs (followed p xs)

@@ -30,13 +30,15 @@ module _ (ts : List ℕ) where
   pub formed-by : Well-formed ts → trace-formed ts ≡ true
   unfolding trace-formed
   formed-by w =
-      and-both (leb step-bytes (length ts)) (eqb (length ts) (step-place (step-count ts))) (le-leb step-bytes (length ts) (w .0))
+      and-both (leb step-bytes (length ts)) (eqb (length ts) (step-place (step-count ts)))
+      (le-leb step-bytes (length ts) (w .0))
       (eq-eqb (length ts) (step-place (step-count ts)) (w .1))
 
   pub formed-gives : trace-formed ts ≡ true → Well-formed ts
   unfolding trace-formed
   formed-gives t = (
-    leb-true step-bytes (length ts) (and-left (leb step-bytes (length ts)) (eqb (length ts) (step-place (step-count ts))) t),
+    leb-true step-bytes (length ts) (and-left (leb step-bytes (length ts))
+        (eqb (length ts) (step-place (step-count ts))) t),
     eqb-true (length ts) (step-place (step-count ts))
         (and-right (leb step-bytes (length ts)) (eqb (length ts) (step-place (step-count ts))) t),
   )
@@ -149,17 +151,20 @@ module _ (bs ts : List ℕ) (t l s : ℕ) where
   pub twenty-two-if : here .refusal .number ≡ 22 → (checked .refusal .number ≡ 0) × (state-size ≤ s) × Ill-formed ts
   unfolding trace-outcome member
   twenty-two-if e =
-      let w = asking.asked-own bs t l own 22 refl e in let v = ill-if ts s own (own-case ts s) (w .1) in (w .0, v .0, v .1)
+      let w = asking.asked-own bs t l own 22 refl e in let v = ill-if ts s own (own-case ts s) (w .1) in
+      (w .0, v .0, v .1)
 
   pub zero-if : here .refusal .number ≡ 0 → (checked .refusal .number ≡ 0) × (state-size ≤ s) × Well-formed ts
   unfolding trace-outcome member
   zero-if e =
-      let w = asking.asked-own bs t l own 0 refl e in let v = answer-if ts s own (own-case ts s) (w .1) in (w .0, v .0, v .1)
+      let w = asking.asked-own bs t l own 0 refl e in let v = answer-if ts s own (own-case ts s) (w .1) in
+      (w .0, v .0, v .1)
 
   own-if : here .leaves ≡ rows-and-run → None-or trace-numbers (here .refusal .number)
   unfolding outcome
   own-if e =
-      one-is (0 ∷ trace-numbers) (ap (λ (o : Outcome). o .refusal .number) (then-asked (passed-if .0 e))) (own-number ts s own (own-case ts s))
+      one-is (0 ∷ trace-numbers) (ap (λ (o : Outcome). o .refusal .number) (then-asked (passed-if .0 e)))
+      (own-number ts s own (own-case ts s))
 
   pub outcome-means : Outcome-means bs ts t l s (trace-outcome bs ts t l s)
   unfolding trace-outcome
@@ -185,6 +190,7 @@ module _ (bs ts : List ℕ) (t l s : ℕ) where
   }
 
   -- rows and run are left exactly where the plan passes
-  pub trace-passed : (trace-outcome bs ts t l s .leaves ≡ rows-and-run) ↔ ((unrefused bs t l ≡ true) × Safe (plan-in bs))
+  pub trace-passed : (trace-outcome bs ts t l s .leaves ≡ rows-and-run) ↔
+      ((unrefused bs t l ≡ true) × Safe (plan-in bs))
   unfolding trace-outcome
   trace-passed = asking.asked-safe bs t l own

@@ -11,7 +11,8 @@ use Rattle.plan_trace.specs.declared.Traced.{Traced}
 use Rattle.plan_trace.specs.Question.{own-refusal, trace-outcome, Trace-says}
 use Rattle.plan_trace.specs.Promise.{Traced-alike}
 
-module _ (bs cs ts us : List ℕ) (same : take (plan-bytes + 1) bs ≡ take (plan-bytes + 1) cs) (alike : Traced-alike ts us) where
+module _ (bs cs ts us : List ℕ) (same : take (plan-bytes + 1) bs ≡ take (plan-bytes + 1) cs)
+    (alike : Traced-alike ts us) where
   outcome-alike : (t l s : ℕ) → trace-outcome bs ts t l s ≡ trace-outcome cs us t l s
   unfolding trace-outcome own-refusal
   outcome-alike t l s = rw (judged-alike bs cs same .check t l, alike .refusal)

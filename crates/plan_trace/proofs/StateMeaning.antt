@@ -1,4 +1,5 @@
--- How far a plan had come: counts by queue and highest values by semaphore, and 0 where the plan has none. Assumes nothing.
+-- How far a plan had come: counts by queue and highest values by semaphore, and 0 where the plan has none. Assumes
+-- nothing.
 use mathlib.Core.Path.{_≡_, refl, sym, ap, _∙_, subst}
 use mathlib.Core.Bool.{false, _&&_}
 use mathlib.Core.Logic.{_↔_}
@@ -32,7 +33,11 @@ module _ (p : Plan) (r : List ℕ) where
   unfolding queue-count
   count-means q many =
       tally-counts (count p) (λ i. eqb (op p i .queue) q && member i r) (Run-on p r q) (λ i. (
-        (λ w. (w .0, and-both (eqb (op p i .queue) q) (member i r) (eq-eqb (op p i .queue) q (w .1)) (place-member r i (w .2)))),
+        (λ w. (
+          w .0,
+          and-both (eqb (op p i .queue) q) (member i r) (eq-eqb (op p i .queue) q (w .1))
+              (place-member r i (w .2)),
+        )),
         (λ w. (
           w .0,
           eqb-true (op p i .queue) q (and-left (eqb (op p i .queue) q) (member i r) (w .1)),
@@ -42,7 +47,8 @@ module _ (p : Plan) (r : List ℕ) where
 
   pub counts-at : (q : ℕ) → q < most-queues → getD (queue-counts p r) q 0 ≡ queue-count p r q
   unfolding queue-counts
-  counts-at q l = tabulate-at (λ q. queue-count p r q) most-queues 0 q 0 l ∙ ap (λ (z : ℕ). queue-count p r z) (zero-add q)
+  counts-at q l = tabulate-at (λ q. queue-count p r q) most-queues 0 q 0 l ∙
+      ap (λ (z : ℕ). queue-count p r z) (zero-add q)
 
   pub counts-long : length (queue-counts p r) ≡ most-queues
   unfolding queue-counts
@@ -64,7 +70,8 @@ module _ (p : Plan) (r : List ℕ) where
 
   pub state-count : (q : ℕ) → q < most-queues → getD (state-of p r) q 0 ≡ queue-count p r q
   unfolding state-of
-  state-count q l = List·getD-append (queue-counts p r) (semaphore-values p r) 0 q (omega (arith, counts-long)) ∙ counts-at q l
+  state-count q l = List·getD-append (queue-counts p r) (semaphore-values p r) 0 q (omega (arith, counts-long)) ∙
+      counts-at q l
 
   pub state-highest : (s : ℕ) → s < most-semaphores → getD (state-of p r) (most-queues + s) 0 ≡ reached p s r
   unfolding state-of
@@ -76,8 +83,10 @@ module _ (p : Plan) (r : List ℕ) where
   pub state-means : State-means p r (state-of p r)
   state-means = record {
     long = state-long;
-    counts = λ q l. subst (λ (z : ℕ). Counts (Run-on p r q) z) (sym (state-count q l)) (count-means q (queue-count p r q) .0 refl);
-    highest = λ s l. subst (λ (z : ℕ). Highest-signalled p s r z) (sym (state-highest s l)) (reached-means p s r (reached p s r) .0 refl);
+    counts = λ q l. subst (λ (z : ℕ). Counts (Run-on p r q) z) (sym (state-count q l))
+        (count-means q (queue-count p r q) .0 refl);
+    highest = λ s l. subst (λ (z : ℕ). Highest-signalled p s r z) (sym (state-highest s l))
+        (reached-means p s r (reached p s r) .0 refl);
   }
 
 -- ---- places that a plan does not use
@@ -95,17 +104,20 @@ module _ (p : Plan) (r : List ℕ) (sound : Sound p) where
   unfolding queue-count tally
   no-operation-on q l =
       tally-ends 0 (count p) (λ i. eqb (op p i .queue) q && member i r) (λ i a b.
-      let other : eqb (op p i .queue) q ≡ false = ne-eqb (op p i .queue) q (λ e. omega (arith, sound .in-range i b .queue)) in rw other)
+      let other : eqb (op p i .queue) q ≡ false = ne-eqb (op p i .queue) q
+      (λ e. omega (arith, sound .in-range i b .queue)) in rw other)
 
   no-signal-on : (s : ℕ) → length (p .owners) ≤ s → reached p s r ≤ 0
   no-signal-on s l =
       reached-under p s r 0 (λ i m.
       by-cases (ltb i (count p))
-      (λ t. none-signalled s (length (p .owners)) (op p i .signals) l (sound .in-range i (ltb-true i (count p) t) .signals))
+      (λ t. none-signalled s (length (p .owners)) (op p i .signals) l
+      (sound .in-range i (ltb-true i (count p) t) .signals))
       (λ f. past-none i (ltb-false i (count p) f)))
     where
       past-none : (i : ℕ) → count p ≤ i → highest-in s (op p i .signals) ≤ 0
-      past-none i h = unfold op count highest-in in (rw (List·getD-eq-default (p .operations) empty-operation {n = i} h) (omega arith))
+      past-none i h = unfold op count highest-in in
+          (rw (List·getD-eq-default (p .operations) empty-operation {n = i} h) (omega arith))
 
   pub unused-means : Unused-means p (state-of p r)
   unused-means = record {

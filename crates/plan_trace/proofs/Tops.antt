@@ -42,28 +42,41 @@ module _ (s : ℕ) (f : ℕ → Bool) where
   unfolding top signals-from most-from
   top-from i [] = refl
   top-from i (o ∷ os) =
-      top-append (signals-of i 0 (o .signals)) (signals-from (suc i) os) ∙ ap₂ (λ (a b : ℕ). max a b) (top-of i 0 (o .signals)) (top-from (suc i) os)
+      top-append (signals-of i 0 (o .signals)) (signals-from (suc i) os) ∙
+      ap₂ (λ (a b : ℕ). max a b) (top-of i 0 (o .signals)) (top-from (suc i) os)
 
-  most-has : (i : ℕ) (os : List Operation) (k : ℕ) → k < length os → f (i + k) ≡ true → highest-in s (getD os k empty-operation .signals) ≤ most-from i os
+  most-has : (i : ℕ) (os : List Operation) (k : ℕ) → k < length os → f (i + k) ≡ true →
+      highest-in s (getD os k empty-operation .signals) ≤ most-from i os
   unfolding most-from
   most-has i [] k l t = absurd (omega arith)
-  most-has i (o ∷ os) zero l t = let t′ : f i ≡ true = ap f (let e : i ≡ i + 0 = omega arith in e) ∙ t in rw t′ (omega arith)
-  most-has i (o ∷ os) (suc k) l t = omega (arith, most-has (suc i) os k (omega arith) (ap f (let e : suc i + k ≡ i + suc k = omega arith in e) ∙ t))
+  most-has i (o ∷ os) zero l t = let t′ : f i ≡ true = ap f (let e : i ≡ i + 0 = omega arith in e) ∙ t in
+      rw t′ (omega arith)
+  most-has i (o ∷ os) (suc k) l t = omega (
+    arith,
+    most-has (suc i) os k (omega arith) (ap f (let e : suc i + k ≡ i + suc k = omega arith in e) ∙ t),
+  )
 
-  most-under : (i : ℕ) (os : List Operation) (b : ℕ) → ((k : ℕ) → k < length os → f (i + k) ≡ true → highest-in s (getD os k empty-operation .signals) ≤ b) → most-from i os ≤ b
+  most-under : (i : ℕ) (os : List Operation) (b : ℕ) →
+      ((k : ℕ) → k < length os → f (i + k) ≡ true → highest-in s (getD os k empty-operation .signals) ≤ b) →
+      most-from i os ≤ b
   unfolding most-from
   most-under i [] b h = zero-le
   most-under i (o ∷ os) b h =
-      let rest = most-under (suc i) os b (λ k l t. h (suc k) (omega arith) (ap f (let e : i + suc k ≡ suc i + k = omega arith in e) ∙ t)) in
+      let rest = most-under (suc i) os b (λ k l t. h (suc k) (omega arith)
+      (ap f (let e : i + suc k ≡ suc i + k = omega arith in e) ∙ t)) in
       by-cases (f i)
       (λ t. rw t (omega (arith, h 0 (omega arith) (ap f (let e : i + 0 ≡ i = omega arith in e) ∙ t))))
       (λ g. rw g (omega arith))
 
-pub top-reached : (p : Plan) (s : ℕ) (r : List ℕ) → is-run p r ≡ true → top s (λ i. member i r) (plan-signals p) ≡ reached p s r
+pub top-reached : (p : Plan) (s : ℕ) (r : List ℕ) → is-run p r ≡ true →
+    top s (λ i. member i r) (plan-signals p) ≡ reached p s r
 unfolding plan-signals is-run
 top-reached p s r a-run =
     let f : ℕ → Bool = λ i. member i r in
-    let up = most-under s f 0 (p .operations) (reached p s r) (λ k l t. unfold op in (reached-has p s r k (ap f (let e : k ≡ 0 + k = omega arith in e) ∙ t))) in
+    let up = most-under s f 0 (p .operations) (reached p s r)
+    (λ k l t. unfold op in (reached-has p s r k (ap f (let e : k ≡ 0 + k = omega arith in e) ∙ t))) in
     let down = reached-under p s r (most-from s f 0 (p .operations)) (λ i m.
-    unfold op in (most-has s f 0 (p .operations) i (unfold count in (run-below (count p) (λ r j. enabled p r j) r a-run i m)) (ap f (let e : 0 + i ≡ i = omega arith in e) ∙ m))) in
+    unfold op in (most-has s f 0 (p .operations) i
+    (unfold count in (run-below (count p) (λ r j. enabled p r j) r a-run i m))
+    (ap f (let e : 0 + i ≡ i = omega arith in e) ∙ m))) in
     top-from s f 0 (p .operations) ∙ omega arith

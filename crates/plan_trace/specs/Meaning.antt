@@ -1,5 +1,5 @@
--- What the definitions of a trace say, by quantifiers. The laws *-means of proofs/ show each the same as its definition.
--- Assumes nothing: these are definitions.
+-- What the definitions of a trace say, by quantifiers. The laws *-means of proofs/ show each the same as its
+-- definition. Assumes nothing: these are definitions.
 use mathlib.Core.Path.{_≡_}
 use mathlib.Core.Bool.{true}
 use mathlib.Core.Logic.{_⊎_, _↔_}
@@ -8,13 +8,27 @@ use Prim.Native.Nat.{ℕ, suc, _+_, _*_, _≤_, _<_}
 use lib.ListN.{length, getD, take}
 use Rattle.basics.specs.Places.{Among, Counts}
 use Rattle.plan_format.specs.Sizes.{most-queues, most-semaphores, state-size, step-bytes}
-use Rattle.plan_format.specs.RefusalNumbers.{One-of, None-or, order-numbers, trace-numbers, untouched-numbers, trace-gives}
+use Rattle.plan_format.specs.RefusalNumbers.{
+  One-of,
+  None-or,
+  order-numbers,
+  trace-numbers,
+  untouched-numbers,
+  trace-gives,
+}
 use Rattle.plan_format.specs.Plan.{Point, Plan, count, op, queues}
 use Rattle.plan_format.specs.Meaning.{wait-at}
 use Rattle.plan_order.specs.Check.{Outcome, untouched, zeros, rows-and-run, check-outcome}
 use Rattle.plan_order.specs.Meaning.{Highest-signalled, Run-means, Full-means, Gives}
 use Rattle.plan_trace.specs.declared.Followed.{Followed}
-use Rattle.plan_trace.specs.declared.Followed.the-variants.{Full, Unfinished, Unknown, Repeated, NotFirst, WaitNotMet}
+use Rattle.plan_trace.specs.declared.Followed.the-variants.{
+  Full,
+  Unfinished,
+  Unknown,
+  Repeated,
+  NotFirst,
+  WaitNotMet,
+}
 use Rattle.plan_trace.specs.declared.Traced.{Traced}
 use Rattle.plan_trace.specs.Trace.{step-count, step-place, departs, Found, found, followed}
 
@@ -57,7 +71,8 @@ Breaks p r j (Repeated i) = (i ≡ j) × (j < count p) × Has-run r j
 Breaks p r j (NotFirst i) = (i ≡ j) × (j < count p) × (Has-run r j → ⊥) × (First p r j → ⊥)
 Breaks p r j (WaitNotMet u) =
     (u .operation ≡ j) × (j < count p) × (Has-run r j → ⊥) × First p r j ×
-    (u .wait < length (op p j .waits)) × (Met p r (wait-at p j (u .wait)) → ⊥) × ((k : ℕ) → k < u .wait → Met p r (wait-at p j k))
+    (u .wait < length (op p j .waits)) × (Met p r (wait-at p j (u .wait)) → ⊥) ×
+    ((k : ℕ) → k < u .wait → Met p r (wait-at p j k))
 
 -- ---- what was followed
 -- R82: the first k steps are a run, the first k + 1 are not, for the reason given
@@ -67,8 +82,8 @@ pub record Departs (p : Plan) (steps : List ℕ) (k : ℕ) (f : Followed) : Type
   pub no-run : Run-means p (take (suc k) steps) → ⊥
   pub reason : Breaks p (take k steps) (getD steps k 0) f
 
--- R82: full, unfinished, or departs at a step, each exactly if it is so; no more than one step more than the plan has operations
--- is looked at, however many there are
+-- R82: full, unfinished, or departs at a step, each exactly if it is so; no more than one step more than the plan has
+-- operations is looked at, however many there are
 pub record Followed-means (p : Plan) (steps : List ℕ) (x : Found) : Type 0 where
   pub full : (x .followed ≡ Full) ↔ Full-means p steps
   pub unfinished : (x .followed ≡ Unfinished) ↔ (Run-means p steps × (Full-means p steps → ⊥))
@@ -99,12 +114,16 @@ pub record Traced-means (p : Plan) (steps : List ℕ) (x : Traced) : Type 0 wher
   pub counts : (q : ℕ) → q < most-queues → Counts (Run-on p (take (x .step) steps) q) (getD (x .state) q 0)
 
 -- ---- the question
--- R84: the check's refusals, then 9 with the size of the state, then 22 at 0; and what is left goes by the check, whatever the number
+-- R84: the check's refusals, then 9 with the size of the state, then 22 at 0; and what is left goes by the check,
+-- whatever the number
 pub record Outcome-means (bytes trace : List ℕ) (table list state : ℕ) (o : Outcome) : Type 0 where
   pub plan-first : (check-outcome bytes table list .refusal .number ≡ 0 → ⊥) → o ≡ check-outcome bytes table list
-  pub short : check-outcome bytes table list .refusal .number ≡ 0 → state < state-size → Gives o 9 state-size rows-and-run
-  pub disagrees : check-outcome bytes table list .refusal .number ≡ 0 → state-size ≤ state → Ill-formed trace → Gives o 22 0 rows-and-run
-  pub answered : check-outcome bytes table list .refusal .number ≡ 0 → state-size ≤ state → Well-formed trace → Gives o 0 0 rows-and-run
+  pub short : check-outcome bytes table list .refusal .number ≡ 0 → state < state-size →
+      Gives o 9 state-size rows-and-run
+  pub disagrees : check-outcome bytes table list .refusal .number ≡ 0 → state-size ≤ state → Ill-formed trace →
+      Gives o 22 0 rows-and-run
+  pub answered : check-outcome bytes table list .refusal .number ≡ 0 → state-size ≤ state → Well-formed trace →
+      Gives o 0 0 rows-and-run
   -- exactly if; a 9 that leaves rows and run is the question's
   pub nine : (i : ℕ) → Gives o 9 i rows-and-run ↔
       ((check-outcome bytes table list .refusal .number ≡ 0) × (state < state-size) × (i ≡ state-size))

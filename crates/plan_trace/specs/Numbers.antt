@@ -3,7 +3,14 @@ use mathlib.Core.List.{List, [], _∷_}
 use Prim.Native.Nat.{ℕ}
 use Rattle.plan_trace.specs.declared.Traced.{Traced}
 use Rattle.plan_trace.specs.declared.Followed.{Followed}
-use Rattle.plan_trace.specs.declared.Followed.the-variants.{Full, Unfinished, Unknown, Repeated, NotFirst, WaitNotMet}
+use Rattle.plan_trace.specs.declared.Followed.the-variants.{
+  Full,
+  Unfinished,
+  Unknown,
+  Repeated,
+  NotFirst,
+  WaitNotMet,
+}
 
 -- R86: 0 full, 1 unfinished, 2 unknown, 3 repeated, 4 not first, 5 wait not met
 unfoldable pub number-of : Followed → ℕ

@@ -1,5 +1,5 @@
--- What a caller of the question on a recorded trace gets, and the first bytes of a trace, which decide it. Assumes nothing: these are
--- definitions.
+-- What a caller of the question on a recorded trace gets, and the first bytes of a trace, which decide it. Assumes
+-- nothing: these are definitions.
 use mathlib.Core.Path.{_≡_}
 use mathlib.Core.Bool.{true}
 use mathlib.Core.Logic.{_↔_}
@@ -21,22 +21,26 @@ use Rattle.plan_trace.specs.Numbers.{number-of}
 use Rattle.plan_trace.specs.Meaning.{Steps-means, Traced-means, State-means, Unused-means, Outcome-means}
 
 -- what it hands back and leaves, by its definition, by quantifiers and by index
-pub record Trace-right (bytes trace : List ℕ) (r : Told) (x : Traced) (table table-now list list-now state state-now : List ℕ) : Type 0 where
+pub record Trace-right (bytes trace : List ℕ) (r : Told) (x : Traced)
+    (table table-now list list-now state state-now : List ℕ) : Type 0 where
   pub says : Trace-says bytes trace r x table table-now list list-now state state-now
   -- the number and the place are those of the outcome of which `outcome` speaks
   pub number : r .number ≡ trace-outcome-in bytes trace table list state .refusal .number
   pub place : r .place ≡ trace-outcome-in bytes trace table list state .refusal .place
-  pub outcome : Outcome-means bytes trace (length table) (length list) (length state) (trace-outcome-in bytes trace table list state)
+  pub outcome : Outcome-means bytes trace (length table) (length list) (length state)
+      (trace-outcome-in bytes trace table list state)
   -- rows and run are left, by an answer or a refusal of the question, exactly where the plan passes
   pub passed :
       (trace-outcome-in bytes trace table list state .leaves ≡ rows-and-run) ↔
       ((unrefused bytes (length table) (length list) ≡ true) × Safe (plan-in bytes))
-  pub left : Left-means (plan-in bytes) (trace-outcome-in bytes trace table list state .leaves) table table-now list list-now
+  pub left : Left-means (plan-in bytes) (trace-outcome-in bytes trace table list state .leaves) table table-now list
+      list-now
   -- an answer: what was followed, its number, and the state after the steps before the one that departs, or after all
   pub steps : Steps-means trace (trace-steps trace)
   pub answered : r .number ≡ 0 → Traced-means (plan-in bytes) (trace-steps trace) x
   pub answer : r .answer ≡ number-of (x .followed)
-  pub state-after : r .number ≡ 0 → State-means (plan-in bytes) (take (x .step) (trace-steps trace)) (take state-size state-now)
+  pub state-after : r .number ≡ 0 → State-means (plan-in bytes) (take (x .step) (trace-steps trace))
+      (take state-size state-now)
   pub unused : r .number ≡ 0 → Unused-means (plan-in bytes) state-now
   -- a refusal
   pub nothing : (r .number ≡ 0 → ⊥) → x ≡ nothing-traced

@@ -1,4 +1,5 @@
--- The question on a recorded trace: its refusals, what it hands back and what it leaves (R84). Assumes nothing: these are definitions.
+-- The question on a recorded trace: its refusals, what it hands back and what it leaves (R84). Assumes nothing: these
+-- are definitions.
 use mathlib.Core.Path.{_≡_}
 use mathlib.Core.Bool.{cond}
 use mathlib.Core.List.{List}
@@ -36,9 +37,13 @@ unfoldable pub state-left : Refusal → Plan → (steps state : List ℕ) → Li
 state-left f p xs old = cond (given f) old (in-front (trace-state p xs) old)
 
 -- what a call hands back and leaves
-pub record Trace-says (bytes trace : List ℕ) (r : Told) (x : Traced) (table table-now list list-now state state-now : List ℕ) : Type 0 where
+pub record Trace-says (bytes trace : List ℕ) (r : Told) (x : Traced)
+    (table table-now list list-now state state-now : List ℕ) : Type 0 where
   pub says :
-      Says (trace-outcome-in bytes trace table list state) (number-of (followed (plan-in bytes) (trace-steps trace) .followed)) (plan-in bytes) r
+      Says (trace-outcome-in bytes trace table list state)
+      (number-of (followed (plan-in bytes) (trace-steps trace) .followed)) (plan-in bytes) r
       table table-now list list-now
-  pub traced-is : x ≡ traced-by (trace-outcome-in bytes trace table list state .refusal) (plan-in bytes) (trace-steps trace)
-  pub state-holds : state-now ≡ state-left (trace-outcome-in bytes trace table list state .refusal) (plan-in bytes) (trace-steps trace) state
+  pub traced-is : x ≡ traced-by (trace-outcome-in bytes trace table list state .refusal) (plan-in bytes)
+      (trace-steps trace)
+  pub state-holds : state-now ≡ state-left (trace-outcome-in bytes trace table list state .refusal) (plan-in bytes)
+      (trace-steps trace) state

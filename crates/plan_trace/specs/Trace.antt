@@ -1,4 +1,5 @@
--- A recorded trace, why a step of it departs from a plan, and what was followed (R80 to R82). Assumes nothing: these are definitions.
+-- A recorded trace, why a step of it departs from a plan, and what was followed (R80 to R82). Assumes nothing: these
+-- are definitions.
 use mathlib.Core.Bool.{Bool, true, false, _&&_, not, cond}
 use mathlib.Core.List.{List, [], _∷_, _++_}
 use mathlib.Core.Option.{Option, none, some}
@@ -13,10 +14,18 @@ use Rattle.plan_format.specs.Plan.{Plan, count, op}
 use Rattle.plan_format.specs.Meaning.{wait-at}
 use Rattle.plan_order.specs.Runs.{wait-met, earlier-run}
 use Rattle.plan_trace.specs.declared.Followed.{Followed}
-use Rattle.plan_trace.specs.declared.Followed.the-variants.{Full, Unfinished, Unknown, Repeated, NotFirst, WaitNotMet}
+use Rattle.plan_trace.specs.declared.Followed.the-variants.{
+  Full,
+  Unfinished,
+  Unknown,
+  Repeated,
+  NotFirst,
+  WaitNotMet,
+}
 
 -- ---- the stored trace
--- R80: a step is the position of an operation in two bytes, the low byte first; the steps follow their count, which has two bytes too
+-- R80: a step is the position of an operation in two bytes, the low byte first; the steps follow their count, which has
+-- two bytes too
 unfoldable pub step-count : (trace : List ℕ) → ℕ
 step-count ts = value (take step-bytes ts)
 
@@ -46,8 +55,8 @@ unfoldable pub of-wait : (j : ℕ) → Option ℕ → Followed
 of-wait j none = Unfinished
 of-wait j (some k) = WaitNotMet (record { operation = j; wait = k })
 
--- R81: an operation that the plan does not have, one that has run, one that is not the next of its queue, one with a wait that is
--- not met: the first of these that holds. A step that breaks no rule leaves the run unfinished
+-- R81: an operation that the plan does not have, one that has run, one that is not the next of its queue, one with a
+-- wait that is not met: the first of these that holds. A step that breaks no rule leaves the run unfinished
 unfoldable pub judged : Plan → (done : List ℕ) → (j : ℕ) → Followed
 judged p r j =
     cond (leb (count p) j) (Unknown j)

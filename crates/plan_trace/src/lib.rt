@@ -22,8 +22,8 @@ pub enum Followed {
     WaitNotMet(Unmet),
 }
 
-// The first step that departs, or the number of steps; the state before it, by the counts of the queues, which fix how far each
-// semaphore had come; and what was followed.
+// The first step that departs, or the number of steps; the state before it, by the counts of the queues, which fix how
+// far each semaphore had come; and what was followed.
 pub struct Traced {
     pub step: usize,
     pub state: QueueCounts,

@@ -11,4 +11,5 @@ use Rattle.print_trace.specs.Printed.{numbers-text}
 pub rest-put : (k : ℕ) (xs : List ℕ) (n : ℕ) {o x : List ℕ} {a e : ℕ} →
     Puts (numbers-text (take (length xs - k) (drop k xs)) n) o a x e → Puts (numbers-text (drop k xs) n) o a x e
 rest-put k xs n {o} {x} {a} {e} h =
-    subst (λ (z : List ℕ). Puts (numbers-text z n) o a x e) (take-all (length xs - k) (drop k xs) (omega (arith, length-drop k xs))) h
+    subst (λ (z : List ℕ). Puts (numbers-text z n) o a x e)
+    (take-all (length xs - k) (drop k xs) (omega (arith, length-drop k xs))) h

@@ -48,7 +48,8 @@ pub record Trace-printed (bytes trace room room-now : List ℕ) (end : ℕ) : Ty
   pub list : List ℕ
   pub state : List ℕ
   pub right :
-      Trace-right bytes trace (told answer) (answer .traced) (replicate table-numbers 0) table (replicate list-numbers 0) list
+      Trace-right bytes trace (told answer) (answer .traced) (replicate table-numbers 0) table
+      (replicate list-numbers 0) list
       (replicate state-size 0) state
   pub sizes : Sizes-told bytes (answer .counted)
   pub text :

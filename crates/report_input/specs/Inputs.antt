@@ -39,4 +39,5 @@ Written-whole begun o x e = (whole : List ℕ) → Same-numbers whole begun → 
 -- the same of a plan and a trace, each whole: the trace is a list of bytes
 abbrev pub Traced-whole : (plan-begun trace-begun room room-now : List ℕ) → (end : ℕ) → Type 0
 Traced-whole bs ts o x e =
-    (plan trace : List ℕ) → Same-bytes plan bs → all-bytes trace ≡ true → Same-trace trace ts → Trace-printed plan trace o x e
+    (plan trace : List ℕ) → Same-bytes plan bs → all-bytes trace ≡ true → Same-trace trace ts →
+    Trace-printed plan trace o x e

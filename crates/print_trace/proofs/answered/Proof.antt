@@ -18,7 +18,8 @@ same-length c = search needs
 
 returns : tie.Need-returns
 returns c = let here = c .before .before .before .before .before .before .before .before .before .args in
-    rw (line-refused (here .told .counted .number) (here .told .counted .place) _ (c .before .before .before .before .if1 .taken)) (c .before .before .refused .ensures)
+    rw (line-refused (here .told .counted .number) (here .told .counted .place) _
+    (c .before .before .before .before .if1 .taken)) (c .before .before .refused .ensures)
 
 line-requires : tie.Need-line-requires
 line-requires c κs = search needs
@@ -30,7 +31,8 @@ words-requires : tie.Need-words-requires
 words-requires c κs = search needs
 
 slice-aggregate-numbers : tie.Need-slice-aggregate-numbers
-slice-aggregate-numbers c = let start = c .before .before .before .before .before .before .before .before .before .before .before .before .before .before .before .before .before in sym (length-take-le most-queues (start .args .state .now) (omega (arith, start .pre)))
+slice-aggregate-numbers c = let start =
+    c .before .before .before .before .before .before .before .before .before .before .before .before .before .before .before .before .before in sym (length-take-le most-queues (start .args .state .now) (omega (arith, start .pre)))
 
 numbers-requires : tie.Need-numbers-requires
 numbers-requires c κs = search needs
@@ -66,9 +68,12 @@ returns-2 c = let second = c .before .before .before .before .before .before .be
     let first = word .before .before .before .before .before in
     let start = first .before .before .before .before .before .before .before .before in
     let here = start .args in
-    rw (line-answered (here .told .counted .number) (here .told .counted .place) _ (first .before .before .before .if1 .left))
-    (puts-both (puts-both (puts-both (puts-both (puts-both (first .line .ensures) (word .words .ensures)) (second .before .before .before .before .before .numbers .ensures))
-    (second .words2 .ensures)) (rest-put most-queues (here .state .now) _ (c .before .before .before .before .before .before .numbers2 .ensures))) (c .before .before .byte .ensures))
+    rw (line-answered (here .told .counted .number) (here .told .counted .place) _
+    (first .before .before .before .if1 .left))
+    (puts-both (puts-both (puts-both (puts-both (puts-both (first .line .ensures) (word .words .ensures))
+    (second .before .before .before .before .before .numbers .ensures))
+    (second .words2 .ensures)) (rest-put most-queues (here .state .now) _
+    (c .before .before .before .before .before .before .numbers2 .ensures))) (c .before .before .byte .ensures))
 
 pub answered-spec : {M : Type 1} → statement M
 answered-spec =

@@ -27,7 +27,8 @@ returns : tie.Need-returns
 unfolding departs-text
 returns c = let named = c .before .before .before .before .before .before in
     let first = named .before .before .before .before in
-    puts-both (puts-both (puts-both (first .before .before .before .before .words .ensures) (first .next .ensures)) (named .words2 .ensures))
+    puts-both (puts-both (puts-both (first .before .before .before .before .words .ensures) (first .next .ensures))
+    (named .words2 .ensures))
     (c .before .before .next2 .ensures)
 
 pub departs-spec : {M : Type 1} → statement M

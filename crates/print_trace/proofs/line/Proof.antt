@@ -78,7 +78,8 @@ same-length-2 c = search needs
 returns-2 : tie.Need-returns-2
 unfolding followed-text
 returns-2 c = let first = c .before .before .before .before .before .before in
-    rw (first .before .before .before .enum-told2 .given .1) (puts-both (first .words2 .ensures) (c .before .before .next .ensures))
+    rw (first .before .before .before .enum-told2 .given .1)
+    (puts-both (first .words2 .ensures) (c .before .before .next .ensures))
 
 same-length-3 : tie.Need-same-length-3
 same-length-3 c = search needs
@@ -92,14 +93,16 @@ same-length-4 c = search needs
 
 returns-4 : tie.Need-returns-4
 unfolding followed-text
-returns-4 c = rw (c .before .before .before .before .before .before .f2 .given .1) (c .before .before .departs2 .ensures)
+returns-4 c = rw (c .before .before .before .before .before .before .f2 .given .1)
+    (c .before .before .departs2 .ensures)
 
 same-length-5 : tie.Need-same-length-5
 same-length-5 c = search needs
 
 returns-5 : tie.Need-returns-5
 unfolding followed-text
-returns-5 c = rw (c .before .before .before .before .before .before .f3 .given .1) (c .before .before .departs3 .ensures)
+returns-5 c = rw (c .before .before .before .before .before .before .f3 .given .1)
+    (c .before .before .departs3 .ensures)
 
 same-length-6 : tie.Need-same-length-6
 same-length-6 c = search needs
@@ -107,7 +110,8 @@ same-length-6 c = search needs
 returns-6 : tie.Need-returns-6
 unfolding followed-text
 returns-6 c = let first = c .before .before .before .before .before .before in
-    rw (first .before .before .before .before .f4 .given .1) (puts-both (first .departs4 .ensures) (c .before .before .next2 .ensures))
+    rw (first .before .before .before .before .f4 .given .1)
+    (puts-both (first .departs4 .ensures) (c .before .before .next2 .ensures))
 
 pub line-spec : {M : Type 1} → statement M
 line-spec =

@@ -43,7 +43,8 @@ same-length : tie.Need-same-length Inv-loop μ-loop
 same-length c = puts-length (c .before .loop .inv .1)
 
 returns : tie.Need-returns Inv-loop μ-loop
-returns c = puts-joined (number-text (c .before .before .before .before .args .list .now)) (omega arith) (c .before .loop .inv .1)
+returns c = puts-joined (number-text (c .before .before .before .before .args .list .now)) (omega arith)
+    (c .before .loop .inv .1)
 
 pub numbers-spec : {M : Type 1} → statement M
 numbers-spec =

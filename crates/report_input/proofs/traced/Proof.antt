@@ -10,7 +10,8 @@ use Rattle.report_input.proofs.traced.Statement.{statement}
 use Rattle.report_input.proofs.traced.Tie as tie
 
 slice-aggregate-with-plan : tie.Need-slice-aggregate-with-plan
-slice-aggregate-with-plan c = let a = c .before .before .before .before .before .args in sym (length-take-le (a .n) (a .plan .now) (omega arith))
+slice-aggregate-with-plan c = let a = c .before .before .before .before .before .args in
+    sym (length-take-le (a .n) (a .plan .now) (omega arith))
 
 with-plan-requires : tie.Need-with-plan-requires
 with-plan-requires c κs = search needs
@@ -34,7 +35,8 @@ returns-2 : tie.Need-returns-2
 returns-2 c = λ plan trace same bytes alike.
     let a = c .before .before .before .before .before .before .before .before .args in
     let all = take-all (a .n) (a .plan .now) (omega arith) in
-    printed-alike (a .plan .now) plan (take (a .m) (a .trace .now)) trace (sym (subst (Same-bytes plan) all same)) bytes alike _ _ _
+    printed-alike (a .plan .now) plan (take (a .m) (a .trace .now)) trace (sym (subst (Same-bytes plan) all same)) bytes
+    alike _ _ _
     (c .before .before .with-plan2 .ensures)
 
 pub traced-spec : {M : Type 1} → statement M

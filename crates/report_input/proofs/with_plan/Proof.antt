@@ -7,7 +7,8 @@ use Rattle.report_input.proofs.with_plan.Statement.{statement}
 use Rattle.report_input.proofs.with_plan.Tie as tie
 
 slice-aggregate-trace : tie.Need-slice-aggregate-trace
-slice-aggregate-trace c = let a = c .before .before .before .before .before .args in sym (length-take-le (a .m) (a .trace .now) (omega arith))
+slice-aggregate-trace c = let a = c .before .before .before .before .before .args in
+    sym (length-take-le (a .m) (a .trace .now) (omega arith))
 
 trace-requires : tie.Need-trace-requires
 trace-requires c κs = search needs
@@ -25,7 +26,8 @@ same-length-2 : tie.Need-same-length-2
 same-length-2 c = search needs
 
 returns-2 : tie.Need-returns-2
-returns-2 c = let a = c .before .before .before .before .before .before .before .before .args in rw (take-all (a .m) (a .trace .now) (omega arith)) (c .before .before .trace2 .ensures)
+returns-2 c = let a = c .before .before .before .before .before .before .before .before .args in
+    rw (take-all (a .m) (a .trace .now) (omega arith)) (c .before .before .trace2 .ensures)
 
 pub with-plan-spec : {M : Type 1} → statement M
 with-plan-spec =

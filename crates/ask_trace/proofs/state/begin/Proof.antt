@@ -31,7 +31,8 @@ loop-less c = search needs
 loop-again : tie.Need-loop-again Inv-loop μ-loop
 loop-again c = let top = c .before .before .before .before .before .before in (
   top .loop .inv .0,
-  beginning-more _ _ (top .loop .inv .0) _ _ _ _ (top .loop .inv .1) (c .before .before .before .before .before .loop-test .taken)
+  beginning-more _ _ (top .loop .inv .0) _ _ _ _ (top .loop .inv .1)
+      (c .before .before .before .before .before .loop-test .taken)
       (c .before .before .before .get64 .ensures) (c .before .before .put64 .ensures),
 )
 

@@ -19,14 +19,16 @@ same-length c = search needs
 
 returns : tie.Need-returns
 returns c = c .before .before .put64 .ensures
-    ∙ higher-yes _ _ _ _ (c .before .before .before .before .before .get64 .ensures) (c .before .before .before .before .if1 .taken)
+    ∙ higher-yes _ _ _ _ (c .before .before .before .before .before .get64 .ensures)
+    (c .before .before .before .before .if1 .taken)
 
 same-length-2 : tie.Need-same-length-2
 same-length-2 c = search needs
 
 returns-2 : tie.Need-returns-2
 returns-2 c = c .before .before .put642 .ensures
-    ∙ higher-no _ _ _ _ (c .before .before .before .before .before .get64 .ensures) (c .before .before .before .before .if1 .left)
+    ∙ higher-no _ _ _ _ (c .before .before .before .before .before .get64 .ensures)
+    (c .before .before .before .before .if1 .left)
 
 pub higher-spec : {M : Type 1} → statement M
 higher-spec =

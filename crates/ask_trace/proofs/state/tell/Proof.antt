@@ -9,7 +9,8 @@ use Rattle.ask_trace.proofs.state.tell.Statement.{statement}
 use Rattle.ask_trace.proofs.state.tell.Tie as tie
 
 abbrev Inv-loop : tie.InvT-loop
-Inv-loop signals queue ssem sval sop table counts state₀ k₀ state k = Raising queue table counts ssem sval sop signals (raised-from queue table counts ssem sval sop signals 0 state₀) k state
+Inv-loop signals queue ssem sval sop table counts state₀ k₀ state k = Raising queue table counts ssem sval sop signals
+    (raised-from queue table counts ssem sval sop signals 0 state₀) k state
 
 abbrev μ-loop : tie.MeasureT-loop
 μ-loop signals queue ssem sval sop table counts state₀ k₀ state k = signals - k
@@ -30,7 +31,8 @@ loop-less : tie.Need-loop-less Inv-loop μ-loop
 loop-less c = search needs
 
 loop-again : tie.Need-loop-again Inv-loop μ-loop
-loop-again c = raising-more _ _ _ _ _ _ _ _ _ _ _ (c .before .before .before .before .before .loop .inv) (c .before .before .before .before .loop-test .taken)
+loop-again c = raising-more _ _ _ _ _ _ _ _ _ _ _ (c .before .before .before .before .before .loop .inv)
+    (c .before .before .before .before .loop-test .taken)
     (c .before .before .raise .ensures)
 
 same-length : tie.Need-same-length Inv-loop μ-loop

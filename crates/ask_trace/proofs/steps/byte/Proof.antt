@@ -15,7 +15,8 @@ returns : tie.Need-returns
 returns c = search needs
 
 returns-2 : tie.Need-returns-2
-returns-2 c = let here = c .before .before .args in (byte-past (here .bytes .now) (here .at) (c .if1 .left), omega arith)
+returns-2 c = let here = c .before .before .args in
+    (byte-past (here .bytes .now) (here .at) (c .if1 .left), omega arith)
 
 pub byte-spec : {M : Type 1} → statement M
 byte-spec = tie.close (tie.spec shared-slice-read-wide wide-requires returns returns-2)

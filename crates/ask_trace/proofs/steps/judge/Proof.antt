@@ -1,6 +1,13 @@
 -- `judge` tests the four rules in order. Assumes nothing.
 use mathlib.Core.Path.{_∙_}
-use Rattle.ask_trace.proofs.Turns.{judge-unknown, judge-repeated, judge-late, judge-waits, wait-found, none-found}
+use Rattle.ask_trace.proofs.Turns.{
+  judge-unknown,
+  judge-repeated,
+  judge-late,
+  judge-waits,
+  wait-found,
+  none-found,
+}
 use borrow.Author.Needs.{needs}
 use Rattle.ask_trace.proofs.steps.judge.Statement.{statement}
 use Rattle.ask_trace.proofs.steps.judge.Tie as tie
@@ -21,7 +28,8 @@ element-copy-out-count : tie.Need-element-copy-out-count
 element-copy-out-count c = search needs
 
 returns-2 : tie.Need-returns-2
-returns-2 c = judge-repeated _ _ _ _ _ _ _ _ (c .before .before .before .before .if1 .left) (c .before .before .place .ensures .0)
+returns-2 c = judge-repeated _ _ _ _ _ _ _ _ (c .before .before .before .before .if1 .left)
+    (c .before .before .place .ensures .0)
     (c .before .before .before .own .ensures) (c .if2 .taken)
 
 sub-if3 : tie.Need-sub-if3
@@ -29,7 +37,8 @@ sub-if3 c = search needs
 
 returns-3 : tie.Need-returns-3
 returns-3 c = let asked = c .before in
-    judge-late _ _ _ _ _ _ _ _ (asked .before .before .before .before .if1 .left) (asked .before .before .place .ensures .0)
+    judge-late _ _ _ _ _ _ _ _ (asked .before .before .before .before .if1 .left)
+    (asked .before .before .place .ensures .0)
     (asked .before .before .before .own .ensures) (asked .if2 .left) (c .if3 .taken)
 
 unmet-requires : tie.Need-unmet-requires
@@ -39,13 +48,15 @@ returns-4 : tie.Need-returns-4
 returns-4 c = let asked = c .before .before .before in
     wait-found _ _ _ (c .before .unmet .ensures) (c .if4 .taken)
     ∙ judge-waits _ _ _ _ _ _ _ _ (asked .before .before .before .before .if1 .left)
-    (asked .before .before .place .ensures .0) (asked .before .before .before .own .ensures) (asked .if2 .left) (c .before .before .if3 .left)
+    (asked .before .before .place .ensures .0) (asked .before .before .before .own .ensures) (asked .if2 .left)
+    (c .before .before .if3 .left)
 
 returns-5 : tie.Need-returns-5
 returns-5 c = let asked = c .before .before .before in
     none-found _ _ _ _ _ _ (c .before .unmet .ensures) (c .if4 .left)
     ∙ judge-waits _ _ _ _ _ _ _ _ (asked .before .before .before .before .if1 .left)
-    (asked .before .before .place .ensures .0) (asked .before .before .before .own .ensures) (asked .if2 .left) (c .before .before .if3 .left)
+    (asked .before .before .place .ensures .0) (asked .before .before .before .own .ensures) (asked .if2 .left)
+    (c .before .before .if3 .left)
 
 pub judge-spec : {M : Type 1} → statement M
 judge-spec =

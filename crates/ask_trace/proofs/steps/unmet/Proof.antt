@@ -12,7 +12,8 @@ use Rattle.ask_trace.proofs.steps.unmet.Statement.{statement}
 use Rattle.ask_trace.proofs.steps.unmet.Tie as tie
 
 abbrev Inv-loop : tie.InvT-loop
-Inv-loop queue source table counts j first k₀ k = (first ≡ most-waits * (j % most-operations)) × (k ≤ most-waits) × ((i : ℕ) → i < k → held queue source table counts j i ≡ false)
+Inv-loop queue source table counts j first k₀ k = (first ≡ most-waits * (j % most-operations)) × (k ≤ most-waits) ×
+    ((i : ℕ) → i < k → held queue source table counts j i ≡ false)
 
 abbrev μ-loop : tie.MeasureT-loop
 μ-loop queue source table counts j first k₀ k = most-waits - k
@@ -33,7 +34,8 @@ returns : tie.Need-returns Inv-loop μ-loop
 unfolding held
 returns c = let top = c .before .before .before in
     let here = top .before .before .before .before .args in
-    unmet-at (here .queue .now) (here .source .now) (here .table .now) (here .counts .now) (here .j) _ (c .before .before .loop-test .taken)
+    unmet-at (here .queue .now) (here .source .now) (here .table .now) (here .counts .now) (here .j) _
+    (c .before .before .loop-test .taken)
     (sym (c .before .holds .ensures) ∙ c .if1 .taken) (top .loop .inv .2)
 
 add-k : tie.Need-add-k Inv-loop μ-loop
@@ -44,8 +46,12 @@ loop-less c = search needs
 
 loop-again : tie.Need-loop-again Inv-loop μ-loop
 unfolding held
-loop-again c = let top = c .before .before .before in
-    (top .loop .inv .0, omega arith, below-more _ _ (top .loop .inv .2) (sym (c .before .holds .ensures) ∙ c .if1 .left))
+loop-again c = let top = c .before .before .before in (
+  top .loop .inv .0,
+  omega arith,
+  below-more _ _ (top .loop .inv .2)
+      (sym (c .before .holds .ensures) ∙ c .if1 .left),
+)
 
 returns-2 : tie.Need-returns-2 Inv-loop μ-loop
 returns-2 c = unmet-nowhere _ _ _ _ _ _ (c .loop-test .left) (c .before .loop .inv .2)

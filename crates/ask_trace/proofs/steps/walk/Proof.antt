@@ -10,7 +10,8 @@ use Rattle.ask_trace.proofs.steps.walk.Statement.{statement}
 use Rattle.ask_trace.proofs.steps.walk.Tie as tie
 
 abbrev Inv-loop : tie.InvT-loop
-Inv-loop n queue source table trace counts₀ many k₀ counts k = (many ≡ step-count trace) × (many ≤ most-steps) × Walking n queue source table trace counts k
+Inv-loop n queue source table trace counts₀ many k₀ counts k = (many ≡ step-count trace) × (many ≤ most-steps) × Walking
+    n queue source table trace counts k
 
 abbrev μ-loop : tie.MeasureT-loop
 μ-loop n queue source table trace counts₀ many k₀ counts k = many - k
@@ -69,9 +70,11 @@ loop-again c = let step = c .before .before .before .before in
     let top = step .before .before .before .before in (
       top .loop .inv .0,
       top .loop .inv .1,
-      walking-more _ _ _ _ _ _ _ (top .loop .inv .2) _ _ (omega (arith, step .before .before .before .loop-test .taken, top .loop .inv .0))
+      walking-more _ _ _ _ _ _ _ (top .loop .inv .2) _ _
+          (omega (arith, step .before .before .before .loop-test .taken, top .loop .inv .0))
           (step .before .before .word2 .ensures .0) (step .judge .ensures)
-          (sym (c .before .before .before .departs .ensures) ∙ c .before .before .if1 .left) _ _ (c .place .ensures .0) (c .before .own .ensures),
+          (sym (c .before .before .before .departs .ensures) ∙ c .before .before .if1 .left) _ _ (c .place .ensures .0)
+          (c .before .own .ensures),
     )
 
 end-requires : tie.Need-end-requires Inv-loop μ-loop
@@ -79,7 +82,8 @@ end-requires c κs = search needs
 
 returns-2 : tie.Need-returns-2 Inv-loop μ-loop
 returns-2 c = let top = c .before .before in
-    walking-end _ _ _ _ _ _ _ (top .loop .inv .2) (omega (arith, c .before .loop-test .left, top .loop .inv .0)) _ (c .end .ensures)
+    walking-end _ _ _ _ _ _ _ (top .loop .inv .2) (omega (arith, c .before .loop-test .left, top .loop .inv .0)) _
+    (c .end .ensures)
 
 pub walk-spec : {M : Type 1} → statement M
 walk-spec =
