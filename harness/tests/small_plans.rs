@@ -41,7 +41,9 @@ fn check(plan: &Plan) -> Checked {
     let checked = check_bytes(&plan.bytes(), plan.operations.len(), plan.axes.len());
     match brute::judge(plan) {
         Judgement::Refused { number, place } => assert_eq!(checked.0, refused(number, place)),
-        Judgement::Passed { run, ready, rows } => {
+        Judgement::Passed {
+            run, ready, rows, ..
+        } => {
             assert_eq!(checked.0, Told::PASSED);
             let same = |a: &[u32], b: &[usize]| a.iter().map(|&x| x as usize).eq(b.iter().copied());
             assert!(same(&checked.2, &run) && same(&checked.3, &ready));
