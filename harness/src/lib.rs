@@ -1,8 +1,9 @@
 //! Differential tests of the plan checker Cundvrest.
 //!
 //! Three implementations judge the same plans: the library under test through
-//! its C interface (`c_api`), a second checker written from paper 01 alone
-//! (`reference`), and brute force over every run for small plans (`brute`).
+//! its C interface (`c_api`), a second checker written from papers 01 and 02
+//! alone (`reference`), and brute force over every run for small plans
+//! (`brute`).
 
 pub mod brute;
 pub mod c_api;
