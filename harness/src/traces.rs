@@ -15,6 +15,13 @@ pub fn stored(steps: &[u16]) -> Vec<u8> {
     bytes
 }
 
+/// A trace is badly formed if it has fewer than two bytes, or a count that
+/// disagrees with the bytes after it.
+pub fn well_formed(trace: &[u8]) -> bool {
+    let count = trace.first_chunk().map(|&count| u16::from_le_bytes(count));
+    count.is_some_and(|count| trace.len() == 2 + 2 * usize::from(count))
+}
+
 /// A plan that is being run, by the semaphores' values.
 struct Running<'a> {
     plan: &'a Plan,

@@ -415,10 +415,9 @@ impl Differ {
         )?;
         let enough =
             lengths.table >= 16 * counts.operations && lengths.list >= 2 * counts.operations;
-        let well_formed = well_formed(trace);
         if told.number == 9 && enough {
             self.tally.short_states[0] += 1;
-            self.tally.short_states[1] += u64::from(!well_formed);
+            self.tally.short_states[1] += u64::from(!traces::well_formed(trace));
         }
         if told.answer == 5 {
             let wait = self.ours.found.lend_found()[2];
@@ -756,12 +755,6 @@ fn some_steps(rng: &mut Rng, numbers: &[u64]) -> Vec<u16> {
         return (0..rng.below(4)).map(|_| rng.below(4) as u16).collect();
     }
     traces::steps(rng, &Plan::from_numbers(numbers))
-}
-
-/// "A count that disagrees with the bytes, or fewer than two bytes" is not.
-fn well_formed(trace: &[u8]) -> bool {
-    let count = trace.first_chunk().map(|&count| u16::from_le_bytes(count));
-    count.is_some_and(|count| trace.len() == 2 + 2 * usize::from(count))
 }
 
 /// A position in a list of about this length, sometimes far outside.

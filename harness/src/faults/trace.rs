@@ -4,6 +4,7 @@ use super::{parse, Fault};
 use crate::plan::Plan;
 use crate::reference;
 use crate::side::{Found, Told, STATE};
+use crate::traces;
 
 /// Spoils what the reference has handed back for this plan and trace.
 pub(super) fn spoil(
@@ -20,7 +21,7 @@ pub(super) fn spoil(
         (Fault::FirstWaitPassedOver, 0, 5) => return pass_over(plan, trace, state, found),
         (Fault::NotFirstBeforeRepeated, 0, 3) => return Told::answered(4),
         (Fault::UnfinishedForFull, 0, 0) => return Told::answered(1),
-        (Fault::FormBeforeRoom, 9, _) if state.len() < STATE && badly_formed(trace) => {
+        (Fault::FormBeforeRoom, 9, _) if state.len() < STATE && !traces::well_formed(trace) => {
             return Told::refused(22, 0);
         }
         (Fault::BadStepCounted, 0, 3..=5) => {
@@ -54,14 +55,4 @@ fn pass_over(mut plan: Plan, trace: &[u8], state: &mut [u64], found: &mut Found)
         found[2] += 1;
     }
     told
-}
-
-/// "A count that disagrees with the bytes, or fewer than two bytes."
-fn badly_formed(trace: &[u8]) -> bool {
-    match trace {
-        [low, high, steps @ ..] => {
-            steps.len() != 2 * usize::from(u16::from_le_bytes([*low, *high]))
-        }
-        _ => true,
-    }
 }

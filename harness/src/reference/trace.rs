@@ -1,7 +1,7 @@
 //! A recorded trace held against the plan, from paper 02's words: each step is
 //! taken by the semaphores' values, as a cell would take it.
 
-use super::{check_then, told, Known, NONE, QUEUES, SEMAPHORES};
+use super::{check_then, told, Known, QUEUES, SEMAPHORES};
 use crate::side::{Found, Told, STATE};
 
 /// The count, and each step in two bytes.
@@ -41,7 +41,7 @@ struct Cell<'a> {
     waits: Vec<u16>,
     signals: Vec<u16>,
     has_run: Vec<bool>,
-    /// The next operation of each queue, or `NONE`.
+    /// The next operation of each queue, or `NONE`, which is no operation.
     heads: [u16; QUEUES],
     /// How many operations each queue has run.
     counts: [u64; QUEUES],
@@ -94,7 +94,6 @@ impl<'a> Cell<'a> {
         self.has_run[position] = true;
         self.counts[queue] += 1;
         self.heads[queue] = self.known.order.next[position];
-        debug_assert!(self.heads[queue] == NONE || self.heads[queue] > operation);
         let signals = usize::from(self.signals[position])..usize::from(self.signals[position + 1]);
         for signal in &flat.signals[signals] {
             let value = &mut self.values[usize::from(signal.semaphore)];
