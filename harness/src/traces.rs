@@ -113,15 +113,7 @@ pub fn steps(rng: &mut Rng, plan: &Plan) -> Vec<u16> {
     match rng.below(1000) {
         0..120 => {}
         120..300 => steps.truncate(rng.below(length + 1)),
-        300..420 if length >= 2 => {
-            // Neighbours more often than not: then the step before is right.
-            let first = rng.below(length - 1);
-            let second = match rng.below(3) {
-                0 => rng.between(first + 1, length - 1),
-                _ => first + 1,
-            };
-            steps.swap(first, second);
-        }
+        300..420 if length >= 2 => swap_two(rng, &mut steps),
         420..520 if length >= 1 => {
             let again = *rng.pick(&steps);
             steps.insert(rng.between(0, length), again);
@@ -150,6 +142,17 @@ pub fn steps(rng: &mut Rng, plan: &Plan) -> Vec<u16> {
         _ => {}
     }
     steps
+}
+
+/// Swaps two steps, neighbours more often than not.
+fn swap_two(rng: &mut Rng, steps: &mut [u16]) {
+    let last = steps.len() - 1;
+    let first = rng.below(last);
+    let second = match rng.below(3) {
+        0 => rng.between(first + 1, last),
+        _ => first + 1,
+    };
+    steps.swap(first, second);
 }
 
 /// No operation of the plan, mostly by little.

@@ -223,15 +223,17 @@ fn measure_traces(sides: &Sides) {
     println!("largest ratio of a trace to its check: {largest:.2} (limit {TRACE_LIMIT})");
 }
 
-fn measure_trace(sides: &Sides, side: &dyn Side, family: Family, size: usize) -> f64 {
-    let plans = (0..PLANS).map(|seed| {
+/// Plans of a family and size, each with the steps of a random full run.
+fn with_runs(family: Family, size: usize) -> impl Iterator<Item = (Vec<u8>, Vec<u16>)> {
+    (0..PLANS).map(move |seed| {
         let rng = &mut Rng::new(seed);
         let plan = family.plan(rng, size);
-        (
-            plan.bytes(),
-            traces::stored(&traces::random_run(rng, &plan)),
-        )
-    });
+        (plan.bytes(), traces::random_run(rng, &plan))
+    })
+}
+
+fn measure_trace(sides: &Sides, side: &dyn Side, family: Family, size: usize) -> f64 {
+    let plans = with_runs(family, size).map(|(plan, run)| (plan, traces::stored(&run)));
     let plans: Vec<_> = plans.collect();
     let (mut table, mut list) = (vec![0; 16 * size], vec![0; 2 * size]);
     let (mut state, mut found) = ([0; STATE], Found::default());
@@ -247,13 +249,7 @@ fn measure_trace(sides: &Sides, side: &dyn Side, family: Family, size: usize) ->
             assert_eq!(told, Told::PASSED, "a full run of a plan that passes");
         }
     });
-    let measured = sides.measure(|side| {
-        for (plan, trace) in &plans {
-            let (plan, trace) = (black_box(plan), black_box(trace));
-            side.trace(plan, trace, &mut table, &mut list, &mut state, &mut found);
-        }
-    });
-    let measured = measured.of_one(PLANS);
+    let measured = measure_traces_of(sides, &plans, size);
     let microseconds = |time: f64| time / PLANS as f64 / 1e3;
     println!(
         "{:<30}{size:>6}{:>12.2}{:>12.2}{:>8.2}{:>12.2}{:>8}",
@@ -265,6 +261,30 @@ fn measure_trace(sides: &Sides, side: &dyn Side, family: Family, size: usize) ->
         optional(measured.ratio),
     );
     beside.ratio
+}
+
+/// Traces held against their plans of this size, on both sides.
+fn measure_traces_of(sides: &Sides, plans: &[(Vec<u8>, Vec<u8>)], size: usize) -> Measured {
+    let (mut table, mut list) = (vec![0; 16 * size], vec![0; 2 * size]);
+    let (mut state, mut found) = ([0; STATE], Found::default());
+    let measured = sides.measure(|side| {
+        for (plan, trace) in plans {
+            let (plan, trace) = (black_box(plan), black_box(trace));
+            side.trace(plan, trace, &mut table, &mut list, &mut state, &mut found);
+        }
+    });
+    measured.of_one(PLANS)
+}
+
+/// Traces of which all steps after a full run depart: only the first of them is
+/// looked at.
+fn measure_long_trace(sides: &Sides) -> Measured {
+    let plans = with_runs(Family::Greatest, 1024).map(|(plan, mut run)| {
+        run.resize(traces::MOST_STEPS, 0);
+        (plan, traces::stored(&run))
+    });
+    let plans: Vec<_> = plans.collect();
+    measure_traces_of(sides, &plans, 1024)
 }
 
 fn measure_others(sides: &Sides) {
@@ -313,25 +333,9 @@ fn measure_others(sides: &Sides) {
         }
     });
     print("frontier sent out, greatest plan", measured.of_one(PLANS));
-    // All steps after a full run depart: only the first of them is looked at.
-    let with_traces = (0..PLANS).map(|seed| {
-        let rng = &mut Rng::new(seed);
-        let plan = generate::greatest(rng, 1024);
-        let mut steps = traces::random_run(rng, &plan);
-        steps.resize(traces::MOST_STEPS, 0);
-        (plan.bytes(), traces::stored(&steps))
-    });
-    let with_traces: Vec<_> = with_traces.collect();
-    let (mut state, mut found) = ([0; STATE], Found::default());
-    let measured = sides.measure(|side| {
-        for (plan, trace) in &with_traces {
-            let (plan, trace) = (black_box(plan), black_box(trace));
-            side.trace(plan, trace, &mut table, &mut list, &mut state, &mut found);
-        }
-    });
     print(
         "trace of 65,535 steps, greatest plan",
-        measured.of_one(PLANS),
+        measure_long_trace(sides),
     );
     for (name, [left, right]) in frontier_pairs() {
         let measured = sides.measure(|side| {

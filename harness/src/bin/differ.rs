@@ -437,15 +437,6 @@ impl Differ {
         };
         self.tally.by_brute_force += 1;
         let judgement = brute::judge(&plan);
-        let mut question = None;
-        if let (Judgement::Passed { rows, .. }, 1.., 1..) =
-            (&judgement, plan.axes.len(), plan.sizes.len())
-        {
-            let queue = rng.below(plan.axes.len());
-            let buffer = rng.below(plan.sizes.len());
-            let verdict = brute::reuse(&plan, rows, queue, buffer);
-            question = Some((queue as u32, buffer as u32, verdict));
-        }
         let wanted = told_by_brute_force(&plan, &judgement);
         let operations = plan.operations.len();
         let (mut table, mut list) = (vec![!0; 16 * operations], vec![!0; 2 * operations]);
@@ -457,21 +448,16 @@ impl Differ {
             print_plan(bytes);
             return Err(Different);
         }
-        if let Some((queue, buffer, verdict)) = question {
-            let told = reference::reuse(bytes, queue, buffer, &mut table, &mut list);
-            if told != Told::answered(verdict) {
-                println!("DIFFERENCE between the reference and brute force");
-                println!("queue {queue}, buffer {buffer}: {told:?}, {verdict}");
-                print_plan(bytes);
-                return Err(Different);
-            }
+        let Judgement::Passed { rows, runs, .. } = judgement else {
+            return Ok(());
+        };
+        if !plan.axes.is_empty() && !plan.sizes.is_empty() {
+            reuse_by_brute_force(rng, &plan, &rows)?;
         }
-        match judgement {
-            Judgement::Passed { runs, .. } if steps.len() <= MOST_STEPS => {
-                self.followed_by_brute_force(&plan, &runs, steps)
-            }
-            _ => Ok(()),
+        if steps.len() <= MOST_STEPS {
+            self.followed_by_brute_force(&plan, &runs, steps)?;
         }
+        Ok(())
     }
 
     /// The reference's trace question against every run of a passed plan.
@@ -668,6 +654,24 @@ impl Differ {
         longer.extend((0..more).map(|_| rng.word() as u8));
         self.plan(rng, &longer)
     }
+}
+
+/// The reference's reuse question against the rows that brute force reads off
+/// the runs of a passed plan.
+fn reuse_by_brute_force(rng: &mut Rng, plan: &Plan, rows: &[Vec<usize>]) -> Compared<()> {
+    let (queue, buffer) = (rng.below(plan.axes.len()), rng.below(plan.sizes.len()));
+    let verdict = brute::reuse(plan, rows, queue, buffer);
+    let (bytes, operations) = (plan.bytes(), plan.operations.len());
+    let (mut table, mut list) = (vec![0; 16 * operations], vec![0; 2 * operations]);
+    let (queue, buffer) = (queue as u32, buffer as u32);
+    let told = reference::reuse(&bytes, queue, buffer, &mut table, &mut list);
+    if told != Told::answered(verdict) {
+        println!("DIFFERENCE between the reference and brute force");
+        println!("queue {queue}, buffer {buffer}: {told:?}, {verdict}");
+        print_plan(&bytes);
+        return Err(Different);
+    }
+    Ok(())
 }
 
 /// What brute force expects to be told and left in table and list that were
