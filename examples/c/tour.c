@@ -36,7 +36,7 @@ static void show_frontier(const uint64_t f[CUNDVREST_FRONTIER])
 /* The answer for a trace that departs at a wait, and the numbers of three queues and two semaphores before that step. */
 static void show_trace(uint64_t answer, const uint64_t found[CUNDVREST_FOUND], const uint64_t state[CUNDVREST_STATE])
 {
-    if (answer == CUNDVREST_TRACE_WAIT_NOT_MET)
+    if (answer == CUNDVREST_WAIT_NOT_MET)
         printf("  step %lu, operation %lu, wait %lu not met;",
                (unsigned long)found[0], (unsigned long)found[1], (unsigned long)found[2]);
     printf(" queues %lu %lu %lu, semaphores %lu %lu\n", (unsigned long)state[0], (unsigned long)state[1],
