@@ -1,5 +1,5 @@
-/* Every function once, on a thread whose stack is CUNDVREST_STACK: a plan is written from numbers, read back, checked and
- * asked, a trace is held against it, and frontiers are compared and merged. Prints what each call told. */
+/* Every function once, on a thread whose stack is CUNDVREST_STACK: a plan is written from numbers, read back, checked
+ * and asked, a trace is held against it, and frontiers are compared and merged. Prints what each call told. */
 #include <pthread.h>
 #include <stdio.h>
 
@@ -33,10 +33,10 @@ static void show_frontier(const uint64_t f[CUNDVREST_FRONTIER])
     putchar('\n');
 }
 
-/* The answer for a trace that departs at a wait, and the numbers of three queues and two semaphores before that step. */
+/* The answer for a trace that departs at a wait, and how far three queues and two semaphores had come before. */
 static void show_trace(uint64_t answer, const uint64_t found[CUNDVREST_FOUND], const uint64_t state[CUNDVREST_STATE])
 {
-    if (answer == CUNDVREST_TRACE_WAIT_NOT_MET)
+    if (answer == CUNDVREST_WAIT_NOT_MET)
         printf("  step %lu, operation %lu, wait %lu not met;",
                (unsigned long)found[0], (unsigned long)found[1], (unsigned long)found[2]);
     printf(" queues %lu %lu %lu, semaphores %lu %lu\n", (unsigned long)state[0], (unsigned long)state[1],
