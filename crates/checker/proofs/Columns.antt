@@ -2,10 +2,11 @@
 use mathlib.Core.Path.{_≡_, sym, _∙_}
 use mathlib.Core.List.{List}
 use Prim.Native.Nat.{ℕ}
+use Rattle.plan_format.specs.Sound.{rules-refusal}
 use Rattle.plan_format.specs.Stored.{scanned, plan-in}
 use Rattle.plan_format.proofs.Judged.{zero-not-given}
 use Rattle.plan_format.proofs.Plans.{scanned-limits}
-use Rattle.plan_columns.specs.Columns.{Columns, Owner-column}
+use Rattle.plan_columns.specs.Columns.{Columns, Owner-column, Source-column}
 use Rattle.plan_load.specs.Loading.{Loads}
 use Rattle.plan_load.specs.declared.Loaded.{Loaded}
 use Rattle.plan_judge.specs.Given.{Check-given}
@@ -19,15 +20,18 @@ module _ {bs head : List ℕ} {cs : Columns} {r : Loaded} (l : Loads bs r head c
   pub loaded-none : (scanned bs .fault .number ≡ 0 → ⊥) → (r .signals ≡ 0) × (r .marks ≡ 0)
   loaded-none z = l .none (λ e. z (sym (l .number) ∙ e))
 
-  pub loaded-read : {source : List ℕ} (n i : ℕ) → scanned bs .fault .number ≡ 0 →
+  pub loaded-read : {source : List ℕ} (n i : ℕ) →
+      (scanned bs .fault .number ≡ 0 → rules-refusal (plan-in bs) .number ≡ 0 → Source-column (plan-in bs) source) →
+      scanned bs .fault .number ≡ 0 →
       Read-plan (plan-in bs) (opened-of r n i) (lent head (cs .queue) source (cs .signal-semaphore) (cs .signal-value) (cs .signal-operation) (cs .mark) (cs .mark-operation))
-  loaded-read n i z =
+  loaded-read n i sources z =
       let clean = l .number ∙ z in
       record {
         head-shown = l .head-shown clean;
         queues-shown = l .columns clean .queues-shown;
         signals-shown = l .columns clean .signals-shown;
         marks-shown = l .columns clean .marks-shown;
+        sources-shown = sources z;
       }
 
   module _ (z : r .number ≡ 0) where

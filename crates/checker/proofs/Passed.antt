@@ -20,7 +20,7 @@ use Rattle.plan_order.specs.Rows.{rows}
 use Rattle.plan_order.specs.Promise.{Checked}
 use Rattle.plan_order.proofs.OutcomeMeaning.{passed-leaves}
 use Rattle.plan_order.proofs.Rows.{row-at, rows-at, rows-length}
-use Rattle.plan_columns.specs.Columns.{Source-column, Row-columns}
+use Rattle.plan_columns.specs.Columns.{Row-columns}
 use Rattle.checker.specs.Counting.{Sizes-told}
 use Rattle.checker.specs.Opening.{Lent, Read-plan, Opened-plan}
 use Rattle.checker.specs.declared.Counted.{Counted}
@@ -109,9 +109,8 @@ module _ {bs : List ℕ} {c : Counted} {t x l y : List ℕ} (sizes : Sizes-told 
 
   -- ---- the opened plan
   pub opened-plan : {signals marks : ℕ} {lent : Lent} → Read-plan (plan-in bs) (record { counted = c; signals = signals; marks = marks }) lent →
-      (rules-refusal (plan-in bs) .number ≡ 0 → Source-column (plan-in bs) (lent .source)) →
       Opened-plan (plan-in bs) (record { counted = c; signals = signals; marks = marks }) lent x
-  opened-plan read-plan sources = record {
+  opened-plan read-plan = record {
     limits = scanned-limits bs read;
     sound = sound;
     passes = passes bs (length t) (length l) none-refused .order;
@@ -120,6 +119,6 @@ module _ {bs : List ℕ} {c : Counted} {t x l y : List ℕ} (sizes : Sizes-told 
     buffers-are = buffers-are;
     operations-are = operations-are;
     read = read-plan;
-    sources-shown = sources (sound .rules);
+    sources-shown = read-plan .sources-shown (sound .rules);
     rows-shown = rows-shown;
   }

@@ -1,14 +1,17 @@
 -- The opened plan: what the check hands on to those who ask further. Assumes nothing: these are definitions.
 use mathlib.Core.Path.{_≡_}
-use mathlib.Core.List.{List}
-use Prim.Native.Nat.{ℕ, _<_}
+use mathlib.Core.List.{List, []}
+use Prim.Native.Nat.{ℕ, _*_, _<_}
 use lib.ListN.{length}
+use Rattle.basics.specs.Lists.{in-front}
 use Rattle.plan_format.specs.Limits.{Limits}
 use Rattle.plan_format.specs.Plan.{Plan, count, queues}
-use Rattle.plan_format.specs.Sound.{Sound}
+use Rattle.plan_format.specs.Sound.{Sound, rules-refusal}
+use Rattle.plan_format.specs.Stored.{scanned}
 use Rattle.plan_order.specs.Check.{order-refusal}
-use Rattle.plan_columns.specs.Columns.{Head-column, Queue-column, Signal-columns, Mark-columns, Source-column, Row-columns}
-use Rattle.checker.specs.declared.Counted.{Counted}
+use Rattle.plan_columns.specs.Columns.{Columns, columns, Head-column, Queue-column, Signal-columns, Mark-columns}
+use Rattle.plan_columns.specs.Columns.{Source-column, Row-columns}
+use Rattle.plan_load.specs.Loading.{Kept-past, head-got, head-operations}
 use Rattle.checker.specs.declared.Opened.{Opened}
 
 -- what is lent to the check for those who ask further: the numbers before the operations, the queue of each operation,
@@ -36,12 +39,13 @@ lent head queue source ssem sval sop mark mop = record {
   mark-operation = mop;
 }
 
--- of a plan that the reader takes: all of it but what the waits rest on
+-- of a plan that the reader takes: all of it, and what the waits rest on where none of 6 to 8 is given
 pub record Read-plan (p : Plan) (o : Opened) (c : Lent) : Type 0 where
   pub head-shown : Head-column p (c .head)
   pub queues-shown : Queue-column p (c .queue)
   pub signals-shown : Signal-columns p (o .signals) (c .signal-semaphore) (c .signal-value) (c .signal-operation)
   pub marks-shown : Mark-columns p (o .marks) (c .mark) (c .mark-operation)
+  pub sources-shown : rules-refusal p .number ≡ 0 → Source-column p (c .source)
 
 -- of a plan that passes: its counts, all that is lent, and its rows in front of the table
 pub record Opened-plan (p : Plan) (o : Opened) (c : Lent) (table : List ℕ) : Type 0 where
@@ -55,3 +59,21 @@ pub record Opened-plan (p : Plan) (o : Opened) (c : Lent) (table : List ℕ) : T
   pub read : Read-plan p o c
   pub sources-shown : Source-column p (c .source)
   pub rows-shown : Row-columns p (λ j. j < count p) table
+
+-- ---- what is left
+-- what is lent, as columns: the sources are in the place of the waits' semaphores, whose values are not lent
+abbrev pub lent-columns : Lent → Columns
+lent-columns c =
+    columns (c .queue) (c .source) [] (c .signal-semaphore) (c .signal-value) (c .signal-operation) (c .mark)
+    (c .mark-operation)
+
+-- the numbers of the head are in front of what is lent for them, up to the refusal of the head too. Past the plan's own
+-- places each column is as it was; where the reader refuses the plan, past the places of the operations that the head
+-- tells, with three signals and seven marks to each
+pub record Lent-left (bytes : List ℕ) (o : Opened) (c c′ : Lent) : Type 0 where
+  pub head-is : c′ .head ≡ in-front (head-got bytes) (c .head)
+  pub taken : scanned bytes .fault .number ≡ 0 →
+      Kept-past (o .counted .operations) (o .signals) (o .marks) (lent-columns c) (lent-columns c′)
+  pub refused : (scanned bytes .fault .number ≡ 0 → ⊥) →
+      Kept-past (head-operations bytes) (3 * head-operations bytes) (7 * head-operations bytes) (lent-columns c)
+      (lent-columns c′)

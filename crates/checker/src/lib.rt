@@ -18,7 +18,7 @@ ghost use mathlib.Core.Path.{_≡_};
 ghost use Rattle.plan_format.specs.Stored.{scanned, plan-in};
 ghost use Rattle.plan_order.specs.Promise.{Checked};
 ghost use Rattle.checker.specs.Counting.{Sizes-told, Counts-told, opened-of, counts-of};
-ghost use Rattle.checker.specs.Opening.{Read-plan, Opened-plan, lent};
+ghost use Rattle.checker.specs.Opening.{Read-plan, Opened-plan, Lent-left, lent};
 
 // How many queues, semaphores, buffers and operations a plan has; or a refusal and its place beside them. Each is 0
 // where the reader refuses the plan.
@@ -109,9 +109,10 @@ pub fn check_counted(plan: &[u8], table: &mut [u32], list: &mut [u32]) -> Counte
     o.counted
 }
 
-// The check for those who ask further: beside the answer and the counts, the plan in lent columns. Past the plan's own
-// places, and where the reader refuses the plan, what is lent is unspecified; so is the column of sources where a
-// refusal from 6 to 8 is given.
+// The check for those who ask further: beside the answer and the counts, the plan in lent columns, which stay past the
+// plan's own places. The places of n operations in the column of sources are unspecified where a refusal from 6 to 8 is
+// given. Where the reader refuses the plan, the places of as many operations as its head tells, three signals and seven
+// marks to each, are unspecified.
 pub fn check_opened(
     plan: &[u8],
     head: &mut HeadNumbers,
@@ -133,6 +134,9 @@ pub fn check_opened(
     ensures opened { λ r. ⌜ (r .counted .number ≡ 0 → Opened-plan (plan-in (now (plan .entry))) r
         (lent (now (head .exit)) (now (queue .exit)) (now (source .exit)) (now (ssem .exit)) (now (sval .exit)) (now (sop .exit)) (now (mark .exit)) (now (mop .exit)))
         (now (table .exit))) ⌝ }
+    ensures left { λ r. ⌜ Lent-left (now (plan .entry)) r
+        (lent (now (head .entry)) (now (queue .entry)) (now (source .entry)) (now (ssem .entry)) (now (sval .entry)) (now (sop .entry)) (now (mark .entry)) (now (mop .entry)))
+        (lent (now (head .exit)) (now (queue .exit)) (now (source .exit)) (now (ssem .exit)) (now (sval .exit)) (now (sop .exit)) (now (mark .exit)) (now (mop .exit))) ⌝ }
 {
     let mut owner = [0u16; MOST_SEMAPHORES];
     let mut wval = [0u64; WAIT_PLACES];

@@ -2,6 +2,7 @@
 // what comes back.
 ghost use mathlib.Core.Path.{_≡_};
 ghost use mathlib.Core.Bool.{true, _||_};
+ghost use Rattle.plan_format.specs.Meaning.{Read-means, Write-means};
 ghost use Rattle.plan_format.specs.Stored.{Read-says, Write-says};
 ghost use Rattle.plan_order.specs.Promise.{Checked};
 ghost use Rattle.questions.specs.Reuse.{Asked};
@@ -14,7 +15,8 @@ ghost use Rattle.cundvrest_c.specs.Sent.{Sent-says, sent-of};
 // The numbers of a stored plan in front of the room; the answer is how many there are.
 #[no_mangle]
 pub extern "C" fn cundvrest_read(plan: &[u8], room: &mut [u64], told: &mut [u64; 3])
-    ensures { λ _. ⌜ Read-says (now (plan .entry)) (told-of (now (told .exit))) (now (room .entry)) (now (room .exit)) ⌝ }
+    ensures says { λ _. ⌜ Read-says (now (plan .entry)) (told-of (now (told .exit))) (now (room .entry)) (now (room .exit)) ⌝ }
+    ensures means { λ _. ⌜ Read-means (now (plan .entry)) (told-of (now (told .exit))) (now (room .entry)) (now (room .exit)) ⌝ }
 {
     lent::tell(plan_reader::read_plan(plan, room), told);
 }
@@ -22,7 +24,8 @@ pub extern "C" fn cundvrest_read(plan: &[u8], room: &mut [u64], told: &mut [u64;
 // The bytes of a list of numbers in front of the room; the answer is how many there are.
 #[no_mangle]
 pub extern "C" fn cundvrest_write(numbers: &[u64], room: &mut [u8], told: &mut [u64; 3])
-    ensures { λ _. ⌜ Write-says (now (numbers .entry)) (told-of (now (told .exit))) (now (room .entry)) (now (room .exit)) ⌝ }
+    ensures says { λ _. ⌜ Write-says (now (numbers .entry)) (told-of (now (told .exit))) (now (room .entry)) (now (room .exit)) ⌝ }
+    ensures means { λ _. ⌜ Write-means (now (numbers .entry)) (told-of (now (told .exit))) (now (room .entry)) (now (room .exit)) ⌝ }
 {
     lent::tell(plan_writer::write_plan(numbers, room), told);
 }

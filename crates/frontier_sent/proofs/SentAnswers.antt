@@ -15,6 +15,7 @@ use Rattle.plan_format.proofs.RefusalNumbers.{one-is}
 use Rattle.plan_format.proofs.Plans.{sound-in}
 use Rattle.plan_order.specs.Check.{Leaves, Outcome, outcome, check-outcome, table-left, list-left, Says, Check-says}
 use Rattle.plan_order.specs.Meaning.{Left-means}
+use Rattle.plan_order.proofs.CheckMeaning.{check-means}
 use Rattle.plan_order.proofs.OutcomeMeaning.{passed-leaves}
 use Rattle.plan_order.proofs.Asking.{asked-left}
 use Rattle.frontier_sent.specs.declared.Sent.{Sent}
@@ -107,6 +108,7 @@ module _ (bs : List ℕ) (j c : ℕ) (r : Sent) (t x l y : List ℕ) (s : Fronti
   pub frontier-right : Frontier-right bs j c r t x l y
   frontier-right = record {
     says = s;
+    check = check-means bs (length t) (length l);
     number = by-number;
     leaves = sent-leaves-by bs j c (length t) (length l);
     passed = sent-passed bs j c (length t) (length l);

@@ -20,7 +20,7 @@ use Rattle.plan_format.specs.Stored.{plan-in}
 use Rattle.plan_order.specs.Precedence.{Before}
 use Rattle.plan_order.specs.Rows.{row}
 use Rattle.plan_order.specs.Check.{Outcome, rows-and-run, check-outcome}
-use Rattle.plan_order.specs.Meaning.{Leaves-by, Left-means}
+use Rattle.plan_order.specs.Meaning.{Check-means, Leaves-by, Left-means}
 use Rattle.plan_order.specs.Promise.{Safe, unrefused}
 use Rattle.frontier_sent.specs.declared.Sent.{Sent}
 use Rattle.frontier_sent.specs.Sent.{sent-entries, sent, sent-outcome, Frontier-says}
@@ -82,6 +82,7 @@ sent-outcome-in bs j c t l = sent-outcome bs j c (length t) (length l)
 -- what a caller gets
 pub record Frontier-right (bytes : List ℕ) (j capacity : ℕ) (r : Sent) (table table-now list list-now : List ℕ) : Type 0 where
   pub says : Frontier-says bytes j capacity r table table-now list list-now
+  pub check : Check-means bytes (length table) (length list) (check-outcome bytes (length table) (length list))
   pub number : Sent-number (check-outcome bytes (length table) (length list) .refusal) (plan-in bytes) j capacity r
   -- what is left, and which numbers leave it; rows and run exactly where the plan passes
   pub leaves : Leaves-by sent-numbers (sent-outcome-in bytes j capacity table list)

@@ -36,26 +36,10 @@ pub fn dominance(r: Dominance) -> Told
     ensures { λ t. ⌜ t ≡ dominance-told r ⌝ }
 {
     match r {
-        Dominance::No => Told {
-            number: 0,
-            place: 0,
-            answer: 0,
-        },
-        Dominance::Yes => Told {
-            number: 0,
-            place: 0,
-            answer: 1,
-        },
-        Dominance::Unknown => Told {
-            number: 0,
-            place: 0,
-            answer: 2,
-        },
-        Dominance::Refused(number) => Told {
-            number,
-            place: 0,
-            answer: 0,
-        },
+        Dominance::No => plan_format::answered(0),
+        Dominance::Yes => plan_format::answered(1),
+        Dominance::Unknown => plan_format::answered(2),
+        Dominance::Refused(number) => plan_format::refused(number, 0),
     }
 }
 

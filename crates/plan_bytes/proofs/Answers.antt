@@ -82,7 +82,7 @@ module _ {xs bytes₀ : List ℕ} {c : Cursor} {bytes : List ℕ} (p : Plan-writ
 
   -- a whole plan
   pub written-whole : c .number ≡ 0 → length xs ≤ c .at →
-      Bytes-written xs bytes₀ (record { number = c .number; place = 0; answer = c .put }) bytes
+      Bytes-written xs bytes₀ (record { number = 0; place = 0; answer = c .put }) bytes
   unfolding scan none-given given
   written-whole z h =
       let l : length (spelled xs) ≡ c .put = ap length (spelled-is p z)
@@ -92,10 +92,10 @@ module _ {xs bytes₀ : List ℕ} {c : Cursor} {bytes : List ℕ} (p : Plan-writ
             tells xs (scan (drop (c .at) xs) (c .at) (take (c .at) xs) none-given)
             (listed-is p ∙ ap ended (here-clean xs c z)
             ∙ ended-none (drop (c .at) xs) (c .at) (take (c .at) xs) (length-drop (c .at) xs ∙ omega arith))
-            (record { number = z; place = refl; answer-is = sym l });
+            (record { number = refl; place = refl; answer-is = sym l });
         passed = λ e. front-taken (c .put) bytes bytes₀ (omega (arith, few)) (p .past)
             ∙ ap (λ (front : List ℕ). in-front front bytes₀) (sym (spelled-is p z));
-        refused = λ e. absurd (e z);
+        refused = λ e. absurd (e refl);
         few = few;
         long = long;
       }

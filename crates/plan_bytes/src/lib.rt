@@ -7,6 +7,7 @@ mod operation;
 mod section;
 
 use plan_format::Told;
+use plan_format::answered;
 use plan_format::limits::PLAN_BYTES;
 use plan_format::refused;
 ghost use Rattle.plan_bytes.specs.Writing.{Bytes-written};
@@ -25,9 +26,5 @@ pub fn write_bytes(numbers: &[u64], bytes: &mut [u8; PLAN_BYTES]) -> Told
     if at < numbers.len() {
         return refused(3, at);
     }
-    Told {
-        number: c.number,
-        place: 0,
-        answer: c.put as u64,
-    }
+    answered(c.put as u64)
 }

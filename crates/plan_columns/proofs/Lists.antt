@@ -12,7 +12,6 @@ use Rattle.basics.specs.Lists.{tabulate-from}
 use Rattle.basics.proofs.Stores.{map-append, tabulate-map}
 use Rattle.basics.proofs.Tables.{tabulate-length, tabulate-at}
 use Rattle.basics.proofs.Tests.{by-cases}
-use Rattle.plan_format.specs.Form.{first-form}
 use Rattle.plan_format.specs.Plan.{Point, Mark, Operation, empty-operation, operation-long, operations-in}
 use Rattle.plan_order.specs.Precedence.{Signal, signals-of, signals-from}
 use Rattle.plan_columns.specs.Columns.{no-point, no-signal, Marked, no-mark, marked-of, marked-from}

@@ -6,7 +6,6 @@ use native.Mathlib.Nat.{not-suc-le-zero, le-of-suc-le-suc}
 use native.Mathlib.Omega.{arith}
 use lib.ListN.{length, getD, drop}
 use lib.Seq.{getD-drop}
-use Rattle.plan_format.specs.Form.{first-form}
 use Rattle.plan_format.specs.Plan.{Point, Mark, Operation, points-in, marks-in, heading, operation-in, operation-long, operations-in}
 use Rattle.plan_columns.specs.Columns.{no-point}
 use Rattle.plan_columns.specs.Filling.{first-at, second-at, wait-count, signals-at, signal-count, marks-at, mark-count, next-at}

@@ -40,9 +40,14 @@ no-point = record { semaphore = 0; value = 0 }
 abbrev pub no-signal : Signal
 no-signal = record { operation = 0; position = 0; semaphore = 0; value = 0 }
 
--- the numbers before the operations: the axis of each queue from the second place on, and the size of each buffer after
--- three counts, the axes and the owners
+-- the numbers before the operations: the count of queues and the axis of each, the count of semaphores and the owner of
+-- each, the count of buffers and the size of each, and the count of operations
 pub record Head-column (p : Plan) (head : List ℕ) : Type 0 where
+  pub queues-shown : getD head 0 0 ≡ queues p
+  pub semaphores-shown : getD head (1 + queues p) 0 ≡ length (p .owners)
+  pub owners-shown : (s : ℕ) → s < length (p .owners) → getD head (2 + queues p + s) 0 ≡ getD (p .owners) s 0
+  pub buffers-shown : getD head (2 + queues p + length (p .owners)) 0 ≡ length (p .sizes)
+  pub operations-shown : getD head (3 + queues p + length (p .owners) + length (p .sizes)) 0 ≡ count p
   pub axes-shown : (q : ℕ) → q < queues p → getD head (1 + q) 0 ≡ getD (p .axes) q 0
   pub sizes-shown : (b : ℕ) → b < length (p .sizes) → getD head (3 + queues p + length (p .owners) + b) 0 ≡ getD (p .sizes) b 0
 

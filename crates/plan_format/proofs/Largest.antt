@@ -16,9 +16,9 @@ use Rattle.plan_format.specs.Form.{first-form, queue-count, semaphore-co
 use Rattle.plan_format.specs.Form.{new-axis, a-queue, a-semaphore, a-buffer, a-kind, point, mark, operation}
 use Rattle.plan_format.specs.Form.{plan-grammar}
 use Rattle.plan_format.specs.Stored.{listed, spelled}
-use Rattle.plan_format.proofs.Parses.{Takes, Exact, Nothing, Then, Field, Counted, Parses}
+use Rattle.plan_format.proofs.Parses.{Takes, Exact, Then, Field, Counted, Parses}
 use Rattle.plan_format.proofs.Entries.{Row}
-use Rattle.plan_format.proofs.Making.{Spells-in, a-field, after, a-list, no-more, repeated, repeated-long, entries, row-entries}
+use Rattle.plan_format.proofs.Making.{Spells-in, a-field, after, a-list, repeated, repeated-long, entries, row-entries}
 use Rattle.plan_format.proofs.Blocks.{Kept, kept-now, kept-more, passes-below}
 use Rattle.plan_format.proofs.Sections.{sections-kept}
 use Rattle.plan_format.proofs.RoundTrip.{spelled-parsed, numbers-whole}

@@ -33,9 +33,9 @@ pub mod RulesFirst
 pub mod RulesMeaning
 pub mod ChecksMeaning
 pub mod RoomMeaning
-pub mod RoundTripRoom
 pub mod Stopping
 pub mod ReadingMeaning
+pub mod RoundTripRoom
 pub mod Repeats
 pub mod Alike
 pub mod Follows

@@ -16,8 +16,7 @@ use Rattle.plan_format.specs.Form.{new-axis, a-queue, a-semaphore, a-buf
 use Rattle.plan_format.specs.Form.{plan-grammar, scanned-by}
 use Rattle.plan_format.specs.Stored.{scanned, listed, plan-in, plan-refusal}
 use Rattle.plan_format.specs.Sound.{rules-refusal}
-use Rattle.plan_format.specs.Meaning.{Fields-answer, first-of, rest-of, Sections-answer, Plan-refusal-means}
-use Rattle.plan_format.proofs.Judged.{other-given, or-else-first, or-else-second}
+use Rattle.plan_format.specs.Meaning.{Fields-answer, first-of, rest-of, Sections-answer}
 use Rattle.plan_format.proofs.RefusalNumbers.{none-or-left, none-or-right}
 use Rattle.plan_format.proofs.RulesMeaning.{rules-mean}
 
@@ -145,15 +144,3 @@ plan-number bs =
     cond-has (λ (f : Refusal). None-or plan-gives (f .number)) (given a) a b
     (none-or-left reading-numbers rule-numbers (a .number) (scanned-number bs))
     (none-or-right reading-numbers rule-numbers (b .number) (rules-mean (plan-in bs) .only))
-
--- 1 to 5 first, then 6 to 8
-pub plan-refusal-means : (bs : List ℕ) → Plan-refusal-means bs (plan-refusal bs)
-unfolding plan-refusal
-plan-refusal-means bs =
-    let a = scanned bs .fault in
-    let b = rules-refusal (plan-in bs) in
-    record {
-      reading-first = λ h. or-else-first a b (other-given a h);
-      then-rules = λ e. rw (or-else-second a b e) (rules-mean (plan-in bs));
-      only = plan-number bs;
-    }

@@ -4,12 +4,11 @@ use mathlib.Core.Path.{_≡_, sym, ap, _∙_, subst}
 use mathlib.Core.List.{List}
 use Prim.Native.Nat.{ℕ, _≤_}
 use native.Mathlib.Omega.{arith}
-use lib.ListN.{length}
 use Rattle.plan_format.specs.Sizes.{most-semaphores}
 use Rattle.plan_format.specs.Grammar.{bytes, numbers}
 use Rattle.plan_format.specs.Form.{Form, first-form, scanned-by}
 use Rattle.plan_format.specs.Plan.{Plan, count, queues, plan-of}
-use Rattle.plan_format.specs.Limits.{In-bytes, Unbounded, Plan-within, Within, Limits, numbers-of}
+use Rattle.plan_format.specs.Limits.{In-bytes, Unbounded, Within, Limits, numbers-of}
 use Rattle.plan_format.specs.Sound.{Sound, rules-refusal}
 use Rattle.plan_format.specs.Stored.{scanned, listed, plan-in, plan-refusal}
 use Rattle.plan_format.proofs.Judged.{or-else-none}

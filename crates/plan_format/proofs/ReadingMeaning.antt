@@ -1,4 +1,5 @@
--- Numbers 1 to 5 of a whole reading come from the first fault in reading order. Assumes nothing.
+-- Numbers 1 to 5 of a whole reading come from the first fault in reading order; those of a stored plan are these, then
+-- 6 to 8. Assumes nothing.
 use mathlib.Core.Path.{_≡_, refl, sym, ap, _∙_, subst}
 use mathlib.Core.Logic.{_⊎_, inl, inr}
 use mathlib.Core.List.{List}
@@ -12,11 +13,14 @@ use Rattle.plan_format.specs.Refusal.{refusal, none-given, given}
 use Rattle.plan_format.specs.RefusalNumbers.{None-or, reading-numbers}
 use Rattle.plan_format.specs.Grammar.{Grammar, Source, Scan, bytes, numbers, scan, refused, read-by, ended}
 use Rattle.plan_format.specs.Form.{first-form, plan-grammar, scanned-by}
-use Rattle.plan_format.specs.Stored.{scanned, listed}
-use Rattle.plan_format.specs.Meaning.{Refuses, Cursor, Reads, Stops, start, Reading-means}
-use Rattle.plan_format.proofs.Judged.{refusal-given}
+use Rattle.plan_format.specs.Stored.{scanned, listed, plan-in, plan-refusal}
+use Rattle.plan_format.specs.Sound.{rules-refusal}
+use Rattle.plan_format.specs.Meaning.{Refuses, Cursor, Reads, Stops, start, Reading-means, Bytes-mean, Numbers-mean}
+use Rattle.plan_format.specs.Meaning.{Plan-refusal-means}
+use Rattle.plan_format.proofs.Judged.{refusal-given, other-given, or-else-first, or-else-second}
 use Rattle.plan_format.proofs.Faults.{ended-stays}
-use Rattle.plan_format.proofs.Numbers.{scanned-number, listed-number}
+use Rattle.plan_format.proofs.Numbers.{scanned-number, listed-number, plan-number}
+use Rattle.plan_format.proofs.RulesMeaning.{rules-mean}
 use Rattle.plan_format.proofs.Stopping.{at, through, reads-back, stops-back, stops-given, reads-level, stops-level}
 
 -- ---- the end of a reading
@@ -107,10 +111,23 @@ module _ (S : Source) (xs : List ℕ) where
     inside = place-inside read-case;
   }
 
-pub scanned-means : (bs : List ℕ) → Reading-means bytes bs (scanned bs)
+pub scanned-means : (bs : List ℕ) → Bytes-mean bs
 unfolding scanned scanned-by first-form bytes
 scanned-means bs = reading-means bytes bs (scanned-number bs)
 
-pub listed-means : (xs : List ℕ) → Reading-means numbers xs (listed xs)
+pub listed-means : (xs : List ℕ) → Numbers-mean xs
 unfolding listed scanned-by first-form numbers
 listed-means xs = reading-means numbers xs (listed-number xs)
+
+-- 1 to 5 first, then 6 to 8
+pub plan-refusal-means : (bs : List ℕ) → Plan-refusal-means bs (plan-refusal bs)
+unfolding plan-refusal
+plan-refusal-means bs =
+    let a = scanned bs .fault in
+    let b = rules-refusal (plan-in bs) in
+    record {
+      reading = scanned-means bs;
+      reading-first = λ h. or-else-first a b (other-given a h);
+      then-rules = λ e. rw (or-else-second a b e) (rules-mean (plan-in bs));
+      only = plan-number bs;
+    }

@@ -1,6 +1,6 @@
 -- Room: 9 exactly if it is too short, and only after the faults of a reading. Assumes nothing.
-use mathlib.Core.Path.{_≡_, refl, sym, ap, _∙_}
-use mathlib.Core.Bool.{Bool, false, cond}
+use mathlib.Core.Path.{_≡_, refl, sym, ap, ap₂, _∙_, subst}
+use mathlib.Core.Bool.{Bool, true, false, cond}
 use mathlib.Core.List.{List, _∷_, _++_}
 use Prim.Native.Nat.{ℕ, _≤_}
 use native.Mathlib.Omega.{arith}
@@ -12,9 +12,10 @@ use Rattle.basics.proofs.Tests.{by-cases}
 use Rattle.basics.proofs.Fronts.{front-length, front-at, front-past}
 use Rattle.plan_format.specs.Refusal.{Refusal, refusal, none-given, given, or-else}
 use Rattle.plan_format.specs.RefusalNumbers.{None-or, reading-numbers, room-numbers, reader-gives, writer-gives}
-use Rattle.plan_format.specs.Stored.{scanned, listed, spelled, room-for, read-refusal, write-refusal, Fills, Read-says, Write-says}
+use Rattle.plan_format.specs.Stored.{scanned, listed, spelled, room-for, read-refusal, write-refusal, Tells, Fills}
+use Rattle.plan_format.specs.Stored.{Read-says, Write-says}
 use Rattle.plan_format.specs.declared.Told.{Told}
-use Rattle.plan_format.specs.Meaning.{Room-for-means, Room-after, Filled}
+use Rattle.plan_format.specs.Meaning.{Room-for-means, Room-after, refusal-of, Filled}
 use Rattle.plan_format.proofs.Judged.{zero-not-given, other-given, or-else-first, or-else-second, or-else-none}
 use Rattle.plan_format.proofs.RefusalNumbers.{one-is, not-one, none-or-left}
 use Rattle.plan_format.proofs.Numbers.{scanned-number, listed-number}
@@ -73,6 +74,16 @@ unfolding write-refusal
 write-room xs k = room-after (listed xs .fault) (length (spelled xs)) k (listed-number xs)
 
 -- ---- what is handed back and left
+-- past the length nothing is touched
+fills-past : (f : Refusal) (new : List ℕ) (r : Told) (o x : List ℕ) → Fills f new r o x → (k : ℕ) → length new ≤ k →
+    getD x k 0 ≡ getD o k 0
+unfolding Fills
+fills-past f new r o x w k l = ap (λ (y : List ℕ). getD y k 0) (w .1) ∙ past (given f)
+  where
+    past : (b : Bool) → getD (cond b o (in-front new o)) k 0 ≡ getD o k 0
+    past true = refl
+    past false = front-past new o k 0 l
+
 module _ (numbers : List ℕ) (fault : Refusal) (new : List ℕ) (r : Told) (o x : List ℕ) where
   filled : Room-after numbers fault (length new) (length o) (or-else fault (room-for (length new) (length o))) →
       Fills (or-else fault (room-for (length new) (length o))) new r o x → Filled new r o x
@@ -91,8 +102,29 @@ module _ (numbers : List ℕ) (fault : Refusal) (new : List ℕ) (r : Told) (o x
         place-told = λ z. t .place ∙ m .then-room (fault-none z) .enough (fits z) .1;
         long = λ z. ap (λ (y : List ℕ). length y) (front z) ∙ front-length new o (fits z);
         holds = λ z k l. ap (λ (y : List ℕ). getD y k 0) (front z) ∙ front-at new o k 0 l;
-        past = λ z k l. ap (λ (y : List ℕ). getD y k 0) (front z) ∙ front-past new o k 0 l;
+        past = λ z. fills-past f new r o x w;
       }
+
+-- the refusal that was told is the one that was given
+told-is : (f : Refusal) (answer : ℕ) (r : Told) → Tells f answer r → f ≡ refusal-of r
+unfolding refusal
+told-is f a r t = ap₂ (λ (n i : ℕ). refusal n i) (sym (t .number)) (sym (t .place))
+
+pub read-refuses : (bs : List ℕ) (r : Told) (o x : List ℕ) → Read-says bs r o x →
+    Room-after reader-gives (scanned bs .fault) (length (scanned bs .got)) (length o) (refusal-of r)
+unfolding Read-says Fills
+read-refuses bs r o x w =
+    let got = scanned bs .got in
+    subst (Room-after reader-gives (scanned bs .fault) (length got) (length o))
+    (told-is (read-refusal bs (length o)) (length got) r (w .0)) (read-room bs (length o))
+
+pub write-refuses : (xs : List ℕ) (r : Told) (o x : List ℕ) → Write-says xs r o x →
+    Room-after writer-gives (listed xs .fault) (length (spelled xs)) (length o) (refusal-of r)
+unfolding Write-says Fills
+write-refuses xs r o x w =
+    let new = spelled xs in
+    subst (Room-after writer-gives (listed xs .fault) (length new) (length o))
+    (told-is (write-refusal xs (length o)) (length new) r (w .0)) (write-room xs (length o))
 
 pub read-filled : (bs : List ℕ) (r : Told) (o x : List ℕ) → Read-says bs r o x → Filled (scanned bs .got) r o x
 unfolding Read-says read-refusal

@@ -2,26 +2,26 @@
 use mathlib.Core.Path.{_≡_, refl, sym, ap, ap₂, _∙_}
 use mathlib.Core.Bool.{true}
 use mathlib.Core.List.{List, [], _∷_}
-use Prim.Native.Nat.{ℕ, zero, suc, _<_}
-use native.Mathlib.Omega.{arith}
+use Prim.Native.Nat.{ℕ, suc, _<_}
 use lib.Dec.{ltb}
 use lib.ListN.{length, getD, take}
 use lib.Seq.{take-at}
 use borrow.Author.Tests.{lt-ltb}
 use Rattle.basics.specs.Lists.{all, in-front}
 use Rattle.basics.proofs.Tests.{and-both}
-use Rattle.plan_format.specs.Refusal.{Refusal, none-given, given, or-else}
+use Rattle.plan_format.specs.Refusal.{Refusal, none-given, or-else}
 use Rattle.plan_format.specs.Grammar.{Scan, scan}
 use Rattle.plan_format.specs.Plan.{plan-of}
 use Rattle.plan_format.specs.Stored.{all-bytes, scanned, listed, spelled, plan-in, room-for, Fills, Read-says}
 use Rattle.plan_format.specs.Stored.{Write-says, read-refusal, write-refusal}
 use Rattle.plan_format.specs.declared.Told.{Told}
-use Rattle.plan_format.specs.Meaning.{Filled, Read-means, Write-means}
+use Rattle.plan_format.specs.Meaning.{Read-means, Write-means}
 use Rattle.plan_format.proofs.Judged.{zero-not-given, or-else-none}
 use Rattle.plan_format.proofs.RoundTrip.{listed-scanned, spelled-scanned, scanned-spelled}
 use Rattle.plan_format.proofs.Plans.{listed-within}
 use Rattle.plan_format.proofs.Taking.{takes-plans}
-use Rattle.plan_format.proofs.RoomMeaning.{read-filled, write-filled}
+use Rattle.plan_format.proofs.RoomMeaning.{read-refuses, write-refuses, read-filled, write-filled}
+use Rattle.plan_format.proofs.ReadingMeaning.{scanned-means, listed-means}
 
 -- the elements of a slice of bytes
 pub bytes-by : (bs : List ℕ) → ((i : ℕ) → getD bs i 0 < 256) → all-bytes bs ≡ true
@@ -66,6 +66,8 @@ module _ (bs : List ℕ) (b : all-bytes bs ≡ true) (r : Told) (o x : List ℕ)
       let taken : r .number ≡ 0 → listed (scanned bs .got) .fault ≡ none-given =
       λ z. ap (λ (s : Scan). s .fault) (listed-scanned bs b (no-fault z)) in
       record {
+        reading = scanned-means bs;
+        refuses = read-refuses bs r o x w;
         filled = read-filled bs r o x w;
         within = λ z. takes-plans .read bs b .0 (no-fault z) .0;
         numbers = λ z. numbers-in-room z
@@ -89,6 +91,8 @@ module _ (xs : List ℕ) (r : Told) (o x : List ℕ) (w : Write-says xs r o x) w
 
   pub write-means : Write-means xs r o x
   write-means = record {
+    reading = listed-means xs;
+    refuses = write-refuses xs r o x w;
     filled = write-filled xs r o x w;
     within = λ z. listed-within xs (not-refused z) .0;
     bytes = λ z.

@@ -6,9 +6,11 @@ use mathlib.Core.Logic.{_⊎_, _↔_}
 use mathlib.Core.List.{List, [], _∷_, _++_}
 use Prim.Native.Nat.{ℕ, zero, suc, _+_, _≤_, _<_}
 use lib.ListN.{length, getD, take, drop}
-use Rattle.plan_format.specs.Refusal.{Refusal, none-given}
-use Rattle.plan_format.specs.RefusalNumbers.{None-or, reading-numbers, rule-numbers, plan-gives}
-use Rattle.plan_format.specs.Grammar.{Grammar, field, seq, counted, nothing, Source, Scan, scan, count-check}
+use Rattle.plan_format.specs.Refusal.{Refusal, refusal, none-given}
+use Rattle.plan_format.specs.RefusalNumbers.{None-or, reading-numbers, rule-numbers, plan-gives, reader-gives}
+use Rattle.plan_format.specs.RefusalNumbers.{writer-gives}
+use Rattle.plan_format.specs.Grammar.{Grammar, field, seq, counted, nothing, Source, bytes, numbers, Scan, scan}
+use Rattle.plan_format.specs.Grammar.{count-check}
 use Rattle.plan_format.specs.Form.{first-form, plan-grammar, any-number, new-axis, a-queue, a-semaphore, a-buffer}
 use Rattle.plan_format.specs.Form.{a-kind, queue-count, semaphore-count, buffer-count}
 use Rattle.plan_format.specs.Plan.{Point, Plan, op, plan-of}
@@ -148,6 +150,13 @@ pub record Reading-means (S : Source) (xs : List ℕ) (s : Scan) : Type 0 where
   pub only : None-or reading-numbers (s .fault .number)
   pub inside : s .fault .place ≤ length xs
 
+-- what 1 to 5 mean of bytes, and of a list of numbers
+abbrev pub Bytes-mean : List ℕ → Type 0
+Bytes-mean bs = Reading-means bytes bs (scanned bs)
+
+abbrev pub Numbers-mean : List ℕ → Type 0
+Numbers-mean xs = Reading-means numbers xs (listed xs)
+
 -- ---- 6 to 8
 abbrev pub signal-at : Plan → (i k : ℕ) → Point
 signal-at p i k = getD (op p i .signals) k (record { semaphore = 0; value = 0 })
@@ -218,8 +227,9 @@ pub record Rules-mean (p : Plan) (f : Refusal) : Type 0 where
   pub none : (Refuses f 0 0) ↔ (Signals-good p × ((i k : ℕ) → Too-high p i k → ⊥))
   pub only : None-or rule-numbers (f .number)
 
--- R53, R54: the reading first, then signals and waits
+-- R53, R54: the reading first, by what its numbers mean, then signals and waits
 pub record Plan-refusal-means (bytes : List ℕ) (f : Refusal) : Type 0 where
+  pub reading : Bytes-mean bytes
   pub reading-first : (scanned bytes .fault .number ≡ 0 → ⊥) → f ≡ scanned bytes .fault
   pub then-rules : scanned bytes .fault .number ≡ 0 → Rules-mean (plan-in bytes) f
   pub only : None-or plan-gives (f .number)
@@ -234,9 +244,15 @@ pub record Filled (new : List ℕ) (r : Told) (room room-now : List ℕ) : Type 
   pub holds : r .number ≡ 0 → (k : ℕ) → k < length new → getD room-now k 0 ≡ getD new k 0
   pub past : r .number ≡ 0 → (k : ℕ) → length new ≤ k → getD room-now k 0 ≡ getD room k 0
 
+-- the refusal that was told
+abbrev pub refusal-of : Told → Refusal
+refusal-of r = refusal (r .number) (r .place)
+
 -- R8, R13, what was read: the numbers of a plan within the limits, which the writer takes, and from which it writes the
--- very bytes
+-- very bytes; or why not
 pub record Read-means (bytes : List ℕ) (r : Told) (room room-now : List ℕ) : Type 0 where
+  pub reading : Bytes-mean bytes
+  pub refuses : Room-after reader-gives (scanned bytes .fault) (length (scanned bytes .got)) (length room) (refusal-of r)
   pub filled : Filled (scanned bytes .got) r room room-now
   pub within : r .number ≡ 0 → Within (plan-in bytes)
   pub numbers : r .number ≡ 0 → take (r .answer) room-now ≡ numbers-of (plan-in bytes)
@@ -244,8 +260,10 @@ pub record Read-means (bytes : List ℕ) (r : Told) (room room-now : List ℕ) :
   pub written-back : r .number ≡ 0 → spelled (take (r .answer) room-now) ≡ bytes
 
 -- R8, R13, what was written: the bytes of a plan within the limits, from which the reader reads the very numbers, to
--- the end
+-- the end; or why not
 pub record Write-means (numbers : List ℕ) (r : Told) (room room-now : List ℕ) : Type 0 where
+  pub reading : Numbers-mean numbers
+  pub refuses : Room-after writer-gives (listed numbers .fault) (length (spelled numbers)) (length room) (refusal-of r)
   pub filled : Filled (spelled numbers) r room room-now
   pub within : r .number ≡ 0 → Within (plan-of numbers)
   pub bytes : r .number ≡ 0 → take (r .answer) room-now ≡ bytes-of (plan-of numbers)

@@ -7,7 +7,6 @@ use Prim.Native.Nat.{ℕ}
 use lib.ListN.{length}
 use Rattle.plan_format.specs.Refusal.{none-given}
 use Rattle.plan_format.specs.Grammar.{scan}
-use Rattle.plan_format.specs.Form.{first-form}
 use Rattle.plan_format.specs.Plan.{Plan, plan-of}
 use Rattle.plan_format.specs.Stored.{all-bytes, scanned, listed, plan-in, spelled}
 use Rattle.plan_format.specs.Limits.{Within, numbers-of, bytes-of}

@@ -3,6 +3,7 @@
 use plan_format::Told;
 use plan_reader::Heading;
 ghost use mathlib.Core.Path.{_≡_};
+ghost use Rattle.plan_format.specs.Meaning.{Read-means};
 ghost use Rattle.plan_format.specs.Stored.{Read-says};
 ghost use Rattle.plan_reader.specs.Rest.{Heading-told, Rest-says};
 
@@ -45,7 +46,8 @@ pub fn rest<'a>(r: Reader<'a>, h: Heading, room: &mut [u64]) -> Told
 
 // A plan read through the struct: its head, and from there on its operations. Callers need no struct.
 pub fn read_held(plan: &[u8], room: &mut [u64]) -> Told
-    ensures { λ t. ⌜ Read-says (now (plan .entry)) t (now (room .entry)) (now (room .exit)) ⌝ }
+    ensures { λ t. ⌜ Read-says (now (plan .entry)) t (now (room .entry)) (now (room .exit)) ×
+        Read-means (now (plan .entry)) t (now (room .entry)) (now (room .exit)) ⌝ }
 {
     let r = new(plan);
     let h = head(r);

@@ -3,3 +3,4 @@ pub mod Untouched
 pub mod Orders
 pub mod Inside
 pub mod Anyhow
+pub mod Kept

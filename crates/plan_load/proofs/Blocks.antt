@@ -8,7 +8,6 @@ use lib.Seq.{drop-append-seam}
 use Rattle.plan_format.specs.Refusal.{none-given}
 use Rattle.plan_format.specs.Grammar.{bytes, Scan, scan, read-by}
 use Rattle.plan_format.specs.Form.{Form, operation}
-use Rattle.plan_format.specs.Plan.{points-in, marks-in}
 use Rattle.plan_format.specs.Sections.{operation-below}
 use Rattle.plan_format.proofs.Alike.{alike-read}
 use Rattle.plan_format.proofs.Blocks.{Block, Kept, kept-more, operation-block}
@@ -18,8 +17,7 @@ use Rattle.plan_format.proofs.Parses.{Loose}
 use Rattle.plan_format.proofs.Reading.{sound}
 use Rattle.plan_format.proofs.Sections.{header-kept}
 use Rattle.plan_format.proofs.Sources.{loose-bytes}
-use Rattle.plan_columns.specs.Columns.{no-point}
-use Rattle.plan_columns.proofs.Operations.{Fits, plain-mark, points-long, marks-long, point-semaphore, mark-buffer, mark-kind}
+use Rattle.plan_columns.proofs.Operations.{Fits, points-long, marks-long, point-semaphore, mark-buffer, mark-kind}
 use Rattle.plan_load.proofs.Blind.{after, blind-read, operation-blind}
 
 -- numbers that begin with three counts

@@ -17,9 +17,11 @@ use Rattle.plan_numbers.specs.declared.Head.{Head}
 use Rattle.plan_numbers.specs.declared.End.{End}
 use Rattle.plan_numbers.specs.Reading.{fault-of, here, head-cursor, operation-scan, end-cursor, Operation-read}
 use Rattle.plan_numbers.proofs.Fields.{here-clean}
+use Rattle.plan_load.specs.Loading.{Kept-past}
 use Rattle.plan_load.proofs.Blind.{after, blind-read, operation-blind}
 use Rattle.plan_load.proofs.Blocks.{Small, block-read}
 use Rattle.plan_load.proofs.Windows.{added-among}
+use Rattle.plan_load.proofs.Keeping.{keeps-none, keeps-more}
 
 -- one operation more is read, a semaphore's position having so many bytes
 abbrev pub step : (width : ℕ) → Head → Scan → Scan
@@ -34,6 +36,7 @@ pub record Load (width : ℕ) (bs : List ℕ) (h : Head) (nums : List ℕ) (cs�
   pub few : length blocks ≤ 22 * i
   pub filled : Small (h .queues) (h .semaphores) (h .buffers) → (more : List ℕ) →
       Filling ((take (h .got) nums ++ blocks) ++ more) (h .operations) (length (take (h .got) nums)) cs₀ cs i (length (take (h .got) nums ++ blocks)) signals marks
+  pub kept : Kept-past i signals marks cs₀ cs
 
 few-signals : (window : List ℕ) → signal-count window 0 ≤ 3
 unfolding signal-count
@@ -94,6 +97,7 @@ module _ (width : ℕ) (bs : List ℕ) (h : Head) (nums : List ℕ) (cs₀ : Col
     read = here-clean bs (head-cursor h) nums z ∙ ap (λ (l : List ℕ). scan (drop (h .at) bs) (h .at) l none-given) (sym (append-nil heading));
     inside = inside;
     few = omega arith;
+    kept = keeps-none 0 0 0 cs₀;
     filled = λ small more. subst (λ (l : List ℕ). Filled (heading ++ []) more cs₀ 0 (length l) 0 0) (sym (append-nil heading)) filling-none;
   }
 
@@ -123,6 +127,7 @@ module _ (width : ℕ) (bs : List ℕ) (h : Head) (nums : List ℕ) (cs₀ : Col
           read = read-next ∙ ap (λ (f : Refusal). scan (drop (r .at) bs) (r .at) (front ++ block) f) (clean-fault r z) ∙ ap (λ (x : List ℕ). scan (drop (r .at) bs) (r .at) x none-given) same;
           inside = goes-on width (h .queues) (h .semaphores) (h .buffers) bs at w-now r o (l .inside);
           few = omega (arith, l .few, length-append (l .blocks) block, few-numbers width (h .queues) (h .semaphores) (h .buffers) bs at w-now r o (l .inside));
+          kept = keeps-more (l .kept) a;
           filled = λ small more.
               let window = subst (λ (x : List ℕ). Added x i 0 signals marks cs cs′ (next-at x 0) signals′ marks′) (sym (take-append-drop (r .got) w-now)) a in
               let next = filling-next (l .filled small (block ++ more)) on (added-among small front block more junk k window) in

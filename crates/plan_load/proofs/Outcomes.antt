@@ -5,7 +5,7 @@ use mathlib.Core.List.{List, [], _∷_, _++_, append-assoc, append-nil}
 use Prim.Native.Nat.{ℕ, suc, _+_, _-_, _*_, _≤_, _<_}
 use native.Mathlib.Omega.{arith}
 use lib.ListN.{length, getD, take, drop, replicate, length-append, length-take, length-drop, length-replicate, take-append-drop, List·getD-append}
-use lib.Seq.{take-append-seam, drop-append-seam, take-at, getD-append-add}
+use lib.Seq.{take-append-seam, drop-append-seam, take-at, getD-at, getD-append-add}
 use Rattle.plan_format.specs.Refusal.{none-given, given}
 use Rattle.plan_format.specs.Grammar.{bytes, Scan, scan, times}
 use Rattle.plan_format.specs.Form.{first-form}
@@ -189,15 +189,65 @@ module _ (bs : List ℕ) (h : Head) (nums : List ℕ) (cs₀ : Columns) (head : 
         abbrev after-sizes : List ℕ
         after-sizes = (h .operations ∷ []) ++ drop (h .got) nums
 
+        abbrev after-owners : List ℕ
+        after-owners = (h .buffers ∷ (front .sizes ++ (h .operations ∷ []))) ++ drop (h .got) nums
+
         split-sizes : nums ≡ before-sizes ++ (front .sizes ++ after-sizes)
         split-sizes = split ∙ simp append-assoc
 
         before-long : length before-sizes ≡ 3 + h .queues + h .semaphores
         before-long = simp length-append (omega (arith, front .axes-long, front .owners-long))
 
+        -- the plan's counts are the head's
+        queues-are : queues (plan-in bs) ≡ h .queues
+        unfolding queues
+        queues-are = ap (λ (p : Plan). length (p .axes)) plan-is ∙ front .axes-long
+
+        owners-are : length (plan-in bs .owners) ≡ h .semaphores
+        owners-are = ap (λ (p : Plan). length (p .owners)) plan-is ∙ front .owners-long
+
+        sizes-are : length (plan-in bs .sizes) ≡ h .buffers
+        sizes-are = ap (λ (p : Plan). length (p .sizes)) plan-is ∙ front .sizes-long
+
+        count-is : count (plan-in bs) ≡ h .operations
+        unfolding count
+        count-is = ap (λ (p : Plan). length (p .operations)) plan-is ∙ operations-long (h .operations) (l .blocks)
+
+        -- the number after a part of the head, or so many places further
+        at-seam : (part rest : List ℕ) (v n : ℕ) → nums ≡ part ++ (v ∷ rest) → length part ≡ n → getD nums n 0 ≡ v
+        at-seam part rest v n e long = ap (λ (x : List ℕ). getD x n 0) e ∙ getD-at part v rest 0 n long
+
+        after-part : (part list rest : List ℕ) (n k : ℕ) → nums ≡ part ++ (list ++ rest) → length part ≡ n → k < length list →
+            getD nums (n + k) 0 ≡ getD list k 0
+        after-part part list rest n k e long b =
+            ap (λ (i : ℕ). getD nums (i + k) 0) (sym long)
+            ∙ ap (λ (x : List ℕ). getD x (length part + k) 0) e
+            ∙ getD-append-add part (list ++ rest) k 0
+            ∙ List·getD-append list rest 0 k b
+
         load-head : Head-column (plan-in bs) nums
         unfolding queues
         load-head = record {
+          queues-shown = ap (λ (x : List ℕ). getD x 0 0) split ∙ sym queues-are;
+          semaphores-shown =
+              at-seam (h .queues ∷ front .axes) (front .owners ++ after-owners) (h .semaphores) (1 + queues (plan-in bs)) split
+              (omega (arith, front .axes-long, queues-are)) ∙ sym owners-are;
+          owners-shown = λ s b.
+              after-part ((h .queues ∷ front .axes) ++ (h .semaphores ∷ [])) (front .owners) after-owners (2 + queues (plan-in bs)) s
+              (split ∙ sym (append-assoc (h .queues ∷ front .axes) (h .semaphores ∷ []) (front .owners ++ after-owners)))
+              (simp length-append (omega (arith, front .axes-long, queues-are)))
+              (omega (arith, owners-are, front .owners-long))
+              ∙ ap (λ (p : Plan). getD (p .owners) s 0) (sym plan-is);
+          buffers-shown =
+              at-seam ((h .queues ∷ front .axes) ++ (h .semaphores ∷ front .owners)) (front .sizes ++ after-sizes) (h .buffers)
+              (2 + queues (plan-in bs) + length (plan-in bs .owners)) (split ∙ simp append-assoc)
+              (simp length-append (omega (arith, front .axes-long, front .owners-long, queues-are, owners-are))) ∙ sym sizes-are;
+          operations-shown =
+              at-seam (before-sizes ++ front .sizes) (drop (h .got) nums) (h .operations)
+              (3 + queues (plan-in bs) + length (plan-in bs .owners) + length (plan-in bs .sizes))
+              (split-sizes ∙ simp append-assoc)
+              (length-append before-sizes (front .sizes) ∙ omega (arith, before-long, front .sizes-long, queues-are, owners-are, sizes-are))
+              ∙ sym count-is;
           axes-shown = λ q l.
               let long : q < length (front .axes) = omega (arith, ap (λ (p : Plan). length (p .axes)) plan-is) in
               let second : 1 + q ≡ suc q = omega arith in

@@ -3,14 +3,13 @@
 use mathlib.Core.Path.{_≡_, sym, ap, _∙_, subst}
 use mathlib.Core.List.{List, [], _∷_, _++_, map}
 use Prim.Native.Nat.{ℕ, _+_}
-use native.Mathlib.Omega.{arith}
-use lib.ListN.{length, drop, length-append}
+use lib.ListN.{length, length-append}
 use lib.Seq.{drop-append-seam}
 use Rattle.plan_format.specs.Plan.{Operation, operation-in, operation-long}
 use Rattle.plan_format.proofs.Blocks.{Block}
 use Rattle.plan_format.proofs.Operations.{operation-of, block-operation, block-long}
 use Rattle.plan_columns.specs.Columns.{Columns}
-use Rattle.plan_columns.specs.Filling.{next-at, signal-count, mark-count, Put, Added}
+use Rattle.plan_columns.specs.Filling.{next-at, Put, Added}
 use Rattle.plan_columns.proofs.Operations.{Fits, here, next-is, signals-many, marks-many}
 use Rattle.plan_columns.proofs.Lists.{three-waits, its-signals, its-marks, code-of, queue-same, wait-semaphore-same, wait-value-same, signal-semaphore-same, signal-value-same, signal-operation-same, mark-same, mark-operation-same}
 use Rattle.plan_load.proofs.Blocks.{Small, block-fits}

@@ -12,13 +12,15 @@ use plan_format::limits::WINDOW;
 use plan_numbers::Head;
 ghost use mathlib.Core.Path.{_≡_};
 ghost use mathlib.Core.List.{List};
-ghost use Prim.Native.Nat.{ℕ, _+_, _≤_};
+ghost use Prim.Native.Nat.{ℕ, _+_, _≤_, min};
 ghost use lib.ListN.{take, drop};
-ghost use Rattle.plan_format.specs.Sizes.{most-operations};
+ghost use lib.Seq.{sets};
+ghost use Rattle.plan_format.specs.Sizes.{most-semaphores, most-operations, plan-numbers};
 ghost use Rattle.plan_format.specs.Stored.{plan-in};
 ghost use Rattle.plan_columns.specs.Columns.{columns, Owner-column};
+ghost use Rattle.plan_columns.specs.Filling.{owner-numbers};
 ghost use Rattle.plan_numbers.specs.Reading.{Head-read};
-ghost use Rattle.plan_load.specs.Loading.{Loads};
+ghost use Rattle.plan_load.specs.Loading.{Loads, Keeps, Left};
 
 // How many queues, semaphores, buffers, operations, signals and marks a plan has; or the reader's refusal and its
 // place.
@@ -33,8 +35,9 @@ pub struct Loaded {
     pub marks: u16,
 }
 
-// Fills the columns of a stored plan, and its head, in which the axes are from the second place on. Past them, past
-// the plan's own places in each column, and on a refusal, what is lent is unspecified.
+// Fills the columns of a stored plan, and its head, in which the axes are from the second place on. Past the plan's own
+// places each column stays. On a refusal, the places of as many operations as the head tells, three signals and seven
+// marks to each, are unspecified.
 pub fn load(
     plan: &[u8],
     head: &mut HeadNumbers,
@@ -50,6 +53,9 @@ pub fn load(
 ) -> Loaded
     ensures loads { λ r. ⌜ Loads (now (plan .entry)) r (now (head .exit)) (columns (now (queue .exit)) (now (wsem .exit)) (now (wval .exit)) (now (ssem .exit)) (now (sval .exit)) (now (sop .exit)) (now (mark .exit)) (now (mop .exit))) ⌝ }
     ensures owners { λ r. ⌜ (r .number ≡ 0 → Owner-column (plan-in (now (plan .entry))) (now (owner .exit))) ⌝ }
+    ensures left { λ r. ⌜ Left (now (plan .entry)) r (now (head .entry)) (now (head .exit)) (now (owner .entry)) (now (owner .exit))
+        (columns (now (queue .entry)) (now (wsem .entry)) (now (wval .entry)) (now (ssem .entry)) (now (sval .entry)) (now (sop .entry)) (now (mark .entry)) (now (mop .entry)))
+        (columns (now (queue .exit)) (now (wsem .exit)) (now (wval .exit)) (now (ssem .exit)) (now (sval .exit)) (now (sop .exit)) (now (mark .exit)) (now (mop .exit))) ⌝ }
 {
     let h = plan_numbers::read_head(plan, head);
     if h.number != 0 {
@@ -121,6 +127,10 @@ fn columns(
     requires { ⌜ Head-read (now plan) h (now head) × (h .number ≡ 0) ⌝ }
     ensures loads { λ r. ⌜ Loads (now (plan .entry)) r (now (head .exit)) (columns (now (queue .exit)) (now (wsem .exit)) (now (wval .exit)) (now (ssem .exit)) (now (sval .exit)) (now (sop .exit)) (now (mark .exit)) (now (mop .exit))) ⌝ }
     ensures owners { λ r. ⌜ (r .number ≡ 0 → Owner-column (plan-in (now (plan .entry))) (now (owner .exit))) ⌝ }
+    ensures stored { λ _. ⌜ now (owner .exit) ≡ sets (now (owner .entry)) 0 (owner-numbers (now (head .entry)) (min (h .semaphores) most-semaphores) (min (2 + h .queues) plan-numbers)) ⌝ }
+    ensures keeps { λ r. ⌜ Keeps (h .operations) r
+        (columns (now (queue .entry)) (now (wsem .entry)) (now (wval .entry)) (now (ssem .entry)) (now (sval .entry)) (now (sop .entry)) (now (mark .entry)) (now (mop .entry)))
+        (columns (now (queue .exit)) (now (wsem .exit)) (now (wval .exit)) (now (ssem .exit)) (now (sval .exit)) (now (sop .exit)) (now (mark .exit)) (now (mop .exit))) ⌝ }
 {
     plan_columns::owners(head, 2 + h.queues as usize, h.semaphores as usize, owner);
     operations(plan, h, queue, wsem, wval, ssem, sval, sop, mark, mop)
@@ -141,7 +151,10 @@ fn operations(
 ) -> Loaded
     requires { ⌜ h .operations ≤ most-operations ⌝ }
     ensures { λ r. ⌜ ((nums : List ℕ) → Head-read (now (plan .entry)) h nums → h .number ≡ 0 →
-        Loads (now (plan .entry)) r nums (columns (now (queue .exit)) (now (wsem .exit)) (now (wval .exit)) (now (ssem .exit)) (now (sval .exit)) (now (sop .exit)) (now (mark .exit)) (now (mop .exit))) × (r .number ≡ 0 → plan-in (now (plan .entry)) .owners ≡ take (h .semaphores) (drop (2 + h .queues) nums))) ⌝ }
+        Loads (now (plan .entry)) r nums (columns (now (queue .exit)) (now (wsem .exit)) (now (wval .exit)) (now (ssem .exit)) (now (sval .exit)) (now (sop .exit)) (now (mark .exit)) (now (mop .exit))) × (r .number ≡ 0 → plan-in (now (plan .entry)) .owners ≡ take (h .semaphores) (drop (2 + h .queues) nums))
+        × Keeps (h .operations) r
+        (columns (now (queue .entry)) (now (wsem .entry)) (now (wval .entry)) (now (ssem .entry)) (now (sval .entry)) (now (sop .entry)) (now (mark .entry)) (now (mop .entry)))
+        (columns (now (queue .exit)) (now (wsem .exit)) (now (wval .exit)) (now (ssem .exit)) (now (sval .exit)) (now (sop .exit)) (now (mark .exit)) (now (mop .exit)))) ⌝ }
 {
     let many = h.operations as u16;
     let mut window = [0u64; WINDOW];

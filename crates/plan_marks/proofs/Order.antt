@@ -1,23 +1,19 @@
 -- Rows tell which marks are broken. Assumes nothing.
-use mathlib.Core.Path.{_≡_, refl, sym, ap, _∙_, subst}
-use mathlib.Core.Bool.{Bool, true, false, _&&_, not}
+use mathlib.Core.Path.{_≡_, sym, ap, subst}
+use mathlib.Core.Bool.{Bool, true, false, not}
 use mathlib.Core.List.{List}
-use Prim.Native.Nat.{ℕ, _%_, _≤_, _<_}
-use native.Mathlib.Nat.{le-trans}
+use Prim.Native.Nat.{ℕ, _<_}
 use native.Mathlib.Omega.{arith}
-use lib.Dec.{leb, eqb}
-use borrow.Author.Tests.{leb-true, le-leb, lt-ltb, le-ltb, eqb-true, eq-eqb}
-use lib.ListN.{getD}
-use Rattle.basics.proofs.Tests.{by-cases, clash, is-false, and-left, and-right, and-both, or-cases, or-left, or-right, either}
-use Rattle.basics.proofs.Tallies.{tally-mono}
+use lib.Dec.{eqb}
+use borrow.Author.Tests.{lt-ltb, le-ltb, eqb-true}
+use Rattle.basics.proofs.Tests.{by-cases}
 use Rattle.plan_format.specs.Sizes.{no-operation}
-use Rattle.plan_format.specs.Plan.{Plan, count, op}
+use Rattle.plan_format.specs.Plan.{Plan, count}
 use Rattle.plan_format.specs.Sound.{Sound}
 use Rattle.plan_order.specs.Precedence.{before, at-or-before}
 use Rattle.plan_order.specs.Runs.{is-full}
 use Rattle.plan_order.proofs.Demand3.{rules-good}
-use Rattle.plan_order.proofs.Precedence.{before-chain, before-join, not-itself}
-use Rattle.plan_order.proofs.Rows.{on-queue, entry, row-at, entry-tells}
+use Rattle.plan_order.proofs.Precedence.{not-itself}
 use Rattle.plan_columns.specs.Columns.{Queue-column, Row-columns}
 use Rattle.plan_columns.proofs.Ordered.{ordered-right}
 use Rattle.plan_marks.specs.Passes.{late, early}

@@ -2,10 +2,10 @@
 -- the last mark to the first, and marks against the free before their holding. Assumes nothing: these are definitions.
 use mathlib.Core.Bool.{Bool, _&&_, _||_, not, cond}
 use mathlib.Core.List.{List, [], _∷_}
-use Prim.Native.Nat.{ℕ, _+_, _*_, _/_, _%_, min}
-use lib.Dec.{ltb, leb, eqb}
+use Prim.Native.Nat.{ℕ, _+_, _*_, min}
+use lib.Dec.{ltb, eqb}
 use lib.ListN.{getD, set, replicate}
-use Rattle.plan_format.specs.Sizes.{most-buffers, most-operations, mark-places, row-width, no-operation}
+use Rattle.plan_format.specs.Sizes.{mark-places, no-operation}
 use Rattle.plan_columns.specs.Columns.{Marked}
 use Rattle.plan_columns.specs.Shown.{mark-codes, shown-from, ordered}
 

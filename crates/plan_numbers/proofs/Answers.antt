@@ -6,7 +6,7 @@ use Prim.Native.Nat.{ℕ, _≤_, _<_}
 use native.Mathlib.Omega.{arith}
 use lib.ListN.{length, take, drop, length-drop, take-append-drop}
 use lib.Seq.{length-take-le}
-use borrow.Author.Tests.{ne-eqb, eqb-false}
+use borrow.Author.Tests.{ne-eqb}
 use Rattle.basics.specs.Lists.{in-front}
 use Rattle.basics.proofs.Tests.{by-cases}
 use Rattle.plan_format.specs.Sizes.{plan-numbers}
@@ -61,13 +61,13 @@ module _ (bs : List ℕ) (c : Cursor) (nums : List ℕ) where
 
   -- a whole plan
   pub ends-whole : c .number ≡ 0 → length bs ≤ c .at → c .got ≤ length nums →
-      Ends end (record { number = c .number; place = 0; answer = c .got })
+      Ends end (record { number = 0; place = 0; answer = c .got })
   unfolding scan none-given given
   ends-whole z h few =
       ends-as (scan (drop (c .at) bs) (c .at) (take (c .got) nums) none-given)
       (ap ended (here-clean bs c nums z)
       ∙ ended-none (drop (c .at) bs) (c .at) (take (c .got) nums) (length-drop (c .at) bs ∙ omega arith))
-      (record { number = z; place = refl; answer-is = sym (length-take-le (c .got) nums few) })
+      (record { number = refl; place = refl; answer-is = sym (length-take-le (c .got) nums few) })
 
   -- the numbers got are in front of the array, whatever the end
   pub ends-front : end .got ≡ take (c .got) nums
@@ -117,7 +117,7 @@ module _ {bs : List ℕ} {c : Cursor} {nums : List ℕ} (p : Plan-read first-for
     read-more z h = numbers-read (ends-more bs c nums z h)
 
     pub read-whole : c .number ≡ 0 → length bs ≤ c .at →
-        Numbers-read bs (record { number = c .number; place = 0; answer = c .got }) nums
+        Numbers-read bs (record { number = 0; place = 0; answer = c .got }) nums
     read-whole z h = numbers-read (ends-whole bs c nums z h (omega (arith, few-read)))
 
     pub read-array : {nums₀ : List ℕ} → Past (c .got) nums₀ nums → nums ≡ in-front (scanned bs .got) nums₀

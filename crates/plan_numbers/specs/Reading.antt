@@ -7,7 +7,7 @@ use Prim.Native.Nat.{ℕ, _+_, _-_, _*_, _≤_, _<_, _^_, min}
 use lib.Dec.{eqb}
 use lib.ListN.{length, take, drop}
 use Rattle.basics.specs.Lists.{in-front}
-use Rattle.plan_format.specs.Sizes.{most-queues, most-semaphores, most-buffers, most-operations, head-numbers}
+use Rattle.plan_format.specs.Sizes.{most-queues, most-buffers, most-operations, head-numbers}
 use Rattle.plan_format.specs.Sizes.{block-numbers, plan-numbers}
 use Rattle.plan_format.specs.Refusal.{Refusal, refusal, none-given, given}
 use Rattle.plan_format.specs.Grammar.{Grammar, field, seq, counted, value, bytes, Scan, scan, last-got, times}

@@ -8,6 +8,7 @@ mod word;
 
 use crate::cursor::Cursor;
 use plan_format::Told;
+use plan_format::answered;
 use plan_format::limits::HEAD_NUMBERS;
 use plan_format::limits::MOST_OPERATIONS;
 use plan_format::limits::PLAN_NUMBERS;
@@ -136,11 +137,7 @@ fn finished(plan: &[u8], c: Cursor) -> Told
     if at < plan.len() {
         return refused(3, at);
     }
-    Told {
-        number: c.number,
-        place: 0,
-        answer: c.got as u64,
-    }
+    answered(c.got as u64)
 }
 
 // The numbers of a stored plan in front of the array, with their length as the answer; or the first of refusals 1 to 5,

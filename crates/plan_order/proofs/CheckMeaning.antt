@@ -19,6 +19,7 @@ use Rattle.plan_format.specs.Meaning.{Refuses}
 use Rattle.plan_format.proofs.Judged.{zero-not-given, other-given}
 use Rattle.plan_format.proofs.RefusalNumbers.{one-is, not-one, apart, none-or-zero, given-one}
 use Rattle.plan_format.proofs.Numbers.{plan-number}
+use Rattle.plan_format.proofs.ReadingMeaning.{plan-refusal-means}
 use Rattle.plan_format.proofs.Plans.{sound-in}
 use Rattle.plan_order.specs.Check.{room-refusal, Leaves, untouched, zeros, rows-and-run, Outcome, outcome, check-outcome}
 use Rattle.plan_order.specs.Holdings.{broken, buffer-marks}
@@ -176,6 +177,7 @@ module _ (bs : List ℕ) (t l : ℕ) where
       let o = check-outcome bs t l in
       let p = plan-in bs in
       record {
+        plan = plan-refusal-means bs;
         plan-first = λ bad. let e = plan-refused bs t l (other-given (plan-refusal bs) bad) in
             (ap (λ (z : Outcome). z .refusal) e, ap (λ (z : Outcome). z .leaves) e);
         nine = λ i. (

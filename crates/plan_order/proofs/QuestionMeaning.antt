@@ -25,6 +25,7 @@ use Rattle.plan_order.specs.Reuse.{number-of, verdict, question-refusal,
 use Rattle.plan_order.specs.Meaning.{Verdict-table, Question-means, Left-means}
 use Rattle.plan_order.specs.Promise.{Safe, unrefused}
 use Rattle.plan_order.proofs.Asking.{plan-first, gives-asked, asked-own, asked-safe, asked-number, asked-leaves-by, asked-left}
+use Rattle.plan_order.proofs.CheckMeaning.{check-means}
 use Rattle.plan_order.proofs.VerdictMeaning.{one-use, verdict-table}
 
 -- no bytes, and a queue that they do not have: the plan is refused
@@ -98,6 +99,7 @@ module _ (bs : List ℕ) (q b t l : ℕ) where
   pub question-means : Question-means bs q b t l (reuse-outcome bs q b t l)
   unfolding reuse-outcome member all
   question-means = record {
+    check = check-means bs t l;
     plan-first = plan-first bs t l own;
     no-queue = λ z h. gives-asked bs t l own 12 q z (twelve-is plan q b h);
     no-buffer = λ z h g. gives-asked bs t l own 13 b z (thirteen-is plan q b h g);

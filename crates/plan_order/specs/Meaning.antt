@@ -13,7 +13,7 @@ use Rattle.plan_format.specs.RefusalNumbers.{One-of, None-or, order-numbers, re
 use Rattle.plan_format.specs.RefusalNumbers.{check-gives, reuse-gives}
 use Rattle.plan_format.specs.Plan.{Point, Mark, Plan, count, op, queues}
 use Rattle.plan_format.specs.Stored.{plan-in, plan-refusal}
-use Rattle.plan_format.specs.Meaning.{Refuses, signal-at}
+use Rattle.plan_format.specs.Meaning.{Refuses, signal-at, Plan-refusal-means}
 use Rattle.plan_order.specs.Precedence.{Before}
 use Rattle.plan_order.specs.Holdings.{Placed, buffer-marks}
 use Rattle.plan_order.specs.Check.{room-refusal, Outcome, Leaves, untouched, zeros, rows-and-run, check-outcome}
@@ -220,8 +220,9 @@ pub record Leaves-by (own : List ℕ) (o : Outcome) : Type 0 where
   pub zeros : (o .leaves ≡ zeros) ↔ One-of order-numbers (o .refusal .number)
   pub rows-and-run : (o .leaves ≡ rows-and-run) ↔ None-or own (o .refusal .number)
 
--- R53 to R55: the plan, then 9, 10 and 11, and no other number
+-- R53 to R55: the plan, by what 1 to 8 mean, then 9, 10 and 11, and no other number
 pub record Check-means (bytes : List ℕ) (table list : ℕ) (o : Outcome) : Type 0 where
+  pub plan : Plan-refusal-means bytes (plan-refusal bytes)
   pub plan-first : (plan-refusal bytes .number ≡ 0 → ⊥) → (o .refusal ≡ plan-refusal bytes) × (o .leaves ≡ untouched)
   pub nine :
       (i : ℕ) → Gives o 9 i untouched ↔
@@ -238,8 +239,9 @@ pub record Check-means (bytes : List ℕ) (table list : ℕ) (o : Outcome) : Typ
   pub leaves : Leaves-by [] o
 
 -- ---- the question
--- R57, R49: the check, then 12, then 13; R56: an answer, 12 and 13 leave rows and run
+-- R57, R49: the check, by what its numbers mean, then 12, then 13; R56: an answer, 12 and 13 leave rows and run
 pub record Question-means (bytes : List ℕ) (q b table list : ℕ) (o : Outcome) : Type 0 where
+  pub check : Check-means bytes table list (check-outcome bytes table list)
   pub plan-first : (check-outcome bytes table list .refusal .number ≡ 0 → ⊥) → o ≡ check-outcome bytes table list
   pub no-queue : check-outcome bytes table list .refusal .number ≡ 0 → queues (plan-in bytes) ≤ q →
       Gives o 12 q rows-and-run

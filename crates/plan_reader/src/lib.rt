@@ -1,5 +1,6 @@
 // R10, R12 and R13, the reader: the numbers of the bytes, stored in the room that the caller lends.
 use plan_format::Told;
+use plan_format::answered;
 use plan_format::limits::HEAD_NUMBERS;
 use plan_format::limits::PLAN_NUMBERS;
 use plan_format::refused;
@@ -41,11 +42,7 @@ fn into_room(told: Told, numbers: &[u64; PLAN_NUMBERS], room: &mut [u64]) -> Tol
         return refused(9, many);
     }
     store(numbers, many, room);
-    Told {
-        number: 0,
-        place: 0,
-        answer: told.answer,
-    }
+    answered(told.answer)
 }
 
 // The numbers of a stored plan in front of the room, with their length as the answer; or a refusal, and the room

@@ -1,10 +1,13 @@
 -- `check_opened` meets its contract: the reader's refusal, or what `plan_judge` says of the columns that are loaded.
 -- Assumes nothing.
+use mathlib.Core.Path.{_∙_}
 use borrow.Author.Needs.{needs}
 use Rattle.plan_format.proofs.Telling.{tells-as}
 use Rattle.plan_order.proofs.Checks.{checked}
+use Rattle.plan_judge.proofs.Kept.{sources-kept}
 use Rattle.checker.proofs.Told.{not-read, read-says}
 use Rattle.checker.proofs.Columns.{loaded-none, loaded-read, loaded-clean, loaded-given}
+use Rattle.checker.proofs.Left.{left-refused, left-judged}
 use Rattle.checker.proofs.Passed.{opened-plan}
 use Rattle.checker.proofs.check_opened.Statement.{statement}
 use Rattle.checker.proofs.check_opened.Tie as tie
@@ -18,10 +21,20 @@ with-lists-requires c κs = search needs
 returns : tie.Need-returns
 returns c =
     let taken = c .before .if1 .taken in
-    let l = c .before .before .before .load .ensures .0 in
+    let loaded = c .before .before .before .load .ensures in
+    let l = loaded .0 in
     rw (c .with-lists .ensures) (
       checked _ _ _ _ _ _ (not-read _ _ _ _ (tells-as (l .number) (l .place)) taken),
-      (l .sizes, (loaded-none l, (loaded-read l _ _, λ z. absurd (taken z)))),
+      (
+        l .sizes,
+        (
+          loaded-none l,
+          (
+            loaded-read l _ _ (λ z. absurd (taken (l .number ∙ z))),
+            ((λ z. absurd (taken z)), left-refused l (loaded .1 .1) _ _ taken),
+          ),
+        ),
+      ),
     )
 
 cast-check-columns : tie.Need-cast-check-columns
@@ -48,11 +61,24 @@ returns-2 c =
     let test = judged .before .before .before .before .before .before .before .before .before .before .before .before .before .before in
     let l = test .before .before .load .ensures in
     let none = test .if1 .left in
-    let of-plan = judged .check-columns .ensures .1 .1 _ (loaded-given (l .0) none _ (l .1 none)) in
+    let of-plan = judged .check-columns .ensures .1 .1 _ (loaded-given (l .0) none _ (l .1 .0 none)) in
     let whole = checked _ _ _ _ _ _ (read-says _ _ _ _ _ _ (loaded-clean (l .0) none) (of-plan .0)) in
+    let read = loaded-read (l .0) _ _ (λ _. of-plan .1) in
     rw (c .with-lists2 .ensures) (
       whole,
-      (l .0 .sizes, (loaded-none (l .0), (loaded-read (l .0) _ _, λ z. opened-plan (l .0 .sizes) whole z (loaded-read (l .0) _ _ (loaded-clean (l .0) none)) (of-plan .1)))),
+      (
+        l .0 .sizes,
+        (
+          loaded-none (l .0),
+          (
+            read,
+            (
+              (λ z. opened-plan (l .0 .sizes) whole z (read (loaded-clean (l .0) none))),
+              left-judged (l .0) (l .1 .1) _ _ none (sources-kept (judged .check-columns .ensures .1 .0)),
+            ),
+          ),
+        ),
+      ),
     )
 
 pub check-opened-spec : {M : Type 1} → statement M

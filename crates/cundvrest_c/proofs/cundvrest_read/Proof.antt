@@ -13,7 +13,7 @@ same-length : tie.Need-same-length
 same-length c = search needs
 
 returns : tie.Need-returns
-returns c = rw (c .tell .ensures) (c .before .before .before .before .read-plan .ensures .0)
+returns c = rw (c .tell .ensures) (c .before .before .before .before .read-plan .ensures)
 
 pub cundvrest-read-spec : {M : Type 1} → statement M
 cundvrest-read-spec = tie.close (tie.spec read-plan-requires tell-requires same-length returns)

@@ -13,7 +13,7 @@ same-length : tie.Need-same-length
 same-length c = search needs
 
 returns : tie.Need-returns
-returns c = rw (c .tell .ensures) (c .before .before .before .before .write-plan .ensures .0)
+returns c = rw (c .tell .ensures) (c .before .before .before .before .write-plan .ensures)
 
 pub cundvrest-write-spec : {M : Type 1} → statement M
 cundvrest-write-spec = tie.close (tie.spec write-plan-requires tell-requires same-length returns)

@@ -39,7 +39,7 @@ returns-2 c =
     let check = c .before .before .before .before .before .before .before .before .before .check-opened in
     let passed = c .before .before .before .if1 .left in
     then-answered (check .result .counted) _ _ (check .ensures .0) _ passed
-    (c .answer .ensures _ (sent-given (check .ensures .1 .1 .1 .1 passed)))
+    (c .answer .ensures _ (sent-given (check .ensures .1 .1 .1 .1 .0 passed)))
 
 pub frontier-of-spec : {M : Type 1} → statement M
 frontier-of-spec =

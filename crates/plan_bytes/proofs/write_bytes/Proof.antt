@@ -22,11 +22,16 @@ returns-2 : tie.Need-returns-2
 returns-2 c =
     rw (c .refused2 .ensures) (written-more (c .before .before .before .before .sections .ensures) (omega arith) (c .before .before .if1 .left) (c .before .if2 .taken))
 
+answered-requires : tie.Need-answered-requires
+answered-requires c κs = search needs
+
 returns-3 : tie.Need-returns-3
 returns-3 c =
-    written-whole (c .before .before .before .sections .ensures) (omega arith) (c .before .if1 .left) (c .if2 .left)
+    let branch = c .before in
+    rw (c .answered .ensures)
+    (written-whole (branch .before .before .before .sections .ensures) (omega arith) (branch .before .if1 .left) (branch .if2 .left))
 
 pub write-bytes-spec : {M : Type 1} → statement M
 write-bytes-spec =
     tie.close
-    (tie.spec sections-requires refused-requires returns refused-requires-2 returns-2 returns-3)
+    (tie.spec sections-requires refused-requires returns refused-requires-2 returns-2 answered-requires returns-3)

@@ -1,6 +1,5 @@
 -- `plan_columns::waited` gives the number below the count, and 0 past it. Assumes nothing.
 use borrow.Author.Tests.{lt-ltb, le-ltb}
-use borrow.Author.Needs.{needs}
 use Rattle.plan_columns.proofs.waited.Statement.{statement}
 use Rattle.plan_columns.proofs.waited.Tie as tie
 

@@ -42,6 +42,7 @@ use denote.Triple.Table.{entered, cited}
 use denote.Triple.Walked.{says, Stays, stay-none-slice, gave-slice, walkOf, goes-none-slice, goes-gave-slice, Walks, ends-at, walked, walk-meets}
 use denote.Exit.{yes}
 use denote.Triple.Clauses.{ensured, lasts}
+use Rattle.plan_format.specs.Meaning.{Read-means}
 use Rattle.plan_format.specs.Stored.{Read-says}
 use Rattle.plan_format.specs.declared.Told.{Told}
 use Rattle.plan_format.proofs.Told as S
@@ -119,7 +120,7 @@ module _ {M : Type 1} (𝓤 : URA M) (H : Heap 𝓤) (A : Atoms 𝓤) (W : Given
   next h = record { src = s; at = h .head .at }
 
   abbrev Says : Told → List ℕ → Type 0
-  Says t zs = Read-says (now s) t ys zs
+  Says t zs = Read-says (now s) t ys zs × Read-means (now s) t ys zs
 
   abbrev RestSays : Heading → Told → List ℕ → Type 0
   RestSays h t zs = Rest-says (now s) (h .head .at) h t ys zs

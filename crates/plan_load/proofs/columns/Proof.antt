@@ -21,14 +21,17 @@ operations-requires c κs = search needs
 returns : tie.Need-returns
 returns c =
     let (head, z) = c .before .before .before .before .before .before .before .before .before .before .before .before .before .pre in
-    let o = c .operations .ensures _ head z in (
+    let o = c .operations .ensures _ head z in
+    let stored = c .before .before .before .before .before .before .before .before .before .owners .ensures in (
       o .0,
-      λ e.
-          let clean = sym (o .0 .number) ∙ e in
-          c .before .before .before .before .before .before .before .before .before .owners .ensures .1 _ (o .1 e)
-          (omega (arith, head-few head z))
-          (omega (arith, scanned-limits _ clean .few-semaphores, head-semaphores head z (o .1 e)))
-          (few-queues (scanned-limits _ clean)) (owners-in (scanned-limits _ clean)),
+      (
+        λ e.
+            let clean = sym (o .0 .number) ∙ e in
+            stored .1 _ (o .1 e) (omega (arith, head-few head z))
+            (omega (arith, scanned-limits _ clean .few-semaphores, head-semaphores head z (o .1 e)))
+            (few-queues (scanned-limits _ clean)) (owners-in (scanned-limits _ clean)),
+        (stored .0, o .2),
+      ),
     )
 
 pub columns-spec : {M : Type 1} → statement M

@@ -11,6 +11,7 @@ use Rattle.plan_columns.specs.Columns.{columns}
 use Rattle.plan_numbers.specs.Reading.{Head-read}
 use Rattle.plan_load.proofs.Loading.{Load, load-none, load-next, few-more}
 use Rattle.plan_load.proofs.Outcomes.{load-refused, load-more, load-columns, load-owners, refused-loads}
+use Rattle.plan_load.proofs.Leaving.{keeps-whole, keeps-refused}
 use Rattle.plan_load.proofs.operations.Statement.{statement}
 use Rattle.plan_load.proofs.operations.Tie as tie
 
@@ -40,9 +41,10 @@ returns : tie.Need-returns Inv-loop μ-loop
 returns c =
     let taken = c .before .if1 .taken in
     let o = c .before .before .before .read-operation .ensures .1 in
-    let l = c .before .before .before .before .before .before .loop .inv .5 in
+    let inv = c .before .before .before .before .before .before .loop .inv in
+    let l = inv .5 in
     rw (c .refused .ensures)
-    (λ nums head z. (refused-loads (load-refused _ _ nums _ head (l nums head z) (c .before .before .before .before .before .loop-test .taken) _ _ o taken) taken, λ e. absurd (taken e)))
+    (λ nums head z. (refused-loads (load-refused _ _ nums _ head (l nums head z) (c .before .before .before .before .before .loop-test .taken) _ _ o taken) taken, (λ e. absurd (taken e)), keeps-refused _ _ taken (l nums head z .kept) (omega arith) (inv .3) (inv .4)))
 
 add-requires : tie.Need-add-requires Inv-loop μ-loop
 add-requires c κs = search needs
@@ -83,7 +85,7 @@ returns-2 : tie.Need-returns-2 Inv-loop μ-loop
 returns-2 c =
     let l = c .before .before .before .loop .inv in
     rw (c .refused2 .ensures)
-    (λ nums head z. (refused-loads (load-more _ _ nums _ head (l .5 nums head z) (c .before .before .loop-test .left) (l .2) (c .before .if2 .taken)) (eqb-false 3 0 refl), λ e. absurd (eqb-false 3 0 refl e)))
+    (λ nums head z. (refused-loads (load-more _ _ nums _ head (l .5 nums head z) (c .before .before .loop-test .left) (l .2) (c .before .if2 .taken)) (eqb-false 3 0 refl), (λ e. absurd (eqb-false 3 0 refl e)), keeps-refused _ _ (eqb-false 3 0 refl) (l .5 nums head z .kept) (l .2) (l .3) (l .4)))
 
 whole-requires : tie.Need-whole-requires Inv-loop μ-loop
 whole-requires c κs = search needs
@@ -95,7 +97,7 @@ returns-3 c =
     let end = c .before .if2 .left in
     rw (c .whole .ensures)
     (λ nums head z.
-    (load-columns _ _ nums _ head (l .5 nums head z) done (l .2) end z, λ _. load-owners _ _ nums _ head (l .5 nums head z) done (l .2) end z))
+    (load-columns _ _ nums _ head (l .5 nums head z) done (l .2) end z, (λ _. load-owners _ _ nums _ head (l .5 nums head z) done (l .2) end z), keeps-whole _ _ refl (l .5 nums head z .kept) (l .2)))
 
 pub operations-spec : {M : Type 1} → statement M
 operations-spec =

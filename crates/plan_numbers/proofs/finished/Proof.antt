@@ -17,8 +17,12 @@ returns-2 : tie.Need-returns-2
 returns-2 c = rw (c .refused2 .ensures)
     (λ nums l. ends-more _ _ nums (c .before .before .if1 .left) (c .before .if2 .taken))
 
+answered-requires : tie.Need-answered-requires
+answered-requires c κs = search needs
+
 returns-3 : tie.Need-returns-3
-returns-3 c nums l = ends-whole _ _ nums (c .before .if1 .left) (c .if2 .left) l
+returns-3 c = rw (c .answered .ensures)
+    (λ nums l. ends-whole _ _ nums (c .before .before .if1 .left) (c .before .if2 .left) l)
 
 pub finished-spec : {M : Type 1} → statement M
-finished-spec = tie.close (tie.spec refused-requires returns refused-requires-2 returns-2 returns-3)
+finished-spec = tie.close (tie.spec refused-requires returns refused-requires-2 returns-2 answered-requires returns-3)

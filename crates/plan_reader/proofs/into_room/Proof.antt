@@ -20,17 +20,20 @@ returns-2 c = rw (c .refused .ensures)
 store-requires : tie.Need-store-requires
 store-requires c κs = search needs
 
+answered-requires : tie.Need-answered-requires
+answered-requires c κs = search needs
+
 same-length : tie.Need-same-length
 same-length c = search needs
 
 returns-3 : tie.Need-returns-3
-returns-3 c f got t e =
-    let store = c .before .before in
+returns-3 c = rw (c .answered .ensures) (λ f got t e.
+    let store = c .before .before .before in
     let branch = store .before .before in
     let clean = branch .before .if1 .left in
     let a = branch .before .before .before .before .args in
     stored f got t (a .room .now) clean (branch .if2 .left)
-    (store .store .ensures ∙ in-room f got t (a .room .now) (a .numbers .now) clean (e clean))
+    (store .store .ensures ∙ in-room f got t (a .room .now) (a .numbers .now) clean (e clean)))
 
 pub into-room-spec : {M : Type 1} → statement M
-into-room-spec = tie.close (tie.spec returns refused-requires returns-2 store-requires same-length returns-3)
+into-room-spec = tie.close (tie.spec returns refused-requires returns-2 store-requires answered-requires same-length returns-3)

@@ -12,8 +12,9 @@ read-head-requires c κs = search needs
 
 returns : tie.Need-returns
 returns c =
-    let s = c .before .before .before .before .before in
-    heading-past (s .args .plan .now) (s .args .at) _ (c .before .before .before .if1 .taken) (c .read-head .ensures)
+    let known = c .before .before .before .before in
+    let s = known .before in
+    heading-past (s .args .plan .now) (known .shared-slice-known .given) (s .args .at) _ (c .before .before .before .if1 .taken) (c .read-head .ensures)
 
 sub-read-head : tie.Need-sub-read-head
 sub-read-head c = search needs
@@ -29,8 +30,9 @@ read-head-requires-2 c κs = search needs
 
 returns-2 : tie.Need-returns-2
 returns-2 c =
-    let s = c .before .before .before .before .before in
-    heading-from (s .args .plan .now) (s .args .at) _ (c .read-head2 .ensures)
+    let known = c .before .before .before .before in
+    let s = known .before in
+    heading-from (s .args .plan .now) (known .shared-slice-known .given) (s .args .at) _ (c .read-head2 .ensures)
 
 pub read-heading-spec : {M : Type 1} → statement M
 read-heading-spec =

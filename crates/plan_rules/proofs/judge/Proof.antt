@@ -1,7 +1,6 @@
 -- `plan_rules::judge` walks the signals: the invariant is what is left of the walk. Assumes nothing.
 use mathlib.Core.Path.{_≡_, refl, ap, _∙_}
 use Prim.Native.Nat.{_-_}
-use native.Mathlib.Omega.{arith}
 use borrow.Author.Needs.{needs}
 use lib.ListN.{length, length-set}
 use Rattle.plan_format.specs.Refusal.{refusal, none-given}

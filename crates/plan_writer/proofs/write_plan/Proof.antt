@@ -38,23 +38,28 @@ store-requires : tie.Need-store-requires
 store-requires c κs =
     (omega arith, written-fits (c .before .before .before .before .before .write-bytes .ensures) (c .before .before .before .if1 .left), c .before .before .if2 .left)
 
+answered-requires : tie.Need-answered-requires
+answered-requires c κs = search needs
+
 same-length : tie.Need-same-length
 same-length c = search needs
 
 returns-3 : tie.Need-returns-3
 unfolding Write-says write-refusal
 returns-3 c =
-    let branch = c .before .before .before .before .before in
+    let told = c .before in
+    let branch = told .before .before .before .before .before in
     let written = branch .before .before .before in
     let s = written .before .before .before .before in
     let xs = s .args .numbers .now in
     let n = written .write-bytes .ensures in
     let clean = branch .before .if1 .left in
-    both xs _ (s .args .room .now) _
+    rw (c .answered .ensures)
+    (both xs _ (s .args .room .now) _
     (stored (listed xs .fault) (spelled xs) (n .told) (s .args .room .now) clean (branch .if2 .left)
-    (c .before .before .store .ensures ∙ written-front n clean (s .args .room .now)))
+    (told .before .before .store .ensures ∙ written-front n clean (s .args .room .now))))
 
 pub write-plan-spec : {M : Type 1} → statement M
 write-plan-spec =
     tie.close
-    (tie.spec write-bytes-requires returns refused-requires returns-2 store-requires same-length returns-3)
+    (tie.spec write-bytes-requires returns refused-requires returns-2 store-requires answered-requires same-length returns-3)

@@ -24,11 +24,16 @@ verdict-requires c κs = search needs
 number-of-requires : tie.Need-number-of-requires
 number-of-requires c κs = search needs
 
+answered-requires : tie.Need-answered-requires
+answered-requires c κs = search needs
+
 returns-3 : tie.Need-returns-3
 returns-3 c =
-    λ p o.
-    answered o _ _ (c .before .before .before .before .if1 .left) (c .before .before .if2 .left)
-    (c .number-of .ensures ∙ ap number-of (c .before .verdict .ensures p (o .shown)))
+    let asked = c .before in
+    let branch = asked .before .before in
+    rw (c .answered .ensures)
+    (λ p o. answered o _ _ (branch .before .before .if1 .left) (branch .if2 .left)
+    (asked .number-of .ensures ∙ ap number-of (asked .before .verdict .ensures p (o .shown))))
 
 pub answer-spec : {M : Type 1} → statement M
 answer-spec =
@@ -40,4 +45,5 @@ answer-spec =
     returns-2
     verdict-requires
     number-of-requires
+    answered-requires
     returns-3)

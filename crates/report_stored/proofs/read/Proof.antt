@@ -24,7 +24,7 @@ returns : tie.Need-returns
 returns c =
     let branch = c .before .before .before .before in
     let got = branch .before .before .before .read-held in
-    rw (← (read-refused _ _ _ (got .result) (got .ensures) (length-replicate {A = ℕ} plan-numbers 0)
+    rw (← (read-refused _ _ _ (got .result) (got .ensures .0) (length-replicate {A = ℕ} plan-numbers 0)
     (branch .if1 .taken))) (c .before .before .refused .ensures)
 
 slice-aggregate-line : tie.Need-slice-aggregate-line
@@ -44,7 +44,7 @@ returns-2 c =
     let line = c .before .before .before .before .before .before in
     let branch = line .before .before .before in
     let got = branch .before .before .before .read-held in
-    rw (← (read-listed _ _ _ (got .result) (got .ensures) (length-replicate {A = ℕ} plan-numbers 0)
+    rw (← (read-listed _ _ _ (got .result) (got .ensures .0) (length-replicate {A = ℕ} plan-numbers 0)
     (branch .if1 .left)))
     (puts-both (line .line .ensures) (c .before .before .byte .ensures))
 
