@@ -3,6 +3,7 @@ use mathlib.Core.Path.{_≡_, refl, sym, _∙_}
 use mathlib.Core.List.{List, []}
 use Prim.Native.Nat.{ℕ, _*_}
 use native.Mathlib.Omega.{arith}
+use Rattle.plan_format.specs.Sizes.{most-waits}
 use Rattle.plan_order.specs.Meaning.{Past-kept}
 use Rattle.plan_columns.specs.Columns.{Columns}
 use Rattle.plan_load.specs.Loading.{Kept-past, Loads, Left}
@@ -26,13 +27,13 @@ lent-by head cs source =
 
 -- the sources are in the place of the waits' semaphores, the other columns stay
 with-sources : {i signals marks : ℕ} {cs cs′ : Columns} {source : List ℕ} (head head-now : List ℕ) →
-    Kept-past i signals marks cs cs′ → Past-kept (3 * i) (cs′ .wait-semaphore) source →
+    Kept-past i signals marks cs cs′ → Past-kept (most-waits * i) (cs′ .wait-semaphore) source →
     Kept-past i signals marks (lent-columns (lent-by head cs (cs .wait-semaphore)))
     (lent-columns (lent-by head-now cs′ source))
 with-sources {i} head head-now k s = record {
   queues-kept = k .queues-kept;
   wait-semaphores-kept = past-then (k .wait-semaphores-kept) s;
-  wait-values-kept = past-none (3 * i) [];
+  wait-values-kept = past-none (most-waits * i) [];
   signal-semaphores-kept = k .signal-semaphores-kept;
   signal-values-kept = k .signal-values-kept;
   signal-operations-kept = k .signal-operations-kept;
@@ -52,7 +53,7 @@ module _ {bs head head-now owner owner-now : List ℕ} {r : Loaded} {cs cs′ : 
   }
 
   -- a plan that is judged
-  pub left-judged : r .number ≡ 0 → {source : List ℕ} → Past-kept (3 * r .operations) (cs′ .wait-semaphore) source →
+  pub left-judged : r .number ≡ 0 → {source : List ℕ} → Past-kept (most-waits * r .operations) (cs′ .wait-semaphore) source →
       Lent-left bs (opened-of r n i) (lent-by head cs (cs .wait-semaphore)) (lent-by head-now cs′ source)
   left-judged z s = record {
     head-is = left .head-is;

@@ -5,6 +5,7 @@ use Prim.Native.Nat.{ℕ, _+_, _*_, _≤_, _<_}
 use native.Mathlib.Omega.{arith}
 use lib.ListN.{length, getD, drop, replicate, length-replicate}
 use lib.Seq.{drop-append-seam}
+use Rattle.plan_format.specs.Sizes.{most-queues, most-semaphores, most-buffers}
 use Rattle.plan_format.specs.Refusal.{none-given}
 use Rattle.plan_format.specs.Grammar.{bytes, Scan, scan, read-by}
 use Rattle.plan_format.specs.Form.{Form, operation}
@@ -53,9 +54,9 @@ block-read width q m b rest place t e clean =
 
 -- the limits of a plan's counts
 pub record Small (q m b : ℕ) : Type 0 where
-  pub few-queues : q ≤ 16
-  pub few-semaphores : m ≤ 64
-  pub few-buffers : b ≤ 256
+  pub few-queues : q ≤ most-queues
+  pub few-semaphores : m ≤ most-semaphores
+  pub few-buffers : b ≤ most-buffers
 
 pub block-fits : {q m b : ℕ} {xs : List ℕ} → Small q m b → (k : Block q m b xs) → Fits (operation-of q m b xs k)
 block-fits {q} {m} {b} small k =

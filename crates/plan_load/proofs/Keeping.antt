@@ -7,6 +7,7 @@ use lib.ListN.{length, getD, set}
 use lib.Seq.{sets, length-sets, getD-set-other}
 use Rattle.basics.specs.Lists.{tabulate-from}
 use Rattle.basics.proofs.Tables.{tabulate-length}
+use Rattle.plan_format.specs.Sizes.{most-waits}
 use Rattle.plan_order.specs.Meaning.{Past-kept}
 use Rattle.plan_columns.specs.Columns.{Columns}
 use Rattle.plan_columns.specs.Filling.{queue-part, wait-semaphore-part, wait-value-part, signal-semaphore-part}
@@ -37,8 +38,8 @@ past-put {before} place part p e h b = record {
 pub keeps-none : (i signals marks : ℕ) (cs : Columns) → Kept-past i signals marks cs cs
 keeps-none i signals marks cs = record {
   queues-kept = past-none i (cs .queue);
-  wait-semaphores-kept = past-none (3 * i) (cs .wait-semaphore);
-  wait-values-kept = past-none (3 * i) (cs .wait-value);
+  wait-semaphores-kept = past-none (most-waits * i) (cs .wait-semaphore);
+  wait-values-kept = past-none (most-waits * i) (cs .wait-value);
   signal-semaphores-kept = past-none signals (cs .signal-semaphore);
   signal-values-kept = past-none signals (cs .signal-value);
   signal-operations-kept = past-none signals (cs .signal-operation);
@@ -73,11 +74,11 @@ keeps-more {window} {i} {signals} {marks} {signals′} {marks′} k a =
     record {
       queues-kept = past-put i (queue-part window i 0) (k .queues-kept) (a .queues-added .stored) (omega arith) (omega arith);
       wait-semaphores-kept =
-          past-put (3 * i) (wait-semaphore-part window i 0) (k .wait-semaphores-kept) (a .wait-semaphores-added .stored) (omega arith)
-          (tabulated _ 3 (3 * i) (3 * (i + 1)) (omega arith));
+          past-put (most-waits * i) (wait-semaphore-part window i 0) (k .wait-semaphores-kept) (a .wait-semaphores-added .stored) (omega arith)
+          (tabulated _ most-waits (most-waits * i) (most-waits * (i + 1)) (omega arith));
       wait-values-kept =
-          past-put (3 * i) (wait-value-part window i 0) (k .wait-values-kept) (a .wait-values-added .stored) (omega arith)
-          (tabulated _ 3 (3 * i) (3 * (i + 1)) (omega arith));
+          past-put (most-waits * i) (wait-value-part window i 0) (k .wait-values-kept) (a .wait-values-added .stored) (omega arith)
+          (tabulated _ most-waits (most-waits * i) (most-waits * (i + 1)) (omega arith));
       signal-semaphores-kept =
           past-put signals (signal-semaphore-part window i 0) (k .signal-semaphores-kept) (a .signal-semaphores-added .stored) s
           (tabulated _ _ signals signals′ (omega (arith, a .more-signals)));

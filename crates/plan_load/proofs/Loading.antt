@@ -5,6 +5,7 @@ use Prim.Native.Nat.{ℕ, _+_, _*_, _≤_, _<_, min}
 use native.Mathlib.Numerals.{add-one}
 use native.Mathlib.Omega.{arith}
 use lib.ListN.{length, take, drop, length-append, length-take, take-append-drop}
+use Rattle.plan_format.specs.Sizes.{block-numbers}
 use Rattle.plan_format.specs.Refusal.{Refusal, none-given}
 use Rattle.plan_format.specs.Grammar.{bytes, Scan, scan, times, read-by}
 use Rattle.plan_format.specs.Sections.{operation-below}
@@ -33,7 +34,7 @@ pub record Load (width : ℕ) (bs : List ℕ) (h : Head) (nums : List ℕ) (cs�
   pub blocks : List ℕ
   pub read : times i (step width h) (here bs (head-cursor h) nums) ≡ scan (drop at bs) at (take (h .got) nums ++ blocks) none-given
   pub inside : at ≤ length bs
-  pub few : length blocks ≤ 22 * i
+  pub few : length blocks ≤ block-numbers * i
   pub filled : Small (h .queues) (h .semaphores) (h .buffers) → (more : List ℕ) →
       Filling ((take (h .got) nums ++ blocks) ++ more) (h .operations) (length (take (h .got) nums)) cs₀ cs i (length (take (h .got) nums ++ blocks)) signals marks
   pub kept : Kept-past i signals marks cs₀ cs
@@ -70,7 +71,7 @@ module _ (width q m b : ℕ) (bs : List ℕ) (at : ℕ) (w-now : List ℕ) (r : 
   pub goes-on : r .at ≤ length bs
   goes-on = o .inside
 
-  pub few-numbers : length (take (r .got) w-now) ≤ 22
+  pub few-numbers : length (take (r .got) w-now) ≤ block-numbers
   few-numbers = omega (arith, o .few, length-take (r .got) w-now)
 
   pub whole-block : r .number ≡ 0 → Block q m b (take (r .got) w-now)

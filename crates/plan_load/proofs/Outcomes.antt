@@ -6,6 +6,7 @@ use Prim.Native.Nat.{ℕ, suc, _+_, _-_, _*_, _≤_, _<_}
 use native.Mathlib.Omega.{arith}
 use lib.ListN.{length, getD, take, drop, replicate, length-append, length-take, length-drop, length-replicate, take-append-drop, List·getD-append}
 use lib.Seq.{take-append-seam, drop-append-seam, take-at, getD-at, getD-append-add}
+use Rattle.plan_format.specs.Sizes.{head-numbers, block-numbers, plan-numbers}
 use Rattle.plan_format.specs.Refusal.{none-given, given}
 use Rattle.plan_format.specs.Grammar.{bytes, Scan, scan, times}
 use Rattle.plan_format.specs.Form.{first-form}
@@ -34,7 +35,7 @@ use Rattle.plan_load.proofs.Loading.{step, Load, read-next, goes-on, fe
 
 -- the operations of a head, wherever their numbers go, make the plan
 plan-by : {bs : List ℕ} {h : Head} {nums : List ℕ} → Head-read bs h nums → (r : Cursor) (all : List ℕ) →
-    times (h .operations) (step 1 h) (here bs (head-cursor h) nums) ≡ here bs r all → r .at ≤ length bs → r .got ≤ h .got + 22 * h .operations →
+    times (h .operations) (step 1 h) (here bs (head-cursor h) nums) ≡ here bs r all → r .at ≤ length bs → r .got ≤ h .got + block-numbers * h .operations →
     Plan-read first-form bs r all
 unfolding front-numbers first-form
 plan-by head r all e inside few =
@@ -45,23 +46,24 @@ abbrev behind : (number at : ℕ) → (all : List ℕ) → Cursor
 behind n a all = record { number = n; at = a; got = length all; value = 0 }
 
 abbrev padded : List ℕ → List ℕ
-padded all = all ++ replicate (22868 - length all) 0
+padded all = all ++ replicate (plan-numbers - length all) 0
 
-padded-long : (all : List ℕ) → length all ≤ 22868 → length (padded all) ≡ 22868
-padded-long all l = length-append all (replicate (22868 - length all) 0) ∙ omega (arith, length-replicate {A = ℕ} (22868 - length all) 0)
+padded-long : (all : List ℕ) → length all ≤ plan-numbers → length (padded all) ≡ plan-numbers
+padded-long all l = length-append all (replicate (plan-numbers - length all) 0) ∙ omega (arith, length-replicate {A = ℕ} (plan-numbers - length all) 0)
 
 here-behind : (bs : List ℕ) (r : Cursor) (all : List ℕ) → here bs (behind (r .number) (r .at) all) (padded all) ≡ scan (drop (r .at) bs) (r .at) all (fault-of r)
 unfolding here fault-of
-here-behind bs r all = ap (λ (l : List ℕ). scan (drop (r .at) bs) (r .at) l (fault-of r)) (take-append-seam all (replicate (22868 - length all) 0))
+here-behind bs r all = ap (λ (l : List ℕ). scan (drop (r .at) bs) (r .at) l (fault-of r)) (take-append-seam all (replicate (plan-numbers - length all) 0))
 
 here-clean-behind : (bs : List ℕ) (at : ℕ) (all : List ℕ) → here bs (behind 0 at all) (padded all) ≡ scan (drop at bs) at all none-given
 unfolding here fault-of
-here-clean-behind bs at all = ap (λ (l : List ℕ). scan (drop at bs) at l none-given) (take-append-seam all (replicate (22868 - length all) 0))
+here-clean-behind bs at all = ap (λ (l : List ℕ). scan (drop at bs) at l none-given) (take-append-seam all (replicate (plan-numbers - length all) 0))
 
 -- after a refusal no more operations are read
-times-stops : (h : Head) (s : Scan) (i n : ℕ) → given (times i (step 1 h) s .fault) ≡ true → i ≤ n → times n (step 1 h) s ≡ times i (step 1 h) s
-times-stops h s i n g l =
-    let op = operation-below 1 (h .queues) (h .semaphores) (h .buffers) in
+times-stops : (width : ℕ) (h : Head) (s : Scan) (i n : ℕ) → given (times i (step width h) s .fault) ≡ true → i ≤ n →
+    times n (step width h) s ≡ times i (step width h) s
+times-stops width h s i n g l =
+    let op = operation-below width (h .queues) (h .semaphores) (h .buffers) in
     sym (read-repeat bytes n op s)
     ∙ repeat-stops bytes op s i n (ap (λ (z : Scan). given (z .fault)) (read-repeat bytes i op s) ∙ g) l
     ∙ read-repeat bytes i op s
@@ -84,14 +86,14 @@ module _ (bs : List ℕ) (h : Head) (nums : List ℕ) (cs₀ : Columns) (head : 
       unfolding end-cursor
       stopped = read-next 1 bs h nums cs₀ l on w-now r o ∙ sym (here-behind bs (end-cursor r) all-read)
 
-      few-read : length all-read ≤ h .got + 22 * h .operations
+      few-read : length all-read ≤ h .got + block-numbers * h .operations
       few-read =
           omega (arith, l .few, few-heading, length-append (heading ++ l .blocks) (take (r .got) w-now), length-append heading (l .blocks), few-numbers 1 (h .queues) (h .semaphores) (h .buffers) bs at w-now r o (l .inside))
 
       refused-plan : Plan-read first-form bs (behind (r .number) (r .at) all-read) (padded all-read)
       refused-plan =
           plan-by head (behind (r .number) (r .at) all-read) (padded all-read)
-          (times-stops h (here bs (head-cursor h) nums) (i + 1) (h .operations) (ap (λ (s : Scan). given (s .fault)) stopped ∙ here-given bs (behind (r .number) (r .at) all-read) (padded all-read) z) (omega arith) ∙ stopped)
+          (times-stops 1 h (here bs (head-cursor h) nums) (i + 1) (h .operations) (ap (λ (s : Scan). given (s .fault)) stopped ∙ here-given bs (behind (r .number) (r .at) all-read) (padded all-read) z) (omega arith) ∙ stopped)
           (goes-on 1 (h .queues) (h .semaphores) (h .buffers) bs at w-now r o (l .inside))
           few-read
 
@@ -103,10 +105,10 @@ module _ (bs : List ℕ) (h : Head) (nums : List ℕ) (cs₀ : Columns) (head : 
       abbrev all : List ℕ
       all = heading ++ l .blocks
 
-      few-all : length all ≤ h .got + 22 * h .operations
+      few-all : length all ≤ h .got + block-numbers * h .operations
       few-all = omega (arith, l .few, few-heading, length-append heading (l .blocks))
 
-      long : length (padded all) ≡ 22868
+      long : length (padded all) ≡ plan-numbers
       long = padded-long all (omega (arith, few-all, head .few, head .few-operations))
 
       whole-plan : Plan-read first-form bs (behind 0 at all) (padded all)
@@ -131,7 +133,7 @@ module _ (bs : List ℕ) (h : Head) (nums : List ℕ) (cs₀ : Columns) (head : 
         scanned-are =
             sym (numbers .numbers refl)
             ∙ ap (λ (k : ℕ). take k (padded all)) (sym (answer-long (scanned bs .fault) (scanned bs .got) (numbers .told) [] refl))
-            ∙ take-append-seam all (replicate (22868 - length all) 0)
+            ∙ take-append-seam all (replicate (plan-numbers - length all) 0)
 
         front : Heading (h .queues) (h .semaphores) (h .buffers) (h .operations) heading
         front = head .heading z
@@ -317,7 +319,7 @@ module _ {bs : List ℕ} {h : Head} {nums : List ℕ} (head : Head-read bs h num
       let t = read-refused (plan-by head (behind (h .number) (h .at) all) (padded all) e (head .inside) (omega arith)) (padded-long all (omega (arith, head .few))) z .told in
       (t .number, t .place)
 
-  head-long : h .number ≡ 0 → (h .queues ≤ 340) × (2 + h .queues + h .semaphores ≤ length nums)
+  head-long : h .number ≡ 0 → (h .queues ≤ head-numbers) × (2 + h .queues + h .semaphores ≤ length nums)
   head-long z =
       let front = head .heading z in
       let rest = front .owners ++ (h .buffers ∷ (front .sizes ++ (h .operations ∷ []))) in
@@ -325,7 +327,7 @@ module _ {bs : List ℕ} {h : Head} {nums : List ℕ} (head : Head-read bs h num
       let owned = length-append (front .owners) (h .buffers ∷ (front .sizes ++ (h .operations ∷ []))) in
       (omega (arith, head .few, length-take (h .got) nums, long), omega (arith, length-take (h .got) nums, long, owned, front .owners-long))
 
-  pub head-few : h .number ≡ 0 → h .queues ≤ 340
+  pub head-few : h .number ≡ 0 → h .queues ≤ head-numbers
   head-few z = head-long z .0
 
   pub head-semaphores : h .number ≡ 0 → {owners : List ℕ} → owners ≡ take (h .semaphores) (drop (2 + h .queues) nums) → length owners ≡ h .semaphores
