@@ -2,7 +2,7 @@
 use mathlib.Core.Path.{_≡_, refl, sym, ap, _∙_}
 use mathlib.Core.Bool.{Bool, true, false, _&&_, not, and-false, true≢false}
 use mathlib.Core.List.{List, [], _∷_, _++_, append-assoc, append-nil}
-use Prim.Native.Nat.{ℕ, zero, suc, _+_, _*_, _%_, _≤_, _<_}
+use Prim.Native.Nat.{ℕ, suc, _+_, _*_, _%_, _≤_, _<_}
 use native.Mathlib.Nat.{mod-eq-of-lt}
 use native.Mathlib.Omega.{arith}
 use lib.Dec.{ltb, leb, eqb}
@@ -16,7 +16,7 @@ use Rattle.basics.proofs.Places.{mem-at}
 use Rattle.basics.proofs.Searches.{lowest-some, lowest-none, lowest-is}
 use Rattle.basics.proofs.Tallies.{tally-ends}
 use Rattle.order.proofs.Runs.{runs-nil}
-use Rattle.plan_format.specs.Sizes.{most-queues, most-operations, most-waits, row-width, no-operation}
+use Rattle.plan_format.specs.Sizes.{most-queues, most-operations, most-waits, no-operation}
 use Rattle.plan_format.specs.Plan.{Point, Plan, count, op}
 use Rattle.plan_format.specs.Meaning.{wait-at}
 use Rattle.plan_format.specs.Sound.{Sound, signals-refusal, waits-refusal}
@@ -31,7 +31,7 @@ use Rattle.plan_columns.specs.Columns.{Queue-column, Source-column, Row-columns
 use Rattle.plan_columns.specs.Columns as columns
 use Rattle.plan_trace.specs.declared.Followed.{Followed}
 use Rattle.plan_trace.specs.declared.Traced.{Traced}
-use Rattle.plan_trace.specs.Trace.{unmet-wait, judged, departs, Found, found, at-end, follow, followed}
+use Rattle.plan_trace.specs.Trace.{unmet-wait, judged, departs, Found, found, follow, followed}
 use Rattle.plan_trace.specs.State.{queue-count, queue-counts, no-counts, traced, traced-of}
 use Rattle.plan_trace.proofs.Reasons.{
   Judged,
