@@ -20,7 +20,7 @@ use Rattle.plan_format.specs.Sizes.{most-queues, most-operations, most-waits, n
 use Rattle.plan_format.specs.Plan.{Point, Plan, count, op}
 use Rattle.plan_format.specs.Meaning.{wait-at}
 use Rattle.plan_format.specs.Sound.{Sound, signals-refusal, waits-refusal}
-use Rattle.plan_order.specs.Precedence.{Resolution, free, on, never, resolve}
+use Rattle.plan_order.specs.Precedence.{Resolution, at-once, on, never, resolve}
 use Rattle.plan_order.specs.Rows.{epoch}
 use Rattle.plan_order.specs.Runs.{earlier-run, enabled, ready, is-run, is-full, wait-met}
 use Rattle.plan_order.proofs.Demand3.{rules-good}
@@ -127,7 +127,7 @@ module _ (p : Plan) (n : ℕ) (queue source rows : List ℕ) (shown : Shown p n 
     of-source : (w : Point) (y : Resolution) → Resolved p w y → (at : ℕ) → getD source at 0 ≡ source-of y →
         held-at queue source rows (queue-counts p r) at ≡ not (rested r y)
     unfolding held-at source-of rested
-    of-source w free d at e = rw e
+    of-source w at-once d at e = rw e
     of-source w (on x) (at-signal _ t) at e =
         rw (e, lt-ltb (x .operation) no-operation (omega (arith, t .inside, shown .sound .few-operations)))
         (ap not (ran-right (x .operation) (t .inside)))
