@@ -9,8 +9,8 @@ use lib.Dec.{eqb}
 use lib.ListN.{length, length-append}
 use lib.Seq.{getD-append-seam}
 use borrow.Author.Tests.{eqb-true, eqb-false}
-use Rattle.basics.proofs.Tests.{by-cases}
-use Rattle.basics.proofs.Places.{mem-place}
+use Rattle.base_lists.proofs.Tests.{by-cases}
+use Rattle.base_lists.proofs.Places.{mem-place}
 use Rattle.plan_format.specs.Plan.{Plan}
 use Rattle.plan_order.specs.Precedence.{Before}
 use Rattle.plan_order.specs.Holdings.{Placed, buffer-marks}
