@@ -4,7 +4,8 @@
  * `./install PREFIX` puts it below PREFIX, and `pkg-config --cflags --libs
  * cundvrest` finds it there. It needs nothing but memcpy, memset and the like of
  * the C library. Every function is proved to meet a contract that is an equation
- * with the definitions of the rules, for every input: crates/cundvrest_c.
+ * with the definitions of the rules, for every input: crates/cundvrest_c and, for
+ * cundvrest_trace, crates/c_trace.
  *
  * TOLD. Every call writes all three numbers of `told`: number, place, answer.
  * The number is 0, or that of a refusal; the place says where. docs/REFUSALS.md
@@ -23,7 +24,7 @@
  *    7  a signal of 0, or one that does not
  *       rise above those before it            the operation
  *    8  a wait that no signal reaches         the operation
- *    9  table, list or room too short         the length that is enough
+ *    9  table, list, room or state too short  the length that is enough
  *   10  stuck: no run is full                 the lowest operation in no run
  *   11  a broken mark                         the lowest operation with one
  *   12  a queue that the plan has not         the number that was asked
@@ -31,6 +32,7 @@
  *   14  a frontier that is not well formed    0
  *   15  a capacity of 0 or above 16           0
  *   21  an operation that the plan has not    the number that was asked
+ *   22  a trace that is not well formed       0
  *
  * Of several the first in the rules' order is given: 1 to 5 as they are met in
  * reading, then 6 and 7, 8, 9, 10, 11, and what belongs to the question. The
@@ -45,7 +47,8 @@
  * THREADS AND STACK. There is no state between calls, so calls on separate
  * memory may run at the same time on any threads. A call uses less than
  * CUNDVREST_STACK bytes of its thread's stack, whatever the input. Measured:
- * read 184 kB, check, reuse and frontier 120 kB, write 64 kB, the others 3 kB.
+ * read 184 kB, check, reuse, frontier and trace 120 kB, write 64 kB, the others
+ * 3 kB.
  */
 #ifndef CUNDVREST_H
 #define CUNDVREST_H
@@ -78,6 +81,7 @@ extern "C" {
 #define CUNDVREST_REFUSED_BAD_FRONTIER 14
 #define CUNDVREST_REFUSED_BAD_CAPACITY 15
 #define CUNDVREST_REFUSED_NO_SUCH_OPERATION 21
+#define CUNDVREST_REFUSED_BAD_TRACE 22
 
 /* The longest stored plan in bytes, and the most numbers of a read one. */
 #define CUNDVREST_MOST_BYTES 63686
@@ -100,6 +104,22 @@ extern "C" {
 #define CUNDVREST_HELD 2
 #define CUNDVREST_NOT_ORDERED 3
 #define CUNDVREST_STRAY_USE 4
+
+/* What a recorded trace followed: the answer of cundvrest_trace. */
+#define CUNDVREST_FULL 0
+#define CUNDVREST_UNFINISHED 1
+#define CUNDVREST_UNKNOWN_OPERATION 2
+#define CUNDVREST_REPEATED 3
+#define CUNDVREST_NOT_FIRST 4
+#define CUNDVREST_WAIT_NOT_MET 5
+
+/* The numbers of the state that cundvrest_trace writes: 16 queues, then 64
+ * semaphores; and of what it finds. */
+#define CUNDVREST_STATE 80
+#define CUNDVREST_FOUND 6
+
+/* The longest recorded trace in bytes. */
+#define CUNDVREST_MOST_TRACE_BYTES 131072
 
 /* Dominance: the answer of cundvrest_dominates. */
 #define CUNDVREST_NO 0
@@ -148,6 +168,38 @@ void cundvrest_frontier(const uint8_t *plan, size_t plan_len,
                         uint32_t *table, size_t table_len,
                         uint32_t *list, size_t list_len,
                         uint64_t frontier[34], uint64_t told[3]);
+
+/* Holds a recorded trace against a plan. A trace is a count in two bytes, then
+ * for each step the position of its operation in two bytes, the low byte first.
+ * The answer says what was followed:
+ *
+ *    0  a full run: every operation
+ *    1  a run that is not finished
+ *    2  a step departs: the plan has no such operation
+ *    3  a step departs: its operation has run already
+ *    4  a step departs: its operation is not the next of its queue
+ *    5  a step departs: one of its operation's waits is not met
+ *
+ * Of 2 to 5 the first that holds is given, for the first step that departs.
+ * found: that step (counted from 0; for 0 and 1 the number of steps), its
+ * operation, the first wait in the operation's list that is not met, and three
+ * numbers that are 0. What does not apply is 0.
+ *
+ * state: how far each queue and each semaphore had come before that step, or at
+ * the end: how many operations of each of 16 queues had run, then the highest
+ * value signalled on each of 64 semaphores; 0 for those that the plan lacks.
+ * Past CUNDVREST_STATE numbers nothing is touched.
+ *
+ * The plan is checked first: refusals 1 to 11. Then 9 with CUNDVREST_STATE for a
+ * shorter state, then 22. An answer and these two leave the rows and the run; 1
+ * to 11 leave what they leave for cundvrest_check. No refusal touches the state,
+ * and each writes zeros into found. */
+void cundvrest_trace(const uint8_t *plan, size_t plan_len,
+                     const uint8_t *trace, size_t trace_len,
+                     uint32_t *table, size_t table_len,
+                     uint32_t *list, size_t list_len,
+                     uint64_t *state, size_t state_len,
+                     uint64_t found[6], uint64_t told[3]);
 
 /* Frontiers. Well formed: at most 16 entries, axes rising, epochs above 0, slots
  * past the length zero, taint 0 or 1. Anything else is refusal 14. */

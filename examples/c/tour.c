@@ -1,5 +1,5 @@
-/* Every function once, on a thread whose stack is CUNDVREST_STACK: a plan is written from numbers, read back, checked and asked, and frontiers
- * are compared and merged. Prints what each call told. */
+/* Every function once, on a thread whose stack is CUNDVREST_STACK: a plan is written from numbers, read back, checked
+ * and asked, a trace is held against it, and frontiers are compared and merged. Prints what each call told. */
 #include <pthread.h>
 #include <stdio.h>
 
@@ -33,14 +33,27 @@ static void show_frontier(const uint64_t f[CUNDVREST_FRONTIER])
     putchar('\n');
 }
 
+/* The answer for a trace that departs at a wait, and how far three queues and two semaphores had come before. */
+static void show_trace(uint64_t answer, const uint64_t found[CUNDVREST_FOUND], const uint64_t state[CUNDVREST_STATE])
+{
+    if (answer == CUNDVREST_WAIT_NOT_MET)
+        printf("  step %lu, operation %lu, wait %lu not met;",
+               (unsigned long)found[0], (unsigned long)found[1], (unsigned long)found[2]);
+    printf(" queues %lu %lu %lu, semaphores %lu %lu\n", (unsigned long)state[0], (unsigned long)state[1],
+           (unsigned long)state[2], (unsigned long)state[16], (unsigned long)state[17]);
+}
+
 static void *tour(void *unused)
 {
     static uint8_t plan[CUNDVREST_MOST_BYTES];
     static uint64_t back[CUNDVREST_MOST_NUMBERS];
     uint32_t table[3 * CUNDVREST_TABLE_WIDTH], list[3 * CUNDVREST_LIST_WIDTH];
     uint64_t first[CUNDVREST_FRONTIER], last[CUNDVREST_FRONTIER], raised[CUNDVREST_FRONTIER], merged[CUNDVREST_FRONTIER];
+    uint64_t state[CUNDVREST_STATE], found[CUNDVREST_FOUND];
     uint64_t told[3];
     size_t length;
+    /* two steps: operation 0, then operation 2, which should have waited for operation 1 */
+    static const uint8_t trace[] = {2, 0, 0, 0, 2, 0};
     static const uint8_t nothing[6] = {0};
 
     cundvrest_write(numbers, COUNT(numbers), plan, sizeof plan, told);
@@ -58,6 +71,10 @@ static void *tour(void *unused)
     cundvrest_frontier(plan, length, 2, 16, table, COUNT(table), list, COUNT(list), last, told);
     show("frontier", told);
     show_frontier(last);
+    cundvrest_trace(plan, length, trace, sizeof trace, table, COUNT(table), list, COUNT(list),
+                    state, COUNT(state), found, told);
+    show("trace", told);
+    show_trace(told[2], found, state);
     cundvrest_dominates(last, first, told);
     show("dominates", told);
     cundvrest_dominates(first, last, told);

@@ -4,6 +4,9 @@
 
 use crate::plan::Plan;
 
+mod trace;
+pub use trace::{follow, EveryRun};
+
 /// Plans with more operations than this have too many runs.
 pub const MOST_OPERATIONS: usize = 7;
 
@@ -22,6 +25,7 @@ pub enum Judgement {
         ready: Vec<usize>,
         /// For each operation one column for each queue.
         rows: Vec<Vec<usize>>,
+        runs: EveryRun,
     },
 }
 
@@ -56,6 +60,7 @@ pub fn judge(plan: &Plan) -> Judgement {
         run,
         ready,
         rows: rows(plan, &runs.full),
+        runs: runs.every,
     }
 }
 
@@ -143,6 +148,7 @@ type Steps = [u8; MOST_OPERATIONS];
 
 /// Every run of a plan.
 struct Runs {
+    every: EveryRun,
     full: Vec<Steps>,
     /// For each operation, whether some run has it.
     reached: [bool; MOST_OPERATIONS],
@@ -153,6 +159,7 @@ struct Runs {
 impl Runs {
     fn of(plan: &Plan) -> Runs {
         let mut runs = Runs {
+            every: EveryRun::default(),
             full: Vec::new(),
             reached: [false; MOST_OPERATIONS],
             some_stuck: false,
@@ -167,6 +174,7 @@ impl Runs {
             last_step_raises_in_order(plan, run),
             "the run {run:?} does not raise its semaphores in order"
         );
+        self.every.add(run);
         let mut extended = false;
         for operation in 0..plan.operations.len() {
             if ready_after(plan, run, operation) {

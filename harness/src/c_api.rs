@@ -15,7 +15,7 @@ pub use linked::Library;
 
 #[cfg(cundvrest_c)]
 mod linked {
-    use crate::side::{Raw, Side, Told};
+    use crate::side::{Found, Raw, Side, Told};
 
     /// The three numbers of a `Told`, in the interface's order.
     type Three = [u64; 3];
@@ -65,6 +65,20 @@ mod linked {
             list: *mut u32,
             list_len: usize,
             frontier: *mut Raw,
+            told: *mut Three,
+        );
+        fn cundvrest_trace(
+            plan: *const u8,
+            plan_len: usize,
+            trace: *const u8,
+            trace_len: usize,
+            table: *mut u32,
+            table_len: usize,
+            list: *mut u32,
+            list_len: usize,
+            state: *mut u64,
+            state_len: usize,
+            found: *mut Found,
             told: *mut Three,
         );
         fn cundvrest_merge(
@@ -177,6 +191,33 @@ mod linked {
                     list.as_mut_ptr(),
                     list.len(),
                     frontier,
+                    three,
+                )
+            })
+        }
+
+        fn trace(
+            &self,
+            plan: &[u8],
+            trace: &[u8],
+            table: &mut [u32],
+            list: &mut [u32],
+            state: &mut [u64],
+            found: &mut Found,
+        ) -> Told {
+            told(|three| unsafe {
+                cundvrest_trace(
+                    plan.as_ptr(),
+                    plan.len(),
+                    trace.as_ptr(),
+                    trace.len(),
+                    table.as_mut_ptr(),
+                    table.len(),
+                    list.as_mut_ptr(),
+                    list.len(),
+                    state.as_mut_ptr(),
+                    state.len(),
+                    found,
                     three,
                 )
             })

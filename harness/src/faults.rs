@@ -4,9 +4,12 @@
 
 use crate::plan::{Mark, Plan};
 use crate::reference::{self, Reference};
-use crate::side::{Raw, Side, Told, EMPTY, EPOCHS, LENGTH, TAINT};
+use crate::side::{Found, Raw, Side, Told, EMPTY, EPOCHS, LENGTH, TAINT};
 
-/// The mistakes that the rules exclude, and a row's own column.
+mod trace;
+
+/// The mistakes that the rules exclude, a row's own column, and mistakes of the
+/// trace question.
 #[derive(Clone, Copy, PartialEq, Eq, Debug)]
 pub enum Fault {
     /// A wait takes over what the latest signal knows (R17).
@@ -21,17 +24,38 @@ pub enum Fault {
     TaintForgotten,
     /// Plan order is handed back as the run.
     PlanOrder,
+    /// A trace is followed past the first wait in an operation's list.
+    FirstWaitPassedOver,
+    /// A repeated operation is called not first in its queue.
+    NotFirstBeforeRepeated,
+    /// The state counts the operation of the bad step.
+    BadStepCounted,
+    /// The state has the signals of operations that did not run.
+    SignalsOfAll,
+    /// 22 is given where 9 comes first.
+    FormBeforeRoom,
+    /// A full run is called unfinished.
+    UnfinishedForFull,
+    /// 22 leaves zeros in the state.
+    RefusalClearsState,
 }
 
 impl Fault {
     /// Fault 1 is the first.
-    pub const ALL: [Fault; 6] = [
+    pub const ALL: [Fault; 13] = [
         Fault::NewestSignal,
         Fault::FirstUseOnly,
         Fault::OwnColumnMissing,
         Fault::AbsentIsMet,
         Fault::TaintForgotten,
         Fault::PlanOrder,
+        Fault::FirstWaitPassedOver,
+        Fault::NotFirstBeforeRepeated,
+        Fault::BadStepCounted,
+        Fault::SignalsOfAll,
+        Fault::FormBeforeRoom,
+        Fault::UnfinishedForFull,
+        Fault::RefusalClearsState,
     ];
 
     /// The plan the reference is given instead.
@@ -107,7 +131,7 @@ impl Faulty {
 
     /// Spoils what a passed check or an answered question leaves.
     fn spoil(&self, told: Told, plan: &[u8], table: &mut [u32], list: &mut [u32]) {
-        let rows_are_there = matches!(told.number, 0 | 12 | 13 | 15 | 21);
+        let rows_are_there = matches!(told.number, 0 | 12 | 13 | 15 | 21 | 22);
         let Some(plan) = parse(plan).filter(|_| rows_are_there) else {
             return;
         };
@@ -166,6 +190,21 @@ impl Side for Faulty {
         let told = Reference.frontier(&rewritten, operation, capacity, table, list, frontier);
         self.spoil(told, plan, table, list);
         told
+    }
+
+    fn trace(
+        &self,
+        plan: &[u8],
+        recorded: &[u8],
+        table: &mut [u32],
+        list: &mut [u32],
+        state: &mut [u64],
+        found: &mut Found,
+    ) -> Told {
+        let rewritten = self.rewritten(plan);
+        let told = reference::trace(&rewritten, recorded, table, list, state, found);
+        self.spoil(told, plan, table, list);
+        trace::spoil(self.0, (plan, recorded), told, state, found)
     }
 
     fn merge(&self, left: &Raw, right: &Raw, capacity: u32, merged: &mut Raw) -> Told {

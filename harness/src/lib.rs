@@ -11,3 +11,4 @@ pub mod generate;
 pub mod plan;
 pub mod reference;
 pub mod side;
+pub mod traces;

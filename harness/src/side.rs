@@ -14,6 +14,14 @@ pub const TAINT: usize = 33;
 /// The empty untainted frontier.
 pub const EMPTY: Raw = [0; 34];
 
+/// What a trace's answer names, as the C interface lends it: step, operation,
+/// wait, and three numbers that are 0. What does not apply is 0.
+pub type Found = [u64; 6];
+
+/// How many numbers of a lent state are written: the operations run by queue,
+/// then the highest value signalled by semaphore.
+pub const STATE: usize = 16 + 64;
+
 /// What a call hands back: number, place, answer. A refusal's answer is 0, and
 /// so is that of a call with nothing to answer.
 #[derive(Clone, Copy, PartialEq, Eq, Debug, Default)]
@@ -70,6 +78,18 @@ pub trait Side {
         table: &mut [u32],
         list: &mut [u32],
         frontier: &mut Raw,
+    ) -> Told;
+
+    /// Answer: 0 full, 1 unfinished, 2 unknown, 3 repeated, 4 not first, 5 wait
+    /// not met.
+    fn trace(
+        &self,
+        plan: &[u8],
+        trace: &[u8],
+        table: &mut [u32],
+        list: &mut [u32],
+        state: &mut [u64],
+        found: &mut Found,
     ) -> Told;
 
     fn merge(&self, left: &Raw, right: &Raw, capacity: u32, merged: &mut Raw) -> Told;

@@ -23,7 +23,9 @@ fn agree(plan: &Plan) -> u64 {
             }
             Told::refused(number, place)
         }
-        Judgement::Passed { run, ready, rows } => {
+        Judgement::Passed {
+            run, ready, rows, ..
+        } => {
             for (to, from) in wanted_list.iter_mut().zip(run.iter().chain(&ready)) {
                 *to = *from as u32;
             }

@@ -1,25 +1,18 @@
 //! T1 to T13 of R79 against the reference and, if it is linked, the C
 //! library; the small plans against brute force too.
 
+mod small;
+
 use harness::brute::{self, Judgement};
-use harness::c_api;
-use harness::plan::{Mark, Operation, Plan, Point};
-use harness::reference::{self, Reference};
-use harness::side::{Raw, Side, Told, EMPTY, EPOCHS, LENGTH, TAINT};
+use harness::plan::Plan;
+use harness::reference;
+use harness::side::{Raw, Told, EMPTY, EPOCHS, LENGTH, TAINT};
+use small::{all_sides, operation, plan, t3, t7, t9};
 
 const PATTERN: u32 = 0xA5A5_A5A5;
 
 /// Told, the rows' first columns, the run, the ready numbers.
 type Checked = (Told, Vec<Vec<u32>>, Vec<u32>, Vec<u32>);
-
-/// Makes the same call on every side; all must hand back the same.
-fn all_sides<T: PartialEq + std::fmt::Debug>(call: impl Fn(&dyn Side) -> T) -> T {
-    let told = call(&Reference);
-    if let Some(library) = c_api::library() {
-        assert_eq!(call(library.as_ref()), told);
-    }
-    told
-}
 
 /// Checks stored bytes, with some numbers too many lent, which stay untouched.
 fn check_bytes(bytes: &[u8], operations: usize, queues: usize) -> Checked {
@@ -41,7 +34,9 @@ fn check(plan: &Plan) -> Checked {
     let checked = check_bytes(&plan.bytes(), plan.operations.len(), plan.axes.len());
     match brute::judge(plan) {
         Judgement::Refused { number, place } => assert_eq!(checked.0, refused(number, place)),
-        Judgement::Passed { run, ready, rows } => {
+        Judgement::Passed {
+            run, ready, rows, ..
+        } => {
             assert_eq!(checked.0, Told::PASSED);
             let same = |a: &[u32], b: &[usize]| a.iter().map(|&x| x as usize).eq(b.iter().copied());
             assert!(same(&checked.2, &run) && same(&checked.3, &ready));
@@ -53,43 +48,6 @@ fn check(plan: &Plan) -> Checked {
 
 fn refused(number: u64, place: u64) -> Told {
     Told::refused(number, place)
-}
-
-fn points(list: &[(u8, u64)]) -> Vec<Point> {
-    let point = |&(semaphore, value)| Point { semaphore, value };
-    list.iter().map(point).collect()
-}
-
-/// Uses and frees of buffers, in list order.
-fn marks(list: &[(&str, u16)]) -> Vec<Mark> {
-    let mark = |&(kind, buffer): &(&str, u16)| Mark {
-        buffer,
-        free: kind == "free",
-    };
-    list.iter().map(mark).collect()
-}
-
-fn operation(
-    queue: u8,
-    waits: &[(u8, u64)],
-    signals: &[(u8, u64)],
-    list: &[(&str, u16)],
-) -> Operation {
-    Operation {
-        queue,
-        waits: points(waits),
-        signals: points(signals),
-        marks: marks(list),
-    }
-}
-
-fn plan(queues: u64, owners: &[u8], buffers: usize, operations: Vec<Operation>) -> Plan {
-    Plan {
-        axes: (0..queues).map(|queue| 100 - queue).collect(),
-        owners: owners.to_vec(),
-        sizes: vec![64; buffers],
-        operations,
-    }
 }
 
 #[test]
@@ -110,15 +68,6 @@ fn t2_one_operation() {
 #[test]
 fn first_byte_17() {
     assert_eq!(check_bytes(&[17], 0, 0).0, refused(2, 0));
-}
-
-fn t3() -> Plan {
-    let operations = vec![
-        operation(0, &[], &[(0, 1)], &[("use", 0)]),
-        operation(1, &[(0, 1)], &[(1, 1)], &[("use", 0), ("free", 0)]),
-        operation(2, &[(1, 1)], &[], &[("use", 0)]),
-    ];
-    plan(3, &[0, 1], 1, operations)
 }
 
 #[test]
@@ -161,11 +110,7 @@ fn t6_plan_order_is_not_run_order() {
 
 #[test]
 fn t7_a_wait_imports_the_signal_it_needs() {
-    let mut operations: Vec<Operation> = (1..=5)
-        .map(|value| operation(0, &[], &[(0, value)], &[]))
-        .collect();
-    operations.push(operation(1, &[(0, 2)], &[], &[]));
-    let (told, rows, ..) = check(&plan(2, &[0], 0, operations));
+    let (told, rows, ..) = check(&t7());
     assert_eq!(told, Told::PASSED);
     assert_eq!(rows[5], [2, 1]);
 }
@@ -187,11 +132,7 @@ fn t8_resolution() {
 
 #[test]
 fn t9_use_after_free_without_wait() {
-    let operations = vec![
-        operation(0, &[], &[], &[("use", 0), ("free", 0)]),
-        operation(1, &[], &[], &[("use", 0)]),
-    ];
-    assert_eq!(check(&plan(2, &[], 1, operations)).0, refused(11, 1));
+    assert_eq!(check(&t9()).0, refused(11, 1));
 }
 
 #[test]

@@ -6,6 +6,7 @@ use print_input::Question;
 
 pub enum Asked {
     Plan(Question),
+    Trace,
     Write,
     Help,
     Nothing,
@@ -37,6 +38,9 @@ fn command(word: &[u8]) -> Asked {
     if same(word, b"frontier") {
         return frontier();
     }
+    if same(word, b"trace") {
+        return trace();
+    }
     plain(word)
 }
 
@@ -54,7 +58,7 @@ fn plain(word: &[u8]) -> Asked {
     usage::complain(
         b"no command ",
         word,
-        b"; right: none, reuse QUEUE BUFFER, frontier OPERATION CAPACITY, read, write or help",
+        b"; right: none, reuse QUEUE BUFFER, frontier OPERATION CAPACITY, trace FILE, read, write or help",
     );
     Asked::Nothing
 }
@@ -80,6 +84,28 @@ fn two(right: &[u8]) -> bool {
         return false;
     }
     true
+}
+
+// The file's name is read where the file is opened.
+fn trace() -> Asked {
+    let many = os::arg_count();
+    if many < 3 {
+        usage::complain(
+            b"too few words; right: ",
+            b"trace FILE",
+            b", the file of a recorded trace",
+        );
+        return Asked::Nothing;
+    }
+    if many > 3 {
+        usage::complain(
+            b"too many words; right: ",
+            b"trace FILE",
+            b", the file of a recorded trace",
+        );
+        return Asked::Nothing;
+    }
+    Asked::Trace
 }
 
 fn reuse() -> Asked {

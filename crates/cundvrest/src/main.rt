@@ -9,12 +9,16 @@ use arguments::Asked;
 use libc::STDOUT_FILENO;
 use plan_format::limits::PLAN_BYTES;
 use plan_format::limits::PLAN_NUMBERS;
+use plan_format::limits::TRACE_BYTES;
 use print_input::Question;
 
-// One byte, and one number, more than the longest plan has: so many decide the answer to an input of any length.
+// One byte, and one number, more than the longest plan has, and one byte more than the longest trace: so many decide
+// the answer to an input of any length.
 const FIRST_BYTES: usize = PLAN_BYTES + 1;
 
 const FIRST_NUMBERS: usize = PLAN_NUMBERS + 1;
+
+const FIRST_TRACE_BYTES: usize = TRACE_BYTES + 1;
 
 // Room for every text that is printed.
 const TEXT_ROOM: usize = 262144;
@@ -27,6 +31,21 @@ fn on_plan(question: Question, out: &mut [u8]) -> usize {
         return 0;
     }
     print_input::on_first(question, &plan, read.kept, out)
+}
+
+// A recorded trace held against the plan of standard input.
+fn on_trace(out: &mut [u8]) -> usize {
+    let mut trace = [0u8; FIRST_TRACE_BYTES];
+    let recorded = input::trace(&mut trace);
+    if recorded.failed {
+        return 0;
+    }
+    let mut plan = [0u8; FIRST_BYTES];
+    let read = input::plan(&mut plan);
+    if read.failed {
+        return 0;
+    }
+    print_input::traced(&plan, read.kept, &trace, recorded.kept, out)
 }
 
 // The stored plan of the numbers of standard input.
@@ -48,6 +67,7 @@ fn write(out: &mut [u8]) -> usize {
 fn answer(out: &mut [u8]) -> usize {
     match arguments::read_words() {
         Asked::Plan(question) => on_plan(question, out),
+        Asked::Trace => on_trace(out),
         Asked::Write => write(out),
         Asked::Help => usage::help(out),
         Asked::Nothing => 0,

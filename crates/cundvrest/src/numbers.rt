@@ -113,7 +113,7 @@ fn some(s: Scan, list: &mut [u64]) -> Numbers {
     let mut text = io::large_buffer();
     let got = libc::read(STDIN_FILENO, &mut text);
     if got < 0 {
-        let again = input::interrupted();
+        let again = input::interrupted(STDIN_FILENO);
         return Numbers {
             scan: s,
             more: again,

@@ -13,6 +13,7 @@ pub fn help(out: &mut [u8]) -> usize {
   cundvrest < PLAN                              check the plan: passed with its run and rows, or refused
   cundvrest reuse QUEUE BUFFER < PLAN           may this queue fill the buffer again once the plan has run?
   cundvrest frontier OPERATION CAPACITY < PLAN  the frontier sent out for an operation
+  cundvrest trace FILE < PLAN                   does the recorded trace in FILE follow the plan, and how far did it come?
   cundvrest read < PLAN                         the numbers of the plan, one for each stored field
   cundvrest write < NUMBERS > PLAN              the stored plan of such numbers
   cundvrest help                                this text
@@ -21,14 +22,17 @@ It prints one of these; N is the refusal and P its place.
   passed 0, then size QUEUES SEMAPHORES BUFFERS OPERATIONS, run, ready, and a row for each operation
   verdict N WORD        fresh, reusable, held, not-ordered or stray-use
   frontier whole|tainted AXIS:EPOCH ..
+  trace full, trace unfinished STEPS, or trace departs STEP RULE OPERATION, then queues and semaphores with how far each had come
+                        RULE is unknown, repeated, not-first, or wait-not-met with the wait after the operation
   refused N P
      1 cut short       2 count over its limit     3 bytes follow          4 not in its list     5 axis twice
      6 not the owner   7 signal not higher        8 wait for no signal   10 stuck              11 broken mark
     12 no such queue  13 no such buffer          15 capacity not 1..16   21 no such operation
+    22 trace badly formed
 
 All numbers are decimal. The launcher ./cundvrest also knows --help, -h and --version. Its exit status:
-  0 yes, go on    passed; fresh or reusable; a frontier, numbers or a plan
-  1 no            refused; held, not-ordered or stray-use
+  0 yes, go on    passed; fresh or reusable; a frontier, numbers or a plan; a full trace
+  1 no            refused; held, not-ordered or stray-use; a trace that is unfinished or departs
   2 not judged    wrong words, or input or output that fails: a line on standard error says what
 ",
     )

@@ -39,6 +39,10 @@ reuse-numbers = 12 ∷ 13 ∷ []
 abbrev pub sent-numbers : List ℕ
 sent-numbers = 21 ∷ 15 ∷ []
 
+-- of the question on a recorded trace: too little room for the state, a trace that is badly formed
+abbrev pub trace-numbers : List ℕ
+trace-numbers = room-numbers ++ (22 ∷ [])
+
 -- ---- entries: what each can give besides 0; R55: there are no other reasons
 abbrev pub reader-gives : List ℕ
 reader-gives = reading-numbers ++ room-numbers
@@ -62,3 +66,6 @@ reuse-gives = check-gives ++ reuse-numbers
 
 abbrev pub sent-gives : List ℕ
 sent-gives = check-gives ++ sent-numbers
+
+abbrev pub trace-gives : List ℕ
+trace-gives = check-gives ++ trace-numbers

@@ -69,6 +69,20 @@ block-bytes = 4 + 9 * (most-waits + most-signals) + 3 * most-marks
 abbrev pub plan-bytes : ℕ
 plan-bytes = head-bytes + most-operations * block-bytes
 
+-- a recorded trace: the bytes of a step and of the count of steps, the most steps, and the most bytes
+abbrev pub step-bytes : ℕ
+step-bytes = 2
+
+abbrev pub most-steps : ℕ
+most-steps = 65535
+
+abbrev pub trace-bytes : ℕ
+trace-bytes = step-bytes + step-bytes * most-steps
+
+-- the state after a part of a run has a place for each queue, then one for each semaphore
+abbrev pub state-size : ℕ
+state-size = most-queues + most-semaphores
+
 -- the number that means no operation
 abbrev pub no-operation : ℕ
 no-operation = most-operations

@@ -47,6 +47,16 @@ pub const BLOCK_BYTES: usize = 4 + 9 * (MOST_WAITS + MOST_SIGNALS) + 3 * MOST_MA
 
 pub const PLAN_BYTES: usize = HEAD_BYTES + MOST_OPERATIONS * BLOCK_BYTES;
 
+// A recorded trace: the bytes of a step and of the count of steps, the most steps, and the most bytes.
+pub const STEP_BYTES: usize = 2;
+
+pub const MOST_STEPS: usize = 65535;
+
+pub const TRACE_BYTES: usize = STEP_BYTES + STEP_BYTES * MOST_STEPS;
+
+// The state after a part of a run has a place for each queue, then one for each semaphore.
+pub const STATE_SIZE: usize = MOST_QUEUES + MOST_SEMAPHORES;
+
 // Room for the numbers of one operation, with its counts cut to their bits.
 pub const WINDOW: usize = 32;
 

@@ -23,7 +23,7 @@ use Rattle.print_input.specs.declared.Question.{Question}
 use Rattle.print_input.specs.declared.Question.the-variants.{Check, Reuse, Frontier, Read}
 
 module _ (bs cs : List ℕ) (same : Same-bytes bs cs) where
-  sizes-alike : (c : Counted) → Sizes-told bs c → Sizes-told cs c
+  pub sizes-alike : (c : Counted) → Sizes-told bs c → Sizes-told cs c
   sizes-alike c s =
       let f = bytes-alike bs cs same .fault in
       let p = plan-alike bs cs same in

@@ -1,9 +1,13 @@
 -- What the program prints for each question, and inputs that begin alike. Assumes nothing: these are definitions.
 use mathlib.Core.Path.{_≡_}
+use mathlib.Core.Bool.{true}
 use mathlib.Core.List.{List}
 use Prim.Native.Nat.{ℕ, _+_}
 use lib.ListN.{length, take}
 use Rattle.plan_format.specs.Sizes.{plan-bytes, plan-numbers}
+use Rattle.plan_format.specs.Stored.{all-bytes}
+use Rattle.plan_trace.specs.Promise.{Same-trace}
+use Rattle.print_trace.specs.Printed.{Trace-printed}
 use Rattle.base_text.specs.Text.{Puts}
 use Rattle.print_check.specs.CheckText.{Check-printed}
 use Rattle.print_stored.specs.Texts.{read-text, write-text}
@@ -31,3 +35,9 @@ Answered-whole q begun o x e = (whole : List ℕ) → Same-bytes whole begun →
 
 abbrev pub Written-whole : (begun room room-now : List ℕ) → (end : ℕ) → Type 0
 Written-whole begun o x e = (whole : List ℕ) → Same-numbers whole begun → Puts (write-text whole (length o)) o 0 x e
+
+-- the same of a plan and a trace, each whole: the trace is a list of bytes
+abbrev pub Traced-whole : (plan-begun trace-begun room room-now : List ℕ) → (end : ℕ) → Type 0
+Traced-whole bs ts o x e =
+    (plan trace : List ℕ) → Same-bytes plan bs → all-bytes trace ≡ true → Same-trace trace ts →
+    Trace-printed plan trace o x e

@@ -1,6 +1,7 @@
 // R75, what is printed for an input of any length, which is known by its first bytes or its first numbers.
 ghost use lib.ListN.{take};
-ghost use Rattle.print_input.specs.Inputs.{Answered, Answered-whole, Written-whole};
+ghost use Rattle.print_trace.specs.Printed.{Trace-printed};
+ghost use Rattle.print_input.specs.Inputs.{Answered, Answered-whole, Written-whole, Traced-whole};
 
 // What is asked of a plan.
 pub enum Question {
@@ -42,4 +43,24 @@ pub fn written(numbers: &[u64], n: usize, out: &mut [u8]) -> usize
     ensures { λ r. ⌜ Written-whole (take n (now (numbers .entry))) (now (out .entry)) (now (out .exit)) r ⌝ }
 {
     print_stored::write(numbers, n, out)
+}
+
+// What is printed of every trace that begins as the first m bytes do, held against every plan that begins as the first n bytes do.
+pub fn traced(plan: &[u8], n: usize, trace: &[u8], m: usize, out: &mut [u8]) -> usize
+    ensures { λ r. ⌜ Traced-whole (take n (now (plan .entry))) (take m (now (trace .entry))) (now (out .entry)) (now (out .exit)) r ⌝ }
+{
+    if n < plan.len() {
+        return with_plan(&plan[..n], trace, m, out);
+    }
+    with_plan(plan, trace, m, out)
+}
+
+// The first m bytes of a trace held against a plan.
+fn with_plan(plan: &[u8], trace: &[u8], m: usize, out: &mut [u8]) -> usize
+    ensures { λ r. ⌜ Trace-printed (now (plan .entry)) (take m (now (trace .entry))) (now (out .entry)) (now (out .exit)) r ⌝ }
+{
+    if m < trace.len() {
+        return print_trace::trace(plan, &trace[..m], out);
+    }
+    print_trace::trace(plan, trace, out)
 }

@@ -1,10 +1,12 @@
 //! The benchmark: the C library's check beside the reference's, on each family
-//! of plans and each size, then the other functions. Prints a table, and draws
-//! time over size as an SVG if a path is given.
+//! of plans and each size, the trace question beside the check, then the other
+//! functions. Prints a table, and draws time over size as an SVG if a path is
+//! given.
 
 use harness::generate::{self, Family, Rng};
 use harness::reference::Reference;
-use harness::side::{Raw, Side, EMPTY};
+use harness::side::{Found, Raw, Side, Told, EMPTY, STATE};
+use harness::traces;
 use std::fmt::Write as _;
 use std::hint::black_box;
 use std::process::ExitCode;
@@ -18,6 +20,8 @@ const PLANS: u64 = 32;
 const PAIRS: usize = 101;
 /// One measurement repeats a call until it takes about this long.
 const BATCH: Duration = Duration::from_micros(400);
+/// What a trace may take of the time of its plan's check.
+const TRACE_LIMIT: f64 = 1.15;
 
 /// The C library if this build links it, then the reference.
 struct Sides {
@@ -45,31 +49,63 @@ impl Measured {
 impl Sides {
     /// Measures the same call on both sides, turn by turn.
     fn measure(&self, mut call: impl FnMut(&dyn Side)) -> Measured {
-        let repeats = repeats(|| call(&Reference));
-        let mut timed = |side: &dyn Side| time(repeats, || call(side));
-        let (mut references, mut libraries, mut ratios) = (Vec::new(), Vec::new(), Vec::new());
-        for pair in 0..PAIRS {
-            let Some(library) = self.library.as_deref() else {
-                references.push(timed(&Reference));
-                continue;
+        let Some(library) = self.library.as_deref() else {
+            let repeats = repeats(|| call(&Reference));
+            let times = (0..PAIRS).map(|_| time(repeats, || call(&Reference)));
+            return Measured {
+                library: None,
+                reference: median(times.collect()),
+                ratio: None,
             };
-            // Each side goes first in every other pair.
-            let (of_reference, of_library) = if pair % 2 == 0 {
-                let of_reference = timed(&Reference);
-                (of_reference, timed(library))
-            } else {
-                let of_library = timed(library);
-                (timed(&Reference), of_library)
-            };
-            references.push(of_reference);
-            libraries.push(of_library);
-            ratios.push(of_library / of_reference);
-        }
+        };
+        let both = in_turn(|turn| match turn {
+            Turn::First => call(library),
+            Turn::Second => call(&Reference),
+        });
         Measured {
-            library: median(libraries),
-            reference: median(references).unwrap_or(0.0),
-            ratio: median(ratios),
+            library: Some(both.first),
+            reference: both.second,
+            ratio: Some(both.ratio),
         }
+    }
+}
+
+/// Which of two calls is due.
+#[derive(Clone, Copy)]
+enum Turn {
+    First,
+    Second,
+}
+
+/// Median times of two calls in nanoseconds, and the median ratio of pairs.
+struct InTurn {
+    first: f64,
+    second: f64,
+    ratio: f64,
+}
+
+/// Measures two calls turn by turn.
+fn in_turn(mut call: impl FnMut(Turn)) -> InTurn {
+    let repeats = repeats(|| call(Turn::Second));
+    let mut timed = |turn| time(repeats, || call(turn));
+    let (mut firsts, mut seconds, mut ratios) = (Vec::new(), Vec::new(), Vec::new());
+    for pair in 0..PAIRS {
+        // Each call goes first in every other pair.
+        let (first, second) = if pair % 2 == 0 {
+            let second = timed(Turn::Second);
+            (timed(Turn::First), second)
+        } else {
+            let first = timed(Turn::First);
+            (first, timed(Turn::Second))
+        };
+        firsts.push(first);
+        seconds.push(second);
+        ratios.push(first / second);
+    }
+    InTurn {
+        first: median(firsts),
+        second: median(seconds),
+        ratio: median(ratios),
     }
 }
 
@@ -93,9 +129,9 @@ fn time(repeats: u32, mut call: impl FnMut()) -> f64 {
     start.elapsed().as_nanos() as f64 / f64::from(repeats)
 }
 
-fn median(mut values: Vec<f64>) -> Option<f64> {
+fn median(mut values: Vec<f64>) -> f64 {
     values.sort_unstable_by(f64::total_cmp);
-    values.get(values.len() / 2).copied()
+    values[values.len() / 2]
 }
 
 // ---------------------------------------------------------------------------
@@ -165,6 +201,92 @@ fn print_growth(series: &[Series]) {
     }
 }
 
+/// A full run held against its plan, beside the check of the same plan by the
+/// same side, and beside the reference.
+fn measure_traces(sides: &Sides) {
+    let side = sides.library.as_deref().unwrap_or(&Reference);
+    println!(
+        "\ntrace of a full run and check of the same plan by the {}, microseconds for one call",
+        side.name()
+    );
+    println!(
+        "{:<30}{:>6}{:>12}{:>12}{:>8}{:>12}{:>8}",
+        "family", "size", "trace", "check", "ratio", "reference", "ratio"
+    );
+    let mut largest = 0.0_f64;
+    for family in Family::ALL {
+        for size in [64, 256, 1024] {
+            let ratio = measure_trace(sides, side, family, size);
+            largest = largest.max(ratio);
+        }
+    }
+    println!("largest ratio of a trace to its check: {largest:.2} (limit {TRACE_LIMIT})");
+}
+
+/// Plans of a family and size, each with the steps of a random full run.
+fn with_runs(family: Family, size: usize) -> impl Iterator<Item = (Vec<u8>, Vec<u16>)> {
+    (0..PLANS).map(move |seed| {
+        let rng = &mut Rng::new(seed);
+        let plan = family.plan(rng, size);
+        (plan.bytes(), traces::random_run(rng, &plan))
+    })
+}
+
+fn measure_trace(sides: &Sides, side: &dyn Side, family: Family, size: usize) -> f64 {
+    let plans = with_runs(family, size).map(|(plan, run)| (plan, traces::stored(&run)));
+    let plans: Vec<_> = plans.collect();
+    let (mut table, mut list) = (vec![0; 16 * size], vec![0; 2 * size]);
+    let (mut state, mut found) = ([0; STATE], Found::default());
+    let beside = in_turn(|turn| {
+        for (plan, trace) in &plans {
+            let (plan, trace) = (black_box(plan), black_box(trace));
+            let told = match turn {
+                Turn::First => {
+                    side.trace(plan, trace, &mut table, &mut list, &mut state, &mut found)
+                }
+                Turn::Second => side.check(plan, &mut table, &mut list),
+            };
+            assert_eq!(told, Told::PASSED, "a full run of a plan that passes");
+        }
+    });
+    let measured = measure_traces_of(sides, &plans, size);
+    let microseconds = |time: f64| time / PLANS as f64 / 1e3;
+    println!(
+        "{:<30}{size:>6}{:>12.2}{:>12.2}{:>8.2}{:>12.2}{:>8}",
+        family.name(),
+        microseconds(beside.first),
+        microseconds(beside.second),
+        beside.ratio,
+        measured.reference / 1e3,
+        optional(measured.ratio),
+    );
+    beside.ratio
+}
+
+/// Traces held against their plans of this size, on both sides.
+fn measure_traces_of(sides: &Sides, plans: &[(Vec<u8>, Vec<u8>)], size: usize) -> Measured {
+    let (mut table, mut list) = (vec![0; 16 * size], vec![0; 2 * size]);
+    let (mut state, mut found) = ([0; STATE], Found::default());
+    let measured = sides.measure(|side| {
+        for (plan, trace) in plans {
+            let (plan, trace) = (black_box(plan), black_box(trace));
+            side.trace(plan, trace, &mut table, &mut list, &mut state, &mut found);
+        }
+    });
+    measured.of_one(PLANS)
+}
+
+/// Traces of which all steps after a full run depart: only the first of them is
+/// looked at.
+fn measure_long_trace(sides: &Sides) -> Measured {
+    let plans = with_runs(Family::Greatest, 1024).map(|(plan, mut run)| {
+        run.resize(traces::MOST_STEPS, 0);
+        (plan, traces::stored(&run))
+    });
+    let plans: Vec<_> = plans.collect();
+    measure_traces_of(sides, &plans, 1024)
+}
+
 fn measure_others(sides: &Sides) {
     println!("\nother functions, nanoseconds for one call");
     println!(
@@ -211,6 +333,10 @@ fn measure_others(sides: &Sides) {
         }
     });
     print("frontier sent out, greatest plan", measured.of_one(PLANS));
+    print(
+        "trace of 65,535 steps, greatest plan",
+        measure_long_trace(sides),
+    );
     for (name, [left, right]) in frontier_pairs() {
         let measured = sides.measure(|side| {
             side.merge(black_box(&left), black_box(&right), 16, &mut out);
@@ -442,6 +568,7 @@ fn main() -> ExitCode {
     }
     let series = measure_families(&sides);
     print_growth(&series);
+    measure_traces(&sides);
     measure_others(&sides);
     if let Some(path) = path {
         if let Err(error) = std::fs::write(&path, plot(&series)) {

@@ -2,12 +2,13 @@
 //! plans and frontiers, and everything handed back or left in lent slices must
 //! be equal. Plans of up to seven operations are judged by brute force too.
 
-use harness::brute::{self, Judgement};
+use harness::brute::{self, EveryRun, Judgement};
 use harness::faults::{self, Fault, Faulty};
 use harness::generate::{self, Family, Rng};
 use harness::plan::Plan;
 use harness::reference::{self, Reference};
-use harness::side::{Raw, Side, Told, LENGTH};
+use harness::side::{Found, Raw, Side, Told, LENGTH, STATE};
+use harness::traces::{self, MOST_STEPS};
 use std::process::ExitCode;
 use std::sync::atomic::{AtomicU64, Ordering};
 use std::time::{Instant, SystemTime, UNIX_EPOCH};
@@ -16,7 +17,7 @@ const USAGE: &str = "\
 differ [--seed N] [--count N] [--fault N] [--trace]
   --seed N    the seed of the first case; the case after it has seed N + 1
   --count N   stop after this many plans (200000)
-  --fault N   compare with the reference under seeded fault 1 to 6 instead of
+  --fault N   compare with the reference under seeded fault 1 to 13 instead of
               with the C library
   --trace     print each case's seed before it is judged";
 
@@ -33,18 +34,20 @@ enum Function {
     Check,
     Reuse,
     Frontier,
+    Trace,
     Merge,
     Raise,
     Dominates,
 }
 
 /// Names, and the numbers that each function must have given.
-const FUNCTIONS: [(&str, &[usize]); 8] = [
+const FUNCTIONS: [(&str, &[usize]); 9] = [
     ("read", &[0, 1, 2, 3, 4, 5, 9]),
     ("write", &[0, 1, 2, 3, 4, 5, 9]),
     ("check", &[0, 1, 2, 3, 4, 5, 6, 7, 8, 9, 10, 11]),
     ("reuse", &[0, 1, 2, 3, 4, 5, 6, 7, 8, 9, 10, 11, 12, 13]),
     ("frontier", &[0, 1, 2, 3, 4, 5, 6, 7, 8, 9, 10, 11, 15, 21]),
+    ("trace", &[0, 1, 2, 3, 4, 5, 6, 7, 8, 9, 10, 11, 22]),
     ("merge", &[0, 14, 15]),
     ("raise", &[0, 14, 15]),
     ("dominates", &[0, 14]),
@@ -54,16 +57,30 @@ const FUNCTIONS: [(&str, &[usize]); 8] = [
 struct Tally {
     plans: u64,
     by_brute_force: u64,
-    numbers: [[u64; 22]; FUNCTIONS.len()],
+    traces_by_brute_force: u64,
+    numbers: [[u64; NUMBERS]; FUNCTIONS.len()],
     verdicts: [u64; 5],
     dominance: [u64; 3],
+    /// Answers of the trace question.
+    followed: [u64; 6],
+    /// Unmet waits by their position.
+    unmet: [u64; 3],
+    /// How often 9 was given for the state, and how often though the trace was
+    /// badly formed.
+    short_states: [u64; 2],
+    /// Traces of 65,535 steps that were followed.
+    longest_traces: u64,
 }
+
+/// Numbers 0 to 22.
+const NUMBERS: usize = 23;
 
 impl Tally {
     fn add(&mut self, function: Function, told: Told) {
         self.numbers[function as usize][told.number as usize] += 1;
         match (function, told.number) {
             (Function::Reuse, 0) => self.verdicts[told.answer as usize] += 1,
+            (Function::Trace, 0) => self.followed[told.answer as usize] += 1,
             (Function::Dominates, 0) => self.dominance[told.answer as usize] += 1,
             _ => {}
         }
@@ -75,7 +92,7 @@ impl Tally {
             print!("{name:>10}");
         }
         println!();
-        for number in 0..22 {
+        for number in 0..NUMBERS {
             if self.numbers.iter().all(|counts| counts[number] == 0) {
                 continue;
             }
@@ -86,6 +103,15 @@ impl Tally {
             println!();
         }
         println!("reuse verdicts 0 to 4: {:?}", self.verdicts);
+        println!(
+            "traces full, unfinished, unknown, repeated, not first, wait not met: {:?}",
+            self.followed
+        );
+        println!("first unmet waits 0 to 2: {:?}", self.unmet);
+        println!(
+            "traces of {MOST_STEPS} steps: {}; state too short: {}, trace badly formed too: {}",
+            self.longest_traces, self.short_states[0], self.short_states[1]
+        );
         println!("dominance no, yes, unknown: {:?}", self.dominance);
     }
 
@@ -101,6 +127,15 @@ impl Tally {
         if self.verdicts[..4].contains(&0) || self.dominance.contains(&0) {
             return Some("an answer never occurred".to_string());
         }
+        if let Some(answer) = self.followed.iter().position(|&count| count == 0) {
+            return Some(format!("trace never answered {answer}"));
+        }
+        if self.unmet.contains(&0) {
+            return Some("no wait of some position was the first unmet one".to_string());
+        }
+        if self.short_states.contains(&0) || self.longest_traces == 0 {
+            return Some("a state was never too short, or no trace was long".to_string());
+        }
         None
     }
 }
@@ -115,6 +150,7 @@ struct Lengths {
     bytes: usize,
     table: usize,
     list: usize,
+    state: usize,
 }
 
 /// Numbers on either side of a lent slice, to see writes outside it.
@@ -154,6 +190,11 @@ impl Room<u64> {
         let frontier = self.lend().first_chunk_mut();
         frontier.expect("a whole frontier is lent")
     }
+
+    fn lend_found(&mut self) -> &mut Found {
+        let found = self.lend().first_chunk_mut();
+        found.expect("six numbers are lent")
+    }
 }
 
 /// Everything that may be lent to a call.
@@ -164,6 +205,8 @@ struct Lent {
     table: Room<u32>,
     list: Room<u32>,
     frontier: Room<u64>,
+    state: Room<u64>,
+    found: Room<u64>,
 }
 
 impl Lent {
@@ -173,6 +216,8 @@ impl Lent {
         self.table.fill(lengths.table, pattern as u32);
         self.list.fill(lengths.list, pattern as u32);
         self.frontier.fill(FRONTIER, pattern);
+        self.state.fill(lengths.state, pattern);
+        self.found.fill(FOUND, pattern);
     }
 
     /// Prints where two differ.
@@ -182,11 +227,15 @@ impl Lent {
         self.table.print_difference(&other.table, "table");
         self.list.print_difference(&other.list, "list");
         self.frontier.print_difference(&other.frontier, "frontier");
+        self.state.print_difference(&other.state, "state");
+        self.found.print_difference(&other.found, "found");
     }
 }
 
 /// Numbers in a lent frontier.
 const FRONTIER: usize = 34;
+/// Numbers of what a trace's answer names.
+const FOUND: usize = 6;
 
 // ---------------------------------------------------------------------------
 // The comparison.
@@ -201,7 +250,7 @@ struct Differ {
     tally: Tally,
     ours: Lent,
     theirs: Lent,
-    trace: bool,
+    print_seeds: bool,
 }
 
 /// The seed of the case being judged, for the message of a panic.
@@ -244,10 +293,16 @@ impl Differ {
             self.writer(rng, &damaged)?;
         }
         let counts = Counts::of(rng, &numbers);
+        let steps = some_steps(rng, &numbers);
         self.check(rng, bytes, counts)?;
-        self.brute_force(rng, bytes)?;
+        self.brute_force(rng, bytes, &steps)?;
         self.reuse(rng, bytes, counts)?;
-        self.sent_out(rng, bytes, counts)
+        self.sent_out(rng, bytes, counts)?;
+        let mut trace = traces::stored(&steps);
+        if rng.percent(15) {
+            trace = traces::damaged(rng, &trace);
+        }
+        self.trace(rng, bytes, &trace, counts)
     }
 
     /// Hands back the plan's numbers, none if it is unreadable.
@@ -338,23 +393,50 @@ impl Differ {
         Ok(())
     }
 
+    fn trace(&mut self, rng: &mut Rng, bytes: &[u8], trace: &[u8], counts: Counts) -> Compared<()> {
+        let lengths = Lengths {
+            state: some_length(rng, STATE),
+            ..lent_to_check(rng, counts)
+        };
+        let told = self.compare(
+            rng,
+            Function::Trace,
+            lengths,
+            |side, lent| {
+                let (table, list) = (lent.table.lend(), lent.list.lend());
+                let (state, found) = (lent.state.lend(), lent.found.lend_found());
+                side.trace(bytes, trace, table, list, state, found)
+            },
+            || {
+                let shown = trace.len().min(200);
+                println!("trace of {} bytes: {:?}", trace.len(), &trace[..shown]);
+                print_plan(bytes);
+            },
+        )?;
+        let enough =
+            lengths.table >= 16 * counts.operations && lengths.list >= 2 * counts.operations;
+        if told.number == 9 && enough {
+            self.tally.short_states[0] += 1;
+            self.tally.short_states[1] += u64::from(!traces::well_formed(trace));
+        }
+        if told.answer == 5 {
+            let wait = self.ours.found.lend_found()[2];
+            self.tally.unmet[wait as usize] += 1;
+        }
+        if told.number == 0 && trace.len() == 2 + 2 * MOST_STEPS {
+            self.tally.longest_traces += 1;
+        }
+        Ok(())
+    }
+
     /// The reference against every run of the plan.
-    fn brute_force(&mut self, rng: &mut Rng, bytes: &[u8]) -> Compared<()> {
+    fn brute_force(&mut self, rng: &mut Rng, bytes: &[u8], steps: &[u16]) -> Compared<()> {
         let plan = match faults::parse(bytes) {
             Some(plan) if plan.operations.len() <= brute::MOST_OPERATIONS => plan,
             _ => return Ok(()),
         };
         self.tally.by_brute_force += 1;
         let judgement = brute::judge(&plan);
-        let mut question = None;
-        if let (Judgement::Passed { rows, .. }, 1.., 1..) =
-            (&judgement, plan.axes.len(), plan.sizes.len())
-        {
-            let queue = rng.below(plan.axes.len());
-            let buffer = rng.below(plan.sizes.len());
-            let verdict = brute::reuse(&plan, rows, queue, buffer);
-            question = Some((queue as u32, buffer as u32, verdict));
-        }
         let wanted = told_by_brute_force(&plan, &judgement);
         let operations = plan.operations.len();
         let (mut table, mut list) = (vec![!0; 16 * operations], vec![!0; 2 * operations]);
@@ -366,15 +448,45 @@ impl Differ {
             print_plan(bytes);
             return Err(Different);
         }
-        if let Some((queue, buffer, verdict)) = question {
-            let told = reference::reuse(bytes, queue, buffer, &mut table, &mut list);
-            if told != Told::answered(verdict) {
-                println!("DIFFERENCE between the reference and brute force");
-                println!("queue {queue}, buffer {buffer}: {told:?}, {verdict}");
-                print_plan(bytes);
-                return Err(Different);
-            }
+        let Judgement::Passed { rows, runs, .. } = judgement else {
+            return Ok(());
+        };
+        if !plan.axes.is_empty() && !plan.sizes.is_empty() {
+            reuse_by_brute_force(rng, &plan, &rows)?;
         }
+        if steps.len() <= MOST_STEPS {
+            self.followed_by_brute_force(&plan, &runs, steps)?;
+        }
+        Ok(())
+    }
+
+    /// The reference's trace question against every run of a passed plan.
+    fn followed_by_brute_force(
+        &mut self,
+        plan: &Plan,
+        runs: &EveryRun,
+        steps: &[u16],
+    ) -> Compared<()> {
+        let (answer, found, state) = brute::follow(plan, runs, steps);
+        let operations = plan.operations.len();
+        let (mut table, mut list) = (vec![0; 16 * operations], vec![0; 2 * operations]);
+        let (mut our_state, mut our_found) = ([!0; STATE], [!0; FOUND]);
+        let told = reference::trace(
+            &plan.bytes(),
+            &traces::stored(steps),
+            &mut table,
+            &mut list,
+            &mut our_state,
+            &mut our_found,
+        );
+        if (told, our_found, our_state) != (Told::answered(answer), found, state) {
+            println!("DIFFERENCE between the reference and brute force, trace {steps:?}");
+            println!("reference:   {told:?} {our_found:?} {our_state:?}");
+            println!("brute force: {answer} {found:?} {state:?}");
+            print_plan(&plan.bytes());
+            return Err(Different);
+        }
+        self.tally.traces_by_brute_force += 1;
         Ok(())
     }
 
@@ -435,7 +547,7 @@ impl Differ {
     /// One case: a plan, or every damage of some kind to one.
     fn case(&mut self, seed: u64) -> Compared<()> {
         SEED.store(seed, Ordering::Relaxed);
-        if self.trace {
+        if self.print_seeds {
             eprintln!("seed {seed}");
         }
         let rng = &mut Rng::new(seed);
@@ -474,7 +586,8 @@ impl Differ {
         }
     }
 
-    /// Each truncation of a plan, and of its list of numbers for the writer.
+    /// Each truncation of a plan, of its list of numbers for the writer, and of
+    /// a run's trace.
     fn every_truncation(&mut self, rng: &mut Rng) -> Compared<()> {
         let plan = base_plan(rng);
         let (bytes, numbers) = (plan.bytes(), plan.numbers());
@@ -484,13 +597,29 @@ impl Differ {
         for length in 0..=numbers.len() {
             self.writer(rng, &numbers[..length])?;
         }
+        let counts = Counts::of(rng, &numbers);
+        let trace = traces::stored(&traces::random_run(rng, &plan));
+        for length in 0..=trace.len() {
+            self.trace(rng, &bytes, &trace[..length], counts)?;
+        }
         Ok(())
     }
 
-    /// Each byte changed: to every other value in a short plan, to a few in a
-    /// longer one.
+    /// Each byte of a trace changed to a few others; each byte of a plan, to
+    /// every other value if it is short, to a few if it is longer.
     fn every_byte_changed(&mut self, rng: &mut Rng) -> Compared<()> {
-        let mut bytes = base_plan(rng).bytes();
+        let plan = base_plan(rng);
+        let mut bytes = plan.bytes();
+        let counts = Counts::of(rng, &plan.numbers());
+        let mut trace = traces::stored(&traces::random_run(rng, &plan));
+        for at in 0..trace.len() {
+            let byte = trace[at];
+            for _ in 0..3 {
+                trace[at] = generate::other_byte(rng, byte);
+                self.trace(rng, &bytes, &trace, counts)?;
+            }
+            trace[at] = byte;
+        }
         for at in 0..bytes.len() {
             let byte = bytes[at];
             if bytes.len() <= 50 {
@@ -527,6 +656,24 @@ impl Differ {
     }
 }
 
+/// The reference's reuse question against the rows that brute force reads off
+/// the runs of a passed plan.
+fn reuse_by_brute_force(rng: &mut Rng, plan: &Plan, rows: &[Vec<usize>]) -> Compared<()> {
+    let (queue, buffer) = (rng.below(plan.axes.len()), rng.below(plan.sizes.len()));
+    let verdict = brute::reuse(plan, rows, queue, buffer);
+    let (bytes, operations) = (plan.bytes(), plan.operations.len());
+    let (mut table, mut list) = (vec![0; 16 * operations], vec![0; 2 * operations]);
+    let (queue, buffer) = (queue as u32, buffer as u32);
+    let told = reference::reuse(&bytes, queue, buffer, &mut table, &mut list);
+    if told != Told::answered(verdict) {
+        println!("DIFFERENCE between the reference and brute force");
+        println!("queue {queue}, buffer {buffer}: {told:?}, {verdict}");
+        print_plan(&bytes);
+        return Err(Different);
+    }
+    Ok(())
+}
+
 /// What brute force expects to be told and left in table and list that were
 /// filled with ones.
 fn told_by_brute_force(plan: &Plan, judgement: &Judgement) -> (Told, Vec<u32>, Vec<u32>) {
@@ -540,7 +687,9 @@ fn told_by_brute_force(plan: &Plan, judgement: &Judgement) -> (Told, Vec<u32>, V
             }
             (Told::refused(*number, *place), table, list)
         }
-        Judgement::Passed { run, ready, rows } => {
+        Judgement::Passed {
+            run, ready, rows, ..
+        } => {
             for (to, from) in list.iter_mut().zip(run.iter().chain(ready)) {
                 *to = *from as u32;
             }
@@ -602,6 +751,14 @@ fn lent_to_check(rng: &mut Rng, counts: Counts) -> Lengths {
         list: some_length(rng, 2 * counts.operations),
         ..Lengths::default()
     }
+}
+
+/// A trace of a plan; one of few small numbers for an unreadable plan.
+fn some_steps(rng: &mut Rng, numbers: &[u64]) -> Vec<u16> {
+    if numbers.is_empty() {
+        return (0..rng.below(4)).map(|_| rng.below(4) as u16).collect();
+    }
+    traces::steps(rng, &Plan::from_numbers(numbers))
 }
 
 /// A position in a list of about this length, sometimes far outside.
@@ -667,7 +824,7 @@ struct Options {
     seed: u64,
     count: u64,
     fault: Option<Fault>,
-    trace: bool,
+    print_seeds: bool,
 }
 
 impl Options {
@@ -677,11 +834,11 @@ impl Options {
             seed: now.map_or(1, |now| now.as_micros() as u64),
             count: 200_000,
             fault: None,
-            trace: false,
+            print_seeds: false,
         };
         while let Some(argument) = arguments.next() {
             if argument == "--trace" {
-                options.trace = true;
+                options.print_seeds = true;
                 continue;
             }
             let value: u64 = arguments.next()?.parse().ok()?;
@@ -717,7 +874,7 @@ fn run(options: &Options) -> Compared<Tally> {
         tally: Tally::default(),
         ours: Lent::default(),
         theirs: Lent::default(),
-        trace: options.trace,
+        print_seeds: options.print_seeds,
     };
     let mut seed = options.seed;
     while differ.tally.plans < options.count {
@@ -750,9 +907,10 @@ fn main() -> ExitCode {
     };
     tally.print();
     println!(
-        "{} plans, {} of them by brute force too, in {:.1} s: no difference",
+        "{} plans, {} of them and {} traces by brute force too, in {:.1} s: no difference",
         tally.plans,
         tally.by_brute_force,
+        tally.traces_by_brute_force,
         start.elapsed().as_secs_f64()
     );
     match tally.missing() {

@@ -1,16 +1,16 @@
--- `plan` is safe and ends: what is kept is inside the room.
+-- `all` is safe and ends: what is kept is inside the room.
 use lib.ListN.{length}
 use Prim.Native.Nat.{_≤_}
 use mathlib.Core.Path.{_≡_}
 use borrow.Author.Needs.{needs}
-use Rattle.cundvrest.proofs.input.plan.Statement.{statement}
-use Rattle.cundvrest.proofs.input.plan.Tie as tie
+use Rattle.cundvrest.proofs.input.all.Statement.{statement}
+use Rattle.cundvrest.proofs.input.all.Tie as tie
 
 abbrev Inv-loop : tie.InvT-loop
-Inv-loop room₀ read₀ turns₀ room read turns = (read .kept ≤ length room) × (length room ≡ length room₀)
+Inv-loop fd room₀ read₀ turns₀ room read turns = (read .kept ≤ length room) × (length room ≡ length room₀)
 
 abbrev μ-loop : tie.MeasureT-loop
-μ-loop room₀ read₀ turns₀ room read turns = turns
+μ-loop fd room₀ read₀ turns₀ room read turns = turns
 
 loop-holds : tie.Need-loop-holds Inv-loop μ-loop
 loop-holds c = search needs
@@ -39,8 +39,8 @@ same-length-2 c = search needs
 returns-2 : tie.Need-returns-2 Inv-loop μ-loop
 returns-2 c = search needs
 
-pub plan-spec : {M : Type 1} → statement M
-plan-spec =
+pub all-spec : {M : Type 1} → statement M
+all-spec =
     tie.close
     (tie.spec
     Inv-loop

@@ -1,0 +1,5 @@
+pub mod Turns
+pub mod Columns
+pub mod Raising
+pub mod Refusals
+pub mod Asked

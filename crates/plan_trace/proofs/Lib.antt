@@ -1,0 +1,12 @@
+pub mod Cases
+pub mod Alike
+pub mod Steps
+pub mod FirstBytes
+pub mod Reasons
+pub mod FollowedMeaning
+pub mod StateMeaning
+pub mod Progress
+pub mod Tops
+pub mod QuestionMeaning
+pub mod Promises
+pub mod SaysAlike

@@ -1,0 +1,151 @@
+//! A recorded trace held against the plan, from the rules' words (R80 to R84): each step is
+//! taken by the semaphores' values, as a cell would take it.
+
+use super::{check_then, told, Known, QUEUES, SEMAPHORES};
+use crate::side::{Found, Told, STATE};
+
+/// The count, and each step in two bytes.
+fn steps(trace: &[u8]) -> Option<&[[u8; 2]]> {
+    let (count, rest) = trace.split_first_chunk::<2>()?;
+    let (steps, odd) = rest.as_chunks::<2>();
+    let agrees = odd.is_empty() && steps.len() == usize::from(u16::from_le_bytes(*count));
+    agrees.then_some(steps)
+}
+
+/// Where each operation's entries begin in a list that is in operation order;
+/// one more for the end.
+fn starts(operations: usize, entries: impl Iterator<Item = u16>) -> Vec<u16> {
+    let mut starts = vec![0; operations + 1];
+    for operation in entries {
+        starts[usize::from(operation) + 1] += 1;
+    }
+    for operation in 0..operations {
+        starts[operation + 1] += starts[operation];
+    }
+    starts
+}
+
+/// Why a step departs.
+enum Departs {
+    Unknown,
+    Repeated,
+    NotFirst,
+    /// The position of the first unmet wait in its operation's list.
+    WaitNotMet(usize),
+}
+
+/// A plan that is being run.
+struct Cell<'a> {
+    known: &'a Known<'a>,
+    /// Where each operation's waits and signals begin.
+    waits: Vec<u16>,
+    signals: Vec<u16>,
+    has_run: Vec<bool>,
+    /// The next operation of each queue, or `NONE`, which is no operation.
+    heads: [u16; QUEUES],
+    /// How many operations each queue has run.
+    counts: [u64; QUEUES],
+    /// The highest value signalled so far.
+    values: [u64; SEMAPHORES],
+}
+
+impl<'a> Cell<'a> {
+    fn new(known: &'a Known<'a>) -> Cell<'a> {
+        let flat = known.flat;
+        let operations = flat.operation_count();
+        Cell {
+            known,
+            waits: starts(operations, flat.waits.iter().map(|wait| wait.operation)),
+            signals: starts(operations, flat.signals.iter().map(|s| s.operation)),
+            has_run: vec![false; operations],
+            heads: known.order.first,
+            counts: [0; QUEUES],
+            values: [0; SEMAPHORES],
+        }
+    }
+
+    /// "Unknown operation, repeated, not first in its queue, or a wait not met
+    /// (naming the first such in its list), tested in that order."
+    fn judge(&self, operation: u16) -> Result<(), Departs> {
+        let position = usize::from(operation);
+        let Some(&has_run) = self.has_run.get(position) else {
+            return Err(Departs::Unknown);
+        };
+        if has_run {
+            return Err(Departs::Repeated);
+        }
+        let flat = self.known.flat;
+        if self.heads[usize::from(flat.queues[position])] != operation {
+            return Err(Departs::NotFirst);
+        }
+        let waits = usize::from(self.waits[position])..usize::from(self.waits[position + 1]);
+        let mut waits = flat.waits[waits].iter();
+        match waits.position(|wait| self.values[usize::from(wait.semaphore)] < wait.value) {
+            None => Ok(()),
+            Some(wait) => Err(Departs::WaitNotMet(wait)),
+        }
+    }
+
+    /// Runs an operation that has been judged.
+    fn run(&mut self, operation: u16) {
+        let position = usize::from(operation);
+        let flat = self.known.flat;
+        let queue = usize::from(flat.queues[position]);
+        self.has_run[position] = true;
+        self.counts[queue] += 1;
+        self.heads[queue] = self.known.order.next[position];
+        let signals = usize::from(self.signals[position])..usize::from(self.signals[position + 1]);
+        for signal in &flat.signals[signals] {
+            let value = &mut self.values[usize::from(signal.semaphore)];
+            *value = signal.value.max(*value);
+        }
+    }
+
+    /// Follows the trace to its end or to the first step that departs.
+    fn follow(&mut self, steps: &[[u8; 2]]) -> (u64, Found) {
+        for (step, &operation) in steps.iter().enumerate() {
+            let operation = u16::from_le_bytes(operation);
+            let (answer, wait) = match self.judge(operation) {
+                Ok(()) => {
+                    self.run(operation);
+                    continue;
+                }
+                Err(Departs::Unknown) => (2, 0),
+                Err(Departs::Repeated) => (3, 0),
+                Err(Departs::NotFirst) => (4, 0),
+                Err(Departs::WaitNotMet(wait)) => (5, wait),
+            };
+            let found = [step as u64, u64::from(operation), wait as u64, 0, 0, 0];
+            return (answer, found);
+        }
+        let full = self.has_run.iter().all(|&has_run| has_run);
+        (u64::from(!full), [steps.len() as u64, 0, 0, 0, 0, 0])
+    }
+}
+
+/// "Say that such a trace is a full run, an unfinished run, or name the first
+/// step that departs and why."
+pub fn trace(
+    plan: &[u8],
+    trace: &[u8],
+    table: &mut [u32],
+    list: &mut [u32],
+    state: &mut [u64],
+    found: &mut Found,
+) -> Told {
+    *found = Found::default();
+    told(check_then(plan, table, list, |known| {
+        let Some(state) = state.first_chunk_mut::<STATE>() else {
+            return Told::refused(9, STATE as u64);
+        };
+        let Some(steps) = steps(trace) else {
+            return Told::refused(22, 0);
+        };
+        let mut cell = Cell::new(known);
+        let answer;
+        (answer, *found) = cell.follow(steps);
+        state[..QUEUES].copy_from_slice(&cell.counts);
+        state[QUEUES..].copy_from_slice(&cell.values);
+        Told::answered(answer)
+    }))
+}
