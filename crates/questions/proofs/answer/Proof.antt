@@ -2,6 +2,7 @@
 use mathlib.Core.Path.{ap, _∙_}
 use Rattle.plan_order.specs.Reuse.{number-of}
 use Rattle.questions.proofs.ReuseAsked.{no-queue, no-buffer, answered}
+use native.Mathlib.Omega.{arith}
 use borrow.Author.Needs.{needs}
 use Rattle.questions.proofs.answer.Statement.{statement}
 use Rattle.questions.proofs.answer.Tie as tie
@@ -28,7 +29,7 @@ returns-3 : tie.Need-returns-3
 returns-3 c =
     λ p o.
     answered o _ _ (c .before .before .before .before .if1 .left) (c .before .before .if2 .left)
-    (c .number-of .ensures ∙ ap number-of (c .before .verdict .ensures p (o .shown)))
+    (c .number-of .ensures ∙ ap number-of (c .before .verdict .ensures p (omega (arith, o .buffers-are, c .before .before .if2 .left)) (o .shown)))
 
 pub answer-spec : {M : Type 1} → statement M
 answer-spec =
