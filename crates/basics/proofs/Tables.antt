@@ -1,6 +1,7 @@
 -- Tabulated and joined lists: their lengths, what is at a place, and one more at the end. Assumes nothing.
 use mathlib.Core.Path.{_≡_, refl, sym, ap, _∙_, subst}
-use mathlib.Core.List.{List, [], _∷_, _++_, List·Memᴰ, List·Memᴰ·not-nil, List·Memᴰ·append-cases, Memᴰ·append-left, Memᴰ·append-right}
+use mathlib.Core.List.{List, [], _∷_, _++_}
+use mathlib.Core.List.{List·Memᴰ, List·Memᴰ·not-nil, List·Memᴰ·append-cases, Memᴰ·append-left, Memᴰ·append-right}
 use Prim.Native.Nat.{ℕ, zero, suc, _+_, _*_, _≤_, _<_}
 use native.Mathlib.Nat.{not-suc-le-zero, le-of-suc-le-suc, le-refl, mul-suc}
 use native.Mathlib.Omega.{arith}
@@ -29,7 +30,8 @@ module _ {A : Type 0} (f : ℕ → A) where
   unfolding tabulate-from
   tabulate-last zero i = ap {B = List A} (λ k. f k ∷ []) (omega arith)
   tabulate-last (suc many) i =
-      ap {B = List A} (λ xs. f i ∷ xs) (tabulate-last many (suc i) ∙ ap {B = List A} (λ k. tabulate-from many (suc i) f ++ (f k ∷ [])) (omega arith))
+      ap {B = List A} (λ xs. f i ∷ xs)
+      (tabulate-last many (suc i) ∙ ap {B = List A} (λ k. tabulate-from many (suc i) f ++ (f k ∷ [])) (omega arith))
 
 -- blocks of one width
 module _ {A : Type 0} (w : ℕ) (f : ℕ → List A) (even : (i : ℕ) → length (f i) ≡ w) where

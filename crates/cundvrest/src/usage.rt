@@ -19,7 +19,7 @@ pub fn help(out: &mut [u8]) -> usize {
 
 It prints one of these; N is the refusal and P its place.
   passed 0, then size QUEUES SEMAPHORES BUFFERS OPERATIONS, run, ready, and a row for each operation
-  verdict N WORD        fresh, reusable, held, not-ordered or stray-use
+  verdict N WORD        fresh, reusable, held or not-ordered
   frontier whole|tainted AXIS:EPOCH ..
   refused N P
      1 cut short       2 count over its limit     3 bytes follow          4 not in its list     5 axis twice
@@ -28,7 +28,7 @@ It prints one of these; N is the refusal and P its place.
 
 All numbers are decimal. The launcher ./cundvrest also knows --help, -h and --version. Its exit status:
   0 yes, go on    passed; fresh or reusable; a frontier, numbers or a plan
-  1 no            refused; held, not-ordered or stray-use
+  1 no            refused; held or not-ordered
   2 not judged    wrong words, or input or output that fails: a line on standard error says what
 ",
     )

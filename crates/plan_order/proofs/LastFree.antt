@@ -79,15 +79,18 @@ module _ (p : Plan) (b : ℕ) (forced : (k : ℕ) → k < length (buffer-marks p
       subst₂ (λ (y z : ℕ). At p y z) (ap (λ (z : Placed). z .by) x-is ∙ x-by) (ap (λ (z : Placed). z .by) m-is) reached
 
   -- a queue that sees the last free sees every operation with a mark on the buffer
-  pub marked-seen : (q : ℕ) (m : Placed) → Last-mark p b m → m .kind ≡ 1 → Seen p q (m .by) → (i : ℕ) → Marked p b i → Seen p q i
-  marked-seen q m last frees (j, last-op, seen) i marked = (j, last-op, at-join p i (m .by) j (marked-by-free m last frees i marked) seen)
+  pub marked-seen : (q : ℕ) (m : Placed) → Last-mark p b m → m .kind ≡ 1 → Seen p q (m .by) →
+      (i : ℕ) → Marked p b i → Seen p q i
+  marked-seen q m last frees (j, last-op, seen) i marked =
+      (j, last-op, at-join p i (m .by) j (marked-by-free m last frees i marked) seen)
 
   -- ---- the verdict by the last mark alone
   module _ (q : ℕ) where
     abbrev sees : Placed → Bool
     sees n = seen-by p (last-on p q) (n .by)
 
-    pub all-by-last : (m : Placed) → last-mark (buffer-marks p b) ≡ some m → is-free m ≡ true → all sees (buffer-marks p b) ≡ sees m
+    pub all-by-last : (m : Placed) → last-mark (buffer-marks p b) ≡ some m → is-free m ≡ true →
+        all sees (buffer-marks p b) ≡ sees m
     all-by-last m e t =
         let last = some-last (buffer-marks p b) m e in
         by-cases (sees m)

@@ -19,7 +19,8 @@ use Rattle.plan_order.proofs.CheckMeaning.{passed-unrefused, check-means}
 use Rattle.plan_order.proofs.OutcomeMeaning.{passed-leaves}
 use Rattle.plan_order.proofs.Promises.{demand-3-stored}
 use Rattle.plan_order.proofs.LastFree.{five-same, unseen-free}
-use Rattle.plan_order.proofs.QuestionMeaning.{question-means, question-passed, question-answered, question-left, question-number, question-answer, question-no-answer, question-most}
+use Rattle.plan_order.proofs.QuestionMeaning.{question-means, question-passed, question-answered, question-left}
+use Rattle.plan_order.proofs.QuestionMeaning.{question-number, question-answer, question-no-answer, question-most}
 use Rattle.checker.specs.Opening.{Lent, Opened-plan}
 use Rattle.checker.specs.declared.Counted.{Counted}
 use Rattle.checker.specs.declared.Opened.{Opened}
@@ -45,7 +46,7 @@ unfolding Reuse-says
 asked bs q b r t x l y s =
     let n = s .tells .number in
     let forced : r .number ≡ 0 → (k : ℕ) → k < length (buffer-marks (plan-in bs) b) → Forced (plan-in bs) b k =
-        λ z. answered-forced bs q b (length t) (length l) (sym n ∙ z) in
+    λ z. answered-forced bs q b (length t) (length l) (sym n ∙ z) in
     record {
       says = s;
       number = n;
@@ -107,7 +108,8 @@ question-given {bs} {t} {l} checked z opened = record {
     sound = opened .sound;
     many = sym (opened .operations-are);
     few-buffers = opened .limits .few-buffers;
-    forced = λ b. passed-forced bs b (length t) (length l) (sym (checked .says .tells .number) ∙ z);
+    forced = λ b k inside here.
+        passed-forced bs b (length t) (length l) (sym (checked .says .tells .number) ∙ z) inside k here;
     queues-shown = opened .read .queues-shown;
     marks-shown = opened .read .marks-shown;
     rows-shown = opened .rows-shown;

@@ -57,40 +57,38 @@ module _ (queue rows : List ℕ) where
   unfolding seen
   seen-some last i x a b l e f g = rw (lt-ltb last 1024 l) (ordered-is queue rows i last x a b e f g)
 
--- ---- the last mark on the buffer, after `back` marks from the end
--- it is that of the whole
-abbrev pub Back : (mark : List ℕ) → (b many back : ℕ) → Type 0
-Back mark b many back = last-marked mark b (many - back) ≡ last-marked mark b many
+-- ---- the last mark on the buffer: that of the marks that are left, after `back` marks from the end
+pub record Left (mark : List ℕ) (b many back : ℕ) : Type 0 where
+  pub last : last-marked mark b (many - back) ≡ last-marked mark b many
 
-module _ {queue rows mark operation : List ℕ} {b last many back : ℕ} where
+pub left-all : {mark : List ℕ} {b many : ℕ} → Left mark b many 0
+left-all {many} = let e : many - 0 ≡ many = omega arith in record { last = rw e }
+
+module _ {mark : List ℕ} {b many back : ℕ} (left : Left mark b many back) where
   abbrev on-buffer : (k : ℕ) → Bool
   on-buffer k = eqb (getD mark k 0 % 512 / 2) b
 
-  pub back-none : many ≡ many - 0
-  back-none = omega arith
-
-  pub back-end : Back mark b many back → many ≤ back →
-      Fresh ≡ verdict-at (seen queue rows last) mark operation (last-marked mark b many)
+  pub left-none : (f : ℕ → Bool) (operation : List ℕ) → many ≤ back →
+      Fresh ≡ verdict-at f mark operation (last-marked mark b many)
   unfolding last-marked verdict-at
-  back-end j l = rw (← j, highest-none on-buffer (many - back) (omega arith))
+  left-none f operation l = rw (← left .last, highest-none on-buffer (many - back) (omega arith))
 
-  module _ {m : ℕ} (j : Back mark b many back) (more : back < many) (m-is : m ≡ getD mark (many - (back + 1)) 0 % 512) where
+  module _ (more : back < many) {m : ℕ} (m-is : m ≡ getD mark (many - (back + 1)) 0 % 512) where
     -- a mark on another buffer
-    pub back-other : (m / 2 ≡ b → ⊥) → Back mark b many (back + 1)
+    pub left-other : (m / 2 ≡ b → ⊥) → Left mark b many (back + 1)
     unfolding last-marked
-    back-other h =
-        highest-past on-buffer (many - back) (many - (back + 1)) (omega arith) (ap (λ (z : ℕ). eqb (z / 2) b) (sym m-is) ∙ ne-eqb (m / 2) b h) ∙ j
+    left-other h =
+        let other : on-buffer (many - (back + 1)) ≡ false =
+        ap (λ (z : ℕ). eqb (z / 2) b) (sym m-is) ∙ ne-eqb (m / 2) b h in
+        record { last = highest-past on-buffer (many - back) (many - (back + 1)) (omega arith) other ∙ left .last }
 
     -- a mark on the buffer
-    pub back-own : {i : ℕ} {s : Bool} {v : Verdict} → m / 2 ≡ b → i ≡ getD operation (many - (back + 1)) 0 % 1024 →
-        s ≡ seen queue rows last i → v ≡ verdict-after (eqb (m % 2) 1) s →
-        v ≡ verdict-at (seen queue rows last) mark operation (last-marked mark b many)
+    pub left-own : (f : ℕ → Bool) (operation : List ℕ) {i : ℕ} {s : Bool} {v : Verdict} → m / 2 ≡ b →
+        i ≡ getD operation (many - (back + 1)) 0 % 1024 → s ≡ f i → v ≡ verdict-after (eqb (m % 2) 1) s →
+        v ≡ verdict-at f mark operation (last-marked mark b many)
     unfolding last-marked verdict-at
-    back-own h i-is s-is v-is =
-        v-is ∙ rw (
-          ← j,
-          highest-here on-buffer (many - back) (many - (back + 1)) (omega arith) (ap (λ (z : ℕ). eqb (z / 2) b) (sym m-is) ∙ eq-eqb (m / 2) b h),
-          ← m-is,
-          ← i-is,
-          ← s-is,
-        )
+    left-own f operation h i-is s-is v-is =
+        let own : on-buffer (many - (back + 1)) ≡ true =
+        ap (λ (z : ℕ). eqb (z / 2) b) (sym m-is) ∙ eq-eqb (m / 2) b h in
+        let here = highest-here on-buffer (many - back) (many - (back + 1)) (omega arith) own in
+        v-is ∙ rw (← left .last, here, ← m-is, ← i-is, ← s-is)

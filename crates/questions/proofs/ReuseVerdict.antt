@@ -23,7 +23,7 @@ use Rattle.plan_order.proofs.VerdictMeaning.{last-some}
 use Rattle.plan_order.proofs.LastFree.{all-by-last}
 use Rattle.plan_columns.specs.Columns.{Marked, Queue-column, plan-marks}
 use Rattle.plan_columns.specs.Shown.{mark-of, shown-from}
-use Rattle.plan_columns.proofs.Marks.{Known, each-at, marks-known, marks-shown, of-buffer, of-append, of-plan}
+use Rattle.plan_columns.proofs.Marks.{Known, each-at, marks-known, marks-shown, place, of-buffer, of-append, of-plan}
 use Rattle.plan_columns.proofs.Ordered.{ordered-right}
 use Rattle.questions.specs.ReusePass.{Verdict-given, last-shown, last-marked, seen, verdict-after, verdict-at}
 
@@ -69,21 +69,23 @@ module _ (mark operation : List ℕ) (b : ℕ) (f : ℕ → Bool) where
   shown : ℕ → Marked
   shown k = mark-of (getD mark k 0 % 512) (getD operation k 0 % 1024)
 
-  one-more : (n : ℕ) → of-buffer b (shown-from mark operation (suc n) 0) ≡
-      of-buffer b (shown-from mark operation n 0) ++ of-buffer b (shown n ∷ [])
+  abbrev first : (n : ℕ) → List Marked
+  first n = shown-from mark operation n 0
+
+  one-more : (n : ℕ) → of-buffer b (first (suc n)) ≡ of-buffer b (first n) ++ of-buffer b (shown n ∷ [])
   unfolding shown
   one-more n =
-      ap (of-buffer b) (tabulate-last shown n 0 ∙ ap (λ (z : ℕ). shown-from mark operation n 0 ++ (shown z ∷ [])) (zero-add n))
-      ∙ of-append b (shown-from mark operation n 0) (shown n ∷ [])
+      ap (of-buffer b) (tabulate-last shown n 0 ∙ ap (λ (z : ℕ). first n ++ (shown z ∷ [])) (zero-add n))
+      ∙ of-append b (first n) (shown n ∷ [])
 
-  last-placed : (n : ℕ) → by-last f (last-mark (of-buffer b (shown-from mark operation n 0))) ≡
-      verdict-at f mark operation (last-marked mark b n)
+  last-placed : (n : ℕ) →
+      by-last f (last-mark (of-buffer b (first n))) ≡ verdict-at f mark operation (last-marked mark b n)
   unfolding tabulate-from of-buffer last-mark by-last verdict-at last-marked highest-below shown is-free
   last-placed zero = refl
   last-placed (suc n) =
       by-cases (eqb (getD mark n 0 % 512 / 2) b)
-      (λ t. rw (one-more n, t, last-some (of-buffer b (shown-from mark operation n 0)) (record { by = getD operation n 0 % 1024; kind = getD mark n 0 % 512 % 2 })))
-      (λ e. rw (one-more n, e, append-nil (of-buffer b (shown-from mark operation n 0))) (last-placed n))
+      (λ t. rw (one-more n, t, last-some (of-buffer b (first n)) (place (shown n))))
+      (λ e. rw (one-more n, e, append-nil (of-buffer b (first n))) (last-placed n))
 
 -- ---- the verdict by columns and rows
 at-same : (f g : ℕ → Bool) (mark operation : List ℕ) (b n : ℕ) →
@@ -94,19 +96,29 @@ at-same f g mark operation b n h =
     by-option (last-marked mark b n) (λ e. rw e)
     (λ k e. rw (e, h k (highest-some n (λ k. eqb (getD mark k 0 % 512 / 2) b) k e .inside)))
 
+module _ {p : Plan} {n marks : ℕ} {queue mark operation rows : List ℕ} (shown : Verdict-given p n marks queue mark operation rows) where
+  -- a mark is of an operation of the plan
+  by-inside : (k : ℕ) → k < marks → getD operation k 0 % 1024 < count p
+  by-inside k l =
+      let known = marks-known p (shown .sound) in
+      let m = each-at (Known p) (plan-marks p) known k (omega (arith, shown .marks-shown .all)) .by in
+      omega (arith, m, shown .marks-shown .operations k l, shown .sound .few-operations)
+
+  marks-are : (b : ℕ) → of-buffer b (shown-from mark operation marks 0) ≡ buffer-marks p b
+  marks-are b =
+      ap (of-buffer b) (marks-shown p marks mark operation (shown .sound) (shown .few-buffers) (shown .marks-shown))
+      ∙ of-plan p b
+
 pub verdict-right : {p : Plan} {n marks : ℕ} {queue mark operation rows : List ℕ} (q b : ℕ) {last : ℕ} {r : Verdict} →
-    b < length (p .sizes) → Verdict-given p n marks queue mark operation rows →
-    last ≡ last-shown queue q n → r ≡ verdict-at (seen queue rows last) mark operation (last-marked mark b marks) → r ≡ verdict p q b
+    b < length (p .sizes) → Verdict-given p n marks queue mark operation rows → last ≡ last-shown queue q n →
+    r ≡ verdict-at (seen queue rows last) mark operation (last-marked mark b marks) → r ≡ verdict p q b
 verdict-right {p} {n} {marks} {queue} {mark} {operation} {rows} q b known shown last-is e =
     let sees : ℕ → Bool = seen-by p (last-on p q) in
     let last-right = last-is ∙ ap (last-shown queue q) (sym (shown .many)) ∙ last-of p queue q (shown .queues-shown) in
-    let inside : (k : ℕ) → k < marks → getD operation k 0 % 1024 < count p =
-        λ k l. let m = each-at (Known p) (plan-marks p) (marks-known p (shown .sound)) k (omega (arith, shown .marks-shown .all)) .by in
-        omega (arith, m, shown .marks-shown .operations k l, shown .sound .few-operations) in
-    let marks-are = ap (of-buffer b) (marks-shown p marks mark operation (shown .sound) (shown .few-buffers) (shown .marks-shown)) ∙ of-plan p b in
     e
     ∙ ap (λ (z : ℕ). verdict-at (seen queue rows z) mark operation (last-marked mark b marks)) last-right
-    ∙ at-same (seen queue rows (place-or 1024 (last-on p q))) sees mark operation b marks (λ k l. seen-right shown q (getD operation k 0 % 1024) (inside k l))
+    ∙ at-same (seen queue rows (place-or 1024 (last-on p q))) sees mark operation b marks
+    (λ k l. seen-right shown q (getD operation k 0 % 1024) (by-inside shown k l))
     ∙ sym (last-placed mark operation b sees marks)
-    ∙ ap (λ (z : List Placed). by-last sees (last-mark z)) marks-are
+    ∙ ap (λ (z : List Placed). by-last sees (last-mark z)) (marks-are shown b)
     ∙ last-verdict p q b (λ k l. shown .forced b k known l)

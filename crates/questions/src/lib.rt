@@ -21,7 +21,8 @@ ghost use Rattle.plan_format.specs.Plan.{Plan};
 ghost use Rattle.plan_format.specs.Stored.{Tells};
 ghost use Rattle.plan_order.specs.Reuse.{verdict as verdict-of, number-of, question-refusal};
 ghost use Rattle.questions.specs.Reuse.{Asked};
-ghost use Rattle.questions.specs.ReusePass.{Question-given, Verdict-given, last-shown, last-marked, seen as is-seen, verdict-after, verdict-at};
+ghost use Rattle.questions.specs.ReusePass.{Question-given, Verdict-given, last-shown, last-marked};
+ghost use Rattle.questions.specs.ReusePass.{seen as is-seen, verdict-after, verdict-at};
 
 // The reuse question: a verdict as the answer; or the refusal of the plan, of the queue or of the buffer.
 pub fn reuse_question(

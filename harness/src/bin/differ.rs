@@ -55,7 +55,7 @@ struct Tally {
     plans: u64,
     by_brute_force: u64,
     numbers: [[u64; 22]; FUNCTIONS.len()],
-    verdicts: [u64; 5],
+    verdicts: [u64; 4],
     dominance: [u64; 3],
 }
 
@@ -85,7 +85,7 @@ impl Tally {
             }
             println!();
         }
-        println!("reuse verdicts 0 to 4: {:?}", self.verdicts);
+        println!("reuse verdicts 0 to 3: {:?}", self.verdicts);
         println!("dominance no, yes, unknown: {:?}", self.dominance);
     }
 
@@ -96,9 +96,7 @@ impl Tally {
                 return Some(format!("{name} never gave {number}"));
             }
         }
-        // Verdict 4 is not asked for: the marks of a passed plan are all before
-        // the last free, or in it.
-        if self.verdicts[..4].contains(&0) || self.dominance.contains(&0) {
+        if self.verdicts.contains(&0) || self.dominance.contains(&0) {
             return Some("an answer never occurred".to_string());
         }
         None

@@ -27,9 +27,10 @@ number-of-requires c κs = search needs
 
 returns-3 : tie.Need-returns-3
 returns-3 c =
+    let known = c .before .before .if2 .left in
     λ p o.
-    answered o _ _ (c .before .before .before .before .if1 .left) (c .before .before .if2 .left)
-    (c .number-of .ensures ∙ ap number-of (c .before .verdict .ensures p (omega (arith, o .buffers-are, c .before .before .if2 .left)) (o .shown)))
+    answered o _ _ (c .before .before .before .before .if1 .left) known
+    (c .number-of .ensures ∙ ap number-of (c .before .verdict .ensures p (omega (arith, o .buffers-are, known)) (o .shown)))
 
 pub answer-spec : {M : Type 1} → statement M
 answer-spec =
