@@ -94,8 +94,8 @@ module _ (p : Plan) (b : ℕ) (forced : (k : ℕ) → k < length (buffer-marks p
     all-by-last m e t =
         let last = some-last (buffer-marks p b) m e in
         by-cases (sees m)
-        (λ s. rw s (all-by sees (buffer-marks p b) (λ n among.
-        seen-means p q (n .by) .1 (marked-seen q m last (free-kind m t) (seen-means p q (m .by) .0 s) (n .by) (mark-marked p b n among)))))
+        (λ s. let seen = marked-seen q m last (free-kind m t) (seen-means p q (m .by) .0 s) in
+        rw s (all-by sees (buffer-marks p b) (λ n among. seen-means p q (n .by) .1 (seen (n .by) (mark-marked p b n among)))))
         (λ s. rw s (all-no sees (buffer-marks p b) m (last-in p q b m last) s))
 
     -- the number is that of the five-line table

@@ -158,5 +158,5 @@ module _ (bs : List ℕ) (q b : ℕ) (r : Told) (t x l y : List ℕ) (s : Reuse-
   pub question-most : r .answer ≤ 3
   question-most =
       by-cases (eqb (r .number) 0)
-      (λ t. subst (λ (n : ℕ). n ≤ 3) (sym (question-number (eqb-true (r .number) 0 t))) (number-most (verdict (plan-in bs) q b)))
+      (λ t. let e = question-number (eqb-true (r .number) 0 t) in omega (arith, e, number-most (verdict (plan-in bs) q b)))
       (λ f. let e = question-no-answer (eqb-false (r .number) 0 f) in omega arith)

@@ -8,10 +8,12 @@ use Prim.Native.Nat.{ℕ, zero, suc, _≤_}
 use native.Mathlib.Omega.{arith}
 use lib.Dec.{ltb, eqb}
 use borrow.Author.Tests.{ltb-true, ltb-false, eqb-true, eqb-false}
-use Rattle.basics.specs.Lists.{all}
+use Rattle.basics.specs.Lists.{member, all, highest-below}
 use Rattle.basics.proofs.Tests.{by-cases, by-option, clash, is-false}
 use Rattle.basics.proofs.Searches.{all-gives, all-by, all-fails, all-no, highest-some, highest-none}
+use Rattle.order.specs.Closure.{any-of, fresh as found, round, rounds, predecessors}
 use Rattle.plan_format.specs.Plan.{Plan, count, op}
+use Rattle.plan_order.specs.Precedence.{same-queue, any-rests-on, direct, all-before, before, at-or-before}
 use Rattle.plan_order.specs.Holdings.{Placed, placed, marks-of, marks-from, is-free, buffer-marks}
 use Rattle.plan_order.specs.Reuse.{number-of, last-on, seen-by, last-mark, verdict-on, verdict}
 use Rattle.plan_order.specs.Meaning.{Last-on, Seen, Last-mark, When, Verdict-table}
@@ -33,6 +35,23 @@ one-use = record {
 used-held : verdict one-use 0 0 ≡ Held
 unfolding one-use verdict verdict-on buffer-marks marks-from marks-of placed last-mark is-free
 used-held = refl
+
+-- T11: one queue uses the buffer, and another one frees it; the first sees its own operation alone
+two-queues : Plan
+two-queues = record {
+  axes = 0 ∷ 1 ∷ [];
+  owners = [];
+  sizes = 0 ∷ [];
+  operations =
+      record { queue = 0; waits = []; signals = []; marks = record { buffer = 0; kind = 0 } ∷ [] }
+      ∷ record { queue = 1; waits = []; signals = []; marks = record { buffer = 0; kind = 1 } ∷ [] } ∷ [];
+}
+
+not-all-seen : verdict two-queues 0 0 ≡ NotOrdered
+unfolding two-queues verdict verdict-on last-on highest-below buffer-marks marks-from marks-of placed last-mark is-free
+    all seen-by at-or-before before all-before predecessors rounds round found any-of direct any-rests-on same-queue
+    member count op
+not-all-seen = refl
 
 module _ (p : Plan) (q : ℕ) where
   -- ---- the queue's last operation
@@ -156,7 +175,14 @@ module _ (p : Plan) (q b : ℕ) where
       (λ m e. let last = some-last marks m e in
       by-cases (is-free m)
       (λ t. by-cases (all sees marks)
-      (λ a. rw (is-reusable m e t a) (m, last, free-kind m t, λ i w. let x = marked-mark p b i w in subst (λ (z : ℕ). Seen p q z) (x .2) (seen-means p q (x .0 .by) .0 (all-gives sees marks a (x .0) (x .1)))))
+      (λ a. rw (is-reusable m e t a) (
+        m,
+        last,
+        free-kind m t,
+        λ i w.
+            let x = marked-mark p b i w in
+            subst (λ (z : ℕ). Seen p q z) (x .2) (seen-means p q (x .0 .by) .0 (all-gives sees marks a (x .0) (x .1))),
+      ))
       (λ a. rw (is-not-ordered m e t a) (let x = all-fails sees marks a in
       (m, last, free-kind m t, (x .0 .by, mark-marked p b (x .0) (x .1), unseen p q (x .0 .by) (x .2))))))
       (λ f. rw (is-held m e f) (m, last, use-kind m f)))

@@ -96,7 +96,8 @@ at-same f g mark operation b n h =
     by-option (last-marked mark b n) (λ e. rw e)
     (λ k e. rw (e, h k (highest-some n (λ k. eqb (getD mark k 0 % 512 / 2) b) k e .inside)))
 
-module _ {p : Plan} {n marks : ℕ} {queue mark operation rows : List ℕ} (shown : Verdict-given p n marks queue mark operation rows) where
+module _ {p : Plan} {n marks : ℕ} {queue mark operation rows : List ℕ}
+    (shown : Verdict-given p n marks queue mark operation rows) where
   -- a mark is of an operation of the plan
   by-inside : (k : ℕ) → k < marks → getD operation k 0 % 1024 < count p
   by-inside k l =

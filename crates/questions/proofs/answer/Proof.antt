@@ -2,7 +2,9 @@
 use mathlib.Core.Path.{ap, _∙_}
 use Rattle.plan_order.specs.Reuse.{number-of}
 use Rattle.questions.proofs.ReuseAsked.{no-queue, no-buffer, answered}
+use Prim.Native.Nat.{_<_}
 use native.Mathlib.Omega.{arith}
+use lib.ListN.{length}
 use borrow.Author.Needs.{needs}
 use Rattle.questions.proofs.answer.Statement.{statement}
 use Rattle.questions.proofs.answer.Tie as tie
@@ -27,10 +29,11 @@ number-of-requires c κs = search needs
 
 returns-3 : tie.Need-returns-3
 returns-3 c =
-    let known = c .before .before .if2 .left in
+    let inside = c .before .before .if2 .left in
     λ p o.
-    answered o _ _ (c .before .before .before .before .if1 .left) known
-    (c .number-of .ensures ∙ ap number-of (c .before .verdict .ensures p (omega (arith, o .buffers-are, known)) (o .shown)))
+    let known : _ < length (p .sizes) = omega (arith, o .buffers-are, inside) in
+    answered o _ _ (c .before .before .before .before .if1 .left) inside
+    (c .number-of .ensures ∙ ap number-of (c .before .verdict .ensures p known (o .shown)))
 
 pub answer-spec : {M : Type 1} → statement M
 answer-spec =

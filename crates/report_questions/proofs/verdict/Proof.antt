@@ -57,8 +57,9 @@ returns-4 : tie.Need-returns-4
 unfolding verdict-name
 returns-4 c =
     let third = c .before .before .before .before .before in
-    let n = third .before .before .before .before .args .number in
-    rw (ne-eqb n 0 (third .before .before .if1 .left), ne-eqb n 1 (third .before .if2 .left), ne-eqb n 2 (third .if3 .left))
+    let first = third .before .before in
+    let n = first .before .before .args .number in
+    rw (ne-eqb n 0 (first .if1 .left), ne-eqb n 1 (third .before .if2 .left), ne-eqb n 2 (third .if3 .left))
     (c .before .before .words4 .ensures)
 
 pub verdict-spec : {M : Type 1} → statement M
