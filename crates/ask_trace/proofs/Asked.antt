@@ -1,9 +1,8 @@
 -- What the question says, from what the check says and what the columns of the opened plan show. Assumes nothing.
-use mathlib.Core.Path.{_≡_, refl, sym, ap, _∙_}
+use mathlib.Core.Path.{_≡_, sym, ap, _∙_}
 use mathlib.Core.Bool.{true, false, cond}
 use mathlib.Core.List.{List}
 use Prim.Native.Nat.{ℕ, _≤_}
-use native.Mathlib.Omega.{arith}
 use lib.Dec.{eqb}
 use lib.ListN.{length}
 use borrow.Author.Tests.{eqb-true, eqb-false}
@@ -17,16 +16,7 @@ use Rattle.plan_format.specs.Stored.{plan-in, Tells}
 use Rattle.plan_format.specs.declared.Told.{Told}
 use Rattle.plan_format.proofs.Judged.{zero-not-given, other-given, not-given-zero}
 use Rattle.plan_format.proofs.Positions.{few-waits}
-use Rattle.plan_order.specs.Check.{
-  rows-and-run,
-  Leaves,
-  Outcome,
-  outcome,
-  check-outcome,
-  table-left,
-  list-left,
-  Check-says,
-}
+use Rattle.plan_order.specs.Check.{Leaves, Outcome, outcome, table-left, list-left, Check-says}
 use Rattle.plan_order.specs.Precedence.{plan-signals}
 use Rattle.plan_order.specs.Promise.{Checked}
 use Rattle.plan_order.proofs.Demand3.{demand-3}
@@ -34,9 +24,9 @@ use Rattle.plan_columns.specs.Columns.{no-signal}
 use Rattle.plan_rules.proofs.Flat.{plan-inside}
 use Rattle.plan_trace.specs.declared.Traced.{Traced}
 use Rattle.plan_trace.specs.Trace.{trace-steps, followed}
-use Rattle.plan_trace.specs.State.{queue-counts, steps-followed, trace-state, traced-of, nothing-traced}
+use Rattle.plan_trace.specs.State.{steps-followed, trace-state, traced-of, nothing-traced}
 use Rattle.plan_trace.specs.Numbers.{number-of}
-use Rattle.plan_trace.specs.Question.{own-refusal, trace-outcome-in, traced-by, state-left, Trace-says}
+use Rattle.plan_trace.specs.Question.{trace-outcome-in, traced-by, state-left, Trace-says}
 use Rattle.plan_trace.specs.Promise.{Trace-right}
 use Rattle.plan_trace.proofs.FollowedMeaning.{followed-run}
 use Rattle.plan_trace.proofs.QuestionMeaning.{own-none, plan-first, then-asked, leaves-are}

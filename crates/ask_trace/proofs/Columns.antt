@@ -2,7 +2,7 @@
 use mathlib.Core.Path.{_≡_, refl, sym, ap, _∙_}
 use mathlib.Core.Bool.{Bool, true, false, _&&_, not, and-false, true≢false}
 use mathlib.Core.List.{List, [], _∷_, _++_, append-assoc, append-nil}
-use Prim.Native.Nat.{ℕ, zero, suc, _+_, _*_, _%_, _≤_, _<_}
+use Prim.Native.Nat.{ℕ, suc, _+_, _*_, _%_, _≤_, _<_}
 use native.Mathlib.Nat.{mod-eq-of-lt}
 use native.Mathlib.Omega.{arith}
 use lib.Dec.{ltb, leb, eqb}
@@ -16,11 +16,11 @@ use Rattle.basics.proofs.Places.{mem-at}
 use Rattle.basics.proofs.Searches.{lowest-some, lowest-none, lowest-is}
 use Rattle.basics.proofs.Tallies.{tally-ends}
 use Rattle.order.proofs.Runs.{runs-nil}
-use Rattle.plan_format.specs.Sizes.{most-queues, most-operations, most-waits, row-width, no-operation}
+use Rattle.plan_format.specs.Sizes.{most-queues, most-operations, most-waits, no-operation}
 use Rattle.plan_format.specs.Plan.{Point, Plan, count, op}
 use Rattle.plan_format.specs.Meaning.{wait-at}
 use Rattle.plan_format.specs.Sound.{Sound, signals-refusal, waits-refusal}
-use Rattle.plan_order.specs.Precedence.{Resolution, free, on, never, resolve}
+use Rattle.plan_order.specs.Precedence.{Resolution, at-once, on, never, resolve}
 use Rattle.plan_order.specs.Rows.{epoch}
 use Rattle.plan_order.specs.Runs.{earlier-run, enabled, ready, is-run, is-full, wait-met}
 use Rattle.plan_order.proofs.Demand3.{rules-good}
@@ -31,7 +31,7 @@ use Rattle.plan_columns.specs.Columns.{Queue-column, Source-column, Row-columns
 use Rattle.plan_columns.specs.Columns as columns
 use Rattle.plan_trace.specs.declared.Followed.{Followed}
 use Rattle.plan_trace.specs.declared.Traced.{Traced}
-use Rattle.plan_trace.specs.Trace.{unmet-wait, judged, departs, Found, found, at-end, follow, followed}
+use Rattle.plan_trace.specs.Trace.{unmet-wait, judged, departs, Found, found, follow, followed}
 use Rattle.plan_trace.specs.State.{queue-count, queue-counts, no-counts, traced, traced-of}
 use Rattle.plan_trace.proofs.Reasons.{
   Judged,
@@ -127,7 +127,7 @@ module _ (p : Plan) (n : ℕ) (queue source rows : List ℕ) (shown : Shown p n 
     of-source : (w : Point) (y : Resolution) → Resolved p w y → (at : ℕ) → getD source at 0 ≡ source-of y →
         held-at queue source rows (queue-counts p r) at ≡ not (rested r y)
     unfolding held-at source-of rested
-    of-source w free d at e = rw e
+    of-source w at-once d at e = rw e
     of-source w (on x) (at-signal _ t) at e =
         rw (e, lt-ltb (x .operation) no-operation (omega (arith, t .inside, shown .sound .few-operations)))
         (ap not (ran-right (x .operation) (t .inside)))

@@ -12,7 +12,6 @@ use lib.Seq.{ext-getD, getD-set-same, getD-set-other, drop-cons, drop-length, le
 use borrow.Author.Tests.{eqb-true, eqb-false, eq-eqb, ne-eqb, ltb-true, ltb-false}
 use Rattle.basics.specs.Lists.{member, in-front}
 use Rattle.basics.proofs.Tests.{by-cases}
-use Rattle.basics.proofs.Places.{mem-at}
 use Rattle.basics.proofs.Fronts.{front-none, front-all, front-more, front-length, front-at, front-past}
 use Rattle.basics.proofs.Tables.{tabulate-length, tabulate-at}
 use Rattle.plan_format.specs.Sizes.{most-queues, most-semaphores, state-size}

@@ -1,17 +1,17 @@
 -- What each function and each turn of a loop of the walk does. Assumes nothing.
 use mathlib.Core.Path.{_≡_, refl, sym, ap, _∙_}
-use mathlib.Core.Bool.{Bool, true, false, _&&_, not}
+use mathlib.Core.Bool.{Bool, true, false, _&&_, not, cond, and-false}
 use mathlib.Core.List.{List, [], _∷_}
 use mathlib.Core.Option.{Option, none, some}
-use Prim.Native.Nat.{ℕ, zero, suc, _+_, _-_, _*_, _%_, _≤_, _<_}
+use Prim.Native.Nat.{ℕ, zero, suc, _+_, _-_, _*_, _/_, _%_, _≤_, _<_}
 use native.Mathlib.Nat.{le-of-suc-le-suc}
 use native.Mathlib.Numerals.{add-one}
 use native.Mathlib.Omega.{arith}
 use lib.Dec.{ltb, leb, eqb}
 use lib.ListN.{length, getD, set, take, drop}
-use borrow.Author.Tests.{le-leb, lt-leb, lt-ltb, le-ltb, eq-eqb, ne-eqb}
+use borrow.Author.Tests.{ltb-true, ltb-false, le-leb, lt-leb, lt-ltb, le-ltb, eq-eqb, ne-eqb}
 use Rattle.basics.specs.Lists.{lowest-below, place-or, tabulate-from}
-use Rattle.basics.proofs.Tests.{by-option, clash}
+use Rattle.basics.proofs.Tests.{by-cases, by-option, clash}
 use Rattle.basics.proofs.Searches.{lowest-is, lowest-some}
 use Rattle.plan_format.specs.Sizes.{most-operations, most-waits, row-width, step-bytes, no-operation}
 use Rattle.plan_format.specs.Grammar.{value}
@@ -69,10 +69,20 @@ module _ (queue source rows counts : List ℕ) where
   count-is j q e = ap (λ (z : ℕ). getD counts z 0) e
 
   -- ---- one wait
-  pub held-is : (at i : ℕ) (ran : Bool) → i ≡ getD source at 0 → ran ≡ ran-at queue rows counts i →
-      (ltb i no-operation && not ran) ≡ held-at queue source rows counts at
+  -- one comparison of numbers is both tests
+  below-unless : (i : ℕ) (ran : Bool) → ltb (i / no-operation) (cond ran 0 1) ≡ (ltb i no-operation && not ran)
+  below-unless i true = le-ltb (i / no-operation) 0 (omega arith) ∙ sym (and-false (ltb i no-operation))
+  below-unless i false =
+      by-cases (ltb i no-operation)
+      (λ t. lt-ltb (i / no-operation) 1 (omega (arith, ltb-true i no-operation t)) ∙
+      sym (ap (λ (b : Bool). b && true) t))
+      (λ f. le-ltb (i / no-operation) 1 (omega (arith, ltb-false i no-operation f)) ∙
+      sym (ap (λ (b : Bool). b && true) f))
+
+  pub held-is : (at i u : ℕ) (ran : Bool) → i ≡ getD source at 0 → ran ≡ ran-at queue rows counts i → u ≡ cond ran 0 1 →
+      ltb (i / no-operation) u ≡ held-at queue source rows counts at
   unfolding held-at
-  held-is at i ran e f = rw (← e, f)
+  held-is at i u ran e f g = ap (ltb (i / no-operation)) g ∙ below-unless i ran ∙ rw (← e, f)
 
   -- ---- the first of three waits
   pub unmet-at : (j k : ℕ) → k < most-waits → held queue source rows counts j k ≡ true →

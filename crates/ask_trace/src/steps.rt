@@ -12,6 +12,7 @@ use plan_trace::QueueCounts;
 use plan_trace::Traced;
 use plan_trace::Unmet;
 ghost use mathlib.Core.Path.{_≡_};
+ghost use mathlib.Core.Bool.{cond};
 ghost use Prim.Native.Nat.{_<_, _≤_};
 ghost use lib.ListN.{getD, take, drop};
 ghost use Rattle.basics.specs.Lists.{lowest-below, place-or};
@@ -96,14 +97,21 @@ fn unmet(queue: &[u16], source: &[u16], table: &[u32], counts: &QueueCounts, j: 
     MOST_WAITS
 }
 
-// Whether the wait at a place rests on an operation that has not run. Both are worked out whatever the wait is, so that
-// no branch depends on whether there is a wait.
+// Whether the wait at a place rests on an operation that has not run. One comparison of numbers says so, since a wait that
+// rests on none has a number past every operation: no branch depends on whether there is a wait.
 fn holds(queue: &[u16], source: &[u16], table: &[u32], counts: &QueueCounts, at: usize) -> bool
     ensures { λ r. ⌜ r ≡ held-at (now (queue .entry)) (now (source .entry)) (now (table .entry)) (now (counts .entry)) at ⌝ }
 {
     let i = cells::get16(source, at);
     let ran = has_run(queue, table, counts, i);
-    (i < NO_OPERATION) & !ran
+    i / NO_OPERATION < unless(ran)
+}
+
+// One, unless so.
+fn unless(so: bool) -> usize
+    ensures { λ r. ⌜ r ≡ cond so 0 1 ⌝ }
+{
+    if so { 0 } else { 1 }
 }
 
 // Whether an operation has run: its own entry is at most its queue's count.

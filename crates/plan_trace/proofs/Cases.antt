@@ -1,46 +1,25 @@
--- Small traces by the definitions, each a list under one claim; every rule that an edit could change is shown here.
--- Assumes nothing.
+-- Small traces by the definitions, each a list under one claim. Assumes nothing.
 use mathlib.Core.Path.{_≡_, refl}
 use mathlib.Core.List.{List, [], _∷_, _++_, map}
 use mathlib.Core.Option.{orElse}
 use Prim.Native.Nat.{ℕ}
 use lib.ListN.{take, drop}
 use Rattle.basics.specs.Lists.{member, all, all-below, tally, first-from, when-true, tabulate-from}
-use Rattle.plan_format.specs.Grammar.{value, bytes, scan, refused, field-number, read-field, read-by, ended}
-use Rattle.plan_format.specs.Form.{first-form, plan-grammar, scanned-by}
-use Rattle.plan_format.specs.Refusal.{Refusal, refusal, none-given, given, or-else}
-use Rattle.plan_format.specs.Plan.{Point, Plan, count, op, plan-of}
+use Rattle.plan_format.specs.Grammar.{value}
+use Rattle.plan_format.specs.Plan.{Point, Plan, count, op}
 use Rattle.plan_format.specs.Sound.{highest-in}
-use Rattle.plan_format.specs.Stored.{scanned, plan-in, plan-refusal, room-for}
-use Rattle.plan_order.specs.Check.{untouched, outcome, or-then, check-outcome}
 use Rattle.plan_order.specs.Precedence.{same-queue}
 use Rattle.plan_order.specs.Runs.{reached, wait-met, earlier-run}
-use Rattle.plan_trace.specs.declared.Followed.the-variants.{Unknown}
-use Rattle.plan_trace.specs.Trace.{
-  step-count,
-  step-at,
-  trace-steps,
-  trace-formed,
-  trace-refusal,
-  unmet-wait,
-  of-wait,
-  judged,
-  departs,
-  found,
-  at-end,
-  follow,
-  followed,
-}
+use Rattle.plan_trace.specs.Trace.{step-count, step-at, trace-steps, unmet-wait, of-wait, judged, departs, found, at-end, follow, followed}
 use Rattle.plan_trace.specs.State.{queue-count, queue-counts, semaphore-values, state-of, trace-state, traced-of}
-use Rattle.plan_trace.specs.Question.{own-refusal, trace-outcome}
 use Rattle.plan_trace.specs.Numbers.{number-of, operation-of, wait-of, found-numbers}
 
-abbrev pt : (s v : ℕ) → Point
+abbrev pub pt : (s v : ℕ) → Point
 pt s v = record { semaphore = s; value = v }
 
 -- three queues; operation 0 signals S0 to 1; operation 1 waits for that and signals S1 to 1, for which operation 2
 -- waits twice, after a wait for 0
-unfoldable chain : Plan
+unfoldable pub chain : Plan
 chain = record {
   axes = 7 ∷ 8 ∷ 9 ∷ [];
   owners = 0 ∷ 1 ∷ [];
@@ -52,7 +31,7 @@ chain = record {
 }
 
 -- one queue with two operations; and no operation
-unfoldable pair : Plan
+unfoldable pub pair : Plan
 pair = record {
   axes = 7 ∷ [];
   owners = [];
@@ -62,7 +41,7 @@ pair = record {
       { queue = 0; waits = []; signals = []; marks = [] } ∷ [];
 }
 
-unfoldable empty : Plan
+unfoldable pub empty : Plan
 empty = record { axes = []; owners = []; sizes = []; operations = [] }
 
 -- the number, the numbers found, then three queues and two semaphores
@@ -99,28 +78,3 @@ unfolding pair empty told step-count step-at trace-steps unmet-wait of-wait judg
     all-below tally
     first-from when-true tabulate-from value count op highest-in same-queue reached wait-met earlier-run orElse
 pair-traces = refl
-
--- no byte, one byte, a count with no step, a byte too many, a count alone
-formed-traces :
-    map trace-refusal ([] ∷ (0 ∷ []) ∷ (1 ∷ 0 ∷ []) ∷ (0 ∷ 0 ∷ 0 ∷ []) ∷ (0 ∷ 0 ∷ []) ∷ [])
-    ≡ refusal 22 0 ∷ refusal 22 0 ∷ refusal 22 0 ∷ refusal 22 0 ∷ none-given ∷ []
-unfolding trace-refusal trace-formed step-count value refusal none-given
-formed-traces = refl
-
--- 9 with the size of the state comes before 22
-room-before-form :
-    map (own-refusal []) (79 ∷ 80 ∷ []) ≡ refusal 9 80 ∷ refusal 22 0 ∷ []
-unfolding own-refusal or-else given room-for trace-refusal trace-formed step-count value refusal none-given
-room-before-form = refl
-
--- an operation that the plan does not have, also where it is among the steps
-unknown-first : judged chain (9 ∷ []) 9 ≡ Unknown 9
-unfolding chain judged count
-unknown-first = refl
-
--- no bytes of a plan and none of a trace: the plan is refused, and nothing is touched
-plan-before-question : trace-outcome [] [] 0 0 0 ≡ outcome (refusal 1 0) untouched
-unfolding trace-outcome own-refusal check-outcome or-then outcome plan-refusal or-else given none-given refusal
-    plan-in plan-of scanned
-    scanned-by bytes scan refused read-by read-field field-number ended first-form plan-grammar room-for
-plan-before-question = refl

@@ -1,9 +1,9 @@
 -- One byte more than the longest trace has decides what is answered: a trace that is longer is badly formed, whatever
 -- follows. Assumes nothing.
-use mathlib.Core.Path.{_≡_, refl, sym, ap, _∙_}
+use mathlib.Core.Path.{_≡_, sym, ap, _∙_}
 use mathlib.Core.Bool.{true, false, _&&_}
 use mathlib.Core.List.{List, [], _∷_}
-use Prim.Native.Nat.{ℕ, zero, suc, _+_, _<_}
+use Prim.Native.Nat.{ℕ, zero, suc, _<_}
 use native.Mathlib.Omega.{arith}
 use lib.Dec.{ltb, leb, eqb}
 use lib.ListN.{length, getD}
@@ -15,7 +15,7 @@ use Rattle.plan_format.specs.Sizes.{step-bytes, most-steps, trace-bytes}
 use Rattle.plan_format.specs.Refusal.{refusal}
 use Rattle.plan_format.specs.Stored.{all-bytes}
 use Rattle.plan_trace.specs.Trace.{step-count, step-place, step-at, trace-steps, trace-formed, trace-refusal}
-use Rattle.plan_trace.specs.Promise.{Traced-alike, Same-trace, First-trace-bytes}
+use Rattle.plan_trace.specs.Promise.{Traced-alike, deciding-bytes, Same-trace, First-trace-bytes}
 use Rattle.plan_trace.proofs.Steps.{count-is, step-is, steps-many, steps-each}
 use Rattle.plan_trace.proofs.Alike.{same-at, same-long, same-short}
 
@@ -39,12 +39,13 @@ long-ill ts few long =
     rw bad
 
 module _ (ts us : List ℕ) (bytes : all-bytes ts ≡ true) (same : Same-trace ts us) where
-  abbrev front : ℕ
-  front = trace-bytes + 1
-
   counts-alike : step-count ts ≡ step-count us
   counts-alike = count-is ts
-      ∙ omega (arith, same-at front ts us same 0 (omega arith), same-at front ts us same 1 (omega arith))
+      ∙ omega (
+        arith,
+        same-at deciding-bytes ts us same 0 (omega arith),
+        same-at deciding-bytes ts us same 1 (omega arith),
+      )
       ∙ sym (count-is us)
 
   few-steps : step-count ts < suc most-steps
@@ -55,8 +56,8 @@ module _ (ts us : List ℕ) (bytes : all-bytes ts ≡ true) (same : Same-trace t
       step-is ts k
       ∙ omega (
         arith,
-        same-at front ts us same (step-place k) (omega (arith, few-steps)),
-        same-at front ts us same (suc (step-place k)) (omega (arith, few-steps)),
+        same-at deciding-bytes ts us same (step-place k) (omega (arith, few-steps)),
+        same-at deciding-bytes ts us same (suc (step-place k)) (omega (arith, few-steps)),
       )
       ∙ sym (step-is us k)
 
@@ -69,11 +70,11 @@ module _ (ts us : List ℕ) (bytes : all-bytes ts ≡ true) (same : Same-trace t
   refusal-alike : trace-refusal ts ≡ trace-refusal us
   refusal-alike =
       by-cases (leb (length ts) trace-bytes)
-      (λ t. ap trace-refusal (same-short front ts us same (omega (arith, leb-true (length ts) trace-bytes t))))
+      (λ t. ap trace-refusal (same-short deciding-bytes ts us same (omega (arith, leb-true (length ts) trace-bytes t))))
       (λ f. let l = leb-false (length ts) trace-bytes f in
       long-ill ts few-steps l
       ∙ sym (long-ill us (omega (arith, counts-alike, few-steps))
-      (same-long front ts us same front (omega arith) (omega arith))))
+      (same-long deciding-bytes ts us same deciding-bytes (omega arith) (omega arith))))
 
   pub trace-alike : Traced-alike ts us
   trace-alike = record { refusal = refusal-alike; steps = steps-alike }

@@ -3,7 +3,7 @@ use mathlib.Core.Path.{_≡_, refl, sym, ap, _∙_, subst}
 use mathlib.Core.Bool.{Bool, true, false, _&&_, _||_, not, and-true, and-false, false≢true}
 use mathlib.Core.Logic.{_↔_}
 use mathlib.Core.List.{List, [], _∷_, _++_, List·Memᴰ}
-use Prim.Native.Nat.{ℕ, zero, suc, _≤_, _<_}
+use Prim.Native.Nat.{ℕ, suc, _≤_, _<_}
 use native.Mathlib.Omega.{arith}
 use lib.Dec.{ltb, leb, eqb}
 use lib.ListN.{length, getD, set, length-set}
@@ -20,7 +20,7 @@ use Rattle.plan_format.specs.Plan.{Point, Plan, count, op}
 use Rattle.plan_format.specs.Sound.{signals-refusal, waits-refusal}
 use Rattle.plan_order.specs.Precedence.{
   Resolution,
-  free,
+  at-once,
   on,
   never,
   resolve,
@@ -39,13 +39,13 @@ use Rattle.plan_trace.proofs.StateMeaning.{counts-at, counts-long}
 
 -- what a wait rests on has run; a wait that rests on nothing is met
 unfoldable pub rested : (run : List ℕ) → Resolution → Bool
-rested r free = true
+rested r at-once = true
 rested r (on x) = member (x .operation) r
 rested r never = true
 
 rested-means : (r : List ℕ) (y : Resolution) → (rested r y ≡ true) ↔ ((i : ℕ) → rests-on y i ≡ true → member i r ≡ true)
 unfolding rested rests-on
-rested-means r free = ((λ _ i t. absurd (false≢true t)), (λ _. refl))
+rested-means r at-once = ((λ _ i t. absurd (false≢true t)), (λ _. refl))
 rested-means r (on x) = (
   (λ m i t. subst (λ (z : ℕ). member z r ≡ true) (eqb-true (x .operation) i t) m),
   (λ h. h (x .operation) (eq-eqb (x .operation) (x .operation) refl)),

@@ -1,8 +1,8 @@
 -- All that a caller of the question on a trace gets, from what it says by definition. Assumes nothing.
 use mathlib.Core.Path.{_≡_, refl, sym, ap, _∙_, subst}
-use mathlib.Core.Bool.{true, not}
+use mathlib.Core.Bool.{not}
 use mathlib.Core.List.{List}
-use Prim.Native.Nat.{ℕ, _+_, _≤_}
+use Prim.Native.Nat.{ℕ, _+_}
 use native.Mathlib.Omega.{arith}
 use lib.Dec.{eqb}
 use lib.ListN.{length, getD, take, drop}
@@ -20,7 +20,7 @@ use Rattle.plan_format.specs.Stored.{plan-in, plan-refusal}
 use Rattle.plan_format.specs.declared.Told.{Told}
 use Rattle.plan_format.proofs.Judged.{zero-not-given, other-given, not-given-zero}
 use Rattle.plan_format.proofs.Plans.{sound-in}
-use Rattle.plan_order.specs.Check.{Outcome, room-refusal, check-outcome}
+use Rattle.plan_order.specs.Check.{room-refusal, check-outcome}
 use Rattle.plan_order.specs.Meaning.{Past-kept, Left-means}
 use Rattle.plan_order.specs.Promise.{unrefused}
 use Rattle.plan_order.proofs.CheckMeaning.{passed-unrefused}
@@ -159,7 +159,8 @@ module _ (bs ts : List ℕ) (r : Told) (x : Traced) (t tx l lx s sx : List ℕ) 
 
     left : Left-means plan (trace-outcome-in bs ts t l s .leaves) t tx l lx
     unfolding trace-outcome
-    left = asked-left bs (own-refusal ts (length s)) (number-of (followed plan steps .followed)) r t tx l lx (says .says)
+    left = asked-left bs (own-refusal ts (length s)) (number-of (followed plan steps .followed)) r t tx l lx
+        (says .says)
 
     pub trace-right : Trace-right bs ts r x t tx l lx s sx
     trace-right = record {

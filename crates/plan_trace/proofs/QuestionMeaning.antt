@@ -1,8 +1,8 @@
 -- The question on a trace: the check's refusals, then 9, then 22, and what each leaves. Assumes nothing.
 use mathlib.Core.Path.{_≡_, refl, sym, ap, _∙_}
-use mathlib.Core.Bool.{true, false, _&&_}
+use mathlib.Core.Bool.{true, false}
 use mathlib.Core.Logic.{_⊎_, inl, inr, _↔_}
-use mathlib.Core.List.{List, _∷_}
+use mathlib.Core.List.{List, [], _∷_, map}
 use Prim.Native.Nat.{ℕ, _≤_, _<_}
 use native.Mathlib.Omega.{arith}
 use lib.Dec.{ltb, leb, eqb}
@@ -11,12 +11,15 @@ use borrow.Author.Tests.{ltb-true, ltb-false, lt-ltb, le-ltb, leb-true, leb-fals
 use Rattle.basics.specs.Lists.{member}
 use Rattle.basics.proofs.Tests.{by-cases, clash, is-false, and-left, and-right, and-both, either}
 use Rattle.plan_format.specs.Sizes.{step-bytes, state-size}
+use Rattle.plan_format.specs.Grammar.{value, bytes, scan, refused, field-number, read-field, read-by, ended}
+use Rattle.plan_format.specs.Form.{first-form, plan-grammar, scanned-by}
+use Rattle.plan_format.specs.Plan.{plan-of}
 use Rattle.plan_format.specs.Refusal.{Refusal, refusal, none-given, given, or-else}
 use Rattle.plan_format.specs.RefusalNumbers.{None-or, trace-numbers}
-use Rattle.plan_format.specs.Stored.{plan-in, room-for}
+use Rattle.plan_format.specs.Stored.{scanned, plan-in, plan-refusal, room-for}
 use Rattle.plan_format.specs.Meaning.{Refuses}
 use Rattle.plan_format.proofs.RefusalNumbers.{one-is}
-use Rattle.plan_order.specs.Check.{Leaves, untouched, zeros, rows-and-run, Outcome, outcome, check-outcome}
+use Rattle.plan_order.specs.Check.{untouched, zeros, rows-and-run, Outcome, outcome, or-then, check-outcome}
 use Rattle.plan_order.specs.Meaning.{Gives}
 use Rattle.plan_order.specs.Promise.{Safe, unrefused}
 use Rattle.plan_order.proofs.CheckMeaning.{check-means}
@@ -24,6 +27,18 @@ use Rattle.plan_order.proofs.Asking as asking
 use Rattle.plan_trace.specs.Trace.{step-count, step-place, trace-formed, trace-refusal}
 use Rattle.plan_trace.specs.Question.{own-refusal, trace-outcome}
 use Rattle.plan_trace.specs.Meaning.{Ill-formed, Well-formed, Outcome-means}
+
+-- 9 with the size of the state comes before 22
+room-before-form : map (own-refusal []) (79 ∷ 80 ∷ []) ≡ refusal 9 80 ∷ refusal 22 0 ∷ []
+unfolding own-refusal or-else given room-for trace-refusal trace-formed step-count value refusal none-given
+room-before-form = refl
+
+-- no bytes of a plan and none of a trace: the plan is refused, and nothing is touched
+plan-before-question : trace-outcome [] [] 0 0 0 ≡ outcome (refusal 1 0) untouched
+unfolding trace-outcome own-refusal check-outcome or-then outcome plan-refusal or-else given none-given refusal plan-in
+    plan-of scanned scanned-by bytes scan refused read-by read-field field-number ended first-form plan-grammar room-for
+    trace-refusal trace-formed step-count value
+plan-before-question = refl
 
 -- ---- the form of a trace
 module _ (ts : List ℕ) where

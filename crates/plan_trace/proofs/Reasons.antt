@@ -3,7 +3,7 @@
 use mathlib.Core.Path.{_≡_, refl, sym, ap, subst}
 use mathlib.Core.Bool.{Bool, true, false, not, false≢true}
 use mathlib.Core.Logic.{_↔_}
-use mathlib.Core.List.{List}
+use mathlib.Core.List.{List, [], _∷_}
 use mathlib.Core.Option.{Option, none, some}
 use Prim.Native.Nat.{ℕ, _≤_, _<_}
 use native.Mathlib.Omega.{arith}
@@ -31,6 +31,12 @@ use Rattle.plan_trace.specs.declared.Followed.the-variants.{
 }
 use Rattle.plan_trace.specs.Trace.{unmet-wait, of-wait, judged, departs}
 use Rattle.plan_trace.specs.Meaning.{Met, First, Breaks}
+use Rattle.plan_trace.proofs.Cases.{chain}
+
+-- an operation that the plan does not have is unknown, also where it is among the steps
+unknown-first : judged chain (9 ∷ []) 9 ≡ Unknown 9
+unfolding chain judged count
+unknown-first = refl
 
 module _ (p : Plan) (r : List ℕ) where
   -- ---- each test by quantifiers

@@ -4,11 +4,11 @@ use mathlib.Core.Path.{_≡_, refl, sym, ap, _∙_, subst}
 use mathlib.Core.Bool.{false, _&&_}
 use mathlib.Core.Logic.{_↔_}
 use mathlib.Core.List.{List, [], _∷_, _++_}
-use Prim.Native.Nat.{ℕ, suc, _+_, _≤_, _<_}
+use Prim.Native.Nat.{ℕ, suc, _+_, _-_, _≤_, _<_}
 use native.Mathlib.Nat.{zero-add}
 use native.Mathlib.Omega.{arith}
 use lib.Dec.{ltb, eqb}
-use lib.ListN.{length, getD, length-append, List·getD-append, List·getD-eq-default}
+use lib.ListN.{length, getD, replicate, length-append, List·getD-append, List·getD-eq-default}
 use lib.Seq.{getD-append-add}
 use borrow.Author.Tests.{ltb-true, ltb-false, eqb-true, eq-eqb, ne-eqb}
 use Rattle.basics.specs.Lists.{member, tally, tabulate-from}
@@ -26,6 +26,12 @@ use Rattle.plan_order.proofs.Readiness.{reached-under}
 use Rattle.plan_order.proofs.RunMeaning.{reached-means}
 use Rattle.plan_trace.specs.State.{queue-count, queue-counts, semaphore-values, state-of}
 use Rattle.plan_trace.specs.Meaning.{Run-on, State-means, Unused-means}
+use Rattle.plan_trace.proofs.Cases.{chain}
+
+-- after its first operation
+chain-counts : queue-counts chain (0 ∷ []) ≡ 1 ∷ replicate (most-queues - 1) 0
+unfolding chain queue-counts queue-count tabulate-from tally member count op
+chain-counts = refl
 
 module _ (p : Plan) (r : List ℕ) where
   -- ---- queues

@@ -1,14 +1,21 @@
--- The steps of a stored trace, by its bytes. Assumes nothing.
-use mathlib.Core.Path.{_≡_, refl, sym, ap, _∙_}
-use mathlib.Core.List.{List, [], _∷_}
-use Prim.Native.Nat.{ℕ, zero, suc, _+_, _*_, _<_}
+-- The form of a stored trace, and its steps by its bytes. Assumes nothing.
+use mathlib.Core.Path.{_≡_, refl, ap, _∙_}
+use mathlib.Core.List.{List, [], _∷_, map}
+use Prim.Native.Nat.{ℕ, zero, suc, _<_}
 use native.Mathlib.Nat.{zero-add}
 use native.Mathlib.Omega.{arith}
 use lib.ListN.{length, getD, take, drop}
 use Rattle.basics.proofs.Tables.{tabulate-length, tabulate-at}
 use Rattle.plan_format.specs.Grammar.{value}
-use Rattle.plan_trace.specs.Trace.{step-count, step-place, step-at, trace-steps}
+use Rattle.plan_format.specs.Refusal.{refusal, none-given}
+use Rattle.plan_trace.specs.Trace.{step-count, step-place, step-at, trace-steps, trace-formed, trace-refusal}
 use Rattle.plan_trace.specs.Meaning.{two-bytes, Steps-means}
+
+-- no byte, one byte, a count with no step, a byte too many, a count alone
+formed-traces : map trace-refusal ([] ∷ (0 ∷ []) ∷ (1 ∷ 0 ∷ []) ∷ (0 ∷ 0 ∷ 0 ∷ []) ∷ (0 ∷ 0 ∷ []) ∷ []) ≡
+    refusal 22 0 ∷ refusal 22 0 ∷ refusal 22 0 ∷ refusal 22 0 ∷ none-given ∷ []
+unfolding trace-refusal trace-formed step-count value refusal none-given
+formed-traces = refl
 
 pub two-bytes-are : (bs : List ℕ) (at : ℕ) → value (take 2 (drop at bs)) ≡ two-bytes bs at
 unfolding value

@@ -7,7 +7,6 @@ use mathlib.Core.List.{List}
 use Prim.Native.Nat.{ℕ, _+_}
 use lib.ListN.{length, take}
 use Rattle.plan_format.specs.Sizes.{state-size, trace-bytes}
-use Rattle.plan_format.specs.Refusal.{Refusal}
 use Rattle.plan_format.specs.Stored.{all-bytes, plan-in}
 use Rattle.plan_format.specs.declared.Told.{Told}
 use Rattle.plan_order.specs.Check.{rows-and-run}
@@ -54,8 +53,11 @@ pub record Traced-alike (ts us : List ℕ) : Type 0 where
   pub steps : trace-steps ts ≡ trace-steps us
 
 -- one byte more than the longest trace has decides all that is answered
+abbrev pub deciding-bytes : ℕ
+deciding-bytes = trace-bytes + 1
+
 abbrev pub Same-trace : (ts us : List ℕ) → Type 0
-Same-trace ts us = take (trace-bytes + 1) ts ≡ take (trace-bytes + 1) us
+Same-trace ts us = take deciding-bytes ts ≡ take deciding-bytes us
 
 unfoldable pub First-trace-bytes : Type 0
 First-trace-bytes = (ts us : List ℕ) → all-bytes ts ≡ true → Same-trace ts us → Traced-alike ts us

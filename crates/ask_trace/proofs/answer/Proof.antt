@@ -30,22 +30,23 @@ walk-requires : tie.Need-walk-requires
 walk-requires c κs = search needs
 
 tell-requires : tie.Need-tell-requires
-tell-requires c κs = let here =
-    c .before .before .before .before .before .before .before .before .before .before .before .before .before .before .before .before .before .args in
-    let asked = c .before .before .before .before .before .before .before .before .before .before .before .before in
+tell-requires c κs =
+    let none = c .before .before .before .before .before .before .before .before .before .before in
+    let asked = none .before .before in
+    let here = asked .before .before .before .before .before .args in
     enough-room (here .o) [] [] [] [] [] [] (here .trace .now) (here .state .now) _ (asked .before .refusal .ensures) _
     (asked .with-number .ensures)
-    (c .before .before .before .before .before .before .before .before .before .before .if1 .left)
+    (none .if1 .left)
 
 same-length : tie.Need-same-length
 same-length c = search needs
 
 returns-2 : tie.Need-returns-2
-returns-2 c = let here =
-    c .before .before .before .before .before .before .before .before .before .before .before .before .before .before .before .before .before .before .before .before .args in
+returns-2 c =
     let walked = c .before .before .before .before .before .before .before .before .before .before in
     let none = walked .before .before .before .if1 .left in
     let asked = walked .before .before .before .before .before in
+    let here = asked .before .before .before .before .before .args in
     let told = asked .before .refusal .ensures in (
       walked-answer (here .o) _ _ [] [] [] _ (here .trace .now) (here .state .now) _ told _
           (asked .with-number .ensures) none _

@@ -20,8 +20,10 @@ same-length-3 : tie.Need-same-length-3
 same-length-3 c = search needs
 
 returns : tie.Need-returns
-returns c = let answer = c .before .before .answer .ensures in
-    let check = c .before .before .before .before .before .before .before .before .before .before .before .before .before .before .check-opened .ensures in (
+returns c =
+    let answer = c .before .before .answer .ensures in
+    let lent = c .before .before .before .before .before .before .before in
+    let check = lent .before .before .before .before .before .before .before .check-opened .ensures in (
       asked _ _ _ _ _ _ _ _ _ (check .0) (check .1 .1 .1 .1) _ _ (answer .0) (answer .1),
       sizes-kept _ _ _ _ _ _ _ _ (answer .0) (check .1 .0),
     )

@@ -26,8 +26,9 @@ same-length-3 : tie.Need-same-length-3
 same-length-3 c = search needs
 
 returns : tie.Need-returns
-returns c = let asked =
-    c .before .before .before .before .before .before .before .before .before .before .before .before .trace-question .ensures in
+returns c =
+    let stored = c .before .before .before .before .before in
+    let asked = stored .before .before .before .before .before .before .before .trace-question .ensures in
     handed _ _ _ _ _ _ _ _ _ _ _ _ _ _ (asked .0) (c .tell .ensures) (c .before .before .number-of .ensures)
     (c .before .before .before .put .ensures)
 

@@ -1,6 +1,5 @@
 -- `put` stores the numbers found. Assumes nothing.
 use Rattle.plan_trace.specs.Numbers.{found-numbers}
-use mathlib.Core.Path.{refl}
 use borrow.Author.Needs.{needs}
 use Rattle.c_trace.proofs.put.Statement.{statement}
 use Rattle.c_trace.proofs.put.Tie as tie

@@ -31,8 +31,10 @@ words-requires : tie.Need-words-requires
 words-requires c κs = search needs
 
 slice-aggregate-numbers : tie.Need-slice-aggregate-numbers
-slice-aggregate-numbers c = let start =
-    c .before .before .before .before .before .before .before .before .before .before .before .before .before .before .before .before .before in sym (length-take-le most-queues (start .args .state .now) (omega (arith, start .pre)))
+slice-aggregate-numbers c =
+    let first = c .before .before .before .before .before .before .before .before .before in
+    let start = first .before .before .before .before .before .before .before .before in
+    sym (length-take-le most-queues (start .args .state .now) (omega (arith, start .pre)))
 
 numbers-requires : tie.Need-numbers-requires
 numbers-requires c κs = search needs

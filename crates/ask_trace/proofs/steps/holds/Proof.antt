@@ -10,8 +10,11 @@ get16-requires c κs = search needs
 has-run-requires : tie.Need-has-run-requires
 has-run-requires c κs = search needs
 
+unless-requires : tie.Need-unless-requires
+unless-requires c κs = search needs
+
 returns : tie.Need-returns
-returns c = held-is _ _ _ _ _ _ _ (c .before .get16 .ensures) (c .has-run .ensures)
+returns c = held-is _ _ _ _ _ _ _ _ (c .before .before .get16 .ensures) (c .before .has-run .ensures) (c .unless .ensures)
 
 pub holds-spec : {M : Type 1} → statement M
-holds-spec = tie.close (tie.spec get16-requires has-run-requires returns)
+holds-spec = tie.close (tie.spec get16-requires has-run-requires unless-requires returns)
