@@ -25,7 +25,8 @@ use Rattle.plan_order.specs.Reuse.{number-of, verdict, question-refusal,
 use Rattle.plan_order.specs.Meaning.{Verdict-table, Question-means, Left-means}
 use Rattle.plan_order.specs.Promise.{Safe, unrefused}
 use Rattle.plan_order.proofs.Asking.{plan-first, gives-asked, asked-own, asked-safe, asked-number, asked-leaves-by, asked-left}
-use Rattle.plan_order.proofs.VerdictMeaning.{one-use, number-most, verdict-table}
+use Rattle.plan_order.proofs.VerdictMeaning.{one-use, verdict-table}
+use Rattle.plan_order.proofs.VerdictMeaning.{number-most}
 
 -- no bytes, and a queue that they do not have: the plan is refused
 unread-first : reuse-outcome [] 0 0 0 0 ≡ outcome (refusal 1 0) untouched

@@ -94,11 +94,7 @@ fn answer(
         return plan_format::refused(13, b);
     }
     let v = verdict(q, b, c.operations, marks, queue, mark, mop, table);
-    Told {
-        number: 0,
-        place: 0,
-        answer: number_of(v),
-    }
+    plan_format::answered(number_of(v))
 }
 
 // The verdict on a buffer for a queue, by the columns of a plan of n operations and its rows in the table.

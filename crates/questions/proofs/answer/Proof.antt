@@ -1,10 +1,7 @@
 -- `answer` refuses the queue, then the buffer, and else gives the verdict's number. Assumes nothing.
 use mathlib.Core.Path.{ap, _∙_}
 use Rattle.plan_order.specs.Reuse.{number-of}
-use Rattle.questions.proofs.ReuseAsked.{no-queue, no-buffer, answered}
-use Prim.Native.Nat.{_<_}
-use native.Mathlib.Omega.{arith}
-use lib.ListN.{length}
+use Rattle.questions.proofs.ReuseAsked.{buffer-known, no-queue, no-buffer, answered}
 use borrow.Author.Needs.{needs}
 use Rattle.questions.proofs.answer.Statement.{statement}
 use Rattle.questions.proofs.answer.Tie as tie
@@ -27,13 +24,17 @@ verdict-requires c κs = search needs
 number-of-requires : tie.Need-number-of-requires
 number-of-requires c κs = search needs
 
+answered-requires : tie.Need-answered-requires
+answered-requires c κs = search needs
+
 returns-3 : tie.Need-returns-3
 returns-3 c =
-    let inside = c .before .before .if2 .left in
-    λ p o.
-    let known : _ < length (p .sizes) = omega (arith, o .buffers-are, inside) in
-    answered o _ _ (c .before .before .before .before .if1 .left) inside
-    (c .number-of .ensures ∙ ap number-of (c .before .verdict .ensures p known (o .shown)))
+    let asked = c .before in
+    let branch = asked .before .before in
+    rw (c .answered .ensures)
+    (λ p o. let known = buffer-known o (branch .if2 .left) in
+    answered o _ _ (branch .before .before .if1 .left) (branch .if2 .left)
+    (asked .number-of .ensures ∙ ap number-of (asked .before .verdict .ensures p known (o .shown))))
 
 pub answer-spec : {M : Type 1} → statement M
 answer-spec =
@@ -45,4 +46,5 @@ answer-spec =
     returns-2
     verdict-requires
     number-of-requires
+    answered-requires
     returns-3)
