@@ -15,17 +15,33 @@ use Rattle.basics.specs.Lists.{all}
 use Rattle.basics.proofs.Tests.{by-cases, by-option}
 use Rattle.basics.proofs.Searches.{all-by, all-no}
 use Rattle.basics.proofs.Places.{mem-place}
+use Rattle.plan_format.specs.Refusal.{Refusal, refusal, none-given}
 use Rattle.plan_format.specs.Plan.{Plan}
 use Rattle.plan_order.specs.Precedence.{Before}
 use Rattle.plan_order.specs.Holdings.{Placed, is-free, buffer-marks}
+use Rattle.plan_order.specs.Check.{order-refusal}
 use Rattle.plan_order.specs.Reuse.{number-of, last-on, seen-by, last-mark, verdict-on, verdict}
 use Rattle.plan_order.specs.FiveVerdicts.{five-on, five-verdict}
 use Rattle.plan_order.specs.Meaning.{mark-at, Frees, No-free, Forced, Marked, Last-mark, Seen, Free-unseen, When}
 use Rattle.plan_order.specs.declared.Verdict.the-variants.{NotOrdered}
 use Rattle.plan_order.proofs.Precedence.{before-chain, chain-before, before-join}
+use Rattle.plan_order.proofs.Demand3.{Ordered, stuck-there, broken-there, in-order, order-cases}
 use Rattle.plan_order.proofs.AskedMarks.{free-kind}
+use Rattle.plan_order.proofs.KeepsMeaning.{unbroken-means}
 use Rattle.plan_order.proofs.MarksMeaning.{mark-marked, marked-mark}
 use Rattle.plan_order.proofs.VerdictMeaning.{seen-means, some-last, last-in}
+
+-- a plan whose order is not refused has no broken mark
+order-forced : (p : Plan) (f : Refusal) → Ordered p f → f .number ≡ 0 →
+    (b k : ℕ) → b < length (p .sizes) → k < length (buffer-marks p b) → Forced p b k
+unfolding refusal none-given
+order-forced p f (stuck-there i m) z = absurd (omega arith)
+order-forced p f (broken-there i m e) z = absurd (omega arith)
+order-forced p f (in-order m e) z = unbroken-means p .0 e
+
+pub passed-forced : (p : Plan) → order-refusal p .number ≡ 0 →
+    (b k : ℕ) → b < length (p .sizes) → k < length (buffer-marks p b) → Forced p b k
+passed-forced p z = order-forced p (order-refusal p) (order-cases p) z
 
 -- at or before, by chains
 module _ (p : Plan) where

@@ -18,7 +18,7 @@ use Rattle.plan_order.specs.Promise.{Demand-3-stored, Checked}
 use Rattle.plan_order.proofs.CheckMeaning.{passed-unrefused, check-means}
 use Rattle.plan_order.proofs.OutcomeMeaning.{passed-leaves}
 use Rattle.plan_order.proofs.Promises.{demand-3-stored}
-use Rattle.plan_order.proofs.LastFree.{five-same, unseen-free}
+use Rattle.plan_order.proofs.LastFree.{passed-forced, five-same, unseen-free}
 use Rattle.plan_order.proofs.QuestionMeaning.{question-means, question-passed, question-answered, question-left}
 use Rattle.plan_order.proofs.QuestionMeaning.{question-number, question-answer, question-no-answer, question-most}
 use Rattle.checker.specs.Opening.{Lent, Opened-plan}
@@ -29,17 +29,17 @@ use Rattle.questions.specs.ReusePass.{Question-given}
 
 -- ---- all that a caller gets
 -- the marks of a passed plan on one of its buffers are forced
-passed-forced : (bs : List ℕ) (b t l : ℕ) → check-outcome bs t l .refusal .number ≡ 0 → b < length (plan-in bs .sizes) →
+checked-forced : (bs : List ℕ) (b t l : ℕ) → check-outcome bs t l .refusal .number ≡ 0 → b < length (plan-in bs .sizes) →
     (k : ℕ) → k < length (buffer-marks (plan-in bs) b) → Forced (plan-in bs) b k
 unfolding Demand-3-stored
-passed-forced bs b t l z inside k here =
+checked-forced bs b t l z inside k here =
     let place = demand-3-stored bs t l (passed-unrefused bs t l z) .passed-place z in
     check-means bs t l .passed .0 ((z, place), passed-leaves bs t l z) .2 b k inside here
 
 -- so are those on the buffer of a question that is answered
 answered-forced : (bs : List ℕ) (q b t l : ℕ) → reuse-outcome bs q b t l .refusal .number ≡ 0 →
     (k : ℕ) → k < length (buffer-marks (plan-in bs) b) → Forced (plan-in bs) b k
-answered-forced bs q b t l e = let w = question-answered bs q b t l e in passed-forced bs b t l (w .0) (w .2)
+answered-forced bs q b t l e = let w = question-answered bs q b t l e in checked-forced bs b t l (w .0) (w .2)
 
 pub asked : (bs : List ℕ) (q b : ℕ) (r : Told) (t x l y : List ℕ) → Reuse-says bs q b r t x l y → Asked bs q b r t x l y
 unfolding Reuse-says
@@ -97,19 +97,16 @@ module _ {bs : List ℕ} (q b : ℕ) {n i : ℕ} {t x l y : List ℕ} (checked :
       })
 
 -- ---- a plan that passes, opened
-pub question-given : {bs : List ℕ} {n i : ℕ} {t x l y : List ℕ} {o : Opened} {c : Lent} {table : List ℕ} →
-    Checked bs (record { number = n; place = i; answer = 0 }) t x l y → n ≡ 0 → Opened-plan (plan-in bs) o c table →
-    Question-given (plan-in bs) (o .counted) (o .marks) (c .queue) (c .mark) (c .mark-operation) table
-unfolding Check-says
-question-given {bs} {t} {l} checked z opened = record {
+pub question-given : {p : Plan} {o : Opened} {c : Lent} {table : List ℕ} → Opened-plan p o c table →
+    Question-given p (o .counted) (o .marks) (c .queue) (c .mark) (c .mark-operation) table
+question-given {p} opened = record {
   queues-are = opened .queues-are;
   buffers-are = opened .buffers-are;
   shown = record {
     sound = opened .sound;
     many = sym (opened .operations-are);
     few-buffers = opened .limits .few-buffers;
-    forced = λ b k inside here.
-        passed-forced bs b (length t) (length l) (sym (checked .says .tells .number) ∙ z) inside k here;
+    forced = passed-forced p (opened .passes);
     queues-shown = opened .read .queues-shown;
     marks-shown = opened .read .marks-shown;
     rows-shown = opened .rows-shown;
@@ -117,6 +114,10 @@ question-given {bs} {t} {l} checked z opened = record {
 }
 
 -- ---- the question's own refusals, and its answer
+pub buffer-known : {p : Plan} {c : Counted} {marks : ℕ} {queue mark operation rows : List ℕ} {b : ℕ} →
+    Question-given p c marks queue mark operation rows → b < c .buffers → b < length (p .sizes)
+buffer-known {b} opened h = subst (λ (n : ℕ). b < n) (opened .buffers-are) h
+
 module _ {p : Plan} {c : Counted} {marks : ℕ} {queue mark operation rows : List ℕ} (opened : Question-given p c marks queue mark operation rows) (q b : ℕ) where
   pub no-queue : c .queues ≤ q → Tells (question-refusal p q b) (number-of (verdict p q b)) (record { number = 12; place = q; answer = 0 })
   unfolding question-refusal or-else refusal given

@@ -12,6 +12,7 @@ use Rattle.basics.specs.Lists.{highest-below, place-or}
 use Rattle.plan_format.specs.Sizes.{no-operation, most-operations}
 use Rattle.plan_order.specs.declared.Verdict.{Verdict}
 use Rattle.plan_order.specs.declared.Verdict.the-variants.{Fresh}
+use Rattle.plan_columns.specs.Shown.{mark-codes}
 use Rattle.plan_columns.proofs.Ordered.{ordered-is}
 use Rattle.questions.specs.ReusePass.{last-shown, last-marked, seen, verdict-after, verdict-at}
 
@@ -34,7 +35,7 @@ module _ (queue : List ℕ) (q : ℕ) where
   abbrev own : (i : ℕ) → Bool
   own i = eqb (getD queue i 0) q
 
-  pub last-none : (i : ℕ) → i ≤ 0 → 1024 ≡ last-shown queue q i
+  pub last-none : (i : ℕ) → i ≤ 0 → no-operation ≡ last-shown queue q i
   unfolding last-shown place-or
   last-none i l = rw (highest-none own i l)
 
@@ -45,7 +46,7 @@ module _ (queue : List ℕ) (q : ℕ) where
   pub last-past : (i x : ℕ) → 0 < i → x ≡ getD queue (i - 1) 0 → (x ≡ q → ⊥) → last-shown queue q (i - 1) ≡ last-shown queue q i
   unfolding last-shown
   last-past i x l e h =
-      ap (place-or 1024) (highest-past own i (i - 1) (omega arith) (ne-eqb (getD queue (i - 1) 0) q (λ z. h (e ∙ z))))
+      ap (place-or no-operation) (highest-past own i (i - 1) (omega arith) (ne-eqb (getD queue (i - 1) 0) q (λ z. h (e ∙ z))))
 
 -- ---- whether an operation is seen
 module _ (queue rows : List ℕ) where
@@ -68,14 +69,14 @@ left-all {many} = let e : many - 0 ≡ many = omega arith in record { last = rw 
 
 module _ {mark : List ℕ} {b many back : ℕ} (left : Left mark b many back) where
   abbrev on-buffer : (k : ℕ) → Bool
-  on-buffer k = eqb (getD mark k 0 % 512 / 2) b
+  on-buffer k = eqb (getD mark k 0 % mark-codes / 2) b
 
   pub left-none : (f : ℕ → Bool) (operation : List ℕ) → many ≤ back →
       Fresh ≡ verdict-at f mark operation (last-marked mark b many)
   unfolding last-marked verdict-at
   left-none f operation l = rw (← left .last, highest-none on-buffer (many - back) (omega arith))
 
-  module _ (more : back < many) {m : ℕ} (m-is : m ≡ getD mark (many - (back + 1)) 0 % 512) where
+  module _ (more : back < many) {m : ℕ} (m-is : m ≡ getD mark (many - (back + 1)) 0 % mark-codes) where
     -- a mark on another buffer
     pub left-other : (m / 2 ≡ b → ⊥) → Left mark b many (back + 1)
     unfolding last-marked
@@ -86,7 +87,7 @@ module _ {mark : List ℕ} {b many back : ℕ} (left : Left mark b many back) wh
 
     -- a mark on the buffer
     pub left-own : (f : ℕ → Bool) (operation : List ℕ) {i : ℕ} {s : Bool} {v : Verdict} → m / 2 ≡ b →
-        i ≡ getD operation (many - (back + 1)) 0 % 1024 → s ≡ f i → v ≡ verdict-after (eqb (m % 2) 1) s →
+        i ≡ getD operation (many - (back + 1)) 0 % most-operations → s ≡ f i → v ≡ verdict-after (eqb (m % 2) 1) s →
         v ≡ verdict-at f mark operation (last-marked mark b many)
     unfolding last-marked verdict-at
     left-own f operation h i-is s-is v-is =

@@ -12,8 +12,8 @@ use borrow.Author.Tests.{lt-ltb}
 use Rattle.basics.specs.Lists.{tabulate-from, highest-below, place-or}
 use Rattle.basics.proofs.Tests.{by-cases, by-option}
 use Rattle.basics.proofs.Searches.{highest-some}
-use Rattle.plan_format.specs.Sizes.{no-operation}
 use Rattle.basics.proofs.Tables.{tabulate-last}
+use Rattle.plan_format.specs.Sizes.{no-operation, most-operations}
 use Rattle.plan_format.specs.Plan.{Plan, count, op}
 use Rattle.plan_order.specs.Holdings.{Placed, is-free, buffer-marks}
 use Rattle.plan_order.specs.Reuse.{last-on, seen-by, last-mark, verdict-on, verdict}
@@ -23,7 +23,7 @@ use Rattle.plan_order.specs.declared.Verdict.the-variants.{Fresh}
 use Rattle.plan_order.proofs.VerdictMeaning.{last-some}
 use Rattle.plan_order.proofs.LastFree.{all-by-last}
 use Rattle.plan_columns.specs.Columns.{Marked, Queue-column, plan-marks}
-use Rattle.plan_columns.specs.Shown.{mark-of, shown-from}
+use Rattle.plan_columns.specs.Shown.{mark-codes, mark-of, shown-from}
 use Rattle.plan_columns.proofs.Marks.{Known, each-at, marks-known, marks-shown, place, of-buffer, of-append, of-plan}
 use Rattle.plan_columns.proofs.Ordered.{ordered-right}
 use Rattle.questions.specs.ReusePass.{Verdict-given, last-shown, last-marked, seen, verdict-after, verdict-at}
@@ -42,8 +42,8 @@ last-of p queue q shown =
     (highest-same (count p) (λ i. eqb (getD queue i 0) q) (λ i. eqb (op p i .queue) q) (λ i l. ap (λ (z : ℕ). eqb z q) (shown i l)))
 
 module _ {p : Plan} {n marks : ℕ} {queue mark operation rows : List ℕ} (shown : Verdict-given p n marks queue mark operation rows) where
-  seen-right : (q i : ℕ) → i < count p → seen queue rows (place-or no-operation (last-on p q)) i ≡ seen-by p
-      (last-on p q) i
+  seen-right : (q i : ℕ) → i < count p →
+      seen queue rows (place-or no-operation (last-on p q)) i ≡ seen-by p (last-on p q) i
   unfolding seen seen-by place-or last-on
   seen-right q i l =
       by-option (last-on p q) (λ e. rw e)
@@ -70,7 +70,7 @@ last-verdict p q b forced =
 -- the last mark on a buffer, by its place in the columns
 module _ (mark operation : List ℕ) (b : ℕ) (f : ℕ → Bool) where
   shown : ℕ → Marked
-  shown k = mark-of (getD mark k 0 % 512) (getD operation k 0 % 1024)
+  shown k = mark-of (getD mark k 0 % mark-codes) (getD operation k 0 % most-operations)
 
   abbrev first : (n : ℕ) → List Marked
   first n = shown-from mark operation n 0
@@ -86,23 +86,23 @@ module _ (mark operation : List ℕ) (b : ℕ) (f : ℕ → Bool) where
   unfolding tabulate-from of-buffer last-mark by-last verdict-at last-marked highest-below shown is-free
   last-placed zero = refl
   last-placed (suc n) =
-      by-cases (eqb (getD mark n 0 % 512 / 2) b)
+      by-cases (eqb (getD mark n 0 % mark-codes / 2) b)
       (λ t. rw (one-more n, t, last-some (of-buffer b (first n)) (place (shown n))))
       (λ e. rw (one-more n, e, append-nil (of-buffer b (first n))) (last-placed n))
 
 -- ---- the verdict by columns and rows
 at-same : (f g : ℕ → Bool) (mark operation : List ℕ) (b n : ℕ) →
-    ((k : ℕ) → k < n → f (getD operation k 0 % 1024) ≡ g (getD operation k 0 % 1024)) →
+    ((k : ℕ) → k < n → f (getD operation k 0 % most-operations) ≡ g (getD operation k 0 % most-operations)) →
     verdict-at f mark operation (last-marked mark b n) ≡ verdict-at g mark operation (last-marked mark b n)
 unfolding verdict-at last-marked
 at-same f g mark operation b n h =
     by-option (last-marked mark b n) (λ e. rw e)
-    (λ k e. rw (e, h k (highest-some n (λ k. eqb (getD mark k 0 % 512 / 2) b) k e .inside)))
+    (λ k e. rw (e, h k (highest-some n (λ k. eqb (getD mark k 0 % mark-codes / 2) b) k e .inside)))
 
 module _ {p : Plan} {n marks : ℕ} {queue mark operation rows : List ℕ}
     (shown : Verdict-given p n marks queue mark operation rows) where
   -- a mark is of an operation of the plan
-  by-inside : (k : ℕ) → k < marks → getD operation k 0 % 1024 < count p
+  by-inside : (k : ℕ) → k < marks → getD operation k 0 % most-operations < count p
   by-inside k l =
       let known = marks-known p (shown .sound) in
       let m = each-at (Known p) (plan-marks p) known k (omega (arith, shown .marks-shown .all)) .by in
@@ -121,8 +121,8 @@ verdict-right {p} {n} {marks} {queue} {mark} {operation} {rows} q b known shown 
     let last-right = last-is ∙ ap (last-shown queue q) (sym (shown .many)) ∙ last-of p queue q (shown .queues-shown) in
     e
     ∙ ap (λ (z : ℕ). verdict-at (seen queue rows z) mark operation (last-marked mark b marks)) last-right
-    ∙ at-same (seen queue rows (place-or 1024 (last-on p q))) sees mark operation b marks
-    (λ k l. seen-right shown q (getD operation k 0 % 1024) (by-inside shown k l))
+    ∙ at-same (seen queue rows (place-or no-operation (last-on p q))) sees mark operation b marks
+    (λ k l. seen-right shown q (getD operation k 0 % most-operations) (by-inside shown k l))
     ∙ sym (last-placed mark operation b sees marks)
     ∙ ap (λ (z : List Placed). by-last sees (last-mark z)) (marks-are shown b)
     ∙ last-verdict p q b (λ k l. shown .forced b k known l)

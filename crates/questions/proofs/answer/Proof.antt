@@ -1,10 +1,7 @@
 -- `answer` refuses the queue, then the buffer, and else gives the verdict's number. Assumes nothing.
 use mathlib.Core.Path.{ap, _∙_}
 use Rattle.plan_order.specs.Reuse.{number-of}
-use Rattle.questions.proofs.ReuseAsked.{no-queue, no-buffer, answered}
-use Prim.Native.Nat.{_<_}
-use native.Mathlib.Omega.{arith}
-use lib.ListN.{length}
+use Rattle.questions.proofs.ReuseAsked.{buffer-known, no-queue, no-buffer, answered}
 use borrow.Author.Needs.{needs}
 use Rattle.questions.proofs.answer.Statement.{statement}
 use Rattle.questions.proofs.answer.Tie as tie
@@ -34,11 +31,9 @@ returns-3 : tie.Need-returns-3
 returns-3 c =
     let asked = c .before in
     let branch = asked .before .before in
-    let inside = branch .if2 .left in
     rw (c .answered .ensures)
-    (λ p o.
-    let known : _ < length (p .sizes) = omega (arith, o .buffers-are, inside) in
-    answered o _ _ (branch .before .before .if1 .left) inside
+    (λ p o. let known = buffer-known o (branch .if2 .left) in
+    answered o _ _ (branch .before .before .if1 .left) (branch .if2 .left)
     (asked .number-of .ensures ∙ ap number-of (asked .before .verdict .ensures p known (o .shown))))
 
 pub answer-spec : {M : Type 1} → statement M

@@ -2,6 +2,8 @@
 use mathlib.Core.Path.{ap}
 use Prim.Native.Nat.{ℕ, _-_, _%_}
 use borrow.Author.Needs.{needs}
+use Rattle.plan_format.specs.Sizes.{most-operations}
+use Rattle.plan_columns.specs.Shown.{mark-codes}
 use Rattle.questions.proofs.ReuseTurns.{Left, left-all, left-none, left-other, left-own}
 use Rattle.questions.proofs.judged.Statement.{statement}
 use Rattle.questions.proofs.judged.Tie as tie
@@ -37,8 +39,8 @@ returns : tie.Need-returns Inv-loop μ-loop
 returns c =
     let own = c .before .before .before in
     left-own (own .before .before .before .loop .inv) (own .before .before .loop-test .taken)
-    (ap (λ (z : ℕ). z % 512) (own .before .get16 .ensures)) _ _ (own .if1 .taken)
-    (ap (λ (z : ℕ). z % 1024) (c .before .before .get162 .ensures)) (c .before .seen .ensures) (c .after .ensures)
+    (ap (λ (z : ℕ). z % mark-codes) (own .before .get16 .ensures)) _ _ (own .if1 .taken)
+    (ap (λ (z : ℕ). z % most-operations) (c .before .before .get162 .ensures)) (c .before .seen .ensures) (c .after .ensures)
 
 loop-less : tie.Need-loop-less Inv-loop μ-loop
 loop-less c = search needs
@@ -46,7 +48,7 @@ loop-less c = search needs
 loop-again : tie.Need-loop-again Inv-loop μ-loop
 loop-again c =
     left-other (c .before .before .before .loop .inv) (c .before .before .loop-test .taken)
-    (ap (λ (z : ℕ). z % 512) (c .before .get16 .ensures)) (c .if1 .left)
+    (ap (λ (z : ℕ). z % mark-codes) (c .before .get16 .ensures)) (c .if1 .left)
 
 returns-2 : tie.Need-returns-2 Inv-loop μ-loop
 returns-2 c = left-none (c .before .loop .inv) _ _ (c .loop-test .left)

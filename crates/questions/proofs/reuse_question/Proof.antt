@@ -31,7 +31,7 @@ returns-2 c =
     let check = c .before .before .before .before .before .before .before .before .before .before .before .check-opened .ensures in
     let passed = c .before .before .before .before .before .if1 .left in
     asked _ _ _ _ _ _ _ _ (then-asked _ _ (check .0) passed
-    (c .answer .ensures _ (question-given (check .0) passed (check .1 .1 .1 .1 .0 passed))))
+    (c .answer .ensures _ (question-given (check .1 .1 .1 .1 .0 passed))))
 
 pub reuse-question-spec : {M : Type 1} → statement M
 reuse-question-spec =
