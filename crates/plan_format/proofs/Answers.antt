@@ -1,15 +1,16 @@
 -- What is handed back: the end of a reading, and the refusal, the answer and the room for numbers or bytes made.
 -- Assumes nothing.
-use mathlib.Core.Path.{_≡_, refl, sym, _∙_, subst}
-use mathlib.Core.Bool.{false, _||_, cond}
+use mathlib.Core.Path.{_≡_, refl, sym, ap, _∙_, subst}
+use mathlib.Core.Bool.{Bool, true, false, _||_, cond}
 use mathlib.Core.List.{List, [], _∷_}
 use Prim.Native.Nat.{ℕ, _≤_, _<_}
 use native.Mathlib.Omega.{arith}
 use lib.Dec.{eqb}
-use lib.ListN.{length}
+use lib.ListN.{length, getD}
 use borrow.Author.Tests.{lt-ltb, le-ltb, eq-eqb, ne-eqb}
 use Rattle.basics.specs.Lists.{in-front}
 use Rattle.basics.proofs.Tests.{by-cases}
+use Rattle.basics.proofs.Fronts.{front-past}
 use Rattle.plan_format.specs.Refusal.{Refusal, refusal, none-given, given, or-else}
 use Rattle.plan_format.specs.Grammar.{Scan, scan, refused, ended}
 use Rattle.plan_format.specs.Stored.{room-for, Tells, Fills}
@@ -36,6 +37,16 @@ unfolding ended refused scan
 ended-got s = by-cases (given (s .fault) || eqb (length (s .rest)) 0) (λ t. rw t) (λ f. rw f)
 
 -- ---- into the room
+-- past the length nothing is touched
+pub fills-past : (f : Refusal) (new : List ℕ) (r : Told) (o x : List ℕ) → Fills f new r o x → (k : ℕ) → length new ≤ k →
+    getD x k 0 ≡ getD o k 0
+unfolding Fills
+fills-past f new r o x w k l = ap (λ (y : List ℕ). getD y k 0) (w .1) ∙ past (given f)
+  where
+    past : (b : Bool) → getD (cond b o (in-front new o)) k 0 ≡ getD o k 0
+    past true = refl
+    past false = front-past new o k 0 l
+
 -- the refusal of a reading and of the room
 filled : {f g : Refusal} (new : List ℕ) {r : Told} (room : List ℕ) {now-room : List ℕ} → f ≡ g → Tells g (length new) r → now-room ≡ cond (given g) room (in-front new room) → Fills f new r room now-room
 unfolding Fills

@@ -1,6 +1,6 @@
 -- Room: 9 exactly if it is too short, and only after the faults of a reading. Assumes nothing.
 use mathlib.Core.Path.{_≡_, refl, sym, ap, ap₂, _∙_, subst}
-use mathlib.Core.Bool.{Bool, true, false, cond}
+use mathlib.Core.Bool.{Bool, false, cond}
 use mathlib.Core.List.{List, _∷_, _++_}
 use Prim.Native.Nat.{ℕ, _≤_}
 use native.Mathlib.Omega.{arith}
@@ -9,13 +9,14 @@ use lib.ListN.{length, getD}
 use borrow.Author.Tests.{ltb-true, ltb-false, lt-ltb, le-ltb, eqb-true, eqb-false}
 use Rattle.basics.specs.Lists.{member, in-front}
 use Rattle.basics.proofs.Tests.{by-cases}
-use Rattle.basics.proofs.Fronts.{front-length, front-at, front-past}
+use Rattle.basics.proofs.Fronts.{front-length, front-at}
 use Rattle.plan_format.specs.Refusal.{Refusal, refusal, none-given, given, or-else}
 use Rattle.plan_format.specs.RefusalNumbers.{None-or, reading-numbers, room-numbers, reader-gives, writer-gives}
 use Rattle.plan_format.specs.Stored.{scanned, listed, spelled, room-for, read-refusal, write-refusal, Tells, Fills}
 use Rattle.plan_format.specs.Stored.{Read-says, Write-says}
 use Rattle.plan_format.specs.declared.Told.{Told}
 use Rattle.plan_format.specs.Meaning.{Room-for-means, Room-after, refusal-of, Filled}
+use Rattle.plan_format.proofs.Answers.{fills-past}
 use Rattle.plan_format.proofs.Judged.{zero-not-given, other-given, or-else-first, or-else-second, or-else-none}
 use Rattle.plan_format.proofs.RefusalNumbers.{one-is, not-one, none-or-left}
 use Rattle.plan_format.proofs.Numbers.{scanned-number, listed-number}
@@ -74,16 +75,6 @@ unfolding write-refusal
 write-room xs k = room-after (listed xs .fault) (length (spelled xs)) k (listed-number xs)
 
 -- ---- what is handed back and left
--- past the length nothing is touched
-fills-past : (f : Refusal) (new : List ℕ) (r : Told) (o x : List ℕ) → Fills f new r o x → (k : ℕ) → length new ≤ k →
-    getD x k 0 ≡ getD o k 0
-unfolding Fills
-fills-past f new r o x w k l = ap (λ (y : List ℕ). getD y k 0) (w .1) ∙ past (given f)
-  where
-    past : (b : Bool) → getD (cond b o (in-front new o)) k 0 ≡ getD o k 0
-    past true = refl
-    past false = front-past new o k 0 l
-
 module _ (numbers : List ℕ) (fault : Refusal) (new : List ℕ) (r : Told) (o x : List ℕ) where
   filled : Room-after numbers fault (length new) (length o) (or-else fault (room-for (length new) (length o))) →
       Fills (or-else fault (room-for (length new) (length o))) new r o x → Filled new r o x
