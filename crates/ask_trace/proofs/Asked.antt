@@ -6,9 +6,9 @@ use Prim.Native.Nat.{ℕ, _≤_}
 use lib.Dec.{eqb}
 use lib.ListN.{length}
 use borrow.Author.Tests.{eqb-true, eqb-false}
-use Rattle.basics.specs.Lists.{in-front}
-use Rattle.basics.proofs.Tests.{by-cases, clash}
-use Rattle.basics.proofs.Places.{mem-at}
+use Rattle.base_lists.specs.Lists.{in-front}
+use Rattle.base_lists.proofs.Tests.{by-cases, clash}
+use Rattle.base_lists.proofs.Places.{mem-at}
 use Rattle.plan_format.specs.Sizes.{state-size}
 use Rattle.plan_format.specs.Plan.{Plan}
 use Rattle.plan_format.specs.Refusal.{Refusal, refusal, given}
@@ -20,8 +20,8 @@ use Rattle.plan_order.specs.Check.{Leaves, Outcome, outcome, table-left, list-l
 use Rattle.plan_order.specs.Precedence.{plan-signals}
 use Rattle.plan_order.specs.Promise.{Checked}
 use Rattle.plan_order.proofs.Demand3.{demand-3}
-use Rattle.plan_columns.specs.Columns.{no-signal}
-use Rattle.plan_rules.proofs.Flat.{plan-inside}
+use Rattle.check_columns.specs.Columns.{no-signal}
+use Rattle.check_signals.proofs.Flat.{plan-inside}
 use Rattle.plan_trace.specs.declared.Traced.{Traced}
 use Rattle.plan_trace.specs.Trace.{trace-steps, followed}
 use Rattle.plan_trace.specs.State.{steps-followed, trace-state, traced-of, nothing-traced}
@@ -31,10 +31,10 @@ use Rattle.plan_trace.specs.Promise.{Trace-right}
 use Rattle.plan_trace.proofs.FollowedMeaning.{followed-run}
 use Rattle.plan_trace.proofs.QuestionMeaning.{own-none, plan-first, then-asked, leaves-are}
 use Rattle.plan_trace.proofs.Promises.{trace-right}
-use Rattle.checker.specs.declared.Counted.{Counted}
-use Rattle.checker.specs.declared.Opened.{Opened}
-use Rattle.checker.specs.Counting.{Sizes-told}
-use Rattle.checker.specs.Opening.{Lent, Opened-plan}
+use Rattle.check_plan.specs.declared.Counted.{Counted}
+use Rattle.check_plan.specs.declared.Opened.{Opened}
+use Rattle.check_plan.specs.Counting.{Sizes-told}
+use Rattle.check_plan.specs.Opening.{Lent, Opened-plan}
 use Rattle.ask_trace.specs.declared.TraceTold.{TraceTold}
 use Rattle.ask_trace.specs.Raising.{begun, raised-from}
 use Rattle.ask_trace.specs.Answer.{told, first-refusal, counted-as, walked, answer-by, state-by}

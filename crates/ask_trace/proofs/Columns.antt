@@ -9,12 +9,12 @@ use lib.Dec.{ltb, leb, eqb}
 use lib.ListN.{length, getD, take, length-append, List·getD-eq-default}
 use lib.Seq.{ext-getD, take-at, take-length}
 use borrow.Author.Tests.{ltb-true, ltb-false, leb-false, lt-ltb, not-false}
-use Rattle.basics.specs.Lists.{member, tally, lowest-below}
-use Rattle.basics.proofs.Elements.{replicate-at}
-use Rattle.basics.proofs.Tests.{by-cases, by-option, clash}
-use Rattle.basics.proofs.Places.{mem-at}
-use Rattle.basics.proofs.Searches.{lowest-some, lowest-none, lowest-is}
-use Rattle.basics.proofs.Tallies.{tally-ends}
+use Rattle.base_lists.specs.Lists.{member, tally, lowest-below}
+use Rattle.base_lists.proofs.Elements.{replicate-at}
+use Rattle.base_lists.proofs.Tests.{by-cases, by-option, clash}
+use Rattle.base_lists.proofs.Places.{mem-at}
+use Rattle.base_lists.proofs.Searches.{lowest-some, lowest-none, lowest-is}
+use Rattle.base_lists.proofs.Tallies.{tally-ends}
 use Rattle.order.proofs.Runs.{runs-nil}
 use Rattle.plan_format.specs.Sizes.{most-queues, most-operations, most-waits, no-operation}
 use Rattle.plan_format.specs.Plan.{Point, Plan, count, op}
@@ -27,8 +27,8 @@ use Rattle.plan_order.proofs.Demand3.{rules-good}
 use Rattle.plan_order.proofs.Rows.{row-at}
 use Rattle.plan_order.proofs.RunMeaning.{ready-adds}
 use Rattle.plan_order.proofs.Resolution.{Resolved, at-signal, resolve-is}
-use Rattle.plan_columns.specs.Columns.{Queue-column, Source-column, Row-columns, source-of, no-point}
-use Rattle.plan_columns.specs.Columns as columns
+use Rattle.check_columns.specs.Columns.{Queue-column, Source-column, Row-columns, source-of, no-point}
+use Rattle.check_columns.specs.Columns as columns
 use Rattle.plan_trace.specs.declared.Followed.{Followed}
 use Rattle.plan_trace.specs.declared.Traced.{Traced}
 use Rattle.plan_trace.specs.Trace.{unmet-wait, judged, departs, Found, found, follow, followed}

@@ -10,15 +10,15 @@ use lib.Dec.{ltb, eqb}
 use lib.ListN.{length, getD, set, take, drop, length-set, List·getD-eq-default}
 use lib.Seq.{ext-getD, getD-set-same, getD-set-other, drop-cons, drop-length, length-take-le}
 use borrow.Author.Tests.{eqb-true, eqb-false, eq-eqb, ne-eqb, ltb-true, ltb-false}
-use Rattle.basics.specs.Lists.{member, in-front}
-use Rattle.basics.proofs.Tests.{by-cases}
-use Rattle.basics.proofs.Fronts.{front-none, front-all, front-more, front-length, front-at, front-past}
-use Rattle.basics.proofs.Tables.{tabulate-length, tabulate-at}
+use Rattle.base_lists.specs.Lists.{member, in-front}
+use Rattle.base_lists.proofs.Tests.{by-cases}
+use Rattle.base_lists.proofs.Fronts.{front-none, front-all, front-more, front-length, front-at, front-past}
+use Rattle.base_lists.proofs.Tables.{tabulate-length, tabulate-at}
 use Rattle.plan_format.specs.Sizes.{most-queues, most-semaphores, state-size}
 use Rattle.plan_format.specs.Plan.{Plan, count}
 use Rattle.plan_order.specs.Precedence.{Signal, plan-signals}
 use Rattle.plan_order.specs.Runs.{reached, is-run}
-use Rattle.plan_columns.specs.Columns.{no-signal, Signal-columns}
+use Rattle.check_columns.specs.Columns.{no-signal, Signal-columns}
 use Rattle.plan_trace.specs.State.{queue-counts, state-of}
 use Rattle.plan_trace.proofs.StateMeaning.{counts-at, counts-long, state-long, state-count, state-highest}
 use Rattle.plan_trace.proofs.Tops.{top, top-reached}

@@ -12,7 +12,7 @@ use Rattle.plan_format.proofs.Judged.{zero-not-given, other-given}
 use Rattle.plan_trace.specs.Trace.{trace-formed}
 use Rattle.plan_trace.specs.Question.{own-refusal}
 use Rattle.plan_trace.proofs.QuestionMeaning.{formed-gives, not-formed, short-is, ill-is, none-is}
-use Rattle.checker.specs.declared.Counted.{Counted}
+use Rattle.check_plan.specs.declared.Counted.{Counted}
 use Rattle.ask_trace.specs.Answer.{first-refusal}
 
 -- nothing to answer

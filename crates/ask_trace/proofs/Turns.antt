@@ -10,9 +10,9 @@ use native.Mathlib.Omega.{arith}
 use lib.Dec.{ltb, leb, eqb}
 use lib.ListN.{length, getD, set, take, drop}
 use borrow.Author.Tests.{ltb-true, ltb-false, le-leb, lt-leb, lt-ltb, le-ltb, eq-eqb, ne-eqb}
-use Rattle.basics.specs.Lists.{lowest-below, place-or, tabulate-from}
-use Rattle.basics.proofs.Tests.{by-cases, by-option, clash}
-use Rattle.basics.proofs.Searches.{lowest-is, lowest-some}
+use Rattle.base_lists.specs.Lists.{lowest-below, place-or, tabulate-from}
+use Rattle.base_lists.proofs.Tests.{by-cases, by-option, clash}
+use Rattle.base_lists.proofs.Searches.{lowest-is, lowest-some}
 use Rattle.plan_format.specs.Sizes.{most-operations, most-waits, row-width, step-bytes, no-operation}
 use Rattle.plan_format.specs.Grammar.{value}
 use Rattle.plan_trace.specs.declared.Followed.{Followed}

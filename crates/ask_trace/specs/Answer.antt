@@ -4,7 +4,7 @@ use mathlib.Core.Bool.{cond}
 use mathlib.Core.List.{List}
 use Prim.Native.Nat.{ℕ}
 use lib.ListN.{length}
-use Rattle.basics.specs.Lists.{in-front}
+use Rattle.base_lists.specs.Lists.{in-front}
 use Rattle.plan_format.specs.Refusal.{Refusal, refusal, given, or-else}
 use Rattle.plan_format.specs.declared.Told.{Told}
 use Rattle.plan_trace.specs.declared.Traced.{Traced}
@@ -12,8 +12,8 @@ use Rattle.plan_trace.specs.Trace.{trace-steps}
 use Rattle.plan_trace.specs.State.{no-counts, nothing-traced}
 use Rattle.plan_trace.specs.Question.{own-refusal}
 use Rattle.plan_trace.specs.Numbers.{number-of}
-use Rattle.checker.specs.declared.Counted.{Counted}
-use Rattle.checker.specs.declared.Opened.{Opened}
+use Rattle.check_plan.specs.declared.Counted.{Counted}
+use Rattle.check_plan.specs.declared.Opened.{Opened}
 use Rattle.ask_trace.specs.declared.TraceTold.{TraceTold}
 use Rattle.ask_trace.specs.Walk.{walk-from}
 use Rattle.ask_trace.specs.Raising.{begun, raised-from}

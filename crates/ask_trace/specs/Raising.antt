@@ -4,7 +4,7 @@ use mathlib.Core.Bool.{cond}
 use mathlib.Core.List.{List}
 use Prim.Native.Nat.{ℕ, zero, suc, _+_, _%_, max}
 use lib.ListN.{getD, set}
-use Rattle.basics.specs.Lists.{tabulate-from}
+use Rattle.base_lists.specs.Lists.{tabulate-from}
 use Rattle.plan_format.specs.Sizes.{most-queues, most-semaphores, state-size}
 use Rattle.ask_trace.specs.Walk.{ran-at}
 

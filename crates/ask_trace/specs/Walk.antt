@@ -5,7 +5,7 @@ use mathlib.Core.List.{List, [], _∷_}
 use Prim.Native.Nat.{ℕ, suc, _+_, _*_, _%_}
 use lib.Dec.{ltb, leb}
 use lib.ListN.{getD, set}
-use Rattle.basics.specs.Lists.{lowest-below}
+use Rattle.base_lists.specs.Lists.{lowest-below}
 use Rattle.plan_format.specs.Sizes.{most-queues, most-operations, most-waits, row-width, no-operation}
 use Rattle.plan_trace.specs.declared.Followed.{Followed}
 use Rattle.plan_trace.specs.declared.Followed.the-variants.{Unknown, Repeated, NotFirst}

@@ -2,12 +2,12 @@
 mod state;
 mod steps;
 
-use checker::Counted;
-use checker::Opened;
-use plan_columns::QueueColumn;
-use plan_columns::SignalColumn;
-use plan_columns::SignalValues;
-use plan_columns::WaitColumn;
+use check_columns::QueueColumn;
+use check_columns::SignalColumn;
+use check_columns::SignalValues;
+use check_columns::WaitColumn;
+use check_plan::Counted;
+use check_plan::Opened;
 use plan_format::Told;
 use plan_format::limits::HEAD_NUMBERS;
 use plan_format::limits::MARK_PLACES;
@@ -23,7 +23,7 @@ ghost use lib.ListN.{length};
 ghost use Rattle.plan_format.specs.Stored.{Tells};
 ghost use Rattle.plan_trace.specs.State.{nothing-traced};
 ghost use Rattle.plan_trace.specs.Promise.{Trace-right};
-ghost use Rattle.checker.specs.Counting.{Sizes-told};
+ghost use Rattle.check_plan.specs.Counting.{Sizes-told};
 ghost use Rattle.ask_trace.specs.Answer.{told, first-refusal, answer-by, state-by, counted-as};
 
 // What was traced, beside the counts of the plan; or a refusal and its place, and nothing traced.
@@ -53,7 +53,7 @@ pub fn trace_question(
     let mut sop = [0u16; SIGNAL_PLACES];
     let mut mark = [0u16; MARK_PLACES];
     let mut mop = [0u16; MARK_PLACES];
-    let o = checker::check_opened(
+    let o = check_plan::check_opened(
         plan,
         &mut head,
         &mut queues,

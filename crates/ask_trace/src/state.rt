@@ -7,7 +7,7 @@ use plan_trace::QueueCounts;
 ghost use mathlib.Core.Path.{_≡_};
 ghost use Prim.Native.Nat.{_≤_};
 ghost use lib.ListN.{length};
-ghost use Rattle.basics.specs.Lists.{in-front};
+ghost use Rattle.base_lists.specs.Lists.{in-front};
 ghost use Rattle.plan_format.specs.Sizes.{state-size};
 ghost use Rattle.ask_trace.specs.Raising.{begun, higher as higher-to, raised-by, raised-from};
 
@@ -40,7 +40,7 @@ fn begin(counts: &[u64], state: &mut [u64])
 {
     let mut i: usize = 0;
     while i < STATE_SIZE {
-        cells::put64(state, i, cells::get64(counts, i));
+        base_slices::put64(state, i, base_slices::get64(counts, i));
         i += 1;
     }
 }
@@ -58,9 +58,9 @@ fn raise(
 )
     ensures { λ _. ⌜ now (state .exit) ≡ raised-by (now (queue .entry)) (now (table .entry)) (now (counts .entry)) (now (ssem .entry)) (now (sval .entry)) (now (sop .entry)) k (now (state .entry)) ⌝ }
 {
-    let i = cells::get16(sop, k);
-    let s = cells::get16(ssem, k) % MOST_SEMAPHORES;
-    let v = cells::get64(sval, k);
+    let i = base_slices::get16(sop, k);
+    let s = base_slices::get16(ssem, k) % MOST_SEMAPHORES;
+    let v = base_slices::get64(sval, k);
     if steps::has_run(queue, table, counts, i) {
         higher(state, MOST_QUEUES + s, v);
     }
@@ -70,10 +70,10 @@ fn raise(
 fn higher(state: &mut [u64], at: usize, v: u64)
     ensures { λ _. ⌜ now (state .exit) ≡ higher-to (now (state .entry)) at v ⌝ }
 {
-    let old = cells::get64(state, at);
+    let old = base_slices::get64(state, at);
     if old < v {
-        cells::put64(state, at, v);
+        base_slices::put64(state, at, v);
     } else {
-        cells::put64(state, at, old);
+        base_slices::put64(state, at, old);
     }
 }

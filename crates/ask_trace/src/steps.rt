@@ -15,7 +15,7 @@ ghost use mathlib.Core.Path.{_≡_};
 ghost use mathlib.Core.Bool.{cond};
 ghost use Prim.Native.Nat.{_<_, _≤_};
 ghost use lib.ListN.{getD, take, drop};
-ghost use Rattle.basics.specs.Lists.{lowest-below, place-or};
+ghost use Rattle.base_lists.specs.Lists.{lowest-below, place-or};
 ghost use Rattle.plan_format.specs.Sizes.{most-queues, most-waits, step-bytes, most-steps, trace-bytes};
 ghost use Rattle.plan_format.specs.Grammar.{value};
 ghost use Rattle.plan_trace.specs.Trace.{trace-formed, trace-steps, departs as is-departure, at-end};
@@ -102,7 +102,7 @@ fn unmet(queue: &[u16], source: &[u16], table: &[u32], counts: &QueueCounts, j: 
 fn holds(queue: &[u16], source: &[u16], table: &[u32], counts: &QueueCounts, at: usize) -> bool
     ensures { λ r. ⌜ r ≡ held-at (now (queue .entry)) (now (source .entry)) (now (table .entry)) (now (counts .entry)) at ⌝ }
 {
-    let i = cells::get16(source, at);
+    let i = base_slices::get16(source, at);
     let ran = has_run(queue, table, counts, i);
     i / NO_OPERATION < unless(ran)
 }
@@ -127,14 +127,14 @@ pub(crate) fn has_run(queue: &[u16], table: &[u32], counts: &QueueCounts, i: usi
 fn place(queue: &[u16], j: usize) -> usize
     ensures { λ r. ⌜ (r ≡ place-of (now (queue .entry)) j) × (r < most-queues) ⌝ }
 {
-    cells::get16(queue, j % MOST_OPERATIONS) % MOST_QUEUES
+    base_slices::get16(queue, j % MOST_OPERATIONS) % MOST_QUEUES
 }
 
 // The own entry of an operation's row.
 fn own(queue: &[u16], table: &[u32], j: usize) -> u64
     ensures { λ r. ⌜ r ≡ own-entry (now (queue .entry)) (now (table .entry)) j ⌝ }
 {
-    cells::get32(table, ROW_WIDTH * (j % MOST_OPERATIONS) + place(queue, j)) as u64
+    base_slices::get32(table, ROW_WIDTH * (j % MOST_OPERATIONS) + place(queue, j)) as u64
 }
 
 // Whether the case names a broken rule.

@@ -28,7 +28,7 @@ pub extern "C" fn cundvrest_trace(
     let traced = r.traced;
     let followed = traced.followed;
     put(traced, found);
-    lent::tell(
+    c_lent::tell(
         Told {
             number: r.counted.number,
             place: r.counted.place,

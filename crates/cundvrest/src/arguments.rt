@@ -1,8 +1,8 @@
 // The arguments: what is asked, or a line on standard error that says what is wrong and what would be right.
 use crate::usage;
+use base_decimal::Word;
 use check::same;
-use decimal::Word;
-use report_input::Question;
+use print_input::Question;
 
 pub enum Asked {
     Plan(Question),
@@ -146,7 +146,7 @@ fn number(i: usize, name: &[u8]) -> Given {
 }
 
 fn read_number(word: &[u8], name: &[u8]) -> Given {
-    match decimal::of_word(word, 4294967295) {
+    match base_decimal::of_word(word, 4294967295) {
         Word::Number(v) => Given::Number(v as u32),
         Word::Large => {
             usage::complain(

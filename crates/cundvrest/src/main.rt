@@ -10,7 +10,7 @@ use libc::STDOUT_FILENO;
 use plan_format::limits::PLAN_BYTES;
 use plan_format::limits::PLAN_NUMBERS;
 use plan_format::limits::TRACE_BYTES;
-use report_input::Question;
+use print_input::Question;
 
 // One byte, and one number, more than the longest plan has, and one byte more than the longest trace: so many decide
 // the answer to an input of any length.
@@ -30,7 +30,7 @@ fn on_plan(question: Question, out: &mut [u8]) -> usize {
     if read.failed {
         return 0;
     }
-    report_input::on_first(question, &plan, read.kept, out)
+    print_input::on_first(question, &plan, read.kept, out)
 }
 
 // A recorded trace held against the plan of standard input.
@@ -45,7 +45,7 @@ fn on_trace(out: &mut [u8]) -> usize {
     if read.failed {
         return 0;
     }
-    report_input::traced(&plan, read.kept, &trace, recorded.kept, out)
+    print_input::traced(&plan, read.kept, &trace, recorded.kept, out)
 }
 
 // The stored plan of the numbers of standard input.
@@ -60,7 +60,7 @@ fn write(out: &mut [u8]) -> usize {
         usage::bad_number(s.before, s.fault);
         return 0;
     }
-    report_input::written(&list, s.kept, out)
+    print_input::written(&list, s.kept, out)
 }
 
 // The text of what is asked; of length 0 where a line on standard error says why there is none.

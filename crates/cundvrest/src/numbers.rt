@@ -1,6 +1,6 @@
 // The numbers that `write` reads: in decimal, separated by white space.
 use crate::input;
-use decimal::Digits;
+use base_decimal::Digits;
 use libc::STDIN_FILENO;
 
 // How far the text has been read: how many numbers are before, how many of them are kept, and the digits of a number
@@ -76,11 +76,11 @@ fn next(s: Scan, b: u8, list: &mut [u64]) -> Scan {
     if is_space(b) {
         return ended(s, list);
     }
-    let unit = decimal::digit(b);
+    let unit = base_decimal::digit(b);
     if unit > 9 {
         return faulty(s, 1);
     }
-    let digits = decimal::more(s.digits, unit);
+    let digits = base_decimal::more(s.digits, unit);
     Scan {
         kept: s.kept,
         before: s.before,

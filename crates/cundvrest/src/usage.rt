@@ -5,7 +5,7 @@ ghost use mathlib.Core.Path.{_≡_};
 ghost use lib.ListN.{length};
 
 pub fn help(out: &mut [u8]) -> usize {
-    text::words(
+    base_text::words(
         out,
         0,
         b"cundvrest: a proved checker for queue plans
@@ -58,16 +58,16 @@ fn shown(b: u8) -> u8 {
 
 // A word in quotes, its first bytes only.
 fn quoted(out: &mut [u8], at: usize, word: &[u8]) -> usize {
-    let mut end = text::byte(out, at, b'\'');
+    let mut end = base_text::byte(out, at, b'\'');
     let mut i = 0;
     while i < word.len() {
         if i == 40 {
-            return text::words(out, end, b"..'");
+            return base_text::words(out, end, b"..'");
         }
-        end = text::byte(out, end, shown(word[i]));
+        end = base_text::byte(out, end, shown(word[i]));
         i += 1;
     }
-    text::byte(out, end, b'\'')
+    base_text::byte(out, end, b'\'')
 }
 
 // A whole line.
@@ -78,22 +78,22 @@ pub fn say(line: &[u8]) {
 // A line with a word in quotes.
 pub fn complain(before: &[u8], word: &[u8], after: &[u8]) {
     let mut out = line();
-    let name = text::words(&mut out, 0, b"cundvrest: ");
-    let first = text::words(&mut out, name, before);
+    let name = base_text::words(&mut out, 0, b"cundvrest: ");
+    let first = base_text::words(&mut out, name, before);
     let second = quoted(&mut out, first, word);
-    let third = text::words(&mut out, second, after);
-    let end = text::byte(&mut out, third, b'\n');
+    let third = base_text::words(&mut out, second, after);
+    let end = base_text::byte(&mut out, third, b'\n');
     output::write(STDERR_FILENO, &out, end);
 }
 
 // A line on a number of standard input that is none, or is too large.
 pub fn bad_number(before: u64, fault: u8) {
     let mut out = line();
-    let name = text::words(&mut out, 0, b"cundvrest: standard input: after ");
-    let first = text::number(&mut out, name, before);
-    let second = text::words(&mut out, first, b" numbers comes ");
+    let name = base_text::words(&mut out, 0, b"cundvrest: standard input: after ");
+    let first = base_text::number(&mut out, name, before);
+    let second = base_text::words(&mut out, first, b" numbers comes ");
     let third = fault_words(&mut out, second, fault);
-    let end = text::words(
+    let end = base_text::words(
         &mut out,
         third,
         b"; right: decimal digits, at most 18446744073709551615, white space between\n",
@@ -103,7 +103,7 @@ pub fn bad_number(before: u64, fault: u8) {
 
 fn fault_words(out: &mut [u8], at: usize, fault: u8) -> usize {
     if fault == 1 {
-        return text::words(out, at, b"no number");
+        return base_text::words(out, at, b"no number");
     }
-    text::words(out, at, b"one too large")
+    base_text::words(out, at, b"one too large")
 }

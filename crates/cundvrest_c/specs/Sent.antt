@@ -1,8 +1,8 @@
 -- R77, R78: what is told and stored of the frontier sent out for an operation. Assumes nothing: these are definitions.
 use mathlib.Core.List.{List}
 use Prim.Native.Nat.{ℕ}
-use Rattle.frontier_sent.specs.declared.Sent.{Sent}
-use Rattle.lent.specs.Lent.{told-of, frontier-of, Handed}
+use Rattle.ask_frontier.specs.declared.Sent.{Sent}
+use Rattle.c_lent.specs.Lent.{told-of, frontier-of, Handed}
 
 abbrev pub Sent-says : Sent → (told frontier : List ℕ) → Type 0
 Sent-says r told frontier = Handed (r .number) (r .place) (r .frontier) told frontier

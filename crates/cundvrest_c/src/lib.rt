@@ -5,11 +5,11 @@ ghost use mathlib.Core.Bool.{true, _||_};
 ghost use Rattle.plan_format.specs.Meaning.{Read-means, Write-means};
 ghost use Rattle.plan_format.specs.Stored.{Read-says, Write-says};
 ghost use Rattle.plan_order.specs.Promise.{Checked};
-ghost use Rattle.questions.specs.Reuse.{Asked};
-ghost use Rattle.frontier_sent.specs.SentMeaning.{Frontier-right};
+ghost use Rattle.ask_reuse.specs.Reuse.{Asked};
+ghost use Rattle.ask_frontier.specs.SentMeaning.{Frontier-right};
 ghost use Rattle.frontier.specs.Frontiers.{capable, merge, raise, dominance};
 ghost use Rattle.frontier.specs.Meaning.{Merge-right, Raise-right, Dominance-means};
-ghost use Rattle.lent.specs.Lent.{told-of, frontier-of, oversized, Merge-says, merged-of, Oversized-refused, dominance-told, dominance-of};
+ghost use Rattle.c_lent.specs.Lent.{told-of, frontier-of, oversized, Merge-says, merged-of, Oversized-refused, dominance-told, dominance-of};
 ghost use Rattle.cundvrest_c.specs.Sent.{Sent-says, sent-of};
 
 // The numbers of a stored plan in front of the room; the answer is how many there are.
@@ -18,7 +18,7 @@ pub extern "C" fn cundvrest_read(plan: &[u8], room: &mut [u64], told: &mut [u64;
     ensures says { λ _. ⌜ Read-says (now (plan .entry)) (told-of (now (told .exit))) (now (room .entry)) (now (room .exit)) ⌝ }
     ensures means { λ _. ⌜ Read-means (now (plan .entry)) (told-of (now (told .exit))) (now (room .entry)) (now (room .exit)) ⌝ }
 {
-    lent::tell(plan_reader::read_plan(plan, room), told);
+    c_lent::tell(stored_read::read_plan(plan, room), told);
 }
 
 // The bytes of a list of numbers in front of the room; the answer is how many there are.
@@ -27,7 +27,7 @@ pub extern "C" fn cundvrest_write(numbers: &[u64], room: &mut [u8], told: &mut [
     ensures says { λ _. ⌜ Write-says (now (numbers .entry)) (told-of (now (told .exit))) (now (room .entry)) (now (room .exit)) ⌝ }
     ensures means { λ _. ⌜ Write-means (now (numbers .entry)) (told-of (now (told .exit))) (now (room .entry)) (now (room .exit)) ⌝ }
 {
-    lent::tell(plan_writer::write_plan(numbers, room), told);
+    c_lent::tell(stored_write::write_plan(numbers, room), told);
 }
 
 // The check of a stored plan: the rows and the run in table and list.
@@ -40,7 +40,7 @@ pub extern "C" fn cundvrest_check(
 )
     ensures { λ _. ⌜ Checked (now (plan .entry)) (told-of (now (told .exit))) (now (table .entry)) (now (table .exit)) (now (list .entry)) (now (list .exit)) ⌝ }
 {
-    lent::tell(checker::check_plan(plan, table, list), told);
+    c_lent::tell(check_plan::check_plan(plan, table, list), told);
 }
 
 // The reuse question: whether a queue may take a buffer anew; the answer is the verdict.
@@ -55,8 +55,8 @@ pub extern "C" fn cundvrest_reuse(
 )
     ensures { λ _. ⌜ Asked (now (plan .entry)) queue buffer (told-of (now (told .exit))) (now (table .entry)) (now (table .exit)) (now (list .entry)) (now (list .exit)) ⌝ }
 {
-    lent::tell(
-        questions::reuse_question(plan, queue, buffer, table, list),
+    c_lent::tell(
+        ask_reuse::reuse_question(plan, queue, buffer, table, list),
         told,
     );
 }
@@ -69,23 +69,23 @@ pub extern "C" fn cundvrest_frontier(
     capacity: u32,
     table: &mut [u32],
     list: &mut [u32],
-    frontier: &mut [u64; lent::NUMBERS],
+    frontier: &mut [u64; c_lent::NUMBERS],
     told: &mut [u64; 3],
 )
     ensures right { λ _. ⌜ Frontier-right (now (plan .entry)) operation capacity (sent-of (now (told .exit)) (now (frontier .exit))) (now (table .entry)) (now (table .exit)) (now (list .entry)) (now (list .exit)) ⌝ }
     ensures says { λ _. ⌜ Sent-says (sent-of (now (told .exit)) (now (frontier .exit))) (now (told .exit)) (now (frontier .exit)) ⌝ }
 {
-    let r = frontier_sent::frontier_of(plan, operation, capacity, table, list);
-    lent::hand(r.number, r.place, r.frontier, frontier, told);
+    let r = ask_frontier::frontier_of(plan, operation, capacity, table, list);
+    c_lent::hand(r.number, r.place, r.frontier, frontier, told);
 }
 
 // The larger epoch of each axis, cut to the capacity.
 #[no_mangle]
 pub extern "C" fn cundvrest_merge(
-    left: &[u64; lent::NUMBERS],
-    right: &[u64; lent::NUMBERS],
+    left: &[u64; c_lent::NUMBERS],
+    right: &[u64; c_lent::NUMBERS],
     capacity: u32,
-    merged: &mut [u64; lent::NUMBERS],
+    merged: &mut [u64; c_lent::NUMBERS],
     told: &mut [u64; 3],
 )
     ensures says { λ _. ⌜ Merge-says (merge (frontier-of (now (left .entry))) (frontier-of (now (right .entry))) capacity) (now (told .exit)) (now (merged .exit)) ⌝ }
@@ -93,39 +93,39 @@ pub extern "C" fn cundvrest_merge(
     ensures oversized_sides { λ _. ⌜ Oversized-refused (oversized (now (left .entry)) || oversized (now (right .entry)))
         (capable capacity) (now (told .exit)) ⌝ }
 {
-    let r = lent::frontier(left).merge(lent::frontier(right), capacity);
-    lent::hand(r.number, 0, r.frontier, merged, told);
+    let r = c_lent::frontier(left).merge(c_lent::frontier(right), capacity);
+    c_lent::hand(r.number, 0, r.frontier, merged, told);
 }
 
 // One axis raised to an epoch.
 #[no_mangle]
 pub extern "C" fn cundvrest_raise(
-    old: &[u64; lent::NUMBERS],
+    old: &[u64; c_lent::NUMBERS],
     axis: u64,
     epoch: u64,
     capacity: u32,
-    raised: &mut [u64; lent::NUMBERS],
+    raised: &mut [u64; c_lent::NUMBERS],
     told: &mut [u64; 3],
 )
     ensures says { λ _. ⌜ Merge-says (raise (frontier-of (now (old .entry))) axis epoch capacity) (now (told .exit)) (now (raised .exit)) ⌝ }
     ensures right { λ _. ⌜ Raise-right (frontier-of (now (old .entry))) axis epoch capacity (merged-of (now (told .exit)) (now (raised .exit))) ⌝ }
     ensures oversized_side { λ _. ⌜ Oversized-refused (oversized (now (old .entry))) (capable capacity) (now (told .exit)) ⌝ }
 {
-    let r = lent::frontier(old).raise(axis, epoch, capacity);
-    lent::hand(r.number, 0, r.frontier, raised, told);
+    let r = c_lent::frontier(old).raise(axis, epoch, capacity);
+    c_lent::hand(r.number, 0, r.frontier, raised, told);
 }
 
 // Whether the left frontier dominates the right one; the answer is the value of no, yes or unknown.
 #[no_mangle]
 pub extern "C" fn cundvrest_dominates(
-    left: &[u64; lent::NUMBERS],
-    right: &[u64; lent::NUMBERS],
+    left: &[u64; c_lent::NUMBERS],
+    right: &[u64; c_lent::NUMBERS],
     told: &mut [u64; 3],
 )
     ensures says { λ _. ⌜ told-of (now (told .exit)) ≡ dominance-told (dominance (frontier-of (now (left .entry))) (frontier-of (now (right .entry)))) ⌝ }
     ensures means { λ _. ⌜ Dominance-means (frontier-of (now (left .entry))) (frontier-of (now (right .entry))) (dominance-of (told-of (now (told .exit)))) ⌝ }
     ensures oversized_sides { λ _. ⌜ Oversized-refused (oversized (now (left .entry)) || oversized (now (right .entry))) true (now (told .exit)) ⌝ }
 {
-    let r = lent::frontier(left).dominates(lent::frontier(right));
-    lent::tell(lent::dominance(r), told);
+    let r = c_lent::frontier(left).dominates(c_lent::frontier(right));
+    c_lent::tell(c_lent::dominance(r), told);
 }

@@ -10,10 +10,10 @@ use native.Mathlib.Omega.{arith}
 use lib.Dec.{ltb, eqb}
 use lib.ListN.{length}
 use borrow.Author.Tests.{ltb-true, lt-ltb, eqb-true, ne-eqb}
-use Rattle.basics.proofs.Tests.{by-cases, either}
+use Rattle.base_lists.proofs.Tests.{by-cases, either}
 use Rattle.frontier.specs.declared.Lookup.{Lookup}
 use Rattle.frontier.specs.declared.Lookup.the-variants.{Listed, Absent}
-use Rattle.basics.specs.Lists.{filter}
+use Rattle.base_lists.specs.Lists.{filter}
 use Rattle.frontier.specs.Entries.{Entry, find, exceeds, exceeding, cut}
 use Rattle.frontier.specs.Meaning.{epoch-of, epoch-at, listed-if}
 use Rattle.frontier.proofs.Sorted.{Sorted, lower, same-entry}

@@ -10,8 +10,8 @@ use native.Mathlib.Omega.{arith}
 use lib.Dec.{ltb}
 use lib.ListN.{length}
 use borrow.Author.Tests.{lt-ltb, le-ltb}
-use Rattle.basics.proofs.Tests.{by-cases, clash, is-true, is-false, either}
-use Rattle.basics.specs.Lists.{filter}
+use Rattle.base_lists.proofs.Tests.{by-cases, clash, is-true, is-false, either}
+use Rattle.base_lists.specs.Lists.{filter}
 use Rattle.frontier.specs.Entries.{Entry, exceeds, exceeding, cut}
 use Rattle.frontier.proofs.Sorted.{Sorted}
 use Rattle.frontier.proofs.Exceeds.{exceeds-not-itself, exceeds-chain, exceeds-or, exceeds-past, exceeds-same, exceeds-zero}

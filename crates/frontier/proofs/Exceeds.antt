@@ -7,7 +7,7 @@ use Prim.Native.Nat.{_≤_, _<_}
 use native.Mathlib.Omega.{arith}
 use lib.Dec.{ltb, eqb}
 use borrow.Author.Tests.{ltb-true, ltb-false, eqb-true, eqb-false, lt-ltb, le-ltb, eq-eqb, ne-eqb}
-use Rattle.basics.proofs.Tests.{by-cases, clash, is-false, either, or-cases, or-left, or-right, and-left, and-right, and-both}
+use Rattle.base_lists.proofs.Tests.{by-cases, clash, is-false, either, or-cases, or-left, or-right, and-left, and-right, and-both}
 use Rattle.frontier.specs.Entries.{Entry, exceeds}
 use Rattle.frontier.proofs.Sorted.{same-entry}
 

@@ -6,8 +6,8 @@ use Prim.Native.Nat.{ℕ, zero, suc, _+_, _≤_, _<_, max}
 use native.Mathlib.Omega.{arith}
 use lib.Dec.{eqb}
 use borrow.Author.Tests.{eqb-true, eqb-false, eq-eqb, ne-eqb}
-use Rattle.basics.specs.Lists.{tabulate-from}
-use Rattle.basics.proofs.Tests.{by-cases}
+use Rattle.base_lists.specs.Lists.{tabulate-from}
+use Rattle.base_lists.proofs.Tests.{by-cases}
 use Rattle.frontier.specs.Entries.{Entry}
 use Rattle.frontier.specs.Frontiers.{one-entry, gathered}
 use Rattle.frontier.specs.Meaning.{epoch-at}

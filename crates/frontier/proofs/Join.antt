@@ -9,7 +9,7 @@ use lib.Dec.{eqb, ltb, leb}
 use lib.ListN.{length, getD, set, length-set, take, drop, replicate}
 use lib.Seq.{length-take-le}
 use borrow.Author.Tests.{eqb-true, eqb-false, ltb-true, ltb-false, leb-true, leb-false, le-leb, lt-ltb}
-use Rattle.basics.proofs.Tests.{by-cases, clash}
+use Rattle.base_lists.proofs.Tests.{by-cases, clash}
 use Rattle.frontier.specs.declared.Lookup.the-variants.{Listed, Absent}
 use Rattle.frontier.specs.Entries.{Entry, most-entries, most-of-two, rising-from, find, union, cut}
 use Rattle.frontier.specs.Frontiers.{slot, slots, all-zero, pack, joined}
@@ -142,7 +142,7 @@ pub record Join (xa xe ya ye axes epochs : List ℕ) (xn yn n i j : ℕ) : Type 
 module _ (xa xe ya ye axes epochs : List ℕ) (xn yn : ℕ) where
   pub join-none : axes ≡ replicate most-of-two 0 → epochs ≡ replicate most-of-two 0 →
       Join xa xe ya ye axes epochs xn yn 0 0 0
-  unfolding slots Rattle.basics.specs.Lists.tabulate-from
+  unfolding slots Rattle.base_lists.specs.Lists.tabulate-from
   join-none p q = rw (p, q) (record {
     left-in = zero-le;
     right-in = zero-le;

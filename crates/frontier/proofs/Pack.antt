@@ -10,8 +10,8 @@ use lib.Dec.{leb, eqb}
 use lib.ListN.{length, getD, take, drop, replicate, length-append, length-replicate, length-map, length-drop, take-append-drop}
 use lib.Seq.{drop-at}
 use borrow.Author.Tests.{leb-true, le-leb, eqb-true, eq-eqb}
-use Rattle.basics.specs.Lists.{tabulate-from}
-use Rattle.basics.proofs.Tests.{by-cases, clash, is-false, and-left, and-right, and-both}
+use Rattle.base_lists.specs.Lists.{tabulate-from}
+use Rattle.base_lists.proofs.Tests.{by-cases, clash, is-false, and-left, and-right, and-both}
 use Rattle.frontier.specs.declared.Frontier.{Frontier}
 use Rattle.frontier.specs.Entries.{Entry, most-entries, rising-from}
 use Rattle.frontier.specs.Frontiers.{slot, slots, entries, all-zero, row-formed, well-formed, pack}

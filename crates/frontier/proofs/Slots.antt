@@ -9,9 +9,9 @@ use native.Mathlib.Omega.{arith}
 use lib.ListN.{length, getD, set, take, drop}
 use lib.Dec.{eqb}
 use lib.Seq.{getD-set-same, getD-set-other, getD-take, take-all, take-suc, take-suc-set, drop-cons, drop-set-lt}
-use Rattle.basics.specs.Lists.{tabulate-from}
-use Rattle.basics.proofs.Tests.{and-left, and-right, and-both}
-use Rattle.basics.proofs.Tables.{tabulate-length, tabulate-last}
+use Rattle.base_lists.specs.Lists.{tabulate-from}
+use Rattle.base_lists.proofs.Tests.{and-left, and-right, and-both}
+use Rattle.base_lists.proofs.Tables.{tabulate-length, tabulate-last}
 use Rattle.frontier.specs.Entries.{Entry, most-entries, most-of-two}
 use Rattle.frontier.specs.Frontiers.{slot, slots, all-zero}
 use Rattle.frontier.specs.Walks.{rest, floor}

@@ -9,7 +9,7 @@ use lib.Dec.{ltb, leb}
 use lib.ListN.{length, getD, drop}
 use lib.Seq.{drop-cons}
 use borrow.Author.Tests.{le-ltb, lt-ltb, le-leb, ne-eqb}
-use Rattle.basics.proofs.Tests.{by-cases, and-left, and-right}
+use Rattle.base_lists.proofs.Tests.{by-cases, and-left, and-right}
 use Rattle.frontier.specs.Entries.{rising-from}
 use Rattle.frontier.specs.Frontiers.{slot, slots, all-zero}
 use Rattle.frontier.specs.Walks.{rest, floor, placed, skip-below}

@@ -9,10 +9,10 @@ use native.Mathlib.Omega.{arith}
 use lib.Dec.{eqb}
 use borrow.Author.Tests.{eqb-true, eqb-false}
 use lib.ListN.{length, getD, drop, set, length-append, length-set, replicate}
-use Rattle.basics.specs.Lists.{tabulate-from}
-use Rattle.basics.proofs.Tests.{by-cases, clash, is-false, either}
+use Rattle.base_lists.specs.Lists.{tabulate-from}
+use Rattle.base_lists.proofs.Tests.{by-cases, clash, is-false, either}
 use Rattle.frontier.specs.declared.Merged.{Merged}
-use Rattle.basics.specs.Lists.{filter}
+use Rattle.base_lists.specs.Lists.{filter}
 use Rattle.frontier.specs.Entries.{Entry, most-entries, rising-from, exceeds, exceeding, cut}
 use Rattle.frontier.specs.Frontiers.{slot, slots, all-zero, pack, handed}
 use Rattle.frontier.specs.Walks.{rest}

@@ -4,7 +4,7 @@ use mathlib.Core.Bool.{Bool, true, _&&_, _||_, cond}
 use mathlib.Core.List.{List, [], _∷_}
 use Prim.Native.Nat.{ℕ, suc, _+_, _*_, max}
 use lib.Dec.{ltb, leb, eqb}
-use Rattle.basics.specs.Lists.{filter}
+use Rattle.base_lists.specs.Lists.{filter}
 pub use Rattle.frontier.specs.declared.Entry.{Entry}
 use Rattle.frontier.specs.declared.Lookup.{Lookup}
 use Rattle.frontier.specs.declared.Lookup.the-variants.{Listed, Absent}

@@ -5,7 +5,7 @@ use mathlib.Core.List.{List, [], _∷_, _++_, map}
 use Prim.Native.Nat.{ℕ, _-_}
 use lib.Dec.{ltb, leb, eqb}
 use lib.ListN.{length, getD, drop, replicate}
-use Rattle.basics.specs.Lists.{tabulate-from}
+use Rattle.base_lists.specs.Lists.{tabulate-from}
 use Rattle.frontier.specs.declared.Frontier.{Frontier}
 use Rattle.frontier.specs.declared.Merged.{Merged}
 use Rattle.frontier.specs.declared.Lookup.{Lookup}

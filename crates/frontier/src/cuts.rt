@@ -7,7 +7,7 @@ ghost use mathlib.Core.Path.{_≡_};
 ghost use mathlib.Core.Bool.{true, cond};
 ghost use Prim.Native.Nat.{_+_, _≤_, _<_};
 ghost use lib.ListN.{length, take};
-ghost use Rattle.basics.specs.Lists.{filter};
+ghost use Rattle.base_lists.specs.Lists.{filter};
 ghost use Rattle.frontier.specs.Entries.{most-entries, most-of-two, rising-from, exceeds, exceeding, cut};
 ghost use Rattle.frontier.specs.Frontiers.{slots, pack, handed};
 

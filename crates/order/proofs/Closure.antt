@@ -8,11 +8,11 @@ use native.Mathlib.Omega.{arith}
 use lib.Dec.{eqb}
 use lib.ListN.{length}
 use borrow.Author.Tests.{eqb-true, eqb-false, not-true}
-use Rattle.basics.specs.Lists.{member}
-use Rattle.basics.proofs.Tests.{by-cases, clash, is-true, and-left, and-right, and-both, or-cases, or-left, or-right, not-of-false, either}
-use Rattle.basics.proofs.Members.{member-nil, member-here, member-there, member-cons}
-use Rattle.basics.proofs.Tallies.{find-below}
-use Rattle.basics.proofs.Distinct.{Sized, sized-nil, sized-cons, sized-all}
+use Rattle.base_lists.specs.Lists.{member}
+use Rattle.base_lists.proofs.Tests.{by-cases, clash, is-true, and-left, and-right, and-both, or-cases, or-left, or-right, not-of-false, either}
+use Rattle.base_lists.proofs.Members.{member-nil, member-here, member-there, member-cons}
+use Rattle.base_lists.proofs.Tallies.{find-below}
+use Rattle.base_lists.proofs.Distinct.{Sized, sized-nil, sized-cons, sized-all}
 use Rattle.order.specs.Closure.{Chain, once, more, any-of, fresh, round, rounds, predecessors}
 
 pub chain-from : (d : ℕ → ℕ → Bool) (i k j : ℕ) → d i k ≡ true → Chain d k j → Chain d i j

@@ -6,9 +6,9 @@ use native.Mathlib.Nat.{le-trans}
 use native.Mathlib.Omega.{arith}
 use lib.Dec.{ltb, eqb}
 use borrow.Author.Tests.{ltb-true, ltb-false, eqb-true, eqb-false, not-true}
-use Rattle.basics.specs.Lists.{tally}
-use Rattle.basics.proofs.Tests.{by-cases, clash, is-true, is-false, and-left, and-right, and-both, not-of-false, either}
-use Rattle.basics.proofs.Tallies.{find-below, tally-mono, tally-same, tally-further, tally-ends}
+use Rattle.base_lists.specs.Lists.{tally}
+use Rattle.base_lists.proofs.Tests.{by-cases, clash, is-true, is-false, and-left, and-right, and-both, not-of-false, either}
+use Rattle.base_lists.proofs.Tallies.{find-below, tally-mono, tally-same, tally-further, tally-ends}
 
 -- ---- of two initial parts of what passes a test, one has the other
 abbrev pub Initial : (n : ℕ) → (on f : ℕ → Bool) → Type 0

@@ -10,10 +10,10 @@ use native.Mathlib.Omega.{arith}
 use lib.ListN.{length, length-append}
 use lib.Dec.{eqb}
 use borrow.Author.Tests.{eqb-true, eq-eqb, ne-eqb, not-true}
-use Rattle.basics.specs.Lists.{member, filter}
-use Rattle.basics.proofs.Tests.{by-cases, clash, is-false, not-of-false, or-cases, or-left, or-right, either}
-use Rattle.basics.proofs.Members.{Sub, member-nil, member-cons, member-left, member-snoc, member-last}
-use Rattle.basics.proofs.Filters.{filter-yes, filter-no, filter-has, filter-passes, filter-lengths}
+use Rattle.base_lists.specs.Lists.{member, filter}
+use Rattle.base_lists.proofs.Tests.{by-cases, clash, is-false, not-of-false, or-cases, or-left, or-right, either}
+use Rattle.base_lists.proofs.Members.{Sub, member-nil, member-cons, member-left, member-snoc, member-last}
+use Rattle.base_lists.proofs.Filters.{filter-yes, filter-no, filter-has, filter-passes, filter-lengths}
 use Rattle.order.specs.Runs.{runs, step-of}
 use Rattle.order.specs.Closure.{Chain, once, more, predecessors}
 use Rattle.order.proofs.Runs.{can-below, can-fresh, can-enabled, can-by, runs-head, runs-tail, runs-cons, runs-nil, runs-append, runs-snoc, full-all}

@@ -9,8 +9,8 @@ use lib.Dec.{eqb}
 use lib.ListN.{length, getD, take, length-append}
 use lib.Seq.{take-at, getD-at}
 use borrow.Author.Tests.{eqb-true, eqb-false}
-use Rattle.basics.specs.Lists.{member}
-use Rattle.basics.proofs.Tests.{by-cases, by-option, clash, is-false}
+use Rattle.base_lists.specs.Lists.{member}
+use Rattle.base_lists.proofs.Tests.{by-cases, by-option, clash, is-false}
 use Rattle.order.specs.Runs.{can, runs}
 use Rattle.order.specs.Greedy.{with-next, greedy}
 use Rattle.order.proofs.Runs.{can-below, can-fresh, runs-nil, runs-snoc, full-all}

@@ -8,11 +8,11 @@ use native.Mathlib.Omega.{arith}
 use lib.Dec.{ltb}
 use lib.ListN.{length}
 use borrow.Author.Tests.{ltb-true, lt-ltb, not-true}
-use Rattle.basics.specs.Lists.{member}
-use Rattle.basics.proofs.Tests.{clash, is-true, is-false, and-left, and-right, and-both, not-of-false, either}
-use Rattle.basics.proofs.Members.{Sub, member-nil, member-snoc}
-use Rattle.basics.proofs.Tallies.{find-below}
-use Rattle.basics.proofs.Distinct.{Sized, sized-nil, sized-snoc, sized-all, sized-sub}
+use Rattle.base_lists.specs.Lists.{member}
+use Rattle.base_lists.proofs.Tests.{clash, is-true, is-false, and-left, and-right, and-both, not-of-false, either}
+use Rattle.base_lists.proofs.Members.{Sub, member-nil, member-snoc}
+use Rattle.base_lists.proofs.Tallies.{find-below}
+use Rattle.base_lists.proofs.Distinct.{Sized, sized-nil, sized-snoc, sized-all, sized-sub}
 use Rattle.order.specs.Runs.{can, runs}
 
 module _ (n : ℕ) (enabled : List ℕ → ℕ → Bool) where

@@ -8,9 +8,9 @@ use native.Mathlib.Omega.{arith}
 use lib.Dec.{eqb}
 use lib.ListN.{length}
 use borrow.Author.Tests.{eqb-true, eqb-false}
-use Rattle.basics.specs.Lists.{member}
-use Rattle.basics.proofs.Tests.{by-cases, clash, is-false, either}
-use Rattle.basics.proofs.Members.{member-nil, member-here, member-there, member-cons}
+use Rattle.base_lists.specs.Lists.{member}
+use Rattle.base_lists.proofs.Tests.{by-cases, clash, is-false, either}
+use Rattle.base_lists.proofs.Members.{member-nil, member-here, member-there, member-cons}
 use Rattle.order.specs.Runs.{step-of}
 
 pub step-least : (xs : List ℕ) (a j : ℕ) → a ≤ step-of a xs j

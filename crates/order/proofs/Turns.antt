@@ -9,7 +9,7 @@ use native.Mathlib.Omega.{arith}
 use lib.ListN.{length, getD, take, length-append}
 use lib.Seq.{length-take-le, take-take, getD-take, take-at, getD-at}
 use borrow.Author.Tests.{eq-eqb, ne-eqb}
-use Rattle.basics.specs.Places.{Among}
+use Rattle.base_lists.specs.Places.{Among}
 use Rattle.order.specs.Runs.{can, runs, step-of}
 use Rattle.order.proofs.Runs.{runs-head, runs-tail, runs-cons, runs-nil}
 

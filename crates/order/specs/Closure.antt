@@ -4,7 +4,7 @@ use mathlib.Core.Path.{_≡_}
 use mathlib.Core.Bool.{Bool, true, false, _&&_, _||_, not, cond}
 use mathlib.Core.List.{List, [], _∷_}
 use Prim.Native.Nat.{ℕ, zero, suc}
-use Rattle.basics.specs.Lists.{member}
+use Rattle.base_lists.specs.Lists.{member}
 
 -- a chain of direct steps from i to j
 pub data Chain (direct : ℕ → ℕ → Bool) : (i j : ℕ) → Type 0 where

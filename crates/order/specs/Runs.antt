@@ -4,7 +4,7 @@ use mathlib.Core.Bool.{Bool, true, _&&_, not, cond}
 use mathlib.Core.List.{List, [], _∷_, _++_}
 use Prim.Native.Nat.{ℕ, suc}
 use lib.Dec.{ltb, eqb}
-use Rattle.basics.specs.Lists.{member}
+use Rattle.base_lists.specs.Lists.{member}
 
 -- j may come next: it is below n, not done, and enabled by what is done
 unfoldable pub can : (n : ℕ) → (enabled : List ℕ → ℕ → Bool) → (done : List ℕ) → (j : ℕ) → Bool

@@ -6,7 +6,7 @@ use mathlib.Core.List.{List, [], _∷_, _++_, append-assoc, append-nil}
 use Prim.Native.Nat.{ℕ, zero, suc}
 use lib.Dec.{eqb}
 use lib.ListN.{getD}
-use Rattle.basics.proofs.Tests.{by-cases}
+use Rattle.base_lists.proofs.Tests.{by-cases}
 use Rattle.plan_format.specs.Refusal.{given}
 use Rattle.plan_format.specs.Grammar.{Check, Grammar, field, seq, counted, nothing, Source, Scan, scan, refused, field-number, read-field, last-got, times, count-check, read-by, Spelling, spell-field, spell-by}
 use Rattle.plan_format.proofs.Faults.{read-stays}

@@ -5,7 +5,7 @@ use Prim.Native.Nat.{ℕ, _≤_, _<_}
 use native.Mathlib.Omega.{arith}
 use lib.Dec.{ltb}
 use borrow.Author.Tests.{ltb-true, lt-ltb}
-use Rattle.basics.proofs.Tests.{by-cases}
+use Rattle.base_lists.proofs.Tests.{by-cases}
 use Rattle.plan_format.specs.Sizes.{most-waits, most-signals, most-marks}
 use Rattle.plan_format.specs.Form.{Form, queue-count, semaphore-count, buffer-count, any-number, below, a-queue}
 use Rattle.plan_format.specs.Form.{a-semaphore, a-buffer, a-kind, point, mark, operation}

@@ -8,8 +8,8 @@ use native.Mathlib.Omega.{arith}
 use lib.Dec.{ltb, lit<}
 use lib.ListN.{length, take, drop}
 use borrow.Author.Tests.{ltb-true, lt-ltb}
-use Rattle.basics.specs.Lists.{all}
-use Rattle.basics.proofs.Tests.{and-left, and-right, and-both}
+use Rattle.base_lists.specs.Lists.{all}
+use Rattle.base_lists.proofs.Tests.{and-left, and-right, and-both}
 use Rattle.plan_format.specs.Grammar.{value, digits}
 use Rattle.plan_format.specs.Stored.{all-bytes}
 

@@ -9,9 +9,9 @@ use native.Mathlib.Omega.{arith}
 use lib.Dec.{ltb}
 use lib.ListN.{length, drop}
 use borrow.Author.Tests.{ltb-true, ltb-false, lt-ltb, le-ltb, eq-eqb, ne-eqb}
-use Rattle.basics.specs.Lists.{member}
-use Rattle.basics.proofs.Tests.{by-cases, either, or-cases, or-left, or-right, is-false}
-use Rattle.basics.proofs.Places.{member-place, place-member}
+use Rattle.base_lists.specs.Lists.{member}
+use Rattle.base_lists.proofs.Tests.{by-cases, either, or-cases, or-left, or-right, is-false}
+use Rattle.base_lists.proofs.Places.{member-place, place-member}
 use Rattle.plan_format.specs.Grammar.{Source, field-number, count-check}
 use Rattle.plan_format.specs.Form.{any-number, below, new-axis, a-queue, a-semaphore, a-buffer, a-kind, queue-count, semaphore-count, buffer-count}
 use Rattle.plan_format.specs.Meaning.{Given-when, Earlier-axis, Checks-mean, Field-means}

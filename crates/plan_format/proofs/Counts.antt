@@ -9,7 +9,7 @@ use lib.Dec.{ltb}
 use lib.ListN.{length, getD, take, length-append, length-take}
 use lib.Seq.{getD-take}
 use borrow.Author.Tests.{lt-ltb, le-ltb, ltb-true, ltb-false}
-use Rattle.basics.proofs.Tests.{by-cases}
+use Rattle.base_lists.proofs.Tests.{by-cases}
 use Rattle.plan_format.specs.Sizes.{most-operations}
 use Rattle.plan_format.specs.Grammar.{field, counted, count-check}
 use Rattle.plan_format.specs.Form.{Form, queue-count, semaphore-count, buffer-count, below, a-queue, a-semaphore}

@@ -5,9 +5,9 @@ use mathlib.Core.List.{List, [], _∷_, _++_, append-assoc, append-nil, flatMap}
 use Prim.Native.Nat.{ℕ, _^_, _≤_, _<_}
 use native.Mathlib.Omega.{arith}
 use lib.ListN.{length, getD, take}
-use Rattle.basics.specs.Lists.{member}
-use Rattle.basics.proofs.Tests.{is-false}
-use Rattle.basics.proofs.Places.{take-place}
+use Rattle.base_lists.specs.Lists.{member}
+use Rattle.base_lists.proofs.Tests.{is-false}
+use Rattle.base_lists.proofs.Places.{take-place}
 use Rattle.plan_format.specs.Sizes.{most-queues, most-semaphores, most-buffers}
 use Rattle.plan_format.specs.Grammar.{Check, digits}
 use Rattle.plan_format.specs.Form.{first-form, queue-count, semaphore-count, buffer-count, any-number, new-axis}

@@ -3,7 +3,7 @@ use mathlib.Core.Path.{_≡_, refl, sym, ap, _∙_}
 use mathlib.Core.Bool.{true}
 use mathlib.Core.List.{[], _∷_}
 use Prim.Native.Nat.{ℕ, zero, suc}
-use Rattle.basics.proofs.Tests.{by-cases, clash}
+use Rattle.base_lists.proofs.Tests.{by-cases, clash}
 use Rattle.plan_format.specs.Refusal.{refusal, given}
 use Rattle.plan_format.specs.Grammar.{Grammar, field, seq, counted, nothing, Source, bytes, Scan, scan}
 use Rattle.plan_format.specs.Grammar.{read-field, times, count-check, read-by, ended}

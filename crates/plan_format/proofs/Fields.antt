@@ -8,7 +8,7 @@ use native.Mathlib.Omega.{arith}
 use lib.Dec.{ltb, eqb}
 use lib.ListN.{length, take, drop}
 use borrow.Author.Tests.{ltb-false, le-ltb, eqb-true, eqb-false, eq-eqb}
-use Rattle.basics.proofs.Tests.{by-cases, is-true}
+use Rattle.base_lists.proofs.Tests.{by-cases, is-true}
 use Rattle.plan_format.specs.Refusal.{refusal}
 use Rattle.plan_format.specs.Grammar.{Source, bytes, Scan, scan, refused, field-number, read-field, count-check}
 use Rattle.plan_format.proofs.Judged.{zero-not-given}

@@ -10,7 +10,7 @@ use lib.Dec.{eqb}
 use lib.ListN.{length, getD, take, drop, getElem?}
 use lib.Seq.{take-suc}
 use borrow.Author.Tests.{eqb-true, eq-eqb}
-use Rattle.basics.proofs.Tests.{by-cases}
+use Rattle.base_lists.proofs.Tests.{by-cases}
 use Rattle.plan_format.specs.Plan.{Point, Operation, Plan, empty-operation}
 use Rattle.plan_format.specs.Sound.{highest-in, highest, is-queue, owns}
 

@@ -8,8 +8,8 @@ use native.Mathlib.Omega.{arith}
 use lib.Dec.{ltb, eqb, lit<, lit≤}
 use lib.ListN.{length, getD, take, length-append}
 use borrow.Author.Tests.{ltb-true, eqb-true, eqb-false}
-use Rattle.basics.specs.Lists.{member, all-below, tabulate-from}
-use Rattle.basics.proofs.Tests.{by-cases, and-left, and-right}
+use Rattle.base_lists.specs.Lists.{member, all-below, tabulate-from}
+use Rattle.base_lists.proofs.Tests.{by-cases, and-left, and-right}
 use Rattle.plan_format.specs.Refusal.{none-given}
 use Rattle.plan_format.specs.Grammar.{Grammar, counted, scan}
 use Rattle.plan_format.specs.Form.{first-form, queue-count, semaphore-count, buffer-count, any-number, below}

@@ -41,5 +41,5 @@ pub mod Alike
 pub mod Follows
 pub mod Counts
 pub mod Axes
-pub mod Answers
+pub mod HandedBack
 pub mod Telling

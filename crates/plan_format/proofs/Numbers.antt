@@ -6,8 +6,8 @@ use mathlib.Core.List.{List, [], _∷_, _++_}
 use Prim.Native.Nat.{ℕ, zero, suc, _+_, _*_}
 use lib.Dec.{ltb, eqb}
 use lib.ListN.{length, drop}
-use Rattle.basics.specs.Lists.{member}
-use Rattle.basics.proofs.Tests.{either}
+use Rattle.base_lists.specs.Lists.{member}
+use Rattle.base_lists.proofs.Tests.{either}
 use Rattle.plan_format.specs.Refusal.{Refusal, refusal, none-given, given, or-else}
 use Rattle.plan_format.specs.RefusalNumbers.{None-or, reading-numbers, rule-numbers, plan-gives}
 use Rattle.plan_format.specs.Grammar.{Grammar, field, seq, counted, nothing, Source, Scan, bytes, numbers, scan, refused, field-number, read-field, last-got, times, count-check, read-by, ended}

@@ -8,8 +8,8 @@ use native.Mathlib.Nat.{not-suc-le-zero, le-of-suc-le-suc}
 use native.Mathlib.Omega.{arith}
 use lib.ListN.{length, getD, take}
 use lib.Seq.{getD-take, length-take-le}
-use Rattle.basics.specs.Lists.{member}
-use Rattle.basics.proofs.Members.{member-here, member-there}
+use Rattle.base_lists.specs.Lists.{member}
+use Rattle.base_lists.proofs.Members.{member-here, member-there}
 use Rattle.plan_format.specs.Sizes.{most-queues, most-semaphores, most-buffers, most-operations, most-waits}
 use Rattle.plan_format.specs.Sizes.{most-signals, most-marks}
 use Rattle.plan_format.specs.Grammar.{Check}

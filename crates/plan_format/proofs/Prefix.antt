@@ -10,7 +10,7 @@ use lib.Dec.{leb, eqb}
 use lib.ListN.{length, take, drop, length-append, length-drop, take-append-drop, List·getD-append}
 use lib.Seq.{take-append-le, drop-append-le, length-take-le, take-all}
 use borrow.Author.Tests.{le-ltb, leb-true, leb-false, ne-eqb}
-use Rattle.basics.proofs.Tests.{by-cases}
+use Rattle.base_lists.proofs.Tests.{by-cases}
 use Rattle.plan_format.specs.Sizes.{plan-bytes, plan-numbers}
 use Rattle.plan_format.specs.Refusal.{Refusal, none-given, given}
 use Rattle.plan_format.specs.Grammar.{Check, Grammar, field, seq, counted, nothing, Source, bytes, numbers, Scan, scan, refused, field-number, read-field, last-got, times, count-check, read-by, ended, value}

@@ -6,7 +6,7 @@ use Prim.Native.Nat.{ℕ, zero, suc, _+_}
 use native.Mathlib.Omega.{arith}
 use lib.ListN.{length, drop, length-append, take-append-drop}
 use lib.Seq.{drop-append-seam}
-use Rattle.basics.proofs.Tests.{by-cases, clash}
+use Rattle.base_lists.proofs.Tests.{by-cases, clash}
 use Rattle.plan_format.specs.Refusal.{Refusal, given}
 use Rattle.plan_format.specs.Grammar.{Check, Grammar, field, seq, counted, nothing, Source, Scan, scan, read-field, last-got, times, count-check, read-by}
 use Rattle.plan_format.proofs.Judged.{zero-not-given, not-given-zero}

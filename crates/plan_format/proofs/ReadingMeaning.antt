@@ -8,7 +8,7 @@ use native.Mathlib.Omega.{arith}
 use lib.Dec.{eqb}
 use lib.ListN.{length}
 use borrow.Author.Tests.{eqb-true, eqb-false, eq-eqb, ne-eqb}
-use Rattle.basics.proofs.Tests.{by-cases, either}
+use Rattle.base_lists.proofs.Tests.{by-cases, either}
 use Rattle.plan_format.specs.Refusal.{refusal, none-given, given}
 use Rattle.plan_format.specs.RefusalNumbers.{None-or, reading-numbers}
 use Rattle.plan_format.specs.Grammar.{Grammar, Source, Scan, bytes, numbers, scan, refused, read-by, ended}

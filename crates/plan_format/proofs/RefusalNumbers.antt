@@ -4,9 +4,9 @@ use mathlib.Core.Bool.{true, false, not}
 use mathlib.Core.List.{List, [], _∷_, _++_}
 use Prim.Native.Nat.{ℕ}
 use borrow.Author.Tests.{not-true}
-use Rattle.basics.specs.Lists.{member, all}
-use Rattle.basics.proofs.Tests.{clash, either, and-left, and-right}
-use Rattle.basics.proofs.Members.{member-nil, member-here, member-there, member-cons, member-left, member-right}
+use Rattle.base_lists.specs.Lists.{member, all}
+use Rattle.base_lists.proofs.Tests.{clash, either, and-left, and-right}
+use Rattle.base_lists.proofs.Members.{member-nil, member-here, member-there, member-cons, member-left, member-right}
 use Rattle.plan_format.specs.RefusalNumbers.{One-of, None-or}
 
 -- ---- one of a list

@@ -5,7 +5,7 @@ use Prim.Native.Nat.{ℕ, zero, suc, _≤_}
 use native.Mathlib.Omega.{arith}
 use lib.Dec.{eqb}
 use borrow.Author.Tests.{eqb-true, eqb-false}
-use Rattle.basics.proofs.Tests.{by-cases}
+use Rattle.base_lists.proofs.Tests.{by-cases}
 use Rattle.plan_format.specs.Refusal.{given}
 use Rattle.plan_format.specs.Grammar.{Grammar, counted, Source, Scan, field-number, read-field, last-got, times}
 use Rattle.plan_format.specs.Grammar.{count-check, read-by}

@@ -7,16 +7,16 @@ use native.Mathlib.Omega.{arith}
 use lib.Dec.{ltb, eqb}
 use lib.ListN.{length, getD}
 use borrow.Author.Tests.{ltb-true, ltb-false, lt-ltb, le-ltb, eqb-true, eqb-false}
-use Rattle.basics.specs.Lists.{member, in-front}
-use Rattle.basics.proofs.Tests.{by-cases}
-use Rattle.basics.proofs.Fronts.{front-length, front-at}
+use Rattle.base_lists.specs.Lists.{member, in-front}
+use Rattle.base_lists.proofs.Tests.{by-cases}
+use Rattle.base_lists.proofs.Fronts.{front-length, front-at}
 use Rattle.plan_format.specs.Refusal.{Refusal, refusal, none-given, given, or-else}
 use Rattle.plan_format.specs.RefusalNumbers.{None-or, reading-numbers, room-numbers, reader-gives, writer-gives}
 use Rattle.plan_format.specs.Stored.{scanned, listed, spelled, room-for, read-refusal, write-refusal, Tells, Fills}
 use Rattle.plan_format.specs.Stored.{Read-says, Write-says}
 use Rattle.plan_format.specs.declared.Told.{Told}
 use Rattle.plan_format.specs.Meaning.{Room-for-means, Room-after, refusal-of, Filled}
-use Rattle.plan_format.proofs.Answers.{fills-past}
+use Rattle.plan_format.proofs.HandedBack.{fills-past}
 use Rattle.plan_format.proofs.Judged.{zero-not-given, other-given, or-else-first, or-else-second, or-else-none}
 use Rattle.plan_format.proofs.RefusalNumbers.{one-is, not-one, none-or-left}
 use Rattle.plan_format.proofs.Numbers.{scanned-number, listed-number}

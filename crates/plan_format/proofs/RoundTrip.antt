@@ -7,7 +7,7 @@ use Prim.Native.Nat.{ℕ, _*_}
 use native.Mathlib.Omega.{arith}
 use lib.ListN.{length, take, drop, length-append, take-append-drop}
 use lib.Seq.{drop-at}
-use Rattle.basics.specs.Lists.{all}
+use Rattle.base_lists.specs.Lists.{all}
 use Rattle.plan_format.specs.Refusal.{none-given}
 use Rattle.plan_format.specs.Grammar.{bytes, numbers, scan, spell-by}
 use Rattle.plan_format.specs.Form.{Form, first-form, plan-grammar, scanned-by, spelled-by}

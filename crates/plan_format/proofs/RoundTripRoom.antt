@@ -7,8 +7,8 @@ use lib.Dec.{ltb}
 use lib.ListN.{length, getD, take}
 use lib.Seq.{take-at}
 use borrow.Author.Tests.{lt-ltb}
-use Rattle.basics.specs.Lists.{all, in-front}
-use Rattle.basics.proofs.Tests.{and-both}
+use Rattle.base_lists.specs.Lists.{all, in-front}
+use Rattle.base_lists.proofs.Tests.{and-both}
 use Rattle.plan_format.specs.Refusal.{Refusal, none-given, or-else}
 use Rattle.plan_format.specs.Grammar.{Scan, scan}
 use Rattle.plan_format.specs.Plan.{plan-of}

@@ -4,7 +4,7 @@ use mathlib.Core.Bool.{true}
 use mathlib.Core.List.{List, _++_, append-assoc, append-nil}
 use Prim.Native.Nat.{ℕ}
 use lib.ListN.{getD}
-use Rattle.basics.specs.Lists.{all}
+use Rattle.base_lists.specs.Lists.{all}
 use Rattle.plan_format.specs.Grammar.{Check, Grammar, times, count-check, Spelling, spell-field, spell-by}
 use Rattle.plan_format.specs.Stored.{all-bytes}
 use Rattle.plan_format.proofs.Bytes.{digits-bytes, bytes-append}

@@ -9,7 +9,7 @@ use native.Mathlib.Omega.{arith}
 use lib.Dec.{ltb, eqb}
 use lib.ListN.{length, drop, length-drop}
 use borrow.Author.Tests.{ltb-true, ltb-false, eqb-true, eqb-false, ne-eqb}
-use Rattle.basics.proofs.Tests.{by-cases, either}
+use Rattle.base_lists.proofs.Tests.{by-cases, either}
 use Rattle.plan_format.specs.Refusal.{Refusal, refusal, given}
 use Rattle.plan_format.specs.Grammar.{Grammar, field, seq, counted, nothing, Source, Scan, scan, refused, field-number, read-field, last-got, times, count-check, read-by}
 use Rattle.plan_format.specs.Meaning.{Field-means, Cursor, Takes-field, Stops-field, Repeated, Reads, Stops}

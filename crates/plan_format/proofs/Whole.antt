@@ -7,7 +7,7 @@ use native.Mathlib.Omega.{arith}
 use lib.Dec.{eqb}
 use lib.ListN.{length, drop}
 use borrow.Author.Tests.{eqb-true, eq-eqb}
-use Rattle.basics.proofs.Tests.{by-cases, or-right}
+use Rattle.base_lists.proofs.Tests.{by-cases, or-right}
 use Rattle.plan_format.specs.Refusal.{refusal, none-given, given}
 use Rattle.plan_format.specs.Grammar.{Source, Scan, scan, refused, read-by, ended}
 use Rattle.plan_format.specs.Form.{Form, plan-grammar, scanned-by}

@@ -11,7 +11,7 @@ use mathlib.Core.List.{List, [], _++_}
 use Prim.Native.Nat.{ℕ, _+_, _*_}
 use lib.Dec.{ltb}
 use lib.ListN.{length, getD, drop}
-use Rattle.basics.specs.Lists.{member}
+use Rattle.base_lists.specs.Lists.{member}
 use Rattle.plan_format.specs.Sizes.{most-queues, most-semaphores, most-buffers, most-operations, most-waits}
 use Rattle.plan_format.specs.Sizes.{most-signals, most-marks}
 use Rattle.plan_format.specs.Refusal.{none-given}

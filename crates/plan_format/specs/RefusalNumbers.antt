@@ -4,7 +4,7 @@ use mathlib.Core.Path.{_≡_}
 use mathlib.Core.Bool.{true}
 use mathlib.Core.List.{List, [], _∷_, _++_}
 use Prim.Native.Nat.{ℕ}
-use Rattle.basics.specs.Lists.{member}
+use Rattle.base_lists.specs.Lists.{member}
 
 -- the number is one of those listed
 abbrev pub One-of : (numbers : List ℕ) → (n : ℕ) → Type 0

@@ -6,7 +6,7 @@ use mathlib.Core.List.{List}
 use Prim.Native.Nat.{ℕ}
 use lib.Dec.{ltb}
 use lib.ListN.{length}
-use Rattle.basics.specs.Lists.{all, in-front}
+use Rattle.base_lists.specs.Lists.{all, in-front}
 use Rattle.plan_format.specs.Refusal.{Refusal, refusal, none-given, given, or-else}
 use Rattle.plan_format.specs.Grammar.{bytes, numbers, Scan}
 use Rattle.plan_format.specs.Form.{first-form, scanned-by, spelled-by}

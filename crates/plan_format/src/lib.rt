@@ -4,7 +4,7 @@ pub mod limits;
 
 ghost use mathlib.Core.Path.{_≡_};
 ghost use lib.ListN.{drop};
-ghost use Rattle.basics.specs.Lists.{member};
+ghost use Rattle.base_lists.specs.Lists.{member};
 
 // The number of a refusal and its place, or 0 and 0 with the answer.
 pub struct Told {

@@ -8,7 +8,7 @@ use native.Mathlib.Nat.{not-suc-le-zero, le-of-suc-le-suc}
 use native.Mathlib.Omega.{arith}
 use lib.ListN.{length}
 use borrow.Author.Tests.{eqb-true, eqb-false, eq-eqb, ne-eqb}
-use Rattle.basics.proofs.Tests.{by-cases, by-option, either}
+use Rattle.base_lists.proofs.Tests.{by-cases, by-option, either}
 use Rattle.plan_order.specs.Holdings.{Placed, is-free, freed-by, free-after, Ask, use-asks, later-asks, asks-from}
 use Rattle.plan_order.specs.Meaning.{mark-at, Frees, No-free}
 

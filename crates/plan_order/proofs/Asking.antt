@@ -9,8 +9,8 @@ use Prim.Native.Nat.{ℕ}
 use lib.Dec.{eqb}
 use lib.ListN.{length}
 use borrow.Author.Tests.{eqb-true, eqb-false}
-use Rattle.basics.specs.Lists.{member}
-use Rattle.basics.proofs.Tests.{by-cases}
+use Rattle.base_lists.specs.Lists.{member}
+use Rattle.base_lists.proofs.Tests.{by-cases}
 use Rattle.plan_format.specs.Refusal.{Refusal}
 use Rattle.plan_format.specs.RefusalNumbers.{None-or, check-gives}
 use Rattle.plan_format.specs.Stored.{plan-in}

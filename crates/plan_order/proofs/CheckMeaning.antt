@@ -8,9 +8,9 @@ use native.Mathlib.Omega.{arith}
 use lib.Dec.{eqb}
 use lib.ListN.{length}
 use borrow.Author.Tests.{eqb-true, eqb-false}
-use Rattle.basics.specs.Lists.{member, all}
-use Rattle.basics.proofs.Tests.{by-cases, by-option, either}
-use Rattle.basics.proofs.Members.{member-left}
+use Rattle.base_lists.specs.Lists.{member, all}
+use Rattle.base_lists.proofs.Tests.{by-cases, by-option, either}
+use Rattle.base_lists.proofs.Members.{member-left}
 use Rattle.plan_format.specs.Plan.{count, op, queues}
 use Rattle.plan_format.specs.Refusal.{Refusal, refusal, none-given}
 use Rattle.plan_format.specs.RefusalNumbers.{None-or, room-numbers, order-numbers, plan-gives, untouched-numbers, check-gives}

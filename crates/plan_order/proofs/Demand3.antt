@@ -9,8 +9,8 @@ use native.Mathlib.Omega.{arith}
 use lib.Dec.{eqb}
 use lib.ListN.{length, getD}
 use borrow.Author.Tests.{ltb-true, eqb-true, eqb-false}
-use Rattle.basics.specs.Lists.{member}
-use Rattle.basics.proofs.Tests.{by-cases, clash, is-false, by-option}
+use Rattle.base_lists.specs.Lists.{member}
+use Rattle.base_lists.proofs.Tests.{by-cases, clash, is-false, by-option}
 use Rattle.order.proofs.Runs.{runs-snoc, never-stuck}
 use Rattle.plan_format.specs.Plan.{Mark, Plan, count, op, queues}
 use Rattle.plan_format.specs.Refusal.{Refusal, refusal, none-given, given, or-else}

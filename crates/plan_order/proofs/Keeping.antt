@@ -10,10 +10,10 @@ use native.Mathlib.Omega.{arith}
 use lib.Dec.{ltb, eqb}
 use lib.ListN.{length, getD}
 use borrow.Author.Tests.{eqb-true, eqb-false, eq-eqb, lt-ltb, le-ltb, not-true, not-false}
-use Rattle.basics.specs.Lists.{all}
-use Rattle.basics.proofs.Tests.{by-cases, clash, or-cases, or-left, or-right, either}
-use Rattle.basics.proofs.Searches.{all-gives, all-by, all-fails, all-no, lowest-some, lowest-none}
-use Rattle.basics.proofs.Tables.{join-gives, join-has}
+use Rattle.base_lists.specs.Lists.{all}
+use Rattle.base_lists.proofs.Tests.{by-cases, clash, or-cases, or-left, or-right, either}
+use Rattle.base_lists.proofs.Searches.{all-gives, all-by, all-fails, all-no, lowest-some, lowest-none}
+use Rattle.base_lists.proofs.Tables.{join-gives, join-has}
 use Rattle.order.specs.Runs.{step-of}
 use Rattle.plan_format.specs.Plan.{Mark, Operation, Plan, empty-operation, count, op}
 use Rattle.plan_format.specs.Sound.{signals-refusal, waits-refusal}

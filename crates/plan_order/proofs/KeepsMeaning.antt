@@ -9,7 +9,7 @@ use native.Mathlib.Omega.{arith}
 use lib.Dec.{leb, eqb}
 use lib.ListN.{length}
 use borrow.Author.Tests.{ltb-true, lt-ltb, leb-true, leb-false, eqb-true, eq-eqb}
-use Rattle.basics.proofs.Tests.{by-cases, by-option, clash, or-cases, or-left, or-right, either}
+use Rattle.base_lists.proofs.Tests.{by-cases, by-option, clash, or-cases, or-left, or-right, either}
 use Rattle.order.specs.Runs.{step-of}
 use Rattle.plan_format.specs.Plan.{Plan}
 use Rattle.plan_order.specs.Precedence.{before, Before}

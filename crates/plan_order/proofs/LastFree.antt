@@ -11,10 +11,10 @@ use lib.Dec.{eqb}
 use lib.ListN.{length, length-append}
 use lib.Seq.{getD-append-seam}
 use borrow.Author.Tests.{eqb-true, eqb-false}
-use Rattle.basics.specs.Lists.{all}
-use Rattle.basics.proofs.Tests.{by-cases, by-option}
-use Rattle.basics.proofs.Searches.{all-by, all-no}
-use Rattle.basics.proofs.Places.{mem-place}
+use Rattle.base_lists.specs.Lists.{all}
+use Rattle.base_lists.proofs.Tests.{by-cases, by-option}
+use Rattle.base_lists.proofs.Searches.{all-by, all-no}
+use Rattle.base_lists.proofs.Places.{mem-place}
 use Rattle.plan_format.specs.Refusal.{Refusal, refusal, none-given}
 use Rattle.plan_format.specs.Plan.{Plan}
 use Rattle.plan_order.specs.Precedence.{Before}

@@ -4,8 +4,8 @@ use mathlib.Core.Path.{_≡_, refl}
 use mathlib.Core.List.{List, _∷_, _++_}
 use Prim.Native.Nat.{ℕ}
 use native.Mathlib.Omega.{arith}
-use Rattle.basics.specs.Lists.{member, all}
-use Rattle.basics.proofs.Members.{member-left, member-right}
+use Rattle.base_lists.specs.Lists.{member, all}
+use Rattle.base_lists.proofs.Members.{member-left, member-right}
 use Rattle.plan_format.specs.RefusalNumbers.{One-of, None-or, order-numbers, untouched-numbers, check-gives}
 use Rattle.plan_format.proofs.RefusalNumbers.{Apart, apart, none-or-one, none-or-right}
 use Rattle.plan_order.specs.Check.{Leaves, untouched, zeros, rows-and-run, Outcome}

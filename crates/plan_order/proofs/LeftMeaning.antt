@@ -7,8 +7,8 @@ use native.Mathlib.Nat.{le-refl}
 use native.Mathlib.Omega.{arith}
 use lib.ListN.{length, getD, take, drop, replicate, length-replicate, getD-replicate}
 use lib.Seq.{take-length, take-append-le}
-use Rattle.basics.specs.Lists.{in-front}
-use Rattle.basics.proofs.Fronts.{front-length, front-at, front-past}
+use Rattle.base_lists.specs.Lists.{in-front}
+use Rattle.base_lists.proofs.Fronts.{front-length, front-at, front-past}
 use Rattle.order.proofs.Turns.{run-take}
 use Rattle.plan_format.specs.Plan.{Plan, count, op, queues}
 use Rattle.plan_order.specs.Check.{untouched, zeros, rows-and-run, left-in, table-left, list-left}

@@ -10,11 +10,11 @@ use lib.Dec.{eqb}
 use lib.ListN.{length, getD, length-map, List·getD-map}
 use lib.Seq.{ext-getD}
 use borrow.Author.Tests.{eqb-true, eq-eqb}
-use Rattle.basics.proofs.Tests.{by-cases, either}
-use Rattle.basics.specs.Lists.{tabulate-from}
-use Rattle.basics.proofs.Tables.{tabulate-length, tabulate-at}
-use Rattle.basics.proofs.Places.{mem-place, mem-at}
-use Rattle.basics.proofs.Pairwise.{Pairwise, pairwise-nil, pairwise-cons, pairwise-append, pairwise-same}
+use Rattle.base_lists.proofs.Tests.{by-cases, either}
+use Rattle.base_lists.specs.Lists.{tabulate-from}
+use Rattle.base_lists.proofs.Tables.{tabulate-length, tabulate-at}
+use Rattle.base_lists.proofs.Places.{mem-place, mem-at}
+use Rattle.base_lists.proofs.Pairwise.{Pairwise, pairwise-nil, pairwise-cons, pairwise-append, pairwise-same}
 use Rattle.plan_format.specs.Plan.{Mark, Operation, Plan, empty-operation, op}
 use Rattle.plan_order.specs.Holdings.{Placed, placed, marks-of, marks-from, buffer-marks}
 use Rattle.plan_order.specs.Meaning.{mark-at, own-mark, Marks-means, Marked}

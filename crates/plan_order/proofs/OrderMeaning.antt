@@ -8,7 +8,7 @@ use native.Mathlib.Nat.{lt-irrefl}
 use native.Mathlib.Omega.{arith}
 use lib.Dec.{ltb}
 use borrow.Author.Tests.{ltb-true, ltb-false}
-use Rattle.basics.proofs.Tests.{by-cases, either}
+use Rattle.base_lists.proofs.Tests.{by-cases, either}
 use Rattle.plan_format.specs.Plan.{Point, Plan, count, op}
 use Rattle.plan_format.specs.Sound.{signals-refusal}
 use Rattle.plan_order.specs.Precedence.{Signal, resolve, rests-on, direct}

@@ -7,8 +7,8 @@ use mathlib.Core.Option.{Option, none}
 use Prim.Native.Nat.{ℕ, _<_}
 use native.Mathlib.Omega.{arith}
 use lib.ListN.{length}
-use Rattle.basics.proofs.Tests.{either}
-use Rattle.basics.proofs.Members.{member-nil, member-cons}
+use Rattle.base_lists.proofs.Tests.{either}
+use Rattle.base_lists.proofs.Members.{member-nil, member-cons}
 use Rattle.plan_format.specs.Plan.{Plan, count, op, queues}
 use Rattle.plan_format.specs.Refusal.{refusal}
 use Rattle.plan_format.specs.Stored.{plan-in, plan-refusal}

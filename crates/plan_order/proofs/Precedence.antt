@@ -8,7 +8,7 @@ use native.Mathlib.Nat.{lt-irrefl}
 use native.Mathlib.Omega.{arith}
 use lib.Dec.{eqb}
 use borrow.Author.Tests.{eqb-true, eq-eqb}
-use Rattle.basics.proofs.Tests.{clash, is-false, or-cases, or-left, or-right, either}
+use Rattle.base_lists.proofs.Tests.{clash, is-false, or-cases, or-left, or-right, either}
 use Rattle.order.specs.Runs.{step-of}
 use Rattle.order.specs.Closure.{once, more}
 use Rattle.order.proofs.Closure.{chain-from, worked-chain, chain-worked}

@@ -6,7 +6,7 @@ use mathlib.Core.List.{List}
 use Prim.Native.Nat.{ℕ, _<_}
 use lib.Dec.{eqb}
 use borrow.Author.Tests.{eqb-true}
-use Rattle.basics.proofs.Tests.{by-cases, and-left, and-right}
+use Rattle.base_lists.proofs.Tests.{by-cases, and-left, and-right}
 use Rattle.order.specs.Runs.{step-of}
 use Rattle.order.proofs.Turns.{run-last}
 use Rattle.plan_format.specs.Plan.{count}

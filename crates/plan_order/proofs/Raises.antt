@@ -7,9 +7,9 @@ use native.Mathlib.Omega.{arith}
 use lib.Dec.{ltb, leb, eqb}
 use lib.ListN.{take}
 use borrow.Author.Tests.{ltb-true, ltb-false, leb-false, eqb-true, eqb-false, lt-ltb}
-use Rattle.basics.specs.Lists.{member}
-use Rattle.basics.proofs.Tests.{by-cases, clash, and-both}
-use Rattle.basics.proofs.Members.{member-left, member-last}
+use Rattle.base_lists.specs.Lists.{member}
+use Rattle.base_lists.proofs.Tests.{by-cases, clash, and-both}
+use Rattle.base_lists.proofs.Members.{member-left, member-last}
 use Rattle.order.specs.Runs.{runs}
 use Rattle.order.proofs.Runs.{can-below, can-fresh, runs-head, runs-tail, runs-nil, runs-snoc, run-below}
 use Rattle.plan_format.specs.Plan.{Point, Operation, Plan, count, op}

@@ -9,8 +9,8 @@ use native.Mathlib.Omega.{arith}
 use lib.Dec.{ltb, eqb}
 use lib.ListN.{length, getD}
 use borrow.Author.Tests.{ltb-true, lt-ltb, eqb-true, eq-eqb}
-use Rattle.basics.proofs.Tests.{by-cases, and-left, and-right, and-both, either}
-use Rattle.basics.proofs.Pairwise.{Pairwise, pairwise-nil, pairwise-cons, pairwise-head, pairwise-tail, pairwise-append, pairwise-left, pairwise-right, pairwise-cross}
+use Rattle.base_lists.proofs.Tests.{by-cases, and-left, and-right, and-both, either}
+use Rattle.base_lists.proofs.Pairwise.{Pairwise, pairwise-nil, pairwise-cons, pairwise-head, pairwise-tail, pairwise-append, pairwise-left, pairwise-right, pairwise-cross}
 use Rattle.plan_format.specs.Plan.{Point, Plan, op}
 use Rattle.plan_format.specs.Sound.{highest-in}
 use Rattle.plan_order.specs.Runs.{points-rise, run-points, raises-in-order}

@@ -9,10 +9,10 @@ use native.Mathlib.Nat.{le-trans}
 use native.Mathlib.Omega.{arith}
 use lib.Dec.{ltb, leb, eqb}
 use borrow.Author.Tests.{ltb-true, ltb-false, leb-true, leb-false, le-leb, eqb-true, eqb-false, eq-eqb, lt-ltb, not-true}
-use Rattle.basics.specs.Lists.{member, all}
-use Rattle.basics.proofs.Tests.{by-cases, clash, and-left, and-right, and-both, or-cases, or-left, or-right, not-of-false, either}
-use Rattle.basics.proofs.Members.{Sub, member-nil, member-here, member-there, member-cons}
-use Rattle.basics.proofs.Searches.{all-below-gives, all-below-by, all-gives, all-by}
+use Rattle.base_lists.specs.Lists.{member, all}
+use Rattle.base_lists.proofs.Tests.{by-cases, clash, and-left, and-right, and-both, or-cases, or-left, or-right, not-of-false, either}
+use Rattle.base_lists.proofs.Members.{Sub, member-nil, member-here, member-there, member-cons}
+use Rattle.base_lists.proofs.Searches.{all-below-gives, all-below-by, all-gives, all-by}
 use Rattle.order.specs.Runs.{runs}
 use Rattle.order.specs.Closure.{once}
 use Rattle.order.proofs.Runs.{run-below}

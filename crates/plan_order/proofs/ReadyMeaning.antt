@@ -11,11 +11,11 @@ use lib.Dec.{ltb}
 use lib.ListN.{length, getD, take, length-append, List·getD-append}
 use lib.Seq.{getD-append-add}
 use borrow.Author.Tests.{ltb-true, ltb-false}
-use Rattle.basics.specs.Lists.{member, is-some}
-use Rattle.basics.specs.Places.{Counts}
-use Rattle.basics.proofs.Tests.{by-cases, by-option, clash}
-use Rattle.basics.proofs.Searches.{some-is, none-is}
-use Rattle.basics.proofs.Places.{tally-counts}
+use Rattle.base_lists.specs.Lists.{member, is-some}
+use Rattle.base_lists.specs.Places.{Counts}
+use Rattle.base_lists.proofs.Tests.{by-cases, by-option, clash}
+use Rattle.base_lists.proofs.Searches.{some-is, none-is}
+use Rattle.base_lists.proofs.Places.{tally-counts}
 use Rattle.order.proofs.Runs.{can-fresh, can-enabled}
 use Rattle.plan_format.specs.Plan.{Plan, count, op, queues}
 use Rattle.plan_order.specs.Runs.{enabled, ready, is-run, ready-on, standard, number-ready, ready-numbers, run-list}

@@ -11,7 +11,7 @@ use native.Mathlib.Omega.{arith}
 use lib.Dec.{ltb, leb, eqb}
 use lib.ListN.{length, getD}
 use borrow.Author.Tests.{ltb-true, ltb-false, leb-true, le-leb, eqb-true, eqb-false, eq-eqb}
-use Rattle.basics.proofs.Tests.{by-cases, by-option, clash, and-left, and-right, and-both, either}
+use Rattle.base_lists.proofs.Tests.{by-cases, by-option, clash, and-left, and-right, and-both, either}
 use Rattle.plan_format.specs.Plan.{Point, Operation, Plan, empty-operation, count, op}
 use Rattle.plan_order.specs.Precedence.{Signal, signals-of, signals-from, plan-signals, reaches, nearer, nearest}
 use Rattle.plan_order.specs.Precedence.{Resolution, at-once, on, never, resolution-of, resolve, rests-on}

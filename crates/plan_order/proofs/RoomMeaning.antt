@@ -5,7 +5,7 @@ use Prim.Native.Nat.{ℕ, _*_}
 use lib.Dec.{ltb}
 use borrow.Author.Tests.{ltb-true, ltb-false}
 use native.Mathlib.Omega.{arith}
-use Rattle.basics.proofs.Tests.{by-cases}
+use Rattle.base_lists.proofs.Tests.{by-cases}
 use Rattle.plan_format.specs.Refusal.{refusal, none-given, given, or-else}
 use Rattle.plan_format.specs.Stored.{room-for}
 use Rattle.plan_format.proofs.Judged.{other-given, or-else-first, or-else-second}

@@ -9,11 +9,11 @@ use native.Mathlib.Omega.{arith}
 use lib.Dec.{leb, eqb}
 use lib.ListN.{length, getD}
 use borrow.Author.Tests.{leb-true, le-leb, eqb-true, eqb-false, eq-eqb, ne-eqb}
-use Rattle.basics.specs.Lists.{member, tally}
-use Rattle.basics.proofs.Tests.{by-cases, clash, is-false, and-left, and-right, and-both, or-cases, or-left, or-right, either}
-use Rattle.basics.proofs.Members.{member-nil, member-here, member-there, member-cons}
-use Rattle.basics.proofs.Tallies.{tally-same, tally-further, tally-ends}
-use Rattle.basics.proofs.Tables.{tabulate-length, tabulate-at, join-length, join-at}
+use Rattle.base_lists.specs.Lists.{member, tally}
+use Rattle.base_lists.proofs.Tests.{by-cases, clash, is-false, and-left, and-right, and-both, or-cases, or-left, or-right, either}
+use Rattle.base_lists.proofs.Members.{member-nil, member-here, member-there, member-cons}
+use Rattle.base_lists.proofs.Tallies.{tally-same, tally-further, tally-ends}
+use Rattle.base_lists.proofs.Tables.{tabulate-length, tabulate-at, join-length, join-at}
 use Rattle.order.specs.Closure.{once, more}
 use Rattle.order.proofs.Columns.{Initial, union-max, initial-reaches, reaches-initial}
 use Rattle.plan_format.specs.Plan.{Plan, count, op, queues}

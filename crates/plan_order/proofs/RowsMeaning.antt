@@ -8,9 +8,9 @@ use native.Mathlib.Omega.{arith}
 use lib.Dec.{eqb}
 use lib.ListN.{getD}
 use borrow.Author.Tests.{eqb-true, eq-eqb}
-use Rattle.basics.specs.Places.{Counts}
-use Rattle.basics.proofs.Tests.{and-left, and-right, and-both}
-use Rattle.basics.proofs.Places.{tally-counts}
+use Rattle.base_lists.specs.Places.{Counts}
+use Rattle.base_lists.proofs.Tests.{and-left, and-right, and-both}
+use Rattle.base_lists.proofs.Places.{tally-counts}
 use Rattle.plan_format.specs.Plan.{Plan, count, op}
 use Rattle.plan_order.specs.Precedence.{same-queue, at-or-before}
 use Rattle.plan_order.specs.Rows.{epoch, rows}

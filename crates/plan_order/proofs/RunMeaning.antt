@@ -9,11 +9,11 @@ use native.Mathlib.Omega.{arith}
 use lib.Dec.{ltb}
 use lib.ListN.{length, getD, take}
 use borrow.Author.Tests.{ltb-true, ltb-false}
-use Rattle.basics.specs.Lists.{member}
-use Rattle.basics.specs.Places.{Among}
-use Rattle.basics.proofs.Tests.{by-cases, clash, is-false}
-use Rattle.basics.proofs.Distinct.{sized-full}
-use Rattle.basics.proofs.Places.{member-place, member-at, place-member, take-place, place-take}
+use Rattle.base_lists.specs.Lists.{member}
+use Rattle.base_lists.specs.Places.{Among}
+use Rattle.base_lists.proofs.Tests.{by-cases, clash, is-false}
+use Rattle.base_lists.proofs.Distinct.{sized-full}
+use Rattle.base_lists.proofs.Places.{member-place, member-at, place-member, take-place, place-take}
 use Rattle.order.specs.Runs.{step-of}
 use Rattle.order.proofs.Runs.{can-below, can-fresh, can-enabled, can-by, runs-snoc, run-sized}
 use Rattle.order.proofs.Turns.{run-turns, turns-run, run-last, step-is}

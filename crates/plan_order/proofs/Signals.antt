@@ -10,7 +10,7 @@ use lib.Dec.{ltb, leb, eqb}
 use lib.ListN.{length, getD, take, getElem?}
 use lib.Seq.{getD-take}
 use borrow.Author.Tests.{ltb-false, leb-true, leb-false, eqb-true, eqb-false, eq-eqb, lt-ltb}
-use Rattle.basics.proofs.Tests.{by-cases, by-option, clash, is-false, and-left, and-right, and-both, or-cases, or-left, or-right, either}
+use Rattle.base_lists.proofs.Tests.{by-cases, by-option, clash, is-false, and-left, and-right, and-both, or-cases, or-left, or-right, either}
 use Rattle.plan_format.specs.Refusal.{refusal, none-given}
 use Rattle.plan_format.specs.Plan.{Point, Operation, Plan, empty-operation, count, op}
 use Rattle.plan_format.specs.Sound.{highest-in, highest, is-queue, owns, signals-number, signals-refusal, too-high, any-too-high, waits-refusal}

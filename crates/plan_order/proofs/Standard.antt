@@ -9,10 +9,10 @@ use native.Mathlib.Omega.{arith}
 use lib.Dec.{leb, eqb}
 use lib.ListN.{length, getD, take}
 use borrow.Author.Tests.{leb-true, leb-false, eqb-true, eq-eqb, not-true, not-false}
-use Rattle.basics.specs.Lists.{member}
-use Rattle.basics.proofs.Tests.{by-cases, clash, is-false, and-left, and-right, and-both}
-use Rattle.basics.proofs.Distinct.{sized-le, sized-full}
-use Rattle.basics.proofs.Searches.{first-some, first-none, lowest-some, lowest-none}
+use Rattle.base_lists.specs.Lists.{member}
+use Rattle.base_lists.proofs.Tests.{by-cases, clash, is-false, and-left, and-right, and-both}
+use Rattle.base_lists.proofs.Distinct.{sized-le, sized-full}
+use Rattle.base_lists.proofs.Searches.{first-some, first-none, lowest-some, lowest-none}
 use Rattle.order.proofs.Runs.{can-below, run-sized, full-all, in-no-run, never-stuck}
 use Rattle.order.proofs.Greedy.{greedy-runs, greedy-stuck, greedy-steps}
 use Rattle.plan_format.specs.Plan.{Plan, count, op, queues}

@@ -12,9 +12,9 @@ use lib.Dec.{ltb}
 use lib.ListN.{length, getD, take}
 use lib.Seq.{take-all, take-length, take-suc}
 use borrow.Author.Tests.{ltb-true, ltb-false}
-use Rattle.basics.specs.Lists.{member}
-use Rattle.basics.proofs.Tests.{by-cases, by-option, clash}
-use Rattle.basics.proofs.Places.{member-place, place-member}
+use Rattle.base_lists.specs.Lists.{member}
+use Rattle.base_lists.proofs.Tests.{by-cases, by-option, clash}
+use Rattle.base_lists.proofs.Places.{member-place, place-member}
 use Rattle.order.proofs.Turns.{run-take}
 use Rattle.plan_format.specs.Plan.{Plan, count, op, queues}
 use Rattle.plan_order.specs.Runs.{enabled, ready, is-run, standard, missing}

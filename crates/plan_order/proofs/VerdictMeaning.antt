@@ -8,9 +8,9 @@ use Prim.Native.Nat.{ℕ, zero, suc, _≤_}
 use native.Mathlib.Omega.{arith}
 use lib.Dec.{ltb, eqb}
 use borrow.Author.Tests.{ltb-true, ltb-false, eqb-true, eqb-false}
-use Rattle.basics.specs.Lists.{member, all, highest-below}
-use Rattle.basics.proofs.Tests.{by-cases, by-option, clash, is-false}
-use Rattle.basics.proofs.Searches.{all-gives, all-by, all-fails, all-no, highest-some, highest-none}
+use Rattle.base_lists.specs.Lists.{member, all, highest-below}
+use Rattle.base_lists.proofs.Tests.{by-cases, by-option, clash, is-false}
+use Rattle.base_lists.proofs.Searches.{all-gives, all-by, all-fails, all-no, highest-some, highest-none}
 use Rattle.order.specs.Closure.{any-of, fresh as found, round, rounds, predecessors}
 use Rattle.plan_format.specs.Plan.{Plan, count, op}
 use Rattle.plan_order.specs.Precedence.{same-queue, any-rests-on, direct, all-before, before, at-or-before}

@@ -4,7 +4,7 @@ use mathlib.Core.Bool.{not, cond}
 use mathlib.Core.List.{List}
 use mathlib.Core.Option.{Option, none, some}
 use Prim.Native.Nat.{ℕ}
-use Rattle.basics.specs.Lists.{all}
+use Rattle.base_lists.specs.Lists.{all}
 use Rattle.plan_format.specs.Plan.{Plan}
 use Rattle.plan_order.specs.Holdings.{Placed, is-free, buffer-marks}
 use Rattle.plan_order.specs.Reuse.{last-on, seen-by, last-mark}

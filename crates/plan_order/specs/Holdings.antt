@@ -6,7 +6,7 @@ use mathlib.Core.Option.{Option, none, some}
 use Prim.Native.Nat.{ℕ, suc}
 use lib.Dec.{ltb, eqb}
 use lib.ListN.{length}
-use Rattle.basics.specs.Lists.{all, lowest-below, join-from}
+use Rattle.base_lists.specs.Lists.{all, lowest-below, join-from}
 use Rattle.plan_format.specs.Plan.{Mark, Operation, Plan, count, op}
 use Rattle.plan_order.specs.Precedence.{before}
 use Rattle.plan_order.specs.Runs.{ahead}

@@ -5,7 +5,7 @@ use mathlib.Core.Logic.{_⊎_, _↔_}
 use mathlib.Core.List.{List, [], _∷_, _++_, List·Memᴰ}
 use Prim.Native.Nat.{ℕ, suc, _+_, _*_, _≤_, _<_}
 use lib.ListN.{length, getD, take}
-use Rattle.basics.specs.Places.{Among, Counts}
+use Rattle.base_lists.specs.Places.{Among, Counts}
 use Rattle.order.specs.Runs.{step-of}
 use Rattle.plan_format.specs.Sizes.{row-width}
 use Rattle.plan_format.specs.Refusal.{Refusal}

@@ -8,8 +8,8 @@ use mathlib.Core.Option.{some}
 use Prim.Native.Nat.{ℕ, _+_, _*_, _≤_, _<_, max}
 use lib.Dec.{eqb}
 use lib.ListN.{length, getD, take}
-use Rattle.basics.specs.Lists.{member}
-use Rattle.basics.specs.Places.{Counts}
+use Rattle.base_lists.specs.Lists.{member}
+use Rattle.base_lists.specs.Places.{Counts}
 use Rattle.order.specs.Runs.{step-of}
 use Rattle.plan_format.specs.Sizes.{row-width, plan-bytes}
 use Rattle.plan_format.specs.Refusal.{given}

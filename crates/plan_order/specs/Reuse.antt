@@ -5,7 +5,7 @@ use mathlib.Core.Option.{Option, none, some}
 use Prim.Native.Nat.{ℕ}
 use lib.Dec.{leb, eqb}
 use lib.ListN.{length}
-use Rattle.basics.specs.Lists.{all, highest-below}
+use Rattle.base_lists.specs.Lists.{all, highest-below}
 use Rattle.plan_format.specs.Refusal.{Refusal, refusal, none-given, or-else}
 use Rattle.plan_format.specs.Plan.{Plan, count, op, queues}
 use Rattle.plan_format.specs.Stored.{plan-in}

@@ -3,7 +3,7 @@ use mathlib.Core.Bool.{_&&_, _||_}
 use mathlib.Core.List.{List}
 use Prim.Native.Nat.{ℕ, suc}
 use lib.Dec.{eqb}
-use Rattle.basics.specs.Lists.{member, tally, tabulate-from, join-from}
+use Rattle.base_lists.specs.Lists.{member, tally, tabulate-from, join-from}
 use Rattle.plan_format.specs.Sizes.{row-width}
 use Rattle.plan_format.specs.Plan.{Plan, count, op}
 use Rattle.plan_order.specs.Precedence.{same-queue, all-before}

@@ -5,7 +5,7 @@ use mathlib.Core.Option.{Option}
 use Prim.Native.Nat.{ℕ, max}
 use lib.Dec.{ltb, leb, eqb}
 use lib.ListN.{length}
-use Rattle.basics.specs.Lists.{member, all, all-below, tally, first-below, lowest-below, is-some}
+use Rattle.base_lists.specs.Lists.{member, all, all-below, tally, first-below, lowest-below, is-some}
 use Rattle.order.specs.Runs.{can, runs, step-of}
 use Rattle.order.specs.Greedy.{greedy}
 use Rattle.plan_format.specs.Plan.{Point, Plan, count, op, queues}

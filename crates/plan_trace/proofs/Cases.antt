@@ -4,7 +4,7 @@ use mathlib.Core.List.{List, [], _∷_, _++_, map}
 use mathlib.Core.Option.{orElse}
 use Prim.Native.Nat.{ℕ}
 use lib.ListN.{take, drop}
-use Rattle.basics.specs.Lists.{member, all, all-below, tally, first-from, when-true, tabulate-from}
+use Rattle.base_lists.specs.Lists.{member, all, all-below, tally, first-from, when-true, tabulate-from}
 use Rattle.plan_format.specs.Grammar.{value}
 use Rattle.plan_format.specs.Plan.{Point, Plan, count, op}
 use Rattle.plan_format.specs.Sound.{highest-in}

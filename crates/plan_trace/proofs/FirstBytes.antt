@@ -9,8 +9,8 @@ use lib.Dec.{ltb, leb, eqb}
 use lib.ListN.{length, getD}
 use lib.Seq.{ext-getD}
 use borrow.Author.Tests.{ltb-true, leb-true, leb-false, eqb-true}
-use Rattle.basics.specs.Lists.{all}
-use Rattle.basics.proofs.Tests.{by-cases, is-false, and-left, and-right}
+use Rattle.base_lists.specs.Lists.{all}
+use Rattle.base_lists.proofs.Tests.{by-cases, is-false, and-left, and-right}
 use Rattle.plan_format.specs.Sizes.{step-bytes, most-steps, trace-bytes}
 use Rattle.plan_format.specs.Refusal.{refusal}
 use Rattle.plan_format.specs.Stored.{all-bytes}

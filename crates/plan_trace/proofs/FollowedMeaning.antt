@@ -10,8 +10,8 @@ use lib.Dec.{ltb, eqb}
 use lib.ListN.{length, getD, take, drop}
 use lib.Seq.{drop-cons, take-suc, length-take-le, take-length, drop-length, take-take}
 use borrow.Author.Tests.{ltb-true, ltb-false, eqb-true, eqb-false, eq-eqb, ne-eqb, not-true, not-false}
-use Rattle.basics.proofs.Tests.{by-cases, clash, is-false, either}
-use Rattle.basics.proofs.Distinct.{sized-le}
+use Rattle.base_lists.proofs.Tests.{by-cases, clash, is-false, either}
+use Rattle.base_lists.proofs.Distinct.{sized-le}
 use Rattle.order.proofs.Runs.{runs-nil, run-sized}
 use Rattle.order.proofs.Turns.{run-take}
 use Rattle.plan_format.specs.Plan.{Plan, count}

@@ -9,10 +9,10 @@ use lib.Dec.{ltb, leb, eqb}
 use lib.ListN.{length, getD, set, length-set}
 use lib.Seq.{ext-getD, getD-set-same, getD-set-other}
 use borrow.Author.Tests.{ltb-false, leb-true, leb-false, le-leb, le-ltb, eqb-true, eqb-false, eq-eqb, ne-eqb}
-use Rattle.basics.specs.Lists.{member, tally}
-use Rattle.basics.proofs.Tests.{by-cases, clash, is-true, is-false, and-both, or-cases, or-left, or-right, either}
-use Rattle.basics.proofs.Members.{member-snoc, member-left, member-last}
-use Rattle.basics.proofs.Tallies.{tally-mono, tally-same, tally-further, tally-one-more}
+use Rattle.base_lists.specs.Lists.{member, tally}
+use Rattle.base_lists.proofs.Tests.{by-cases, clash, is-true, is-false, and-both, or-cases, or-left, or-right, either}
+use Rattle.base_lists.proofs.Members.{member-snoc, member-left, member-last}
+use Rattle.base_lists.proofs.Tallies.{tally-mono, tally-same, tally-further, tally-one-more}
 use Rattle.order.specs.Closure.{once}
 use Rattle.order.proofs.Columns.{Initial, initial-reaches, reaches-initial}
 use Rattle.plan_format.specs.Sizes.{most-queues}

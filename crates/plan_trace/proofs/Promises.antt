@@ -8,10 +8,10 @@ use lib.Dec.{eqb}
 use lib.ListN.{length, getD, take, drop}
 use lib.Seq.{take-at}
 use borrow.Author.Tests.{eqb-true, eqb-false, not-true}
-use Rattle.basics.specs.Lists.{in-front}
-use Rattle.basics.specs.Places.{Counts}
-use Rattle.basics.proofs.Fronts.{front-length, front-at, front-past}
-use Rattle.basics.proofs.Tests.{by-cases, and-left}
+use Rattle.base_lists.specs.Lists.{in-front}
+use Rattle.base_lists.specs.Places.{Counts}
+use Rattle.base_lists.proofs.Fronts.{front-length, front-at, front-past}
+use Rattle.base_lists.proofs.Tests.{by-cases, and-left}
 use Rattle.plan_format.specs.Sizes.{most-queues, state-size}
 use Rattle.plan_format.specs.Plan.{Plan, count}
 use Rattle.plan_format.specs.Refusal.{Refusal, given}

@@ -8,8 +8,8 @@ use native.Mathlib.Omega.{arith}
 use lib.Dec.{ltb, leb, eqb}
 use lib.ListN.{length}
 use borrow.Author.Tests.{ltb-true, ltb-false, lt-ltb, le-ltb, leb-true, leb-false, le-leb, eqb-true, eqb-false, eq-eqb}
-use Rattle.basics.specs.Lists.{member}
-use Rattle.basics.proofs.Tests.{by-cases, clash, is-false, and-left, and-right, and-both, either}
+use Rattle.base_lists.specs.Lists.{member}
+use Rattle.base_lists.proofs.Tests.{by-cases, clash, is-false, and-left, and-right, and-both, either}
 use Rattle.plan_format.specs.Sizes.{step-bytes, state-size}
 use Rattle.plan_format.specs.Grammar.{value, bytes, scan, refused, field-number, read-field, read-by, ended}
 use Rattle.plan_format.specs.Form.{first-form, plan-grammar, scanned-by}

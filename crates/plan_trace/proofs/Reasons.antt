@@ -10,10 +10,10 @@ use native.Mathlib.Omega.{arith}
 use lib.Dec.{leb}
 use lib.ListN.{length}
 use borrow.Author.Tests.{leb-true, leb-false, le-leb, lt-leb, not-true, not-false}
-use Rattle.basics.specs.Lists.{member, all}
-use Rattle.basics.proofs.Tests.{by-cases, by-option, clash, is-false, and-left, and-right, and-both, not-of-false}
-use Rattle.basics.proofs.Searches.{Lowest, all-gives, all-by, lowest-some, lowest-none, lowest-is}
-use Rattle.basics.proofs.Places.{member-place, place-member, mem-place, mem-at}
+use Rattle.base_lists.specs.Lists.{member, all}
+use Rattle.base_lists.proofs.Tests.{by-cases, by-option, clash, is-false, and-left, and-right, and-both, not-of-false}
+use Rattle.base_lists.proofs.Searches.{Lowest, all-gives, all-by, lowest-some, lowest-none, lowest-is}
+use Rattle.base_lists.proofs.Places.{member-place, place-member, mem-place, mem-at}
 use Rattle.order.proofs.Runs.{can-below, can-fresh, can-enabled, can-by}
 use Rattle.plan_format.specs.Plan.{Point, Plan, count, op}
 use Rattle.plan_format.specs.Meaning.{wait-at}

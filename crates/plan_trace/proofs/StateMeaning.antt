@@ -11,12 +11,12 @@ use lib.Dec.{ltb, eqb}
 use lib.ListN.{length, getD, replicate, length-append, List·getD-append, List·getD-eq-default}
 use lib.Seq.{getD-append-add}
 use borrow.Author.Tests.{ltb-true, ltb-false, eqb-true, eq-eqb, ne-eqb}
-use Rattle.basics.specs.Lists.{member, tally, tabulate-from}
-use Rattle.basics.specs.Places.{Counts}
-use Rattle.basics.proofs.Tests.{by-cases, and-left, and-right, and-both}
-use Rattle.basics.proofs.Tallies.{tally-ends}
-use Rattle.basics.proofs.Places.{member-place, place-member, tally-counts}
-use Rattle.basics.proofs.Tables.{tabulate-length, tabulate-at}
+use Rattle.base_lists.specs.Lists.{member, tally, tabulate-from}
+use Rattle.base_lists.specs.Places.{Counts}
+use Rattle.base_lists.proofs.Tests.{by-cases, and-left, and-right, and-both}
+use Rattle.base_lists.proofs.Tallies.{tally-ends}
+use Rattle.base_lists.proofs.Places.{member-place, place-member, tally-counts}
+use Rattle.base_lists.proofs.Tables.{tabulate-length, tabulate-at}
 use Rattle.plan_format.specs.Sizes.{most-queues, most-semaphores, state-size}
 use Rattle.plan_format.specs.Plan.{Point, Plan, empty-operation, count, op, queues}
 use Rattle.plan_format.specs.Sound.{highest-in, Sound}

@@ -5,7 +5,7 @@ use Prim.Native.Nat.{ℕ, zero, suc, _<_}
 use native.Mathlib.Nat.{zero-add}
 use native.Mathlib.Omega.{arith}
 use lib.ListN.{length, getD, take, drop}
-use Rattle.basics.proofs.Tables.{tabulate-length, tabulate-at}
+use Rattle.base_lists.proofs.Tables.{tabulate-length, tabulate-at}
 use Rattle.plan_format.specs.Grammar.{value}
 use Rattle.plan_format.specs.Refusal.{refusal, none-given}
 use Rattle.plan_trace.specs.Trace.{step-count, step-place, step-at, trace-steps, trace-formed, trace-refusal}

@@ -6,8 +6,8 @@ use Prim.Native.Nat.{ℕ, zero, suc, _+_, _≤_, _<_, zero-le, max}
 use native.Mathlib.Omega.{arith}
 use lib.Dec.{eqb}
 use lib.ListN.{length, getD}
-use Rattle.basics.specs.Lists.{member}
-use Rattle.basics.proofs.Tests.{by-cases}
+use Rattle.base_lists.specs.Lists.{member}
+use Rattle.base_lists.proofs.Tests.{by-cases}
 use Rattle.order.proofs.Runs.{run-below}
 use Rattle.plan_format.specs.Plan.{Point, Operation, Plan, empty-operation, count, op}
 use Rattle.plan_format.specs.Sound.{highest-in}

@@ -6,7 +6,7 @@ use mathlib.Core.Logic.{_⊎_, _↔_}
 use mathlib.Core.List.{List}
 use Prim.Native.Nat.{ℕ, suc, _+_, _*_, _≤_, _<_}
 use lib.ListN.{length, getD, take}
-use Rattle.basics.specs.Places.{Among, Counts}
+use Rattle.base_lists.specs.Places.{Among, Counts}
 use Rattle.plan_format.specs.Sizes.{most-queues, most-semaphores, state-size, step-bytes}
 use Rattle.plan_format.specs.RefusalNumbers.{
   One-of,

@@ -5,7 +5,7 @@ use mathlib.Core.Bool.{cond}
 use mathlib.Core.List.{List}
 use Prim.Native.Nat.{ℕ}
 use lib.ListN.{length}
-use Rattle.basics.specs.Lists.{in-front}
+use Rattle.base_lists.specs.Lists.{in-front}
 use Rattle.plan_format.specs.Sizes.{state-size}
 use Rattle.plan_format.specs.Refusal.{Refusal, given, or-else}
 use Rattle.plan_format.specs.Plan.{Plan}

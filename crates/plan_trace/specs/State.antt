@@ -4,7 +4,7 @@ use mathlib.Core.List.{List, _++_}
 use Prim.Native.Nat.{ℕ}
 use lib.Dec.{eqb}
 use lib.ListN.{take, replicate}
-use Rattle.basics.specs.Lists.{member, tally, tabulate-from}
+use Rattle.base_lists.specs.Lists.{member, tally, tabulate-from}
 use Rattle.plan_format.specs.Sizes.{most-queues, most-semaphores}
 use Rattle.plan_format.specs.Plan.{Plan, count, op}
 use Rattle.plan_order.specs.Runs.{reached}

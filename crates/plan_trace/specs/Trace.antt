@@ -6,7 +6,7 @@ use mathlib.Core.Option.{Option, none, some}
 use Prim.Native.Nat.{ℕ, _+_, _*_}
 use lib.Dec.{leb, eqb}
 use lib.ListN.{length, take, drop}
-use Rattle.basics.specs.Lists.{member, lowest-below, tabulate-from}
+use Rattle.base_lists.specs.Lists.{member, lowest-below, tabulate-from}
 use Rattle.plan_format.specs.Sizes.{step-bytes}
 use Rattle.plan_format.specs.Grammar.{value}
 use Rattle.plan_format.specs.Refusal.{Refusal, refusal, none-given}

@@ -5,7 +5,7 @@ use Prim.Native.Nat.{ℕ, _-_}
 use native.Mathlib.Omega.{arith}
 use lib.ListN.{length, take, drop, length-drop}
 use lib.Seq.{take-all}
-use Rattle.text.specs.Text.{Puts}
+use Rattle.base_text.specs.Text.{Puts}
 use Rattle.print_trace.specs.Printed.{numbers-text}
 
 pub rest-put : (k : ℕ) (xs : List ℕ) (n : ℕ) {o x : List ℕ} {a e : ℕ} →

@@ -2,17 +2,17 @@
 use mathlib.Core.List.{List, _++_}
 use Prim.Native.Nat.{ℕ}
 use lib.ListN.{getD, take, drop, replicate}
-use Rattle.basics.specs.Lists.{join-from}
+use Rattle.base_lists.specs.Lists.{join-from}
 use Rattle.plan_format.specs.Sizes.{most-queues, state-size, table-numbers, list-numbers}
 use Rattle.plan_trace.specs.declared.Followed.{Followed}
 use Rattle.plan_trace.specs.declared.Followed.the-variants.{Full, Unfinished, Unknown, Repeated, NotFirst, WaitNotMet}
 use Rattle.plan_trace.specs.declared.Traced.{Traced}
 use Rattle.plan_trace.specs.Promise.{Trace-right}
-use Rattle.checker.specs.Counting.{Sizes-told}
+use Rattle.check_plan.specs.Counting.{Sizes-told}
 use Rattle.ask_trace.specs.Answer.{told}
 use Rattle.ask_trace.specs.declared.TraceTold.{TraceTold}
-use Rattle.text.specs.Ascii.{ascii}
-use Rattle.text.specs.Text.{Puts, after-blank, or-refused}
+use Rattle.base_text.specs.Ascii.{ascii}
+use Rattle.base_text.specs.Text.{Puts, after-blank, or-refused}
 
 -- the first n numbers of a list, each after a blank
 unfoldable pub number-text : (list : List ℕ) → (i : ℕ) → List ℕ

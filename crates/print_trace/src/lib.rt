@@ -8,7 +8,7 @@ use plan_trace::Followed;
 ghost use mathlib.Core.Path.{_≡_};
 ghost use lib.ListN.{length};
 ghost use Rattle.plan_format.specs.Sizes.{state-size};
-ghost use Rattle.text.specs.Text.{Puts, or-refused};
+ghost use Rattle.base_text.specs.Text.{Puts, or-refused};
 ghost use Rattle.print_trace.specs.Printed.{numbers-text, departs-text, followed-text, trace-text, Trace-printed};
 
 // What was followed, and how far the plan had come.
@@ -29,16 +29,16 @@ fn answered(out: &mut [u8], told: TraceTold, state: &[u64]) -> usize
 {
     let c = told.counted;
     if c.number != 0 {
-        return text::refused(out, c.number, c.place);
+        return base_text::refused(out, c.number, c.place);
     }
     let traced = told.traced;
     let followed = traced.followed;
     let first = line(out, traced.step, followed);
-    let word = text::words(out, first, b"\nqueues");
+    let word = base_text::words(out, first, b"\nqueues");
     let queues = numbers(out, word, &state[..MOST_QUEUES], c.queues);
-    let second = text::words(out, queues, b"\nsemaphores");
+    let second = base_text::words(out, queues, b"\nsemaphores");
     let semaphores = numbers(out, second, &state[MOST_QUEUES..], c.semaphores);
-    text::byte(out, semaphores, b'\n')
+    base_text::byte(out, semaphores, b'\n')
 }
 
 // What was followed.
@@ -46,17 +46,17 @@ fn line(out: &mut [u8], step: usize, f: Followed) -> usize
     ensures { λ r. ⌜ Puts (followed-text step f) (now (out .entry)) 0 (now (out .exit)) r ⌝ }
 {
     match f {
-        Followed::Full => text::words(out, 0, b"trace full"),
+        Followed::Full => base_text::words(out, 0, b"trace full"),
         Followed::Unfinished => {
-            let word = text::words(out, 0, b"trace unfinished");
-            text::next(out, word, step as u64)
+            let word = base_text::words(out, 0, b"trace unfinished");
+            base_text::next(out, word, step as u64)
         }
         Followed::Unknown(i) => departs(out, step, b" unknown", i),
         Followed::Repeated(i) => departs(out, step, b" repeated", i),
         Followed::NotFirst(i) => departs(out, step, b" not-first", i),
         Followed::WaitNotMet(u) => {
             let operation = departs(out, step, b" wait-not-met", u.operation);
-            text::next(out, operation, u.wait as u64)
+            base_text::next(out, operation, u.wait as u64)
         }
     }
 }
@@ -65,10 +65,10 @@ fn line(out: &mut [u8], step: usize, f: Followed) -> usize
 fn departs(out: &mut [u8], step: usize, rule: &[u8], operation: usize) -> usize
     ensures { λ r. ⌜ Puts (departs-text step (now (rule .entry)) operation) (now (out .entry)) 0 (now (out .exit)) r ⌝ }
 {
-    let word = text::words(out, 0, b"trace departs");
-    let number = text::next(out, word, step as u64);
-    let named = text::words(out, number, rule);
-    text::next(out, named, operation as u64)
+    let word = base_text::words(out, 0, b"trace departs");
+    let number = base_text::next(out, word, step as u64);
+    let named = base_text::words(out, number, rule);
+    base_text::next(out, named, operation as u64)
 }
 
 // The first n numbers of a list, each after a blank.
@@ -78,7 +78,7 @@ fn numbers(out: &mut [u8], at: usize, list: &[u64], n: usize) -> usize
     let mut end = at;
     let mut i = 0;
     while i < n {
-        end = text::next(out, end, cells::get64(list, i));
+        end = base_text::next(out, end, base_slices::get64(list, i));
         i += 1;
     }
     end

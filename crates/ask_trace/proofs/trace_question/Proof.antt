@@ -24,7 +24,7 @@ returns c =
     let answer = c .before .before .answer .ensures in
     let lent = c .before .before .before .before .before .before .before in
     let check = lent .before .before .before .before .before .before .before .check-opened .ensures in (
-      asked _ _ _ _ _ _ _ _ _ (check .0) (check .1 .1 .1 .1) _ _ (answer .0) (answer .1),
+      asked _ _ _ _ _ _ _ _ _ (check .0) (check .1 .1 .1 .1 .0) _ _ (answer .0) (answer .1),
       sizes-kept _ _ _ _ _ _ _ _ (answer .0) (check .1 .0),
     )
 

@@ -1,7 +1,7 @@
 -- `cundvrest_dominates` meets its contract: what the dominance of the two frontiers answers is told. Assumes nothing.
 use mathlib.Core.Path.{_∙_}
 use borrow.Author.Needs.{needs}
-use Rattle.lent.proofs.Answers.{dominance-answered}
+use Rattle.c_lent.proofs.FrontierCalls.{dominance-answered}
 use Rattle.cundvrest_c.proofs.cundvrest_dominates.Statement.{statement}
 use Rattle.cundvrest_c.proofs.cundvrest_dominates.Tie as tie
 

@@ -1,6 +1,6 @@
 -- `cundvrest_frontier` meets its contract: what is sent out is told and stored. Assumes nothing.
 use borrow.Author.Needs.{needs}
-use Rattle.cundvrest_c.proofs.Answers.{sent-answered}
+use Rattle.cundvrest_c.proofs.SentTold.{sent-answered}
 use Rattle.cundvrest_c.proofs.cundvrest_frontier.Statement.{statement}
 use Rattle.cundvrest_c.proofs.cundvrest_frontier.Tie as tie
 

@@ -1,7 +1,7 @@
 -- `cundvrest_merge` meets its contract: what the merge of the two frontiers answers is told and stored. Assumes
 -- nothing.
 use borrow.Author.Needs.{needs}
-use Rattle.lent.proofs.Answers.{merge-answered}
+use Rattle.c_lent.proofs.FrontierCalls.{merge-answered}
 use Rattle.cundvrest_c.proofs.cundvrest_merge.Statement.{statement}
 use Rattle.cundvrest_c.proofs.cundvrest_merge.Tie as tie
 

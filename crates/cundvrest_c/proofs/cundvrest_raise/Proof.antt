@@ -1,6 +1,6 @@
 -- `cundvrest_raise` meets its contract: what the raise of the frontier answers is told and stored. Assumes nothing.
 use borrow.Author.Needs.{needs}
-use Rattle.lent.proofs.Answers.{raise-answered}
+use Rattle.c_lent.proofs.FrontierCalls.{raise-answered}
 use Rattle.cundvrest_c.proofs.cundvrest_raise.Statement.{statement}
 use Rattle.cundvrest_c.proofs.cundvrest_raise.Tie as tie
 

@@ -3,7 +3,7 @@ use mathlib.Core.Path.{_≡_, refl, sym, _∙_}
 use Prim.Native.Nat.{_-_}
 use lib.ListN.{length, drop}
 use borrow.Author.Needs.{needs}
-use Rattle.basics.specs.Lists.{member}
+use Rattle.base_lists.specs.Lists.{member}
 use Rattle.plan_format.proofs.Axes.{seen-here, seen-next, seen-end}
 use Rattle.plan_format.proofs.repeated.Statement.{statement}
 use Rattle.plan_format.proofs.repeated.Tie as tie

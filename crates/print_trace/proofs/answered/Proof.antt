@@ -1,6 +1,6 @@
 -- `answered` meets its contract. Assumes nothing.
 use Rattle.print_trace.proofs.Parts.{rest-put}
-use Rattle.text.proofs.Putting.{puts-both, line-refused, line-answered}
+use Rattle.base_text.proofs.Putting.{puts-both, line-refused, line-answered}
 use Rattle.plan_format.specs.Sizes.{most-queues}
 use lib.Seq.{length-take-le}
 use mathlib.Core.Path.{sym}

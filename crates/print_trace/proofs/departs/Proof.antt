@@ -1,5 +1,5 @@
 -- `departs` meets its contract. Assumes nothing.
-use Rattle.text.proofs.Putting.{puts-both}
+use Rattle.base_text.proofs.Putting.{puts-both}
 use Rattle.print_trace.specs.Printed.{departs-text}
 use borrow.Author.Needs.{needs}
 use Rattle.print_trace.proofs.departs.Statement.{statement}

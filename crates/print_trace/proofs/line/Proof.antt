@@ -1,5 +1,5 @@
 -- `line` meets its contract: each case has its words. Assumes nothing.
-use Rattle.text.proofs.Putting.{puts-both}
+use Rattle.base_text.proofs.Putting.{puts-both}
 use Rattle.print_trace.specs.Printed.{followed-text}
 use borrow.Author.Needs.{needs}
 use Rattle.print_trace.proofs.line.Statement.{statement}

@@ -1,8 +1,8 @@
 -- `numbers` meets its contract: the first numbers have been put. Assumes nothing.
 use Prim.Native.Nat.{_-_, _≤_}
-use Rattle.basics.specs.Lists.{join-from}
-use Rattle.text.specs.Text.{Puts}
-use Rattle.text.proofs.Putting.{puts-none, puts-join, puts-joined, puts-length}
+use Rattle.base_lists.specs.Lists.{join-from}
+use Rattle.base_text.specs.Text.{Puts}
+use Rattle.base_text.proofs.Putting.{puts-none, puts-join, puts-joined, puts-length}
 use native.Mathlib.Omega.{arith}
 use Rattle.print_trace.specs.Printed.{number-text}
 use borrow.Author.Needs.{needs}

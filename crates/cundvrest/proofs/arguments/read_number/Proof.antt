@@ -1,5 +1,5 @@
 -- `read_number` is safe: a number of the word is within its limit.
-use Rattle.decimal.proofs.Decimals.{word-limit}
+use Rattle.base_decimal.proofs.Decimals.{word-limit}
 use mathlib.Core.Path.{sym, _∙_}
 use native.Mathlib.Omega.{arith}
 use borrow.Author.Needs.{needs}

@@ -1,0 +1,128 @@
+-- The verdict by columns and rows is the plan's. Assumes nothing.
+use mathlib.Core.Path.{_≡_, refl, sym, ap, _∙_}
+use mathlib.Core.Bool.{Bool}
+use mathlib.Core.List.{List, [], _∷_, _++_, append-nil}
+use mathlib.Core.Option.{Option, none, some}
+use Prim.Native.Nat.{ℕ, zero, suc, _/_, _%_, _<_}
+use native.Mathlib.Nat.{zero-add}
+use native.Mathlib.Omega.{arith}
+use lib.Dec.{eqb}
+use lib.ListN.{length, getD}
+use borrow.Author.Tests.{lt-ltb}
+use Rattle.base_lists.specs.Lists.{tabulate-from, highest-below, place-or}
+use Rattle.base_lists.proofs.Tests.{by-cases, by-option}
+use Rattle.base_lists.proofs.Searches.{highest-some}
+use Rattle.base_lists.proofs.Tables.{tabulate-last}
+use Rattle.plan_format.specs.Sizes.{no-operation, most-operations}
+use Rattle.plan_format.specs.Plan.{Plan, count, op}
+use Rattle.plan_order.specs.Holdings.{Placed, is-free, buffer-marks}
+use Rattle.plan_order.specs.Reuse.{last-on, seen-by, last-mark, verdict-on, verdict}
+use Rattle.plan_order.specs.Meaning.{Forced}
+use Rattle.plan_order.specs.declared.Verdict.{Verdict}
+use Rattle.plan_order.specs.declared.Verdict.the-variants.{Fresh}
+use Rattle.plan_order.proofs.VerdictMeaning.{last-some}
+use Rattle.plan_order.proofs.LastFree.{all-by-last}
+use Rattle.check_columns.specs.Columns.{Marked, Queue-column, plan-marks}
+use Rattle.check_columns.specs.Shown.{mark-codes, mark-of, shown-from}
+use Rattle.check_columns.proofs.Marks.{Known, each-at, marks-known, marks-shown, place, of-buffer, of-append, of-plan}
+use Rattle.check_columns.proofs.Ordered.{ordered-right}
+use Rattle.ask_reuse.specs.ReusePass.{Verdict-given, last-shown, last-marked, seen, verdict-after, verdict-at}
+
+-- ---- the queue's last operation
+highest-same : (n : ℕ) (f g : ℕ → Bool) → ((i : ℕ) → i < n → f i ≡ g i) → highest-below n f ≡ highest-below n g
+unfolding highest-below
+highest-same zero f g h = refl
+highest-same (suc n) f g h = rw (h n (omega arith), highest-same n f g (λ i l. h i (omega arith)))
+
+last-of : (p : Plan) (queue : List ℕ) (q : ℕ) → Queue-column p queue →
+    last-shown queue q (count p) ≡ place-or no-operation (last-on p q)
+unfolding last-shown last-on Queue-column
+last-of p queue q shown =
+    ap (λ (o : Option ℕ). place-or no-operation o)
+    (highest-same (count p) (λ i. eqb (getD queue i 0) q) (λ i. eqb (op p i .queue) q) (λ i l. ap (λ (z : ℕ). eqb z q) (shown i l)))
+
+module _ {p : Plan} {n marks : ℕ} {queue mark operation rows : List ℕ} (shown : Verdict-given p n marks queue mark operation rows) where
+  seen-right : (q i : ℕ) → i < count p →
+      seen queue rows (place-or no-operation (last-on p q)) i ≡ seen-by p (last-on p q) i
+  unfolding seen seen-by place-or last-on
+  seen-right q i l =
+      by-option (last-on p q) (λ e. rw e)
+      (λ j e. let inside : j < count p = highest-some (count p) (λ i. eqb (op p i .queue) q) j e .inside in
+      rw (
+        e,
+        lt-ltb j no-operation (omega (arith, shown .sound .few-operations)),
+        ordered-right p (shown .sound) queue rows (shown .queues-shown) (shown .rows-shown) i j l inside,
+      ))
+
+-- ---- the verdict by the last mark
+by-last : (seen : ℕ → Bool) → (last-mark : Option Placed) → Verdict
+by-last f none = Fresh
+by-last f (some m) = verdict-after (is-free m) (f (m .by))
+
+-- in a plan without broken marks it is the plan's
+last-verdict : (p : Plan) (q b : ℕ) → ((k : ℕ) → k < length (buffer-marks p b) → Forced p b k) →
+    by-last (seen-by p (last-on p q)) (last-mark (buffer-marks p b)) ≡ verdict p q b
+unfolding by-last verdict verdict-on verdict-after
+last-verdict p q b forced =
+    by-option (last-mark (buffer-marks p b)) (λ e. rw e)
+    (λ m e. by-cases (is-free m) (λ t. rw (e, t, all-by-last p b forced q m e t)) (λ f. rw (e, f)))
+
+-- the last mark on a buffer, by its place in the columns
+module _ (mark operation : List ℕ) (b : ℕ) (f : ℕ → Bool) where
+  shown : ℕ → Marked
+  shown k = mark-of (getD mark k 0 % mark-codes) (getD operation k 0 % most-operations)
+
+  abbrev first : (n : ℕ) → List Marked
+  first n = shown-from mark operation n 0
+
+  one-more : (n : ℕ) → of-buffer b (first (suc n)) ≡ of-buffer b (first n) ++ of-buffer b (shown n ∷ [])
+  unfolding shown
+  one-more n =
+      ap (of-buffer b) (tabulate-last shown n 0 ∙ ap (λ (z : ℕ). first n ++ (shown z ∷ [])) (zero-add n))
+      ∙ of-append b (first n) (shown n ∷ [])
+
+  last-placed : (n : ℕ) →
+      by-last f (last-mark (of-buffer b (first n))) ≡ verdict-at f mark operation (last-marked mark b n)
+  unfolding tabulate-from of-buffer last-mark by-last verdict-at last-marked highest-below shown is-free
+  last-placed zero = refl
+  last-placed (suc n) =
+      by-cases (eqb (getD mark n 0 % mark-codes / 2) b)
+      (λ t. rw (one-more n, t, last-some (of-buffer b (first n)) (place (shown n))))
+      (λ e. rw (one-more n, e, append-nil (of-buffer b (first n))) (last-placed n))
+
+-- ---- the verdict by columns and rows
+at-same : (f g : ℕ → Bool) (mark operation : List ℕ) (b n : ℕ) →
+    ((k : ℕ) → k < n → f (getD operation k 0 % most-operations) ≡ g (getD operation k 0 % most-operations)) →
+    verdict-at f mark operation (last-marked mark b n) ≡ verdict-at g mark operation (last-marked mark b n)
+unfolding verdict-at last-marked
+at-same f g mark operation b n h =
+    by-option (last-marked mark b n) (λ e. rw e)
+    (λ k e. rw (e, h k (highest-some n (λ k. eqb (getD mark k 0 % mark-codes / 2) b) k e .inside)))
+
+module _ {p : Plan} {n marks : ℕ} {queue mark operation rows : List ℕ}
+    (shown : Verdict-given p n marks queue mark operation rows) where
+  -- a mark is of an operation of the plan
+  by-inside : (k : ℕ) → k < marks → getD operation k 0 % most-operations < count p
+  by-inside k l =
+      let known = marks-known p (shown .sound) in
+      let m = each-at (Known p) (plan-marks p) known k (omega (arith, shown .marks-shown .all)) .by in
+      omega (arith, m, shown .marks-shown .operations k l, shown .sound .few-operations)
+
+  marks-are : (b : ℕ) → of-buffer b (shown-from mark operation marks 0) ≡ buffer-marks p b
+  marks-are b =
+      ap (of-buffer b) (marks-shown p marks mark operation (shown .sound) (shown .few-buffers) (shown .marks-shown))
+      ∙ of-plan p b
+
+pub verdict-right : {p : Plan} {n marks : ℕ} {queue mark operation rows : List ℕ} (q b : ℕ) {last : ℕ} {r : Verdict} →
+    b < length (p .sizes) → Verdict-given p n marks queue mark operation rows → last ≡ last-shown queue q n →
+    r ≡ verdict-at (seen queue rows last) mark operation (last-marked mark b marks) → r ≡ verdict p q b
+verdict-right {p} {n} {marks} {queue} {mark} {operation} {rows} q b known shown last-is e =
+    let sees : ℕ → Bool = seen-by p (last-on p q) in
+    let last-right = last-is ∙ ap (last-shown queue q) (sym (shown .many)) ∙ last-of p queue q (shown .queues-shown) in
+    e
+    ∙ ap (λ (z : ℕ). verdict-at (seen queue rows z) mark operation (last-marked mark b marks)) last-right
+    ∙ at-same (seen queue rows (place-or no-operation (last-on p q))) sees mark operation b marks
+    (λ k l. seen-right shown q (getD operation k 0 % most-operations) (by-inside shown k l))
+    ∙ sym (last-placed mark operation b sees marks)
+    ∙ ap (λ (z : List Placed). by-last sees (last-mark z)) (marks-are shown b)
+    ∙ last-verdict p q b (λ k l. shown .forced b k known l)

@@ -1,0 +1,5 @@
+pub mod Told
+pub mod Rows
+pub mod Frontiers
+pub mod Refusals
+pub mod FrontierCalls

@@ -1,0 +1,51 @@
+-- R32, R33: two passes over the marks of a plan, with a table by mark: uses against the free of their own holding, from
+-- the last mark to the first, and marks against the free before their holding. Assumes nothing: these are definitions.
+use mathlib.Core.Bool.{Bool, _&&_, _||_, not, cond}
+use mathlib.Core.List.{List, [], _∷_}
+use Prim.Native.Nat.{ℕ, _+_, _*_, min}
+use lib.Dec.{ltb, eqb}
+use lib.ListN.{getD, set, replicate}
+use Rattle.plan_format.specs.Sizes.{mark-places, no-operation}
+use Rattle.check_columns.specs.Columns.{Marked}
+use Rattle.check_columns.specs.Shown.{mark-codes, shown-from, ordered}
+
+-- a table by mark, twice its buffer and one more for a free: the operation that had the mark last; 1,024 means
+-- none
+abbrev pub none-noted : List ℕ
+none-noted = replicate mark-codes no-operation
+
+unfoldable pub noted : Marked → (last : List ℕ) → List ℕ
+noted m last = set last (m .buffer * 2 + m .kind) (m .by)
+
+-- a buffer's free
+abbrev pub free-in : (last : List ℕ) → (b : ℕ) → ℕ
+free-in last b = getD last (b * 2 + 1) 0
+
+-- the table after marks passed from the last to the first
+unfoldable pub noted-back : List Marked → List ℕ
+noted-back [] = none-noted
+noted-back (m ∷ ms) = noted m (noted-back ms)
+
+module _ (queue rows : List ℕ) where
+  -- a use by i is not forced to come no later than a free
+  unfoldable pub late : (i free : ℕ) → Bool
+  late i g = ltb g no-operation && not (ordered queue rows i g)
+
+  -- a mark by i is not forced to come after a free
+  unfoldable pub early : (free i : ℕ) → Bool
+  early g i = ltb g no-operation && (eqb g i || not (ordered queue rows g i))
+
+  -- the operation of the first use that is late, and of the first mark that is early; n where there is none
+  unfoldable pub first-late : (n : ℕ) → List Marked → ℕ
+  first-late n [] = n
+  first-late n (m ∷ ms) =
+      cond (eqb (m .kind) 0 && late (m .by) (free-in (noted-back ms) (m .buffer))) (m .by) (first-late n ms)
+
+  unfoldable pub first-early : (n : ℕ) → (last : List ℕ) → List Marked → ℕ
+  first-early n last [] = n
+  first-early n last (m ∷ ms) = cond (early (free-in last (m .buffer)) (m .by)) (m .by) (first-early n (noted m last) ms)
+
+  -- the lower of the two, by the first `many` marks of columns with 4,096 places; n where there is neither
+  unfoldable pub first-broken : (n many : ℕ) → (mark operation : List ℕ) → ℕ
+  first-broken n many mark operation =
+      let ms = shown-from mark operation (min many mark-places) 0 in min (first-late n ms) (first-early n none-noted ms)

@@ -1,0 +1,92 @@
+-- What the passes are given: the columns of a plan within the limits, then ruled and resolved. Assumes nothing.
+use mathlib.Core.Path.{_≡_, sym, _∙_, subst}
+use mathlib.Core.List.{List}
+use Prim.Native.Nat.{ℕ, _≤_}
+use lib.ListN.{length}
+use Rattle.plan_format.specs.Sizes.{most-operations}
+use Rattle.plan_format.specs.Plan.{Plan}
+use Rattle.plan_format.specs.Sound.{Sound}
+use Rattle.plan_format.specs.declared.Told.{Told}
+use Rattle.plan_format.proofs.Plans.{limits-sound}
+use Rattle.plan_format.proofs.Positions.{in-range, few-waits}
+use Rattle.plan_order.specs.Runs.{standard}
+use Rattle.check_columns.specs.Columns.{Columns}
+use Rattle.check_columns.proofs.Limits.{few-operations}
+use Rattle.check_signals.specs.declared.Signalled.{Signalled}
+use Rattle.check_signals.specs.Walks.{Signals-given, Judged}
+use Rattle.check_waits.specs.Waits.{Waits-given}
+use Rattle.check_run.specs.Run.{Run-given, Rows-of}
+use Rattle.check_passes.specs.Given.{Check-given, Rules-given, Ruled, Order-given, Judge-given}
+
+-- ---- 6 to 8
+module _ {p : Plan} {n signals : ℕ} {owner queue wsem wval ssem sval sop : List ℕ} (g : Rules-given p n signals owner queue wsem wval ssem sval sop) where
+  pub signals-given : Signals-given p signals owner queue ssem sval sop
+  signals-given = record {
+    few-owners = g .limits .few-semaphores;
+    in-range = in-range (g .limits);
+    owners-shown = g .owners-shown;
+    queues-shown = g .queues-shown;
+    signals-shown = g .signals-shown;
+  }
+
+  pub waits-given : {j : Signalled} → Judged p j → j .number ≡ 0 → Waits-given p n signals ssem sval sop wsem wval (j .last)
+  waits-given j z = record {
+    operations = g .many;
+    few = subst (λ (k : ℕ). k ≤ most-operations) (g .many) (few-operations (g .limits));
+    few-owners = g .limits .few-semaphores;
+    in-range = in-range (g .limits);
+    rules = sym (j .number) ∙ z;
+    signals-shown = g .signals-shown;
+    waits-shown = g .waits-shown;
+    highest-shown = j .highest-shown z;
+  }
+
+-- ---- the whole check
+module _ {p : Plan} {n signals marks : ℕ} {owner : List ℕ} {cs : Columns} (g : Check-given p n signals marks owner cs) where
+  pub rules-given : Rules-given p n signals owner (cs .queue) (cs .wait-semaphore) (cs .wait-value) (cs .signal-semaphore) (cs .signal-value) (cs .signal-operation)
+  rules-given = record {
+    limits = g .limits;
+    many = g .many;
+    owners-shown = g .owners-shown;
+    queues-shown = g .shown .queues-shown;
+    waits-shown = g .shown .waits-shown;
+    signals-shown = g .shown .signals-shown;
+  }
+
+  pub order-given : {t : Told} {source : List ℕ} → Ruled p t source → t .number ≡ 0 → Order-given p n marks (cs .queue) source (cs .mark) (cs .mark-operation)
+  order-given ruled z = record {
+    limits = g .limits;
+    rules = sym (ruled .told .number) ∙ z;
+    many = g .many;
+    queues-shown = g .shown .queues-shown;
+    sources-shown = ruled .sources-shown z;
+    marks-shown = g .shown .marks-shown;
+  }
+
+-- ---- the order
+module _ {p : Plan} {n marks : ℕ} {queue source mark mop : List ℕ} (g : Order-given p n marks queue source mark mop) where
+  pub order-sound : Sound p
+  order-sound = limits-sound p (g .limits) (g .rules)
+
+  pub order-few : n ≤ most-operations
+  order-few = subst (λ (k : ℕ). k ≤ most-operations) (g .many) (few-operations (g .limits))
+
+  pub run-given : Run-given p n queue source
+  run-given = record {
+    sound = order-sound;
+    many = g .many;
+    few-waits = few-waits (g .limits);
+    queues = g .queues-shown;
+    sources = g .sources-shown;
+  }
+
+  pub judge-given : (ran : ℕ) (rows : List ℕ) → ran ≡ length (standard p) → Rows-of p (standard p) rows → Judge-given p n ran marks queue mark mop rows
+  judge-given ran rows long filled = record {
+    sound = order-sound;
+    many = g .many;
+    few-buffers = g .limits .few-buffers;
+    queues-shown = g .queues-shown;
+    marks-shown = g .marks-shown;
+    long = long;
+    filled = filled;
+  }

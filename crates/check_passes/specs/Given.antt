@@ -1,0 +1,55 @@
+-- What the parts of the check are given of a plan, and what they hand on. Assumes nothing: these are definitions.
+use mathlib.Core.Path.{_≡_}
+use mathlib.Core.List.{List}
+use Prim.Native.Nat.{ℕ, _≤_}
+use lib.ListN.{length}
+use Rattle.plan_format.specs.Sizes.{most-buffers}
+use Rattle.plan_format.specs.Limits.{Limits}
+use Rattle.plan_format.specs.Plan.{Plan, count}
+use Rattle.plan_format.specs.Sound.{Sound, rules-refusal}
+use Rattle.plan_format.specs.Stored.{Tells}
+use Rattle.plan_format.specs.declared.Told.{Told}
+use Rattle.plan_order.specs.Runs.{standard}
+use Rattle.check_columns.specs.Columns.{Columns, Owner-column, Queue-column, Wait-columns, Signal-columns, Mark-columns, Source-column}
+use Rattle.check_columns.specs.Shown.{Columns-of}
+use Rattle.check_run.specs.Run.{Rows-of}
+
+-- the columns of a plan within the limits
+pub record Check-given (p : Plan) (n signals marks : ℕ) (owner : List ℕ) (cs : Columns) : Type 0 where
+  pub limits : Limits p
+  pub many : count p ≡ n
+  pub owners-shown : Owner-column p owner
+  pub shown : Columns-of p signals marks cs
+
+-- the same but for its marks
+pub record Rules-given (p : Plan) (n signals : ℕ) (owner queue wsem wval ssem sval sop : List ℕ) : Type 0 where
+  pub limits : Limits p
+  pub many : count p ≡ n
+  pub owners-shown : Owner-column p owner
+  pub queues-shown : Queue-column p queue
+  pub waits-shown : Wait-columns p wsem wval
+  pub signals-shown : Signal-columns p signals ssem sval sop
+
+-- 6 to 8 as the rules give them; where none is given the column shows what the waits rest on
+pub record Ruled (p : Plan) (r : Told) (source : List ℕ) : Type 0 where
+  pub told : Tells (rules-refusal p) 0 r
+  pub sources-shown : r .number ≡ 0 → Source-column p source
+
+-- columns of a plan within the limits with none of refusals 6 to 8, its waits resolved
+pub record Order-given (p : Plan) (n marks : ℕ) (queue source mark mop : List ℕ) : Type 0 where
+  pub limits : Limits p
+  pub rules : rules-refusal p .number ≡ 0
+  pub many : count p ≡ n
+  pub queues-shown : Queue-column p queue
+  pub sources-shown : Source-column p source
+  pub marks-shown : Mark-columns p marks mark mop
+
+-- a sound plan after its standard run
+pub record Judge-given (p : Plan) (n ran marks : ℕ) (queue mark mop rows : List ℕ) : Type 0 where
+  pub sound : Sound p
+  pub many : count p ≡ n
+  pub few-buffers : length (p .sizes) ≤ most-buffers
+  pub queues-shown : Queue-column p queue
+  pub marks-shown : Mark-columns p marks mark mop
+  pub long : ran ≡ length (standard p)
+  pub filled : Rows-of p (standard p) rows

@@ -1,0 +1,88 @@
+// R54 to R56, the check of a plan that is shown by columns: judged by signals, waits and room, run, and judged by its
+// order.
+mod decide;
+mod leave;
+
+use check_columns::MarkColumn;
+use check_columns::OwnerColumn;
+use check_columns::QueueColumn;
+use check_columns::SignalColumn;
+use check_columns::SignalValues;
+use check_columns::WaitColumn;
+use check_columns::WaitValues;
+use plan_format::Told;
+ghost use mathlib.Core.Path.{_≡_};
+ghost use lib.ListN.{length};
+ghost use Rattle.plan_format.specs.Plan.{Plan};
+ghost use Rattle.plan_format.specs.Refusal.{or-else};
+ghost use Rattle.plan_format.specs.Sound.{rules-refusal};
+ghost use Rattle.plan_format.specs.Stored.{Tells};
+ghost use Rattle.plan_order.specs.Check.{room-refusal, Plan-check-says};
+ghost use Rattle.check_columns.specs.Columns.{columns, Source-column};
+ghost use Rattle.check_passes.specs.Answering.{rules-by, Sources-by, Answers-by};
+ghost use Rattle.check_passes.specs.Given.{Check-given, Rules-given, Ruled};
+
+// Refusals 6 and 7, then 8, then 9, then the order: the answer, what is left in table and list, and the operation that
+// each wait rests on, in place of its semaphore. Where the columns show no plan within the limits, it is unspecified
+// which operations run, in which order, and what their rows are.
+pub fn judge_columns(
+    n: u16,
+    signals: usize,
+    marks: usize,
+    owner: &OwnerColumn,
+    queue: &QueueColumn,
+    wait: &mut WaitColumn,
+    wval: &WaitValues,
+    ssem: &SignalColumn,
+    sval: &SignalValues,
+    sop: &SignalColumn,
+    mark: &MarkColumn,
+    mop: &MarkColumn,
+    table: &mut [u32],
+    list: &mut [u32],
+) -> Told
+    ensures answers { λ r. ⌜ Answers-by (or-else
+        (rules-by n signals (now (owner .entry)) (now (queue .entry)) (now (wait .entry)) (now (wval .entry)) (now (ssem .entry)) (now (sval .entry)) (now (sop .entry)))
+        (room-refusal n (length (now (table .entry))) (length (now (list .entry)))))
+        n marks (now (queue .entry)) (now (mark .entry)) (now (mop .entry)) r (now (table .entry)) (now (table .exit)) (now (list .entry)) (now (list .exit)) ⌝ }
+    ensures sources { λ _. ⌜ Sources-by n signals (now (owner .entry)) (now (queue .entry)) (now (wait .entry)) (now (wval .entry)) (now (ssem .entry)) (now (sval .entry)) (now (sop .entry))
+        (now (wait .exit)) ⌝ }
+    ensures of_plans { λ r. ⌜ ((p : Plan) → Check-given p n signals marks (now (owner .entry))
+        (columns (now (queue .entry)) (now (wait .entry)) (now (wval .entry)) (now (ssem .entry)) (now (sval .entry)) (now (sop .entry)) (now (mark .entry)) (now (mop .entry))) →
+        Plan-check-says p r (now (table .entry)) (now (table .exit)) (now (list .entry)) (now (list .exit)) × (rules-refusal p .number ≡ 0 → Source-column p (now (wait .exit)))) ⌝ }
+{
+    let ruled = rules(n, signals, owner, queue, wait, wval, ssem, sval, sop);
+    if ruled.number != 0 {
+        return ruled;
+    }
+    decide::check_order(n, marks, queue, wait, mark, mop, table, list)
+}
+
+// 6 or 7, else 8, else none and, in place of the semaphore of each wait, the operation that it rests on.
+fn rules(
+    n: u16,
+    signals: usize,
+    owner: &OwnerColumn,
+    queue: &QueueColumn,
+    wait: &mut WaitColumn,
+    wval: &WaitValues,
+    ssem: &SignalColumn,
+    sval: &SignalValues,
+    sop: &SignalColumn,
+) -> Told
+    ensures told { λ r. ⌜ Tells (rules-by n signals (now (owner .entry)) (now (queue .entry)) (now (wait .entry)) (now (wval .entry)) (now (ssem .entry)) (now (sval .entry)) (now (sop .entry))) 0 r ⌝ }
+    ensures sources { λ _. ⌜ Sources-by n signals (now (owner .entry)) (now (queue .entry)) (now (wait .entry)) (now (wval .entry)) (now (ssem .entry)) (now (sval .entry)) (now (sop .entry))
+        (now (wait .exit)) ⌝ }
+    ensures of_plans { λ r. ⌜ ((p : Plan) → Rules-given p n signals (now (owner .entry)) (now (queue .entry)) (now (wait .entry)) (now (wval .entry)) (now (ssem .entry)) (now (sval .entry)) (now (sop .entry)) →
+        Ruled p r (now (wait .exit))) ⌝ }
+{
+    let signalled = check_signals::judge(signals, owner, queue, ssem, sval, sop);
+    if signalled.number != 0 {
+        return Told {
+            number: signalled.number,
+            place: signalled.place,
+            answer: 0,
+        };
+    }
+    check_waits::resolve(n, signals, ssem, sval, sop, wait, wval, &signalled.last)
+}

@@ -1,0 +1,201 @@
+// R53 to R56, the check of a stored plan: shown as columns, and judged by them; its counts, and its columns for those
+// who ask on.
+use check_columns::MarkColumn;
+use check_columns::QueueColumn;
+use check_columns::SignalColumn;
+use check_columns::SignalValues;
+use check_columns::WaitColumn;
+use check_load::Loaded;
+use plan_format::Told;
+use plan_format::limits::HEAD_NUMBERS;
+use plan_format::limits::HeadNumbers;
+use plan_format::limits::MARK_PLACES;
+use plan_format::limits::MOST_OPERATIONS;
+use plan_format::limits::MOST_SEMAPHORES;
+use plan_format::limits::SIGNAL_PLACES;
+use plan_format::limits::WAIT_PLACES;
+ghost use mathlib.Core.Path.{_≡_};
+ghost use Rattle.plan_format.specs.Stored.{scanned, plan-in};
+ghost use Rattle.plan_order.specs.Promise.{Checked};
+ghost use Rattle.check_plan.specs.Counting.{Sizes-told, Counts-told, opened-of, counts-of};
+ghost use Rattle.check_plan.specs.Opening.{Read-plan, Opened-plan, Lent-left, lent};
+
+// How many queues, semaphores, buffers and operations a plan has; or a refusal and its place beside them. Each is 0
+// where the reader refuses the plan.
+pub struct Counted {
+    pub number: u32,
+    pub place: u64,
+    pub queues: usize,
+    pub semaphores: usize,
+    pub buffers: usize,
+    pub operations: usize,
+}
+
+// The same, and how many signals and marks the plan has.
+pub struct Opened {
+    pub counted: Counted,
+    pub signals: usize,
+    pub marks: usize,
+}
+
+// The counts of a stored plan, or the reader's refusal.
+pub fn counts(plan: &[u8]) -> Counted
+    ensures { λ r. ⌜ Counts-told (now (plan .entry)) r ⌝ }
+{
+    let mut head = [0u64; HEAD_NUMBERS];
+    let mut owner = [0u16; MOST_SEMAPHORES];
+    let mut queue = [0u16; MOST_OPERATIONS];
+    let mut wsem = [0u16; WAIT_PLACES];
+    let mut wval = [0u64; WAIT_PLACES];
+    let mut ssem = [0u16; SIGNAL_PLACES];
+    let mut sval = [0u64; SIGNAL_PLACES];
+    let mut sop = [0u16; SIGNAL_PLACES];
+    let mut mark = [0u16; MARK_PLACES];
+    let mut mop = [0u16; MARK_PLACES];
+    let l = check_load::load(
+        plan,
+        &mut head,
+        &mut owner,
+        &mut queue,
+        &mut wsem,
+        &mut wval,
+        &mut ssem,
+        &mut sval,
+        &mut sop,
+        &mut mark,
+        &mut mop,
+    );
+    with_counts(l, l.number, l.place as u64)
+}
+
+// The check of a stored plan: 0, and the rows and the run in table and list; or the first refusal and its place.
+pub fn check_plan(plan: &[u8], table: &mut [u32], list: &mut [u32]) -> Told
+    ensures { λ r. ⌜ Checked (now (plan .entry)) r (now (table .entry)) (now (table .exit)) (now (list .entry)) (now (list .exit)) ⌝ }
+{
+    let c = check_counted(plan, table, list);
+    Told {
+        number: c.number,
+        place: c.place,
+        answer: 0,
+    }
+}
+
+// The check with the plan's counts beside its answer.
+pub fn check_counted(plan: &[u8], table: &mut [u32], list: &mut [u32]) -> Counted
+    ensures checked { λ r. ⌜ Checked (now (plan .entry)) (record { number = r .number; place = r .place; answer = 0 }) (now (table .entry)) (now (table .exit)) (now (list .entry)) (now (list .exit)) ⌝ }
+    ensures sizes { λ r. ⌜ Sizes-told (now (plan .entry)) r ⌝ }
+{
+    let mut head = [0u64; HEAD_NUMBERS];
+    let mut queue = [0u16; MOST_OPERATIONS];
+    let mut source = [0u16; WAIT_PLACES];
+    let mut ssem = [0u16; SIGNAL_PLACES];
+    let mut sval = [0u64; SIGNAL_PLACES];
+    let mut sop = [0u16; SIGNAL_PLACES];
+    let mut mark = [0u16; MARK_PLACES];
+    let mut mop = [0u16; MARK_PLACES];
+    let o = check_opened(
+        plan,
+        &mut head,
+        &mut queue,
+        &mut source,
+        &mut ssem,
+        &mut sval,
+        &mut sop,
+        &mut mark,
+        &mut mop,
+        table,
+        list,
+    );
+    o.counted
+}
+
+// The check for those who ask further: beside the answer and the counts, the plan in lent columns, which stay past the
+// plan's own places. The places of n operations in the column of sources are unspecified where a refusal from 6 to 8 is
+// given. Where the reader refuses the plan, the places of as many operations as its head tells, three signals and seven
+// marks to each, are unspecified.
+pub fn check_opened(
+    plan: &[u8],
+    head: &mut HeadNumbers,
+    queue: &mut QueueColumn,
+    source: &mut WaitColumn,
+    ssem: &mut SignalColumn,
+    sval: &mut SignalValues,
+    sop: &mut SignalColumn,
+    mark: &mut MarkColumn,
+    mop: &mut MarkColumn,
+    table: &mut [u32],
+    list: &mut [u32],
+) -> Opened
+    ensures checked { λ r. ⌜ Checked (now (plan .entry)) (record { number = r .counted .number; place = r .counted .place; answer = 0 }) (now (table .entry)) (now (table .exit)) (now (list .entry)) (now (list .exit)) ⌝ }
+    ensures sizes { λ r. ⌜ Sizes-told (now (plan .entry)) (r .counted) ⌝ }
+    ensures refused { λ r. ⌜ ((scanned (now (plan .entry)) .fault .number ≡ 0 → ⊥) → (r .signals ≡ 0) × (r .marks ≡ 0)) ⌝ }
+    ensures read { λ r. ⌜ (scanned (now (plan .entry)) .fault .number ≡ 0 → Read-plan (plan-in (now (plan .entry))) r
+        (lent (now (head .exit)) (now (queue .exit)) (now (source .exit)) (now (ssem .exit)) (now (sval .exit)) (now (sop .exit)) (now (mark .exit)) (now (mop .exit)))) ⌝ }
+    ensures opened { λ r. ⌜ (r .counted .number ≡ 0 → Opened-plan (plan-in (now (plan .entry))) r
+        (lent (now (head .exit)) (now (queue .exit)) (now (source .exit)) (now (ssem .exit)) (now (sval .exit)) (now (sop .exit)) (now (mark .exit)) (now (mop .exit)))
+        (now (table .exit))) ⌝ }
+    ensures left { λ r. ⌜ Lent-left (now (plan .entry)) r
+        (lent (now (head .entry)) (now (queue .entry)) (now (source .entry)) (now (ssem .entry)) (now (sval .entry)) (now (sop .entry)) (now (mark .entry)) (now (mop .entry)))
+        (lent (now (head .exit)) (now (queue .exit)) (now (source .exit)) (now (ssem .exit)) (now (sval .exit)) (now (sop .exit)) (now (mark .exit)) (now (mop .exit))) ⌝ }
+{
+    let mut owner = [0u16; MOST_SEMAPHORES];
+    let mut wval = [0u64; WAIT_PLACES];
+    let l = check_load::load(
+        plan,
+        head,
+        &mut owner,
+        queue,
+        source,
+        &mut wval,
+        ssem,
+        sval,
+        sop,
+        mark,
+        mop,
+    );
+    if l.number != 0 {
+        return with_lists(l, l.number, l.place as u64);
+    }
+    let told = check_passes::judge_columns(
+        l.operations,
+        l.signals as usize,
+        l.marks as usize,
+        &owner,
+        queue,
+        source,
+        &wval,
+        ssem,
+        sval,
+        sop,
+        mark,
+        mop,
+        table,
+        list,
+    );
+    with_lists(l, told.number, told.place)
+}
+
+// The counts of a loaded plan, beside a number and its place.
+fn with_counts(l: Loaded, number: u32, place: u64) -> Counted
+    ensures { λ r. ⌜ r ≡ counts-of l number place ⌝ }
+{
+    Counted {
+        number,
+        place,
+        queues: l.queues as usize,
+        semaphores: l.semaphores as usize,
+        buffers: l.buffers as usize,
+        operations: l.operations as usize,
+    }
+}
+
+// The same, and the numbers of signals and marks.
+fn with_lists(l: Loaded, number: u32, place: u64) -> Opened
+    ensures { λ r. ⌜ r ≡ opened-of l number place ⌝ }
+{
+    Opened {
+        counted: with_counts(l, number, place),
+        signals: l.signals as usize,
+        marks: l.marks as usize,
+    }
+}

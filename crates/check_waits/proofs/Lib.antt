@@ -1,0 +1,9 @@
+pub mod Halving
+pub mod Grouping
+pub mod Sourcing
+pub mod Reached
+pub mod Rising
+pub mod Placed
+pub mod AnyColumns
+pub mod Resolved
+pub mod Rules

@@ -1,5 +1,0 @@
-pub mod Told
-pub mod Rows
-pub mod Frontiers
-pub mod Refusals
-pub mod Answers

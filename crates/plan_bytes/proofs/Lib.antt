@@ -1,5 +1,0 @@
-pub mod Halves
-pub mod Fields
-pub mod Cursors
-pub mod Counts
-pub mod Answers

@@ -1,6 +1,0 @@
-pub mod Columns
-pub mod Untouched
-pub mod Orders
-pub mod Inside
-pub mod Anyhow
-pub mod Kept

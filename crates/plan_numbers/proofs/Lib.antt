@@ -1,7 +1,0 @@
-pub mod Words
-pub mod Fields
-pub mod Cursors
-pub mod Counts
-pub mod Heads
-pub mod Answers
-pub mod Rests

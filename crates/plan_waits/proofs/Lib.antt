@@ -1,9 +1,0 @@
-pub mod Halving
-pub mod Grouping
-pub mod Sourcing
-pub mod Reached
-pub mod Rising
-pub mod Placed
-pub mod Anyhow
-pub mod Resolved
-pub mod Rules

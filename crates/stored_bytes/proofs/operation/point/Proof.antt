@@ -1,0 +1,25 @@
+-- `point` meets its contract: one field after the other.
+use borrow.Author.Needs.{needs}
+use Rattle.plan_format.specs.Sections.{point-below}
+use Rattle.stored_bytes.proofs.Cursors.{writes-seq}
+use Rattle.stored_bytes.proofs.operation.point.Statement.{statement}
+use Rattle.stored_bytes.proofs.operation.point.Tie as tie
+
+byte-requires : tie.Need-byte-requires
+byte-requires c κs = search needs
+
+point-value-requires : tie.Need-point-value-requires
+point-value-requires c κs = search needs
+
+same-length : tie.Need-same-length
+same-length c = search needs
+
+returns : tie.Need-returns
+unfolding point-below
+returns c =
+    writes-seq (c .before .before .before .before .before .before .byte .ensures .writes) (c .before .before .point-value .ensures)
+
+pub point-spec : {M : Type 1} → statement M
+point-spec =
+    tie.close
+    (tie.spec byte-requires point-value-requires same-length returns)

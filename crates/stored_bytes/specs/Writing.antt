@@ -1,0 +1,87 @@
+-- What the writer's functions say: the reading and the spelling that a cursor stands for, and the bytes of a number.
+-- Assumes nothing: these are definitions.
+use mathlib.Core.Path.{_≡_}
+use mathlib.Core.Bool.{cond}
+use mathlib.Core.List.{List, [], _++_}
+use Prim.Native.Nat.{ℕ, _+_, _-_, _*_, _≤_}
+use lib.Dec.{eqb}
+use lib.ListN.{length, getD, take, drop}
+use Rattle.base_lists.specs.Lists.{in-front}
+use Rattle.plan_format.specs.Sizes.{most-queues, most-buffers, most-operations, most-waits, most-signals, most-marks}
+use Rattle.plan_format.specs.Sizes.{plan-bytes}
+use Rattle.plan_format.specs.Refusal.{Refusal, refusal, none-given}
+use Rattle.plan_format.specs.Grammar.{Grammar, field, digits, numbers, Scan, scan, last-got, read-by, Spelling, spell-by}
+use Rattle.plan_format.specs.Form.{Form, plan-grammar}
+use Rattle.plan_format.specs.Stored.{listed, spelled, Tells}
+use Rattle.plan_format.specs.declared.Told.{Told}
+use Rattle.plan_format.specs.Sections.{limited}
+use Rattle.stored_bytes.specs.declared.cursor.Cursor.{Cursor}
+
+-- the reading of the list `xs` that a cursor stands for, and the spelling, its bytes being in front of `bytes`
+unfoldable pub fault-of : Cursor → Refusal
+fault-of c = cond (eqb (c .number) 0) none-given (refusal (c .number) (c .at))
+
+unfoldable pub here : (xs : List ℕ) → Cursor → Scan
+here xs c = scan (drop (c .at) xs) (c .at) (take (c .at) xs) (fault-of c)
+
+unfoldable pub spelling : (xs : List ℕ) → Cursor → (bytes : List ℕ) → Spelling
+spelling xs c bytes = record { left = drop (c .at) xs; made = take (c .put) bytes }
+
+-- a cursor that is inside the list, with room for so many bytes more
+pub record Room (many : ℕ) (xs : List ℕ) (c : Cursor) (bytes : List ℕ) : Type 0 where
+  pub inside : c .at ≤ length xs
+  pub room : c .put + many ≤ length bytes
+
+-- from the cursor `c` to the cursor `r` a thing is read from the list and, where there is no refusal, spelled, at most
+-- so many bytes long and eight for each number; past the bytes put the array stays
+pub record Writes (g : Grammar) (many : ℕ) (xs : List ℕ) (c : Cursor) (bytes : List ℕ) (r : Cursor) (bytes-now : List ℕ) : Type 0 where
+  pub read : read-by numbers g (here xs c) ≡ here xs r
+  pub spell : r .number ≡ 0 → spell-by g (spelling xs c bytes) ≡ spelling xs r bytes-now
+  pub inside : r .at ≤ length xs
+  pub more : c .put ≤ r .put
+  pub few : r .put ≤ c .put + many
+  pub by-eight : r .put + 8 * c .at ≤ c .put + 8 * r .at
+  pub as-long : length bytes-now ≡ length bytes
+  pub past : drop (r .put) bytes-now ≡ drop (r .put) bytes
+
+-- the bytes of a number were put at a place, and nothing after them
+pub record Puts (width : ℕ) (bytes : List ℕ) (at v : ℕ) (bytes-now : List ℕ) : Type 0 where
+  pub front : take (at + width) bytes-now ≡ take at bytes ++ digits width v
+  pub as-long : length bytes-now ≡ length bytes
+  pub past : drop (at + width) bytes-now ≡ drop (at + width) bytes
+
+-- a limited field was written, and the cursor has its number: 0 where it is refused
+pub record Limited (width limit over : ℕ) (xs : List ℕ) (c : Cursor) (bytes : List ℕ) (r : Cursor) (bytes-now : List ℕ) : Type 0 where
+  pub writes : Writes (field width (limited limit over)) width xs c bytes r bytes-now
+  pub value-is : r .number ≡ 0 → last-got (here xs r) ≡ r .value
+  pub value-read : r .number ≡ 0 → getD (drop (c .at) xs) 0 0 ≡ r .value
+  pub value-below : r .value ≤ limit - 1
+
+-- the most bytes of a point, of an operation and of the three sections before the operations
+unfoldable pub point-most : Form → ℕ
+point-most F = F .semaphore-width + 8
+
+unfoldable pub operation-most : Form → ℕ
+operation-most F = 1 + ((1 + point-most F * most-waits) + ((1 + point-most F * most-signals) + (1 + 3 * most-marks)))
+
+unfoldable pub front-most : Form → ℕ
+front-most F = (1 + 8 * most-queues) + (F .semaphore-width + 1 * F .semaphores-most) + (2 + 4 * most-buffers)
+
+-- the whole list was read and spelled, but for its end; the lead bytes are not among the bytes
+pub record Plan-written (F : Form) (xs bytes : List ℕ) (r : Cursor) (bytes-now : List ℕ) : Type 0 where
+  pub read : read-by numbers (plan-grammar F) (scan xs 0 [] none-given) ≡ here xs r
+  pub spell : r .number ≡ 0 → spell-by (plan-grammar F) (record { left = xs; made = [] }) ≡ spelling xs r bytes-now
+  pub inside : r .at ≤ length xs
+  pub few : r .put ≤ front-most F + (2 + operation-most F * most-operations)
+  pub by-eight : r .put ≤ 8 * r .at
+  pub past : drop (r .put) bytes-now ≡ drop (r .put) bytes
+
+-- R10, the writer before its room is judged: 1 to 5, or the length in bytes as the answer. Past the bytes the array
+-- stays. Beside a refusal it stays past eight bytes for each number before the refused one; what is in front of that is
+-- unspecified.
+pub record Bytes-written (xs bytes : List ℕ) (r : Told) (bytes-now : List ℕ) : Type 0 where
+  pub told : Tells (listed xs .fault) (length (spelled xs)) r
+  pub passed : r .number ≡ 0 → bytes-now ≡ in-front (spelled xs) bytes
+  pub refused : (r .number ≡ 0 → ⊥) → drop (8 * r .place) bytes-now ≡ drop (8 * r .place) bytes
+  pub few : r .answer ≤ plan-bytes
+  pub long : length bytes-now ≡ plan-bytes

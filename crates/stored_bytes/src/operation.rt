@@ -1,0 +1,121 @@
+// Operations: a queue, waits, signals and marks.
+use crate::cursor::Cursor;
+use crate::field;
+use plan_format::limits::MOST_MARKS;
+use plan_format::limits::MOST_OPERATIONS;
+use plan_format::limits::MOST_SIGNALS;
+use plan_format::limits::MOST_WAITS;
+ghost use Prim.Native.Nat.{_+_, _*_};
+ghost use Rattle.plan_format.specs.Sizes.{most-operations, most-marks, block-bytes};
+ghost use Rattle.plan_format.specs.Grammar.{counted};
+ghost use Rattle.plan_format.specs.Sections.{point-below, mark-below, operation-below};
+ghost use Rattle.stored_bytes.specs.Writing.{Room, Writes};
+
+// What an operation has at most, and the least counts that are too many.
+const WAITS: u64 = MOST_WAITS as u64;
+
+const SIGNALS: u64 = MOST_SIGNALS as u64;
+
+const TOO_MANY_MARKS: u64 = MOST_MARKS as u64 + 1;
+
+const TOO_MANY_OPERATIONS: u64 = MOST_OPERATIONS as u64 + 1;
+
+// A wait or a signal: a semaphore and a value.
+fn point(numbers: &[u64], c: Cursor, semaphores: u64, bytes: &mut [u8]) -> Cursor
+    requires { ⌜ Room 9 (now numbers) c (now bytes) ⌝ }
+    ensures { λ r. ⌜ Writes (point-below 1 semaphores) 9 (now (numbers .entry)) c (now (bytes .entry)) r (now (bytes .exit)) ⌝ }
+{
+    let semaphore = field::byte(numbers, c, semaphores, 4, bytes);
+    field::point_value(numbers, semaphore, bytes)
+}
+
+// The waits or the signals: a count, at most `most`, and the points.
+fn points(numbers: &[u64], c: Cursor, most: u64, semaphores: u64, bytes: &mut [u8]) -> Cursor
+    requires { ⌜ Room (1 + 9 * most) (now numbers) c (now bytes) ⌝ }
+    ensures { λ r. ⌜ Writes (counted 0 most 1 (point-below 1 semaphores)) (1 + 9 * most) (now (numbers .entry)) c (now (bytes .entry)) r (now (bytes .exit)) ⌝ }
+{
+    let start = field::byte(numbers, c, most + 1, 2, bytes);
+    let count = start.value;
+    let mut p = start;
+    let mut i: u64 = 0;
+    while i < count {
+        p = point(numbers, p, semaphores, bytes);
+        if p.number != 0 {
+            return p;
+        }
+        i += 1;
+    }
+    p
+}
+
+// A mark: a buffer and a kind.
+fn mark(numbers: &[u64], c: Cursor, buffers: u64, bytes: &mut [u8]) -> Cursor
+    requires { ⌜ Room 3 (now numbers) c (now bytes) ⌝ }
+    ensures { λ r. ⌜ Writes (mark-below buffers) 3 (now (numbers .entry)) c (now (bytes .entry)) r (now (bytes .exit)) ⌝ }
+{
+    let buffer = field::pair(numbers, c, buffers, 4, bytes);
+    field::byte(numbers, buffer, 2, 4, bytes)
+}
+
+// The marks: a count and the marks.
+fn marks(numbers: &[u64], c: Cursor, buffers: u64, bytes: &mut [u8]) -> Cursor
+    requires { ⌜ Room (1 + 3 * most-marks) (now numbers) c (now bytes) ⌝ }
+    ensures { λ r. ⌜ Writes (counted 0 most-marks 1 (mark-below buffers)) (1 + 3 * most-marks) (now (numbers .entry)) c (now (bytes .entry)) r (now (bytes .exit)) ⌝ }
+{
+    let start = field::byte(numbers, c, TOO_MANY_MARKS, 2, bytes);
+    let count = start.value;
+    let mut m = start;
+    let mut i: u64 = 0;
+    while i < count {
+        m = mark(numbers, m, buffers, bytes);
+        if m.number != 0 {
+            return m;
+        }
+        i += 1;
+    }
+    m
+}
+
+// One operation.
+fn operation(
+    numbers: &[u64],
+    c: Cursor,
+    queues: u64,
+    semaphores: u64,
+    buffers: u64,
+    bytes: &mut [u8],
+) -> Cursor
+    requires { ⌜ Room block-bytes (now numbers) c (now bytes) ⌝ }
+    ensures { λ r. ⌜ Writes (operation-below 1 queues semaphores buffers) block-bytes (now (numbers .entry)) c (now (bytes .entry)) r (now (bytes .exit)) ⌝ }
+{
+    let queue = field::byte(numbers, c, queues, 4, bytes);
+    let waits = points(numbers, queue, WAITS, semaphores, bytes);
+    let signals = points(numbers, waits, SIGNALS, semaphores, bytes);
+    marks(numbers, signals, buffers, bytes)
+}
+
+// The section of operations.
+pub fn operations(
+    numbers: &[u64],
+    c: Cursor,
+    queues: u64,
+    semaphores: u64,
+    buffers: u64,
+    bytes: &mut [u8],
+) -> Cursor
+    requires { ⌜ Room (2 + block-bytes * most-operations) (now numbers) c (now bytes) ⌝ }
+    ensures { λ r. ⌜ Writes (counted 0 most-operations 2 (operation-below 1 queues semaphores buffers)) (2 + block-bytes * most-operations) (now (numbers .entry)) c (now (bytes .entry)) r (now (bytes .exit)) ⌝ }
+{
+    let start = field::pair(numbers, c, TOO_MANY_OPERATIONS, 2, bytes);
+    let count = start.value;
+    let mut o = start;
+    let mut i: u64 = 0;
+    while i < count {
+        o = operation(numbers, o, queues, semaphores, buffers, bytes);
+        if o.number != 0 {
+            return o;
+        }
+        i += 1;
+    }
+    o
+}

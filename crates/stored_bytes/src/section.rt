@@ -1,0 +1,106 @@
+// The sections of a plan, in stored order.
+use crate::cursor::Cursor;
+use crate::field;
+use crate::operation;
+use plan_format::limits::MOST_BUFFERS;
+use plan_format::limits::MOST_QUEUES;
+use plan_format::limits::MOST_SEMAPHORES;
+ghost use mathlib.Core.Path.{_≡_};
+ghost use Prim.Native.Nat.{_+_, _*_, _≤_};
+ghost use lib.ListN.{length, getD};
+ghost use Rattle.plan_format.specs.Sizes.{most-queues, most-semaphores, most-buffers, plan-bytes};
+ghost use Rattle.plan_format.specs.Form.{first-form};
+ghost use Rattle.plan_format.specs.Grammar.{counted, field};
+ghost use Rattle.plan_format.specs.Sections.{axis-field, size-field, limited};
+ghost use Rattle.stored_bytes.specs.Writing.{Room, Writes, Plan-written};
+
+// The least counts that are too many.
+const TOO_MANY_QUEUES: u64 = MOST_QUEUES as u64 + 1;
+
+const TOO_MANY_SEMAPHORES: u64 = MOST_SEMAPHORES as u64 + 1;
+
+const TOO_MANY_BUFFERS: u64 = MOST_BUFFERS as u64 + 1;
+
+// The section of queues.
+fn axes(numbers: &[u64], c: Cursor, bytes: &mut [u8]) -> Cursor
+    requires { ⌜ Room (1 + 8 * most-queues) (now numbers) c (now bytes) ⌝ }
+    ensures { λ r. ⌜ Writes (counted 0 most-queues 1 axis-field) (1 + 8 * most-queues) (now (numbers .entry)) c (now (bytes .entry)) r (now (bytes .exit)) ⌝ }
+{
+    let start = field::byte(numbers, c, TOO_MANY_QUEUES, 2, bytes);
+    let count = start.value;
+    let mut a = start;
+    let mut i: u64 = 0;
+    while i < count {
+        a = field::axis(numbers, a, bytes);
+        if a.number != 0 {
+            return a;
+        }
+        i += 1;
+    }
+    a
+}
+
+// The section of semaphores.
+fn owners(numbers: &[u64], c: Cursor, queues: u64, bytes: &mut [u8]) -> Cursor
+    requires { ⌜ Room (1 + most-semaphores) (now numbers) c (now bytes) ⌝ }
+    ensures { λ r. ⌜ Writes (counted 0 most-semaphores 1 (field 1 (limited queues 4))) (1 + most-semaphores) (now (numbers .entry)) c (now (bytes .entry)) r (now (bytes .exit)) ⌝ }
+{
+    let start = field::byte(numbers, c, TOO_MANY_SEMAPHORES, 2, bytes);
+    let count = start.value;
+    let mut o = start;
+    let mut i: u64 = 0;
+    while i < count {
+        o = field::byte(numbers, o, queues, 4, bytes);
+        if o.number != 0 {
+            return o;
+        }
+        i += 1;
+    }
+    o
+}
+
+// The section of buffers.
+fn sizes(numbers: &[u64], c: Cursor, bytes: &mut [u8]) -> Cursor
+    requires { ⌜ Room (2 + 4 * most-buffers) (now numbers) c (now bytes) ⌝ }
+    ensures { λ r. ⌜ Writes (counted 0 most-buffers 2 size-field) (2 + 4 * most-buffers) (now (numbers .entry)) c (now (bytes .entry)) r (now (bytes .exit)) ⌝ }
+{
+    let start = field::pair(numbers, c, TOO_MANY_BUFFERS, 2, bytes);
+    let count = start.value;
+    let mut b = start;
+    let mut i: u64 = 0;
+    while i < count {
+        b = field::size(numbers, b, bytes);
+        if b.number != 0 {
+            return b;
+        }
+        i += 1;
+    }
+    b
+}
+
+// The number at a position, 0 past the end.
+fn entry(numbers: &[u64], i: usize) -> u64
+    ensures { λ r. ⌜ r ≡ getD (now (numbers .entry)) i 0 ⌝ }
+{
+    if i < numbers.len() { numbers[i] } else { 0 }
+}
+
+// The four sections; a count comes before its section.
+pub fn sections(numbers: &[u64], bytes: &mut [u8]) -> Cursor
+    requires { ⌜ plan-bytes ≤ length (now bytes) ⌝ }
+    ensures { λ r. ⌜ Plan-written first-form (now (numbers .entry)) (now (bytes .entry)) r (now (bytes .exit)) ⌝ }
+{
+    let start = Cursor {
+        number: 0,
+        at: 0,
+        put: 0,
+        value: 0,
+    };
+    let second = axes(numbers, start, bytes);
+    let queues = entry(numbers, 0);
+    let third = owners(numbers, second, queues, bytes);
+    let semaphores = entry(numbers, second.at);
+    let fourth = sizes(numbers, third, bytes);
+    let buffers = entry(numbers, third.at);
+    operation::operations(numbers, fourth, queues, semaphores, buffers, bytes)
+}

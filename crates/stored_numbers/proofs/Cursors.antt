@@ -1,0 +1,91 @@
+-- What cursors read, put together: one thing after another, a count and its things, a loop that stops at a refusal.
+-- Assumes nothing.
+use mathlib.Core.Path.{_≡_, refl, sym, ap, _∙_, subst}
+use mathlib.Core.List.{List}
+use Prim.Native.Nat.{ℕ, _+_, _*_, _≤_}
+use native.Mathlib.Nat.{mul-le-mul-left, mul-suc}
+use native.Mathlib.Numerals.{add-one}
+use native.Mathlib.Omega.{arith}
+use lib.ListN.{length, take, drop}
+use Rattle.base_lists.proofs.Fronts.{past-later}
+use Rattle.plan_format.specs.Refusal.{given}
+use Rattle.plan_format.specs.Grammar.{Grammar, seq, counted, bytes, Scan, scan, count-check, read-by}
+use Rattle.plan_format.specs.Sections.{repeat, limited}
+use Rattle.plan_format.proofs.Counts.{count-limited}
+use Rattle.plan_format.proofs.Repeats.{read-counted, repeat-stops, field-same}
+use Rattle.stored_numbers.specs.declared.cursor.Cursor.{Cursor}
+use Rattle.stored_numbers.specs.Reading.{fault-of, here, Past, Reads, Limited}
+use Rattle.stored_numbers.proofs.Fields.{here-given, fault-none, value-last}
+
+-- ---- the array past the numbers
+pub past-then : {i k : ℕ} {xs ys zs : List ℕ} → i ≤ k → Past i xs ys → Past k ys zs → Past k xs zs
+past-then {i} {k} {xs} {ys} l p q =
+    record { as-long = q .as-long ∙ p .as-long; past = q .past ∙ past-later i k ys xs l (p .past) }
+
+pub reads-past : {g : Grammar} {many : ℕ} {bs : List ℕ} {c r : Cursor} {nums nums-now : List ℕ} →
+    Reads g many bs c nums r nums-now → Past (r .got) nums nums-now
+reads-past p = record { as-long = p .as-long; past = p .past }
+
+-- ---- one thing after another
+module _ {bs : List ℕ} {c d r : Cursor} {nums nums₁ nums₂ : List ℕ} where
+  -- one thing after another
+  pub reads-seq : {g h : Grammar} {m n : ℕ} → Reads g m bs c nums d nums₁ → Reads h n bs d nums₁ r nums₂ → Reads (seq g h) (m + n) bs c nums r nums₂
+  unfolding read-by
+  reads-seq {g} {h} p q = record {
+    read = ap (λ (s : Scan). read-by bytes h s) (p .read) ∙ q .read;
+    inside = q .inside;
+    more = omega arith;
+    few = omega arith;
+    as-long = q .as-long ∙ p .as-long;
+    past = past-then (q .more) (reads-past p) (reads-past q) .past;
+  }
+
+  -- one more
+  pub reads-more : {g : Grammar} {m : ℕ} (i : ℕ) → Reads (repeat i g) (m * i) bs c nums d nums₁ → Reads g m bs d nums₁ r nums₂ → Reads (repeat (i + 1) g) (m * (i + 1)) bs c nums r nums₂
+  unfolding repeat
+  reads-more {g} {m} i p q = rw (add-one i, mul-suc m i) (reads-seq p q)
+
+-- none of a thing
+pub reads-none : (g : Grammar) (m : ℕ) (bs : List ℕ) (c : Cursor) (nums : List ℕ) → c .at ≤ length bs → Reads (repeat 0 g) (m * 0) bs c nums c nums
+unfolding repeat read-by
+reads-none g m bs c nums h = record
+    { read = refl; inside = h; more = omega arith; few = omega arith; as-long = refl; past = refl }
+
+-- a count, and so many of a thing
+pub counted-read : (g : Grammar) {bs : List ℕ} {c start : Cursor} {nums nums₁ : List ℕ} {w : ℕ} (most : ℕ) → Limited w (most + 1) 2 bs c nums start nums₁ → (n : ℕ) → n ≡ start .value →
+    read-by bytes (counted 0 most w g) (here bs c nums) ≡ read-by bytes (repeat n g) (here bs start nums₁)
+unfolding here scan fault-of limited read-by
+counted-read g {bs} {c} {start} {nums} {nums₁} {w} most p n e =
+    read-counted bytes 0 most w n g (here bs c nums) (here bs start nums₁)
+    (field-same bytes w (λ v. count-check 0 most v) (λ v. limited (most + 1) 2 (take (c .got) nums) v) (here bs c nums)
+    (count-limited most (bytes .front w (drop (c .at) bs))) ∙ p .reads .read)
+    (λ z. value-last p (fault-none start z) ∙ sym e)
+
+pub reads-counted : {g : Grammar} {bs : List ℕ} {c start r : Cursor} {nums nums₁ nums₂ : List ℕ} {w most : ℕ} (m : ℕ) → Limited w (most + 1) 2 bs c nums start nums₁ → (n : ℕ) → n ≡ start .value → Reads (repeat n g) (m * n) bs start nums₁ r nums₂ → Reads (counted 0 most w g) (1 + m * most) bs c nums r nums₂
+reads-counted {g} {most = most} m p n e q =
+    record {
+      read = counted-read g most p n e ∙ q .read;
+      inside = q .inside;
+      few = omega (arith, mul-le-mul-left m (let h : n ≤ most = omega (arith, p .value-below) in h), p .reads .few, q .few);
+      more = omega (arith, p .reads .more, q .more);
+      as-long = q .as-long ∙ p .reads .as-long;
+      past = past-then (q .more) (reads-past (p .reads)) (reads-past q) .past;
+    }
+
+-- a loop that met a refusal has read all that can be read
+pub reads-stopped : {bs : List ℕ} {start r : Cursor} {nums nums-now : List ℕ} (g : Grammar) (m : ℕ) (i n : ℕ) → (r .number ≡ 0 → ⊥) → i ≤ n → Reads (repeat i g) (m * i) bs start nums r nums-now → Reads (repeat n g) (m * n) bs start nums r nums-now
+reads-stopped {bs} {start} {r} {nums} {nums-now} g m i n z h p =
+    record {
+      read = repeat-stops bytes g (here bs start nums) i n (ap (λ (s : Scan). given (s .fault)) (p .read) ∙ here-given bs r nums-now z) h ∙ p .read;
+      inside = p .inside;
+      few = omega (arith, mul-le-mul-left m h, p .few);
+      more = p .more;
+      as-long = p .as-long;
+      past = p .past;
+    }
+
+-- a loop that went to its end
+pub reads-all : {bs : List ℕ} {start r : Cursor} {nums nums-now : List ℕ} (g : Grammar) (m : ℕ) {i n : ℕ} → i ≡ n →
+    Reads (repeat i g) (m * i) bs start nums r nums-now → Reads (repeat n g) (m * n) bs start nums r nums-now
+reads-all {bs} {start} {r} {nums} {nums-now} g m e p =
+    subst (λ (k : ℕ). Reads (repeat k g) (m * k) bs start nums r nums-now) e p

@@ -1,0 +1,7 @@
+pub mod Words
+pub mod Fields
+pub mod Cursors
+pub mod Counts
+pub mod Heads
+pub mod ReadingEnds
+pub mod Rests

@@ -1,0 +1,47 @@
+-- `point_value` meets its contract, by the law of each way out.
+use mathlib.Core.Path.{refl}
+use native.Mathlib.Omega.{arith}
+use borrow.Author.Needs.{needs}
+use Rattle.plan_format.specs.Form.{any-number}
+use Rattle.stored_numbers.proofs.Fields.{passed, cut, kept}
+use Rattle.stored_numbers.proofs.field.point_value.Statement.{statement}
+use Rattle.stored_numbers.proofs.field.point_value.Tie as tie
+
+returns : tie.Need-returns
+returns c = passed (c .if1 .taken) (c .before .before .before .before .pre .inside)
+
+sub-if2 : tie.Need-sub-if2
+sub-if2 c = search needs
+
+refused-requires : tie.Need-refused-requires
+refused-requires c κs = search needs
+
+returns-2 : tie.Need-returns-2
+returns-2 c =
+    rw (c .refused .ensures) (cut (c .before .before .if1 .left) (c .before .before .before .before .before .before .pre .inside) (c .before .if2 .taken))
+
+word8-requires : tie.Need-word8-requires
+word8-requires c κs = search needs
+
+mul-numbers : tie.Need-mul-numbers
+mul-numbers c = search needs
+
+slice-write-numbers : tie.Need-slice-write-numbers
+slice-write-numbers c = search needs
+
+past-requires : tie.Need-past-requires
+past-requires c κs = search needs
+
+same-length : tie.Need-same-length
+same-length c = search needs
+
+returns-3 : tie.Need-returns-3
+unfolding any-number
+returns-3 c =
+    rw (c .past .ensures)
+    (kept (c .before .before .before .if1 .left) (c .before .before .before .before .before .before .before .pre .inside) (c .before .before .if2 .left) (c .before .word8 .ensures) (omega arith) refl)
+
+pub point-value-spec : {M : Type 1} → statement M
+point-value-spec =
+    tie.close
+    (tie.spec returns sub-if2 refused-requires returns-2 word8-requires mul-numbers slice-write-numbers past-requires same-length returns-3)

@@ -1,0 +1,49 @@
+-- `size` meets its contract, by the law of each way out.
+use mathlib.Core.Path.{refl}
+use native.Mathlib.Omega.{arith}
+use borrow.Author.Needs.{needs}
+use Rattle.plan_format.specs.Form.{any-number}
+use Rattle.plan_format.specs.Sections.{size-field}
+use Rattle.stored_numbers.proofs.Fields.{passed, cut, kept}
+use Rattle.stored_numbers.proofs.field.size.Statement.{statement}
+use Rattle.stored_numbers.proofs.field.size.Tie as tie
+
+returns : tie.Need-returns
+returns c = passed (c .if1 .taken) (c .before .before .before .before .pre .inside)
+
+sub-if2 : tie.Need-sub-if2
+sub-if2 c = search needs
+
+refused-requires : tie.Need-refused-requires
+refused-requires c κs = search needs
+
+returns-2 : tie.Need-returns-2
+unfolding size-field
+returns-2 c =
+    rw (c .refused .ensures) (cut (c .before .before .if1 .left) (c .before .before .before .before .before .before .pre .inside) (c .before .if2 .taken))
+
+word4-requires : tie.Need-word4-requires
+word4-requires c κs = search needs
+
+mul-numbers : tie.Need-mul-numbers
+mul-numbers c = search needs
+
+slice-write-numbers : tie.Need-slice-write-numbers
+slice-write-numbers c = search needs
+
+past-requires : tie.Need-past-requires
+past-requires c κs = search needs
+
+same-length : tie.Need-same-length
+same-length c = search needs
+
+returns-3 : tie.Need-returns-3
+unfolding size-field any-number
+returns-3 c =
+    rw (c .past .ensures)
+    (kept (c .before .before .before .if1 .left) (c .before .before .before .before .before .before .before .pre .inside) (c .before .before .if2 .left) (c .before .word4 .ensures) (omega arith) refl)
+
+pub size-spec : {M : Type 1} → statement M
+size-spec =
+    tie.close
+    (tie.spec returns sub-if2 refused-requires returns-2 word4-requires mul-numbers slice-write-numbers past-requires same-length returns-3)

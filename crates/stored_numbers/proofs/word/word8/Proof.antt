@@ -1,0 +1,31 @@
+-- `word8` meets its contract: the two halves joined.
+use native.Mathlib.Omega.{arith}
+use borrow.Author.Needs.{needs}
+use Rattle.stored_numbers.proofs.Words.{joined}
+use Rattle.stored_numbers.proofs.word.word8.Statement.{statement}
+use Rattle.stored_numbers.proofs.word.word8.Tie as tie
+
+word4-requires : tie.Need-word4-requires
+word4-requires c κs = search needs
+
+add-word4 : tie.Need-add-word4
+add-word4 c = search needs
+
+word4-requires-2 : tie.Need-word4-requires-2
+word4-requires-2 c κs = search needs
+
+mul-result : tie.Need-mul-result
+mul-result c = search needs
+
+add-result : tie.Need-add-result
+add-result c = search needs
+
+returns : tie.Need-returns
+returns c =
+    let a = c .before .before .before .args in
+    joined 4 (a .plan .now) (a .at) (c .before .word4 .result) (c .word42 .result) (omega arith) (c .before .word4 .ensures) (c .word42 .ensures)
+
+pub word8-spec : {M : Type 1} → statement M
+word8-spec =
+    tie.close
+    (tie.spec word4-requires add-word4 word4-requires-2 mul-result add-result returns)

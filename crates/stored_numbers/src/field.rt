@@ -1,0 +1,110 @@
+// Fields: each is read at a cursor, judged, and stored after the numbers before it. A cursor with a refusal keeps it
+// and its place.
+use crate::cursor::Cursor;
+use crate::word;
+ghost use Prim.Native.Nat.{_≤_};
+ghost use Rattle.plan_format.specs.Form.{any-number};
+ghost use Rattle.plan_format.specs.Grammar.{field};
+ghost use Rattle.plan_format.specs.Sections.{axis-field, size-field};
+ghost use Rattle.stored_numbers.specs.Reading.{Room, Reads, Limited};
+
+// A byte below `limit`; any other is refused by `over`.
+pub fn byte(plan: &[u8], c: Cursor, limit: u64, over: u32, numbers: &mut [u64]) -> Cursor
+    requires { ⌜ Room 1 (now plan) c (now numbers) ⌝ }
+    requires { ⌜ 1 ≤ over ⌝ }
+    ensures { λ r. ⌜ Limited 1 limit over (now (plan .entry)) c (now (numbers .entry)) r (now (numbers .exit)) ⌝ }
+{
+    let at = c.at;
+    let got = c.got;
+    if c.number != 0 {
+        return c.refused(c.number);
+    }
+    if plan.len() - at < 1 {
+        return c.refused(1);
+    }
+    let value = word::word1(plan, at);
+    if limit <= value {
+        return c.refused(over);
+    }
+    numbers[got] = value;
+    c.past(1, value)
+}
+
+// Two bytes below `limit`; any other number is refused by `over`.
+pub fn pair(plan: &[u8], c: Cursor, limit: u64, over: u32, numbers: &mut [u64]) -> Cursor
+    requires { ⌜ Room 1 (now plan) c (now numbers) ⌝ }
+    requires { ⌜ 1 ≤ over ⌝ }
+    ensures { λ r. ⌜ Limited 2 limit over (now (plan .entry)) c (now (numbers .entry)) r (now (numbers .exit)) ⌝ }
+{
+    let at = c.at;
+    let got = c.got;
+    if c.number != 0 {
+        return c.refused(c.number);
+    }
+    if plan.len() - at < 2 {
+        return c.refused(1);
+    }
+    let value = word::word2(plan, at);
+    if limit <= value {
+        return c.refused(over);
+    }
+    numbers[got] = value;
+    c.past(2, value)
+}
+
+// The size of a buffer: four bytes, any number.
+pub fn size(plan: &[u8], c: Cursor, numbers: &mut [u64]) -> Cursor
+    requires { ⌜ Room 1 (now plan) c (now numbers) ⌝ }
+    ensures { λ r. ⌜ Reads size-field 1 (now (plan .entry)) c (now (numbers .entry)) r (now (numbers .exit)) ⌝ }
+{
+    let at = c.at;
+    let got = c.got;
+    if c.number != 0 {
+        return c;
+    }
+    if plan.len() - at < 4 {
+        return c.refused(1);
+    }
+    let value = word::word4(plan, at);
+    numbers[got] = value;
+    c.past(4, value)
+}
+
+// The value of a wait or a signal: eight bytes, any number.
+pub fn point_value(plan: &[u8], c: Cursor, numbers: &mut [u64]) -> Cursor
+    requires { ⌜ Room 1 (now plan) c (now numbers) ⌝ }
+    ensures { λ r. ⌜ Reads (field 8 any-number) 1 (now (plan .entry)) c (now (numbers .entry)) r (now (numbers .exit)) ⌝ }
+{
+    let at = c.at;
+    let got = c.got;
+    if c.number != 0 {
+        return c;
+    }
+    if plan.len() - at < 8 {
+        return c.refused(1);
+    }
+    let value = word::word8(plan, at);
+    numbers[got] = value;
+    c.past(8, value)
+}
+
+// The axis of a queue: eight bytes, a number that no earlier queue has.
+pub fn axis(plan: &[u8], c: Cursor, numbers: &mut [u64]) -> Cursor
+    requires { ⌜ Room 1 (now plan) c (now numbers) ⌝ }
+    ensures { λ r. ⌜ Reads axis-field 1 (now (plan .entry)) c (now (numbers .entry)) r (now (numbers .exit)) ⌝ }
+{
+    let at = c.at;
+    let got = c.got;
+    if c.number != 0 {
+        return c;
+    }
+    if plan.len() - at < 8 {
+        return c.refused(1);
+    }
+    let value = word::word8(plan, at);
+    if plan_format::repeated(&numbers[..got], value) {
+        return c.refused(5);
+    }
+    numbers[got] = value;
+    c.past(8, value)
+}

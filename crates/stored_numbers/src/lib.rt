@@ -1,0 +1,187 @@
+// R9 and R53, the numbers of stored plans: one pass over the bytes, a cursor by value, each field judged and stored as
+// it is read.
+mod cursor;
+mod field;
+mod operation;
+mod section;
+mod word;
+
+use crate::cursor::Cursor;
+use plan_format::Told;
+use plan_format::answered;
+use plan_format::limits::HEAD_NUMBERS;
+use plan_format::limits::MOST_OPERATIONS;
+use plan_format::limits::PLAN_NUMBERS;
+use plan_format::limits::WINDOW;
+use plan_format::refused;
+ghost use mathlib.Core.Path.{_≡_};
+ghost use mathlib.Core.List.{List};
+ghost use Prim.Native.Nat.{ℕ, _≤_, min};
+ghost use lib.ListN.{length, take};
+ghost use Rattle.base_lists.specs.Lists.{in-front};
+ghost use Rattle.plan_format.specs.Grammar.{ended};
+ghost use Rattle.plan_format.specs.Sizes.{most-operations, plan-numbers};
+ghost use Rattle.plan_format.specs.Stored.{scanned};
+ghost use Rattle.stored_numbers.specs.Reading.{here, Head-told, Head-read, Operation-told, Operation-read, Ends, Numbers-read, rest-scan};
+
+// The most operations, and the least number of them that is too many.
+const OPERATIONS: u64 = MOST_OPERATIONS as u64;
+
+const TOO_MANY_OPERATIONS: u64 = OPERATIONS + 1;
+
+// What comes before the operations: the refusal met there, or 0; the place where the reading stopped and how many
+// numbers are stored; the four counts, 0 beside a refusal.
+pub struct Head {
+    pub number: u32,
+    pub at: usize,
+    pub got: usize,
+    pub queues: u64,
+    pub semaphores: u64,
+    pub buffers: u64,
+    pub operations: u64,
+}
+
+// Where the reading of an operation stopped: the refusal met there, or 0; the place; how many numbers are stored.
+pub struct End {
+    pub number: u32,
+    pub at: usize,
+    pub got: usize,
+}
+
+// The numbers before the operations, in front of the array, with the four counts; or the first of refusals 1, 2, 4 and
+// 5 that is met there, and no counts. Past the numbers read the array stays.
+pub fn read_head(plan: &[u8], numbers: &mut [u64; HEAD_NUMBERS]) -> Head
+    ensures told { λ r. ⌜ Head-told (now (plan .entry)) (now (numbers .entry)) r (now (numbers .exit)) ⌝ }
+    ensures means { λ r. ⌜ Head-read (now (plan .entry)) r (now (numbers .exit)) ⌝ }
+{
+    let f = section::first_sections(plan, numbers);
+    let before = f.cursor;
+    let c = field::pair(plan, before, TOO_MANY_OPERATIONS, 2, numbers);
+    if c.number != 0 {
+        return Head {
+            number: c.number,
+            at: c.at,
+            got: c.got,
+            queues: 0,
+            semaphores: 0,
+            buffers: 0,
+            operations: 0,
+        };
+    }
+    Head {
+        number: c.number,
+        at: c.at,
+        got: c.got,
+        queues: f.queues,
+        semaphores: f.semaphores,
+        buffers: f.buffers,
+        operations: c.value,
+    }
+}
+
+// The numbers of the operation at a place, in front of the window, where the counts are as given; or the first of
+// refusals 1, 2 and 4. Past the numbers read the window stays.
+pub fn read_operation(
+    plan: &[u8],
+    at: usize,
+    queues: u64,
+    semaphores: u64,
+    buffers: u64,
+    window: &mut [u64; WINDOW],
+) -> End
+    ensures told { λ r. ⌜ Operation-told 1 queues semaphores buffers (now (plan .entry)) at (now (window .entry)) r (now (window .exit)) ⌝ }
+    ensures means { λ r. ⌜ Operation-read 1 queues semaphores buffers (now (plan .entry)) at r (now (window .exit)) ⌝ }
+{
+    let start = Cursor {
+        number: 0,
+        at: base_numbers::min_usize(at, plan.len()),
+        got: 0,
+        value: 0,
+    };
+    let end = operation::operation(plan, start, queues, semaphores, buffers, window);
+    End {
+        number: end.number,
+        at: end.at,
+        got: end.got,
+    }
+}
+
+// A number of operations, cut to the most that a plan has.
+fn few(many: u64) -> u64
+    ensures { λ r. ⌜ r ≡ min many most-operations ⌝ }
+{
+    if many < OPERATIONS { many } else { OPERATIONS }
+}
+
+// The first `many` numbers, in front of the array.
+fn copy(head: &[u64], many: usize, numbers: &mut [u64])
+    requires { ⌜ (many ≤ length (now head)) × (many ≤ length (now numbers)) ⌝ }
+    ensures { λ _. ⌜ now (numbers .exit) ≡ in-front (take many (now (head .entry))) (now (numbers .entry)) ⌝ }
+{
+    let mut i = 0;
+    while i < many {
+        numbers[i] = head[i];
+        i += 1;
+    }
+}
+
+// What is told where a reading has come to its end: its refusal; or 3, if bytes follow; or how many numbers it got.
+fn finished(plan: &[u8], c: Cursor) -> Told
+    requires { ⌜ c .at ≤ length (now plan) ⌝ }
+    ensures { λ r. ⌜ ((nums : List ℕ) → c .got ≤ length nums → Ends (ended (here (now (plan .entry)) c nums)) r) ⌝ }
+{
+    let at = c.at;
+    if c.number != 0 {
+        return refused(c.number, at);
+    }
+    if at < plan.len() {
+        return refused(3, at);
+    }
+    answered(c.got as u64)
+}
+
+// The numbers of a stored plan in front of the array, with their length as the answer; or the first of refusals 1 to 5,
+// with the numbers read before it. Past the numbers read the array stays.
+pub fn read_numbers(plan: &[u8], numbers: &mut [u64; PLAN_NUMBERS]) -> Told
+    ensures told { λ r. ⌜ Numbers-read (now (plan .entry)) r (now (numbers .exit)) ⌝ }
+    ensures array { λ _. ⌜ now (numbers .exit) ≡ in-front (scanned (now (plan .entry)) .got) (now (numbers .entry)) ⌝ }
+{
+    let c = section::sections(plan, numbers);
+    finished(plan, c)
+}
+
+// The rest of a plan whose head was read, from a place on: the head's numbers and then those of its operations in front
+// of the array, with their length as the answer; or the head's refusal, or the first of refusals 1 to 4 after it. Past
+// the numbers read the array stays.
+pub fn read_rest(
+    plan: &[u8],
+    at: usize,
+    h: Head,
+    head: &[u64; HEAD_NUMBERS],
+    numbers: &mut [u64; PLAN_NUMBERS],
+) -> Told
+    ensures told { λ r. ⌜ Ends (rest-scan (now (plan .entry)) at h (now (head .entry))) r ⌝ }
+    ensures array { λ _. ⌜ now (numbers .exit) ≡ in-front (rest-scan (now (plan .entry)) at h (now (head .entry)) .got) (now (numbers .entry)) ⌝ }
+    ensures few { λ r. ⌜ r .answer ≤ plan-numbers ⌝ }
+{
+    let before = base_numbers::min_usize(h.got, HEAD_NUMBERS);
+    copy(head, before, numbers);
+    let place = base_numbers::min_usize(at, plan.len());
+    let start = Cursor {
+        number: h.number,
+        at: place,
+        got: before,
+        value: 0,
+    };
+    let many = few(h.operations);
+    let c = operation::several(
+        plan,
+        start,
+        many,
+        h.queues,
+        h.semaphores,
+        h.buffers,
+        numbers,
+    );
+    finished(plan, c)
+}

@@ -1,0 +1,137 @@
+// Operations: a queue, waits, signals and marks.
+use crate::cursor::Cursor;
+use crate::field;
+use plan_format::limits::MOST_MARKS;
+use plan_format::limits::MOST_OPERATIONS;
+use plan_format::limits::MOST_SIGNALS;
+use plan_format::limits::MOST_WAITS;
+ghost use Prim.Native.Nat.{_+_, _*_};
+ghost use Rattle.plan_format.specs.Grammar.{counted};
+ghost use Rattle.plan_format.specs.Sections.{repeat, point-below, mark-below, operation-below};
+ghost use Rattle.plan_format.specs.Sizes.{most-operations, most-marks, block-numbers};
+ghost use Rattle.stored_numbers.specs.Reading.{Room, Reads};
+
+// What an operation has at most, and the least counts that are too many.
+const WAITS: u64 = MOST_WAITS as u64;
+
+const SIGNALS: u64 = MOST_SIGNALS as u64;
+
+const TOO_MANY_MARKS: u64 = MOST_MARKS as u64 + 1;
+
+const TOO_MANY_OPERATIONS: u64 = MOST_OPERATIONS as u64 + 1;
+
+// A wait or a signal: a semaphore and a value.
+fn point(plan: &[u8], c: Cursor, semaphores: u64, numbers: &mut [u64]) -> Cursor
+    requires { ⌜ Room 2 (now plan) c (now numbers) ⌝ }
+    ensures { λ r. ⌜ Reads (point-below 1 semaphores) 2 (now (plan .entry)) c (now (numbers .entry)) r (now (numbers .exit)) ⌝ }
+{
+    let semaphore = field::byte(plan, c, semaphores, 4, numbers);
+    field::point_value(plan, semaphore, numbers)
+}
+
+// The waits or the signals: a count, at most `most`, and the points.
+fn points(plan: &[u8], c: Cursor, most: u64, semaphores: u64, numbers: &mut [u64]) -> Cursor
+    requires { ⌜ Room (1 + 2 * most) (now plan) c (now numbers) ⌝ }
+    ensures { λ r. ⌜ Reads (counted 0 most 1 (point-below 1 semaphores)) (1 + 2 * most) (now (plan .entry)) c (now (numbers .entry)) r (now (numbers .exit)) ⌝ }
+{
+    let start = field::byte(plan, c, most + 1, 2, numbers);
+    let count = start.value;
+    let mut p = start;
+    let mut i: u64 = 0;
+    while i < count {
+        p = point(plan, p, semaphores, numbers);
+        if p.number != 0 {
+            return p;
+        }
+        i += 1;
+    }
+    p
+}
+
+// A mark: a buffer and a kind.
+fn mark(plan: &[u8], c: Cursor, buffers: u64, numbers: &mut [u64]) -> Cursor
+    requires { ⌜ Room 2 (now plan) c (now numbers) ⌝ }
+    ensures { λ r. ⌜ Reads (mark-below buffers) 2 (now (plan .entry)) c (now (numbers .entry)) r (now (numbers .exit)) ⌝ }
+{
+    let buffer = field::pair(plan, c, buffers, 4, numbers);
+    field::byte(plan, buffer, 2, 4, numbers)
+}
+
+// The marks: a count and the marks.
+fn marks(plan: &[u8], c: Cursor, buffers: u64, numbers: &mut [u64]) -> Cursor
+    requires { ⌜ Room (1 + 2 * most-marks) (now plan) c (now numbers) ⌝ }
+    ensures { λ r. ⌜ Reads (counted 0 most-marks 1 (mark-below buffers)) (1 + 2 * most-marks) (now (plan .entry)) c (now (numbers .entry)) r (now (numbers .exit)) ⌝ }
+{
+    let start = field::byte(plan, c, TOO_MANY_MARKS, 2, numbers);
+    let count = start.value;
+    let mut m = start;
+    let mut i: u64 = 0;
+    while i < count {
+        m = mark(plan, m, buffers, numbers);
+        if m.number != 0 {
+            return m;
+        }
+        i += 1;
+    }
+    m
+}
+
+// One operation.
+pub fn operation(
+    plan: &[u8],
+    c: Cursor,
+    queues: u64,
+    semaphores: u64,
+    buffers: u64,
+    numbers: &mut [u64],
+) -> Cursor
+    requires { ⌜ Room block-numbers (now plan) c (now numbers) ⌝ }
+    ensures { λ r. ⌜ Reads (operation-below 1 queues semaphores buffers) block-numbers (now (plan .entry)) c (now (numbers .entry)) r (now (numbers .exit)) ⌝ }
+{
+    let queue = field::byte(plan, c, queues, 4, numbers);
+    let waits = points(plan, queue, WAITS, semaphores, numbers);
+    let signals = points(plan, waits, SIGNALS, semaphores, numbers);
+    marks(plan, signals, buffers, numbers)
+}
+
+// So many operations, one after another.
+pub fn several(
+    plan: &[u8],
+    c: Cursor,
+    many: u64,
+    queues: u64,
+    semaphores: u64,
+    buffers: u64,
+    numbers: &mut [u64],
+) -> Cursor
+    requires { ⌜ Room (block-numbers * many) (now plan) c (now numbers) ⌝ }
+    ensures { λ r. ⌜ Reads (repeat many (operation-below 1 queues semaphores buffers)) (block-numbers * many) (now (plan .entry)) c (now (numbers .entry)) r (now (numbers .exit)) ⌝ }
+{
+    let mut o = c;
+    let mut i: u64 = 0;
+    while i < many {
+        o = operation(plan, o, queues, semaphores, buffers, numbers);
+        if o.number != 0 {
+            return o;
+        }
+        i += 1;
+    }
+    o
+}
+
+// The section of operations.
+pub fn operations(
+    plan: &[u8],
+    c: Cursor,
+    queues: u64,
+    semaphores: u64,
+    buffers: u64,
+    numbers: &mut [u64],
+) -> Cursor
+    requires { ⌜ Room (1 + most-operations * block-numbers) (now plan) c (now numbers) ⌝ }
+    ensures { λ r. ⌜ Reads (counted 0 most-operations 2 (operation-below 1 queues semaphores buffers)) (1 + most-operations * block-numbers) (now (plan .entry)) c (now (numbers .entry)) r (now (numbers .exit)) ⌝ }
+{
+    let start = field::pair(plan, c, TOO_MANY_OPERATIONS, 2, numbers);
+    let count = start.value;
+    several(plan, start, count, queues, semaphores, buffers, numbers)
+}

@@ -1,0 +1,97 @@
+-- What the numbers that were read are to the room. Assumes nothing.
+use mathlib.Core.Path.{_≡_, refl, sym, ap, _∙_, subst}
+use mathlib.Core.Bool.{true}
+use mathlib.Core.List.{List, []}
+use Prim.Native.Nat.{ℕ, _-_, _≤_, _<_}
+use native.Mathlib.Omega.{arith}
+use lib.ListN.{length, getD, take, drop, replicate, length-append, length-drop, drop-of-length-le}
+use lib.Seq.{take-at, take-all}
+use mir.Syntax.{w8}
+use mir.Val.{Fits}
+use Rattle.base_lists.specs.Lists.{in-front}
+use Rattle.base_lists.proofs.Tests.{by-cases}
+use Rattle.plan_format.specs.Grammar.{Scan}
+use Rattle.plan_format.specs.Meaning.{Read-means}
+use Rattle.plan_format.specs.Refusal.{Refusal, given, or-else}
+use Rattle.plan_format.specs.Sizes.{head-numbers, plan-numbers}
+use Rattle.plan_format.specs.Stored.{all-bytes, room-for, read-refusal, Tells, Fills, Read-says}
+use Rattle.plan_format.specs.declared.Told.{Told}
+use Rattle.plan_format.proofs.HandedBack.{answer-long}
+use Rattle.plan_format.proofs.RoundTripRoom.{bytes-by, read-means}
+use Rattle.stored_numbers.specs.Reading.{Head-told, Head-read, Ends, Numbers-read}
+use Rattle.stored_numbers.proofs.Rests.{rest-plan}
+use Rattle.stored_read.specs.declared.Heading.{Heading}
+use Rattle.stored_read.specs.Rest.{Heading-told, Rest-says}
+
+-- the numbers that were told are in front
+pub in-room : (f : Refusal) (got : List ℕ) {told : Told} → Tells f (length got) told → (room nums : List ℕ) →
+    told .number ≡ 0 →
+    take (length got) nums ≡ got → in-front (take (told .answer) nums) room ≡ in-front got room
+in-room f got t room nums z e =
+    ap (λ (l : List ℕ). in-front l room) (ap (λ (k : ℕ). take k nums) (answer-long f got t [] z) ∙ e)
+
+-- they fit the array that they were read into
+pub read-fits : {bs : List ℕ} {r : Told} {nums : List ℕ} → Numbers-read bs r nums →
+    (r .answer ≤ plan-numbers) × (r .answer ≤ length nums)
+read-fits n = (n .few, omega (arith, n .few, n .long))
+
+-- what is in a slice of bytes
+slice-bytes : (bs : List ℕ) → ((i : ℕ) → Fits w8 (getD bs i 0)) → all-bytes bs ≡ true
+slice-bytes bs h = bytes-by bs (λ i. omega (arith, h i))
+
+-- what is said of the bytes of a slice, and what it means
+pub both : (bs : List ℕ) → ((i : ℕ) → Fits w8 (getD bs i 0)) → (r : Told) (room room-now : List ℕ) →
+    Read-says bs r room room-now →
+    Read-says bs r room room-now × Read-means bs r room room-now
+both bs h r room room-now w = (w, read-means bs (slice-bytes bs h) r room room-now w)
+
+-- ---- a plan in two parts
+-- what is past the end, and from a place on
+past-end : (bs : List ℕ) (at : ℕ) → length bs < at → take 0 bs ≡ drop at bs
+past-end bs at h = sym (drop-of-length-le bs {i = at} (omega arith))
+
+part-from : (bs : List ℕ) (at : ℕ) → take (length bs - at) (drop at bs) ≡ drop at bs
+part-from bs at = take-all (length bs - at) (drop at bs) (rw (length-drop at bs) (omega arith))
+
+module _ (bs : List ℕ) (fit : (i : ℕ) → Fits w8 (getD bs i 0)) (at : ℕ) (h : Heading) where
+  heading-of : {part : List ℕ} → part ≡ drop at bs →
+      Head-told part (replicate head-numbers 0) (h .head) (h .numbers) × Head-read part (h .head) (h .numbers) →
+      Heading-told bs at h
+  heading-of e p =
+      let q = subst (λ (xs : List ℕ). Head-told xs (replicate head-numbers 0) (h .head) (h .numbers) × Head-read xs
+      (h .head) (h .numbers)) e p in
+      record { told = q .0; means = q .1; are-bytes = slice-bytes bs fit }
+
+  pub heading-past : length bs < at →
+      Head-told (take 0 bs) (replicate head-numbers 0) (h .head) (h .numbers) × Head-read (take 0 bs) (h .head)
+      (h .numbers) →
+      Heading-told bs at h
+  heading-past l p = heading-of (past-end bs at l) p
+
+  pub heading-from : Head-told (take (length bs - at) (drop at bs)) (replicate head-numbers 0) (h .head) (h .numbers) ×
+      Head-read (take (length bs - at) (drop at bs)) (h .head) (h .numbers) →
+      Heading-told bs at h
+  heading-from p = heading-of (part-from bs at) p
+
+module _ (s : Scan) (r : Told) (old : List ℕ) {new : List ℕ} (t : Ends s r) (a : new ≡ in-front (s .got) old) where
+  pub rest-taken : take (length (s .got)) new ≡ s .got
+  unfolding in-front
+  rest-taken = ap (λ (l : List ℕ). take (length (s .got)) l) a
+      ∙ take-at (s .got) (drop (length (s .got)) old) (length (s .got)) refl
+
+  pub rest-fits : r .answer ≤ length new
+  unfolding Ends in-front
+  rest-fits =
+      let long = ap length a ∙ length-append (s .got) (drop (length (s .got)) old) in
+      by-cases (given (s .fault)) (λ y. omega (arith, rw y at (t .answer-is)))
+      (λ y. omega (arith, rw y at (t .answer-is), long))
+
+-- from where the head ends on, the rest makes the plan
+pub rest-reads : (bs : List ℕ) (h : Heading) → Heading-told bs 0 h → (t : Told) (o x : List ℕ) →
+    Rest-says bs (h .head .at) h t o x → Read-says bs t o x × Read-means bs t o x
+unfolding Rest-says Read-says read-refusal
+rest-reads bs h head t o x r =
+    let says : Read-says bs t o x =
+    subst (λ (s : Scan). Fills (or-else (s .fault) (room-for (length (s .got)) (length o))) (s .got) t o x)
+    (rest-plan (head .means)) r in
+    (says, read-means bs (head .are-bytes) t o x says)
