@@ -98,12 +98,12 @@ extern "C" {
 /* The stack that a call may use, in bytes. */
 #define CUNDVREST_STACK 524288
 
-/* Verdicts: the answer of cundvrest_reuse. */
+/* Verdicts: the answer of cundvrest_reuse. These are all: no plan that passes
+ * gets another, and the constant CUNDVREST_STRAY_USE, which was 4, is gone. */
 #define CUNDVREST_FRESH 0
 #define CUNDVREST_REUSABLE 1
 #define CUNDVREST_HELD 2
 #define CUNDVREST_NOT_ORDERED 3
-#define CUNDVREST_STRAY_USE 4
 
 /* What a recorded trace followed: the answer of cundvrest_trace. */
 #define CUNDVREST_FULL 0

@@ -312,7 +312,7 @@ fn lowest_broken(asked: &[(Position, Asked)], full: &[Steps]) -> Position {
 /// off the rows by counting.
 pub fn reuse(plan: &Plan, rows: &[Vec<usize>], queue: usize, buffer: usize) -> u64 {
     let marks = marks_on(plan, buffer);
-    let Some(&(last_marked, last_is_free)) = marks.last() else {
+    let Some(&(_, last_is_free)) = marks.last() else {
         return 0;
     };
     if !last_is_free {
@@ -330,12 +330,10 @@ pub fn reuse(plan: &Plan, rows: &[Vec<usize>], queue: usize, buffer: usize) -> u
         let own = usize::from(plan.operations[i].queue);
         on_queue(own).take(rows[asking][own]).any(|p| p == i)
     };
-    if !placed(last_marked) {
-        3
-    } else if marks.iter().all(|&(i, _)| placed(i)) {
+    if marks.iter().all(|&(i, _)| placed(i)) {
         1
     } else {
-        4
+        3
     }
 }
 

@@ -13,14 +13,14 @@ use Rattle.plan_format.proofs.Judged.{zero-not-given, other-given}
 use Rattle.plan_order.specs.Check.{Leaves, Outcome, outcome, or-then, check-outcome, table-left, list-left, Says, Check-says}
 use Rattle.plan_order.specs.Reuse.{number-of, verdict, question-refusal, reuse-outcome, Reuse-says}
 use Rattle.plan_order.specs.Holdings.{buffer-marks}
-use Rattle.plan_order.specs.Meaning.{Forced, When}
-use Rattle.plan_order.specs.declared.Verdict.the-variants.{StrayUse}
+use Rattle.plan_order.specs.Meaning.{Forced}
 use Rattle.plan_order.specs.Promise.{Demand-3-stored, Checked}
 use Rattle.plan_order.proofs.CheckMeaning.{passed-unrefused, check-means}
 use Rattle.plan_order.proofs.OutcomeMeaning.{passed-leaves}
 use Rattle.plan_order.proofs.Promises.{demand-3-stored}
-use Rattle.plan_order.proofs.LastFree.{no-stray}
-use Rattle.plan_order.proofs.QuestionMeaning.{question-means, question-passed, question-answered, question-left, question-answer}
+use Rattle.plan_order.proofs.LastFree.{passed-forced, five-same, unseen-free}
+use Rattle.plan_order.proofs.QuestionMeaning.{question-means, question-passed, question-answered, question-left}
+use Rattle.plan_order.proofs.QuestionMeaning.{question-number, question-answer, question-no-answer, question-most}
 use Rattle.check_plan.specs.Opening.{Lent, Opened-plan}
 use Rattle.check_plan.specs.declared.Counted.{Counted}
 use Rattle.check_plan.specs.declared.Opened.{Opened}
@@ -29,23 +29,24 @@ use Rattle.ask_reuse.specs.ReusePass.{Question-given}
 
 -- ---- all that a caller gets
 -- the marks of a passed plan on one of its buffers are forced
-passed-forced : (bs : List ℕ) (b t l : ℕ) → check-outcome bs t l .refusal .number ≡ 0 → b < length (plan-in bs .sizes) →
+checked-forced : (bs : List ℕ) (b t l : ℕ) → check-outcome bs t l .refusal .number ≡ 0 → b < length (plan-in bs .sizes) →
     (k : ℕ) → k < length (buffer-marks (plan-in bs) b) → Forced (plan-in bs) b k
 unfolding Demand-3-stored
-passed-forced bs b t l z inside k here =
+checked-forced bs b t l z inside k here =
     let place = demand-3-stored bs t l (passed-unrefused bs t l z) .passed-place z in
     check-means bs t l .passed .0 ((z, place), passed-leaves bs t l z) .2 b k inside here
 
-answered-no-stray : (bs : List ℕ) (q b t l : ℕ) → reuse-outcome bs q b t l .refusal .number ≡ 0 →
-    When (plan-in bs) q b StrayUse → ⊥
-answered-no-stray bs q b t l e =
-    let w = question-answered bs q b t l e in no-stray (plan-in bs) b (passed-forced bs b t l (w .0) (w .2)) q
+-- so are those on the buffer of a question that is answered
+answered-forced : (bs : List ℕ) (q b t l : ℕ) → reuse-outcome bs q b t l .refusal .number ≡ 0 →
+    (k : ℕ) → k < length (buffer-marks (plan-in bs) b) → Forced (plan-in bs) b k
+answered-forced bs q b t l e = let w = question-answered bs q b t l e in checked-forced bs b t l (w .0) (w .2)
 
 pub asked : (bs : List ℕ) (q b : ℕ) (r : Told) (t x l y : List ℕ) → Reuse-says bs q b r t x l y → Asked bs q b r t x l y
 unfolding Reuse-says
 asked bs q b r t x l y s =
-    let f = reuse-outcome bs q b (length t) (length l) .refusal in
     let n = s .tells .number in
+    let forced : r .number ≡ 0 → (k : ℕ) → k < length (buffer-marks (plan-in bs) b) → Forced (plan-in bs) b k =
+    λ z. answered-forced bs q b (length t) (length l) (sym n ∙ z) in
     record {
       says = s;
       number = n;
@@ -54,9 +55,13 @@ asked bs q b r t x l y s =
       passed = question-passed bs q b (length t) (length l);
       left = question-left bs q b r t x l y s;
       answer = question-answer bs q b r t x l y s;
-      no-stray-use =
-          λ z a. answered-no-stray bs q b (length t) (length l) (sym n ∙ z) (question-answer bs q b r t x l y s z .stray-use .0 a);
-      no-answer = λ z. s .tells .answer-is ∙ rw (other-given f (λ e. z (n ∙ e)));
+      most = question-most bs q b r t x l y s;
+      not-ordered = λ z.
+          let line = question-answer bs q b r t x l y s z .not-ordered in
+          let same = unseen-free (plan-in bs) b (forced z) q in
+          ((λ a. same .0 (line .0 a)), (λ w. line .1 (same .1 w)));
+      five = λ z. question-number bs q b r t x l y s z ∙ five-same (plan-in bs) b (forced z) q;
+      no-answer = question-no-answer bs q b r t x l y s;
     }
 
 -- ---- what it says, from what the check says
@@ -94,13 +99,14 @@ module _ {bs : List ℕ} (q b : ℕ) {n i : ℕ} {t x l y : List ℕ} (checked :
 -- ---- a plan that passes, opened
 pub question-given : {p : Plan} {o : Opened} {c : Lent} {table : List ℕ} → Opened-plan p o c table →
     Question-given p (o .counted) (o .marks) (c .queue) (c .mark) (c .mark-operation) table
-question-given opened = record {
+question-given {p} opened = record {
   queues-are = opened .queues-are;
   buffers-are = opened .buffers-are;
   shown = record {
     sound = opened .sound;
     many = sym (opened .operations-are);
     few-buffers = opened .limits .few-buffers;
+    forced = passed-forced p (opened .passes);
     queues-shown = opened .read .queues-shown;
     marks-shown = opened .read .marks-shown;
     rows-shown = opened .rows-shown;
@@ -108,6 +114,10 @@ question-given opened = record {
 }
 
 -- ---- the question's own refusals, and its answer
+pub buffer-known : {p : Plan} {c : Counted} {marks : ℕ} {queue mark operation rows : List ℕ} {b : ℕ} →
+    Question-given p c marks queue mark operation rows → b < c .buffers → b < length (p .sizes)
+buffer-known {b} opened h = subst (λ (n : ℕ). b < n) (opened .buffers-are) h
+
 module _ {p : Plan} {c : Counted} {marks : ℕ} {queue mark operation rows : List ℕ} (opened : Question-given p c marks queue mark operation rows) (q b : ℕ) where
   pub no-queue : c .queues ≤ q → Tells (question-refusal p q b) (number-of (verdict p q b)) (record { number = 12; place = q; answer = 0 })
   unfolding question-refusal or-else refusal given

@@ -1,9 +1,9 @@
 -- What one turn of each loop does. Assumes nothing.
-use mathlib.Core.Path.{_≡_, sym, _∙_}
-use mathlib.Core.Bool.{Bool, true, false, _&&_}
+use mathlib.Core.Path.{_≡_, sym, ap, _∙_}
+use mathlib.Core.Bool.{Bool, true, false}
 use mathlib.Core.List.{List}
-use Prim.Native.Nat.{ℕ, _+_, _-_, _*_, _/_, _%_, _≤_, _<_}
-use native.Mathlib.Numerals.{add-one}
+use mathlib.Core.Option.{Option, none, some}
+use Prim.Native.Nat.{ℕ, suc, _+_, _-_, _*_, _/_, _%_, _≤_, _<_}
 use native.Mathlib.Omega.{arith}
 use lib.Dec.{leb, eqb}
 use lib.ListN.{getD}
@@ -12,27 +12,41 @@ use Rattle.base_lists.specs.Lists.{highest-below, place-or}
 use Rattle.plan_format.specs.Sizes.{no-operation, most-operations}
 use Rattle.plan_order.specs.declared.Verdict.{Verdict}
 use Rattle.plan_order.specs.declared.Verdict.the-variants.{Fresh}
-use Rattle.check_columns.specs.Shown.{shown-from}
-use Rattle.check_columns.proofs.Marks.{shown-none, shown-next}
+use Rattle.check_columns.specs.Shown.{mark-codes}
 use Rattle.check_columns.proofs.Ordered.{ordered-is}
-use Rattle.ask_reuse.specs.ReusePass.{last-shown, seen, verdict-after, verdict-from}
+use Rattle.ask_reuse.specs.ReusePass.{last-shown, last-marked, seen, verdict-after, verdict-at}
 
--- ---- the queue's last operation, from the last to the first
+-- ---- the highest that passes a test, from the last to the first: it is here, or it is lower
+module _ (f : ℕ → Bool) where
+  highest-none : (i : ℕ) → i ≤ 0 → _≡_ {A = Option ℕ} (highest-below i f) none
+  unfolding highest-below
+  highest-none i l = let z : i ≡ 0 = omega arith in rw z
+
+  highest-here : (i j : ℕ) → i ≡ suc j → f j ≡ true → highest-below i f ≡ some j
+  unfolding highest-below
+  highest-here i j e t = rw (e, t)
+
+  highest-past : (i j : ℕ) → i ≡ suc j → f j ≡ false → highest-below j f ≡ highest-below i f
+  unfolding highest-below
+  highest-past i j e t = rw (e, t)
+
+-- ---- the queue's last operation
 module _ (queue : List ℕ) (q : ℕ) where
-  pub last-none : (i : ℕ) → i ≤ 0 → no-operation ≡ last-shown queue q i
-  unfolding last-shown highest-below place-or
-  last-none i l = let z : i ≡ 0 = omega arith in rw z
+  abbrev own : (i : ℕ) → Bool
+  own i = eqb (getD queue i 0) q
 
-  one-back : (i : ℕ) → 0 < i → last-shown queue q i ≡ last-shown queue q (i - 1 + 1)
-  one-back i l = let e : i - 1 + 1 ≡ i = omega arith in rw e
+  pub last-none : (i : ℕ) → i ≤ 0 → no-operation ≡ last-shown queue q i
+  unfolding last-shown place-or
+  last-none i l = rw (highest-none own i l)
 
   pub last-here : (i x : ℕ) → 0 < i → x ≡ getD queue (i - 1) 0 → x ≡ q → i - 1 ≡ last-shown queue q i
-  unfolding last-shown highest-below place-or
-  last-here i x l e h = rw (one-back i l, add-one (i - 1), eq-eqb (getD queue (i - 1) 0) q (sym e ∙ h))
+  unfolding last-shown place-or
+  last-here i x l e h = rw (highest-here own i (i - 1) (omega arith) (eq-eqb (getD queue (i - 1) 0) q (sym e ∙ h)))
 
   pub last-past : (i x : ℕ) → 0 < i → x ≡ getD queue (i - 1) 0 → (x ≡ q → ⊥) → last-shown queue q (i - 1) ≡ last-shown queue q i
-  unfolding last-shown highest-below
-  last-past i x l e h = rw (one-back i l, add-one (i - 1), ne-eqb (getD queue (i - 1) 0) q (λ z. h (e ∙ z)))
+  unfolding last-shown
+  last-past i x l e h =
+      ap (place-or no-operation) (highest-past own i (i - 1) (omega arith) (ne-eqb (getD queue (i - 1) 0) q (λ z. h (e ∙ z))))
 
 -- ---- whether an operation is seen
 module _ (queue rows : List ℕ) where
@@ -46,32 +60,38 @@ module _ (queue rows : List ℕ) where
   unfolding seen
   seen-some last i x a b l e f g = rw (lt-ltb last no-operation l) (ordered-is queue rows i last x a b e f g)
 
--- ---- the marks, from the first to the last
--- the verdict from here is that of the whole
-pub record Judging (queue rows mark operation : List ℕ) (b last many : ℕ) (v : Verdict) (all : Bool) (k : ℕ) : Type 0 where
-  pub rest : verdict-from (seen queue rows last) b v all (shown-from mark operation (many - k) k) ≡
-      verdict-from (seen queue rows last) b Fresh true (shown-from mark operation many 0)
+-- ---- the last mark on the buffer: that of the marks that are left, after `back` marks from the end
+pub record Left (mark : List ℕ) (b many back : ℕ) : Type 0 where
+  pub last : last-marked mark b (many - back) ≡ last-marked mark b many
 
-module _ {queue rows mark operation : List ℕ} {b last many : ℕ} where
-  pub judging-none : Judging queue rows mark operation b last many Fresh true 0
-  judging-none = let e : many - 0 ≡ many = omega arith in record { rest = rw e }
+pub left-all : {mark : List ℕ} {b many : ℕ} → Left mark b many 0
+left-all {many} = let e : many - 0 ≡ many = omega arith in record { last = rw e }
 
-  pub judging-end : {v : Verdict} {a : Bool} {k : ℕ} → Judging queue rows mark operation b last many v a k → many ≤ k →
-      v ≡ verdict-from (seen queue rows last) b Fresh true (shown-from mark operation many 0)
-  unfolding verdict-from
-  judging-end {k} j l = rw (shown-none mark operation many k l) at (j .rest)
+module _ {mark : List ℕ} {b many back : ℕ} (left : Left mark b many back) where
+  abbrev on-buffer : (k : ℕ) → Bool
+  on-buffer k = eqb (getD mark k 0 % mark-codes / 2) b
 
-  module _ {v : Verdict} {a : Bool} {k m : ℕ} (j : Judging queue rows mark operation b last many v a k) (more : k < many) (m-is : m ≡ getD mark k 0 % 512) where
+  pub left-none : (f : ℕ → Bool) (operation : List ℕ) → many ≤ back →
+      Fresh ≡ verdict-at f mark operation (last-marked mark b many)
+  unfolding last-marked verdict-at
+  left-none f operation l = rw (← left .last, highest-none on-buffer (many - back) (omega arith))
+
+  module _ (more : back < many) {m : ℕ} (m-is : m ≡ getD mark (many - (back + 1)) 0 % mark-codes) where
     -- a mark on another buffer
-    pub judging-other : (m / 2 ≡ b → ⊥) → Judging queue rows mark operation b last many v a (k + 1)
-    unfolding verdict-from
-    judging-other h = record { rest = rw (shown-next mark operation many k more, ← m-is, ne-eqb (m / 2) b h) at (j .rest) }
+    pub left-other : (m / 2 ≡ b → ⊥) → Left mark b many (back + 1)
+    unfolding last-marked
+    left-other h =
+        let other : on-buffer (many - (back + 1)) ≡ false =
+        ap (λ (z : ℕ). eqb (z / 2) b) (sym m-is) ∙ ne-eqb (m / 2) b h in
+        record { last = highest-past on-buffer (many - back) (many - (back + 1)) (omega arith) other ∙ left .last }
 
     -- a mark on the buffer
-    pub judging-own : {i : ℕ} {s : Bool} {v′ : Verdict} → i ≡ getD operation k 0 % most-operations → m / 2 ≡ b →
-        s ≡ seen queue rows last i →
-        v′ ≡ verdict-after (eqb (m % 2) 1) s (a && s) →
-        Judging queue rows mark operation b last many v′ (a && s) (k + 1)
-    unfolding verdict-from
-    judging-own i-is h s-is v-is =
-        record { rest = rw v-is (rw (shown-next mark operation many k more, ← m-is, ← i-is, eq-eqb (m / 2) b h, ← s-is) at (j .rest)) }
+    pub left-own : (f : ℕ → Bool) (operation : List ℕ) {i : ℕ} {s : Bool} {v : Verdict} → m / 2 ≡ b →
+        i ≡ getD operation (many - (back + 1)) 0 % most-operations → s ≡ f i → v ≡ verdict-after (eqb (m % 2) 1) s →
+        v ≡ verdict-at f mark operation (last-marked mark b many)
+    unfolding last-marked verdict-at
+    left-own f operation h i-is s-is v-is =
+        let own : on-buffer (many - (back + 1)) ≡ true =
+        ap (λ (z : ℕ). eqb (z / 2) b) (sym m-is) ∙ eq-eqb (m / 2) b h in
+        let here = highest-here on-buffer (many - back) (many - (back + 1)) (omega arith) own in
+        v-is ∙ rw (← left .last, here, ← m-is, ← i-is, ← s-is)

@@ -1,28 +1,32 @@
 -- The verdict by columns and rows is the plan's. Assumes nothing.
 use mathlib.Core.Path.{_≡_, refl, sym, ap, _∙_}
-use mathlib.Core.Bool.{Bool, true, _&&_, and-assoc, and-true}
-use mathlib.Core.List.{List, [], _∷_}
+use mathlib.Core.Bool.{Bool}
+use mathlib.Core.List.{List, [], _∷_, _++_, append-nil}
 use mathlib.Core.Option.{Option, none, some}
-use Prim.Native.Nat.{ℕ, zero, suc, _<_}
+use Prim.Native.Nat.{ℕ, zero, suc, _/_, _%_, _<_}
+use native.Mathlib.Nat.{zero-add}
 use native.Mathlib.Omega.{arith}
 use lib.Dec.{eqb}
-use lib.ListN.{getD}
+use lib.ListN.{length, getD}
 use borrow.Author.Tests.{lt-ltb}
-use Rattle.base_lists.specs.Lists.{all, highest-below, place-or}
+use Rattle.base_lists.specs.Lists.{tabulate-from, highest-below, place-or}
 use Rattle.base_lists.proofs.Tests.{by-cases, by-option}
 use Rattle.base_lists.proofs.Searches.{highest-some}
-use Rattle.plan_format.specs.Sizes.{no-operation}
+use Rattle.base_lists.proofs.Tables.{tabulate-last}
+use Rattle.plan_format.specs.Sizes.{no-operation, most-operations}
 use Rattle.plan_format.specs.Plan.{Plan, count, op}
 use Rattle.plan_order.specs.Holdings.{Placed, is-free, buffer-marks}
 use Rattle.plan_order.specs.Reuse.{last-on, seen-by, last-mark, verdict-on, verdict}
+use Rattle.plan_order.specs.Meaning.{Forced}
 use Rattle.plan_order.specs.declared.Verdict.{Verdict}
 use Rattle.plan_order.specs.declared.Verdict.the-variants.{Fresh}
+use Rattle.plan_order.proofs.VerdictMeaning.{last-some}
+use Rattle.plan_order.proofs.LastFree.{all-by-last}
 use Rattle.check_columns.specs.Columns.{Marked, Queue-column, plan-marks}
-use Rattle.check_columns.specs.Shown.{shown-from}
-use Rattle.check_columns.proofs.Marks.{Each, Known, marks-known, marks-shown}
+use Rattle.check_columns.specs.Shown.{mark-codes, mark-of, shown-from}
+use Rattle.check_columns.proofs.Marks.{Known, each-at, marks-known, marks-shown, place, of-buffer, of-append, of-plan}
 use Rattle.check_columns.proofs.Ordered.{ordered-right}
-use Rattle.check_columns.proofs.Marks.{of-buffer, of-plan}
-use Rattle.ask_reuse.specs.ReusePass.{Verdict-given, last-shown, seen, verdict-after, verdict-from}
+use Rattle.ask_reuse.specs.ReusePass.{Verdict-given, last-shown, last-marked, seen, verdict-after, verdict-at}
 
 -- ---- the queue's last operation
 highest-same : (n : ℕ) (f g : ℕ → Bool) → ((i : ℕ) → i < n → f i ≡ g i) → highest-below n f ≡ highest-below n g
@@ -38,8 +42,8 @@ last-of p queue q shown =
     (highest-same (count p) (λ i. eqb (getD queue i 0) q) (λ i. eqb (op p i .queue) q) (λ i l. ap (λ (z : ℕ). eqb z q) (shown i l)))
 
 module _ {p : Plan} {n marks : ℕ} {queue mark operation rows : List ℕ} (shown : Verdict-given p n marks queue mark operation rows) where
-  seen-right : (q i : ℕ) → i < count p → seen queue rows (place-or no-operation (last-on p q)) i ≡ seen-by p
-      (last-on p q) i
+  seen-right : (q i : ℕ) → i < count p →
+      seen queue rows (place-or no-operation (last-on p q)) i ≡ seen-by p (last-on p q) i
   unfolding seen seen-by place-or last-on
   seen-right q i l =
       by-option (last-on p q) (λ e. rw e)
@@ -50,61 +54,75 @@ module _ {p : Plan} {n marks : ℕ} {queue mark operation rows : List ℕ} (show
         ordered-right p (shown .sound) queue rows (shown .queues-shown) (shown .rows-shown) i j l inside,
       ))
 
--- ---- the verdict by the last mark, whatever came before
-module _ (f : ℕ → Bool) where
-  verdict-at : (so-far : Verdict) → (all-before : Bool) → (marks : List Placed) → (last : Option Placed) → Verdict
-  verdict-at v a ms none = v
-  verdict-at v a ms (some m) = verdict-after (is-free m) (f (m .by)) (a && all (λ n. f (n .by)) ms)
+-- ---- the verdict by the last mark
+by-last : (seen : ℕ → Bool) → (last-mark : Option Placed) → Verdict
+by-last f none = Fresh
+by-last f (some m) = verdict-after (is-free m) (f (m .by))
 
-  has-last : (m : Placed) (ms : List Placed) → (n : Placed) × (last-mark (m ∷ ms) ≡ some n)
-  unfolding last-mark
-  has-last m [] = (m, refl)
-  has-last m (n ∷ ms) = has-last n ms
+-- in a plan without broken marks it is the plan's
+last-verdict : (p : Plan) (q b : ℕ) → ((k : ℕ) → k < length (buffer-marks p b) → Forced p b k) →
+    by-last (seen-by p (last-on p q)) (last-mark (buffer-marks p b)) ≡ verdict p q b
+unfolding by-last verdict verdict-on verdict-after
+last-verdict p q b forced =
+    by-option (last-mark (buffer-marks p b)) (λ e. rw e)
+    (λ m e. by-cases (is-free m) (λ t. rw (e, t, all-by-last p b forced q m e t)) (λ f. rw (e, f)))
 
-  -- one mark more
-  one-more : (v : Verdict) (a : Bool) (m : Placed) (ms : List Placed) →
-      verdict-at (verdict-after (is-free m) (f (m .by)) (a && f (m .by))) (a && f (m .by)) ms (last-mark ms) ≡ verdict-at v a (m ∷ ms) (last-mark (m ∷ ms))
-  unfolding verdict-at last-mark all
-  one-more v a m [] = rw (and-true (f (m .by)))
-  one-more v a m (n ∷ ms) = let w = has-last n ms in rw (w .1, and-assoc a (f (m .by)) (all (λ n. f (n .by)) (n ∷ ms)))
+-- the last mark on a buffer, by its place in the columns
+module _ (mark operation : List ℕ) (b : ℕ) (f : ℕ → Bool) where
+  shown : ℕ → Marked
+  shown k = mark-of (getD mark k 0 % mark-codes) (getD operation k 0 % most-operations)
 
-  from-at : (b : ℕ) (v : Verdict) (a : Bool) (ms : List Marked) → verdict-from f b v a ms ≡ verdict-at v a (of-buffer b ms) (last-mark (of-buffer b ms))
-  unfolding verdict-from of-buffer last-mark verdict-at is-free
-  from-at b v a [] = refl
-  from-at b v a (m ∷ ms) =
-      by-cases (eqb (m .buffer) b)
-      (λ t. rw t (from-at b (verdict-after (eqb (m .kind) 1) (f (m .by)) (a && f (m .by))) (a && f (m .by)) ms
-      ∙ one-more v a (record { by = m .by; kind = m .kind }) (of-buffer b ms)))
-      (λ e. rw e (from-at b v a ms))
+  abbrev first : (n : ℕ) → List Marked
+  first n = shown-from mark operation n 0
 
-from-same : (p : Plan) (f g : ℕ → Bool) (b : ℕ) → ((i : ℕ) → i < count p → f i ≡ g i) →
-    (v : Verdict) (a : Bool) (ms : List Marked) → Each (Known p) ms → verdict-from f b v a ms ≡ verdict-from g b v a ms
-unfolding verdict-from
-from-same p f g b h v a [] k = refl
-from-same p f g b h v a (m ∷ ms) k =
-    rw (
-      h (m .by) (k .0 .by),
-      from-same p f g b h (verdict-after (eqb (m .kind) 1) (g (m .by)) (a && g (m .by))) (a && g (m .by)) ms (k .1),
-      from-same p f g b h v a ms (k .1),
-    )
+  one-more : (n : ℕ) → of-buffer b (first (suc n)) ≡ of-buffer b (first n) ++ of-buffer b (shown n ∷ [])
+  unfolding shown
+  one-more n =
+      ap (of-buffer b) (tabulate-last shown n 0 ∙ ap (λ (z : ℕ). first n ++ (shown z ∷ [])) (zero-add n))
+      ∙ of-append b (first n) (shown n ∷ [])
 
-at-verdict : (p : Plan) (last : Option ℕ) (ms : List Placed) (m : Option Placed) → verdict-at (λ i. seen-by p last i) Fresh true ms m ≡ verdict-on p last ms m
-unfolding verdict-at verdict-on verdict-after
-at-verdict p last ms none = refl
-at-verdict p last ms (some m) =
-    by-cases (is-free m) (λ t. by-cases (seen-by p last (m .by)) (λ s. rw (t, s)) (λ s. rw (t, s))) (λ e. rw e)
+  last-placed : (n : ℕ) →
+      by-last f (last-mark (of-buffer b (first n))) ≡ verdict-at f mark operation (last-marked mark b n)
+  unfolding tabulate-from of-buffer last-mark by-last verdict-at last-marked highest-below shown is-free
+  last-placed zero = refl
+  last-placed (suc n) =
+      by-cases (eqb (getD mark n 0 % mark-codes / 2) b)
+      (λ t. rw (one-more n, t, last-some (of-buffer b (first n)) (place (shown n))))
+      (λ e. rw (one-more n, e, append-nil (of-buffer b (first n))) (last-placed n))
+
+-- ---- the verdict by columns and rows
+at-same : (f g : ℕ → Bool) (mark operation : List ℕ) (b n : ℕ) →
+    ((k : ℕ) → k < n → f (getD operation k 0 % most-operations) ≡ g (getD operation k 0 % most-operations)) →
+    verdict-at f mark operation (last-marked mark b n) ≡ verdict-at g mark operation (last-marked mark b n)
+unfolding verdict-at last-marked
+at-same f g mark operation b n h =
+    by-option (last-marked mark b n) (λ e. rw e)
+    (λ k e. rw (e, h k (highest-some n (λ k. eqb (getD mark k 0 % mark-codes / 2) b) k e .inside)))
+
+module _ {p : Plan} {n marks : ℕ} {queue mark operation rows : List ℕ}
+    (shown : Verdict-given p n marks queue mark operation rows) where
+  -- a mark is of an operation of the plan
+  by-inside : (k : ℕ) → k < marks → getD operation k 0 % most-operations < count p
+  by-inside k l =
+      let known = marks-known p (shown .sound) in
+      let m = each-at (Known p) (plan-marks p) known k (omega (arith, shown .marks-shown .all)) .by in
+      omega (arith, m, shown .marks-shown .operations k l, shown .sound .few-operations)
+
+  marks-are : (b : ℕ) → of-buffer b (shown-from mark operation marks 0) ≡ buffer-marks p b
+  marks-are b =
+      ap (of-buffer b) (marks-shown p marks mark operation (shown .sound) (shown .few-buffers) (shown .marks-shown))
+      ∙ of-plan p b
 
 pub verdict-right : {p : Plan} {n marks : ℕ} {queue mark operation rows : List ℕ} (q b : ℕ) {last : ℕ} {r : Verdict} →
-    Verdict-given p n marks queue mark operation rows →
-    last ≡ last-shown queue q n → r ≡ verdict-from (seen queue rows last) b Fresh true (shown-from mark operation marks 0) → r ≡ verdict p q b
-unfolding verdict
-verdict-right {p} {n} {marks} {queue} {mark} {operation} {rows} q b shown last-is e =
-    let known = marks-known p (shown .sound) in
+    b < length (p .sizes) → Verdict-given p n marks queue mark operation rows → last ≡ last-shown queue q n →
+    r ≡ verdict-at (seen queue rows last) mark operation (last-marked mark b marks) → r ≡ verdict p q b
+verdict-right {p} {n} {marks} {queue} {mark} {operation} {rows} q b known shown last-is e =
+    let sees : ℕ → Bool = seen-by p (last-on p q) in
     let last-right = last-is ∙ ap (last-shown queue q) (sym (shown .many)) ∙ last-of p queue q (shown .queues-shown) in
     e
-    ∙ rw (last-right, marks-shown p marks mark operation (shown .sound) (shown .few-buffers) (shown .marks-shown))
-    (from-same p (seen queue rows (place-or no-operation (last-on p q))) (λ i. seen-by p (last-on p q) i) b
-    (λ i l. seen-right shown q i l)
-    Fresh true (plan-marks p) known
-    ∙ from-at (λ i. seen-by p (last-on p q) i) b Fresh true (plan-marks p)
-    ∙ rw (of-plan p b) (at-verdict p (last-on p q) (buffer-marks p b) (last-mark (buffer-marks p b))))
+    ∙ ap (λ (z : ℕ). verdict-at (seen queue rows z) mark operation (last-marked mark b marks)) last-right
+    ∙ at-same (seen queue rows (place-or no-operation (last-on p q))) sees mark operation b marks
+    (λ k l. seen-right shown q (getD operation k 0 % most-operations) (by-inside shown k l))
+    ∙ sym (last-placed mark operation b sees marks)
+    ∙ ap (λ (z : List Placed). by-last sees (last-mark z)) (marks-are shown b)
+    ∙ last-verdict p q b (λ k l. shown .forced b k known l)

@@ -3,13 +3,14 @@ use mathlib.Core.Path.{_≡_}
 use mathlib.Core.Bool.{true}
 use mathlib.Core.Logic.{_↔_}
 use mathlib.Core.List.{List}
-use Prim.Native.Nat.{ℕ}
+use Prim.Native.Nat.{ℕ, _≤_}
 use lib.ListN.{length}
 use Rattle.plan_format.specs.Stored.{plan-in}
 use Rattle.plan_format.specs.declared.Told.{Told}
 use Rattle.plan_order.specs.Reuse.{reuse-outcome, Reuse-says}
+use Rattle.plan_order.specs.FiveVerdicts.{five-verdict}
 use Rattle.plan_order.specs.Check.{Outcome, rows-and-run}
-use Rattle.plan_order.specs.Meaning.{Question-means, Verdict-table, Left-means}
+use Rattle.plan_order.specs.Meaning.{Question-means, Verdict-table, Free-unseen, Left-means}
 use Rattle.plan_order.specs.Promise.{Safe, unrefused}
 
 -- the outcome of the question in lent table and list
@@ -30,6 +31,9 @@ pub record Asked (bytes : List ℕ) (q b : ℕ) (r : Told) (table table-now list
       ((unrefused bytes (length table) (length list) ≡ true) × Safe (plan-in bytes))
   pub left : Left-means (plan-in bytes) (reuse-outcome-in bytes q b table list .leaves) table table-now list list-now
   pub answer : r .number ≡ 0 → Verdict-table (plan-in bytes) q b (r .answer)
-  -- what a passed plan keeps rules out verdict 4
-  pub no-stray-use : r .number ≡ 0 → r .answer ≡ 4 → ⊥
+  pub most : r .answer ≤ 3
+  -- R58, in a plan that passes: not ordered says that the last free is not seen
+  pub not-ordered : r .number ≡ 0 → (r .answer ≡ 3) ↔ Free-unseen (plan-in bytes) q b
+  -- and each number is that of the table of five
+  pub five : r .number ≡ 0 → r .answer ≡ five-verdict (plan-in bytes) q b
   pub no-answer : (r .number ≡ 0 → ⊥) → r .answer ≡ 0

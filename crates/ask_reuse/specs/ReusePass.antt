@@ -1,26 +1,30 @@
--- The verdict of the reuse question by the columns of a plan and its rows: one pass over the marks. Assumes nothing:
--- these are definitions.
+-- The verdict of the reuse question by the columns of a plan and its rows: by the last mark on the buffer alone.
+-- Assumes nothing: these are definitions.
 use mathlib.Core.Path.{_≡_}
 use mathlib.Core.Bool.{Bool, _&&_, cond}
-use mathlib.Core.List.{List, [], _∷_}
-use Prim.Native.Nat.{ℕ, _≤_, _<_}
+use mathlib.Core.List.{List}
+use mathlib.Core.Option.{Option, none, some}
+use Prim.Native.Nat.{ℕ, _/_, _%_, _≤_, _<_}
 use lib.Dec.{ltb, eqb}
 use lib.ListN.{length, getD}
 use Rattle.base_lists.specs.Lists.{highest-below, place-or}
-use Rattle.plan_format.specs.Sizes.{most-buffers, no-operation}
+use Rattle.plan_format.specs.Sizes.{most-buffers, most-operations, no-operation}
 use Rattle.plan_format.specs.Plan.{Plan, count, queues}
 use Rattle.plan_format.specs.Sound.{Sound}
+use Rattle.plan_order.specs.Holdings.{buffer-marks}
+use Rattle.plan_order.specs.Meaning.{Forced}
 use Rattle.plan_order.specs.declared.Verdict.{Verdict}
-use Rattle.plan_order.specs.declared.Verdict.the-variants.{Reusable, Held, NotOrdered, StrayUse}
-use Rattle.check_columns.specs.Columns.{Marked, Queue-column, Mark-columns, Row-columns}
-use Rattle.check_columns.specs.Shown.{ordered}
+use Rattle.plan_order.specs.declared.Verdict.the-variants.{Fresh, Reusable, Held, NotOrdered}
+use Rattle.check_columns.specs.Columns.{Queue-column, Mark-columns, Row-columns}
+use Rattle.check_columns.specs.Shown.{mark-codes, ordered}
 use Rattle.check_plan.specs.declared.Counted.{Counted}
 
--- a sound plan shown by columns, and its rows
+-- a sound plan without broken marks, shown by columns, and its rows
 pub record Verdict-given (p : Plan) (n marks : ℕ) (queue mark operation rows : List ℕ) : Type 0 where
   pub sound : Sound p
   pub many : count p ≡ n
   pub few-buffers : length (p .sizes) ≤ most-buffers
+  pub forced : (b k : ℕ) → b < length (p .sizes) → k < length (buffer-marks p b) → Forced p b k
   pub queues-shown : Queue-column p queue
   pub marks-shown : Mark-columns p marks mark operation
   pub rows-shown : Row-columns p (λ j. j < count p) rows
@@ -39,13 +43,16 @@ last-shown queue q n = place-or no-operation (highest-below n (λ i. eqb (getD q
 unfoldable pub seen : (queue rows : List ℕ) → (last i : ℕ) → Bool
 seen queue rows last i = ltb last no-operation && ordered queue rows i last
 
--- R58, verdicts: by whether the last mark is a free, whether its operation is seen, and whether all are
-unfoldable pub verdict-after : (frees seen all : Bool) → Verdict
-verdict-after f s a = cond f (cond s (cond a Reusable StrayUse) NotOrdered) Held
+-- the place of the last mark on the buffer, of n
+unfoldable pub last-marked : (mark : List ℕ) → (b n : ℕ) → Option ℕ
+last-marked mark b n = highest-below n (λ k. eqb (getD mark k 0 % mark-codes / 2) b)
 
--- the verdict by the marks from a place on, after those before it: their verdict, and whether all of them are seen
-unfoldable pub verdict-from : (seen : ℕ → Bool) → (b : ℕ) → (so-far : Verdict) → (all : Bool) → List Marked → Verdict
-verdict-from f b v a [] = v
-verdict-from f b v a (m ∷ ms) =
-    let all-now = a && f (m .by) in
-    cond (eqb (m .buffer) b) (verdict-from f b (verdict-after (eqb (m .kind) 1) (f (m .by)) all-now) all-now ms) (verdict-from f b v a ms)
+-- R58, verdicts: by whether the last mark is a free and whether its operation is seen
+unfoldable pub verdict-after : (frees seen : Bool) → Verdict
+verdict-after f s = cond f (cond s Reusable NotOrdered) Held
+
+-- the verdict by the place of the last mark
+unfoldable pub verdict-at : (seen : ℕ → Bool) → (mark operation : List ℕ) → (place : Option ℕ) → Verdict
+verdict-at f mark operation none = Fresh
+verdict-at f mark operation (some k) =
+    verdict-after (eqb (getD mark k 0 % mark-codes % 2) 1) (f (getD operation k 0 % most-operations))

@@ -14,16 +14,15 @@ use plan_format::limits::SIGNAL_PLACES;
 use plan_format::limits::WAIT_PLACES;
 use plan_order::Verdict;
 ghost use mathlib.Core.Path.{_≡_};
-ghost use mathlib.Core.Bool.{true};
 ghost use Prim.Native.Nat.{_<_};
+ghost use lib.ListN.{length};
 ghost use Rattle.plan_format.specs.Sizes.{most-operations};
 ghost use Rattle.plan_format.specs.Plan.{Plan};
 ghost use Rattle.plan_format.specs.Stored.{Tells};
 ghost use Rattle.plan_order.specs.Reuse.{verdict as verdict-of, number-of, question-refusal};
-ghost use Rattle.plan_order.specs.declared.Verdict.the-variants.{Fresh};
-ghost use Rattle.check_columns.specs.Shown.{shown-from};
 ghost use Rattle.ask_reuse.specs.Reuse.{Asked};
-ghost use Rattle.ask_reuse.specs.ReusePass.{Question-given, Verdict-given, last-shown, seen as is-seen, verdict-after, verdict-from};
+ghost use Rattle.ask_reuse.specs.ReusePass.{Question-given, Verdict-given, last-shown, last-marked};
+ghost use Rattle.ask_reuse.specs.ReusePass.{seen as is-seen, verdict-after, verdict-at};
 
 // The reuse question: a verdict as the answer; or the refusal of the plan, of the queue or of the buffer.
 pub fn reuse_question(
@@ -109,7 +108,7 @@ fn verdict(
     mop: &MarkColumn,
     table: &[u32],
 ) -> Verdict
-    ensures { λ r. ⌜ ((p : Plan) → Verdict-given p n marks (now (queue .entry)) (now (mark .entry)) (now (mop .entry)) (now (table .entry)) → r ≡ verdict-of p q b) ⌝ }
+    ensures { λ r. ⌜ ((p : Plan) → b < length (p .sizes) → Verdict-given p n marks (now (queue .entry)) (now (mark .entry)) (now (mop .entry)) (now (table .entry)) → r ≡ verdict-of p q b) ⌝ }
 {
     let last = last_on(n, queue, q);
     judged(b, last, marks, queue, mark, mop, table)
@@ -129,7 +128,8 @@ fn last_on(n: usize, queue: &[u16], q: usize) -> usize
     NO_OPERATION
 }
 
-// R58: the verdict by the marks on a buffer, each taken for the last one until another comes.
+// R58: the verdict by the last mark on a buffer, looked for from the end: in a plan without broken marks a queue that
+// sees the last free sees every operation with a mark.
 fn judged(
     b: usize,
     last: usize,
@@ -139,35 +139,28 @@ fn judged(
     mop: &[u16],
     table: &[u32],
 ) -> Verdict
-    ensures { λ r. ⌜ r ≡ verdict-from (is-seen (now (queue .entry)) (now (table .entry)) last) b Fresh true (shown-from (now (mark .entry)) (now (mop .entry)) marks 0) ⌝ }
+    ensures { λ r. ⌜ r ≡ verdict-at (is-seen (now (queue .entry)) (now (table .entry)) last) (now (mark .entry)) (now (mop .entry)) (last-marked (now (mark .entry)) b marks) ⌝ }
 {
-    let mut verdict = Verdict::Fresh;
-    let mut all = true;
-    let mut k = 0;
-    while k < marks {
+    let mut back: usize = 0;
+    while back < marks {
+        back += 1;
+        let k = marks - back;
         let m = base_slices::get16(mark, k) % MARK_CODES;
-        let i = base_slices::get16(mop, k) % MOST_OPERATIONS;
-        k += 1;
         if m / 2 == b {
-            let placed = seen(queue, table, last, i);
-            all = all & placed;
-            verdict = after(m % 2 == 1, placed, all);
+            let i = base_slices::get16(mop, k) % MOST_OPERATIONS;
+            return after(m % 2 == 1, seen(queue, table, last, i));
         }
     }
-    verdict
+    Verdict::Fresh
 }
 
-// The verdict where a mark is the last one: whether it frees, whether its operation is seen, whether all up to it are.
-fn after(frees: bool, placed: bool, all: bool) -> Verdict
-    ensures { λ r. ⌜ r ≡ verdict-after frees placed all ⌝ }
+// The verdict by the last mark: whether it frees, and whether its operation is seen.
+fn after(frees: bool, placed: bool) -> Verdict
+    ensures { λ r. ⌜ r ≡ verdict-after frees placed ⌝ }
 {
     if frees {
         if placed {
-            if all {
-                Verdict::Reusable
-            } else {
-                Verdict::StrayUse
-            }
+            Verdict::Reusable
         } else {
             Verdict::NotOrdered
         }
@@ -199,6 +192,5 @@ fn number_of(v: Verdict) -> u64
         Verdict::Reusable => 1,
         Verdict::Held => 2,
         Verdict::NotOrdered => 3,
-        Verdict::StrayUse => 4,
     }
 }

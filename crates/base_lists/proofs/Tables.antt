@@ -1,6 +1,7 @@
--- Tabulated and joined lists: their lengths, and what is at a place. Assumes nothing.
+-- Tabulated and joined lists: their lengths, what is at a place, and one more at the end. Assumes nothing.
 use mathlib.Core.Path.{_≡_, refl, sym, ap, _∙_, subst}
-use mathlib.Core.List.{List, _++_, List·Memᴰ, List·Memᴰ·not-nil, List·Memᴰ·append-cases, Memᴰ·append-left, Memᴰ·append-right}
+use mathlib.Core.List.{List, [], _∷_, _++_}
+use mathlib.Core.List.{List·Memᴰ, List·Memᴰ·not-nil, List·Memᴰ·append-cases, Memᴰ·append-left, Memᴰ·append-right}
 use Prim.Native.Nat.{ℕ, zero, suc, _+_, _*_, _≤_, _<_}
 use native.Mathlib.Nat.{not-suc-le-zero, le-of-suc-le-suc, le-refl, mul-suc}
 use native.Mathlib.Omega.{arith}
@@ -23,6 +24,14 @@ module _ {A : Type 0} (f : ℕ → A) where
   tabulate-at (suc many) i zero d l = ap f (let e : i ≡ i + 0 = omega arith in e)
   tabulate-at (suc many) i (suc k) d l =
       tabulate-at many (suc i) k d (le-of-suc-le-suc l) ∙ ap f (let e : suc i + k ≡ i + suc k = omega arith in e)
+
+  -- one more at the end
+  pub tabulate-last : (many i : ℕ) → tabulate-from (suc many) i f ≡ tabulate-from many i f ++ (f (i + many) ∷ [])
+  unfolding tabulate-from
+  tabulate-last zero i = ap {B = List A} (λ k. f k ∷ []) (omega arith)
+  tabulate-last (suc many) i =
+      ap {B = List A} (λ xs. f i ∷ xs)
+      (tabulate-last many (suc i) ∙ ap {B = List A} (λ k. tabulate-from many (suc i) f ++ (f k ∷ [])) (omega arith))
 
 -- blocks of one width
 module _ {A : Type 0} (w : ℕ) (f : ℕ → List A) (even : (i : ℕ) → length (f i) ≡ w) where

@@ -45,7 +45,7 @@ module _ (P : Marked → Type 0) where
       (subst (λ (z : ℕ). Each P (marked-of z (o .marks))) (omega arith) (h 0 (omega arith)))
       (each-from (suc i) os (λ k l. subst (λ (z : ℕ). Each P (marked-of z (getD os k empty-operation .marks))) (omega arith) (h (suc k) (omega arith))))
 
-  each-at : (ms : List Marked) → Each P ms → (k : ℕ) → k < length ms → P (getD ms k no-mark)
+  pub each-at : (ms : List Marked) → Each P ms → (k : ℕ) → k < length ms → P (getD ms k no-mark)
   each-at [] a k l = absurd (not-suc-le-zero l)
   each-at (m ∷ ms) a zero l = a .0
   each-at (m ∷ ms) a (suc k) l = each-at ms (a .1) k (le-of-suc-le-suc l)
@@ -124,7 +124,7 @@ unfoldable pub of-buffer : (b : ℕ) → List Marked → List Placed
 of-buffer b [] = []
 of-buffer b (m ∷ ms) = cond (eqb (m .buffer) b) (place m ∷ of-buffer b ms) (of-buffer b ms)
 
-of-append : (b : ℕ) (ms ns : List Marked) → of-buffer b (ms ++ ns) ≡ of-buffer b ms ++ of-buffer b ns
+pub of-append : (b : ℕ) (ms ns : List Marked) → of-buffer b (ms ++ ns) ≡ of-buffer b ms ++ of-buffer b ns
 unfolding of-buffer
 of-append b [] ns = refl
 of-append b (m ∷ ms) ns = by-cases (eqb (m .buffer) b) (λ t. rw (t, of-append b ms ns)) (λ f. rw (f, of-append b ms ns))

@@ -20,7 +20,7 @@ pub fn help(out: &mut [u8]) -> usize {
 
 It prints one of these; N is the refusal and P its place.
   passed 0, then size QUEUES SEMAPHORES BUFFERS OPERATIONS, run, ready, and a row for each operation
-  verdict N WORD        fresh, reusable, held, not-ordered or stray-use
+  verdict N WORD        fresh, reusable, held or not-ordered
   frontier whole|tainted AXIS:EPOCH ..
   trace full, trace unfinished STEPS, or trace departs STEP RULE OPERATION, then queues and semaphores with how far each had come
                         RULE is unknown, repeated, not-first, or wait-not-met with the wait after the operation
@@ -32,7 +32,7 @@ It prints one of these; N is the refusal and P its place.
 
 All numbers are decimal. The launcher ./cundvrest also knows --help, -h and --version. Its exit status:
   0 yes, go on    passed; fresh or reusable; a frontier, numbers or a plan; a full trace
-  1 no            refused; held, not-ordered or stray-use; a trace that is unfinished or departs
+  1 no            refused; held or not-ordered; a trace that is unfinished or departs
   2 not judged    wrong words, or input or output that fails: a line on standard error says what
 ",
     )

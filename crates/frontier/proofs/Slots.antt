@@ -11,6 +11,7 @@ use lib.Dec.{eqb}
 use lib.Seq.{getD-set-same, getD-set-other, getD-take, take-all, take-suc, take-suc-set, drop-cons, drop-set-lt}
 use Rattle.base_lists.specs.Lists.{tabulate-from}
 use Rattle.base_lists.proofs.Tests.{and-left, and-right, and-both}
+use Rattle.base_lists.proofs.Tables.{tabulate-length, tabulate-last}
 use Rattle.frontier.specs.Entries.{Entry, most-entries, most-of-two}
 use Rattle.frontier.specs.Frontiers.{slot, slots, all-zero}
 use Rattle.frontier.specs.Walks.{rest, floor}
@@ -29,22 +30,11 @@ module _ {A : Type 0} where
   tabulate-shift zero i f = refl
   tabulate-shift (suc n) i f = ap {B = List A} (λ xs. f (suc i) ∷ xs) (tabulate-shift n (suc i) f)
 
-  pub tabulate-last : (n i : ℕ) (f : ℕ → A) → tabulate-from (suc n) i f ≡ tabulate-from n i f ++ (f (i + n) ∷ [])
-  unfolding tabulate-from
-  tabulate-last zero i f = ap {B = List A} (λ k. f k ∷ []) (omega arith)
-  tabulate-last (suc n) i f =
-      ap {B = List A} (λ xs. f i ∷ xs) (tabulate-last n (suc i) f ∙ ap {B = List A} (λ k. tabulate-from n (suc i) f ++ (f k ∷ [])) (omega arith))
-
-  pub tabulate-length : (n i : ℕ) (f : ℕ → A) → length (tabulate-from n i f) ≡ n
-  unfolding tabulate-from
-  tabulate-length zero i f = refl
-  tabulate-length (suc n) i f = ap suc (tabulate-length n (suc i) f)
-
 -- SLOTS
 module _ (xs es : List ℕ) where
   pub slots-length : (n i : ℕ) → length (slots xs es n i) ≡ n
   unfolding slots
-  slots-length n i = tabulate-length n i (slot xs es)
+  slots-length n i = tabulate-length (slot xs es) n i
 
   pub rest-all : (n : ℕ) → rest xs es n 0 ≡ slots xs es n 0
   rest-all n = rw sub-zero
@@ -75,7 +65,7 @@ module _ (xs es : List ℕ) where
 pub slots-put : (xs es : List ℕ) (n a e : ℕ) → n < length xs → n < length es → slots (set xs n a) (set es n e) (n + 1) 0 ≡ slots xs es n 0 ++ (record { axis = a; epoch = e } ∷ [])
 unfolding slots slot
 slots-put xs es n a e p q =
-    rw (add-one n) (tabulate-last n 0 (slot (set xs n a) (set es n e)) ∙
+    rw (add-one n) (tabulate-last (slot (set xs n a) (set es n e)) n 0 ∙
     ap₂ {C = List Entry} (λ zs z. zs ++ (z ∷ []))
     (tabulate-same n 0 (slot (set xs n a) (set es n e)) (slot xs es) (λ k l m. same-entry (getD-set-other xs n k a 0 (λ q. omega arith)) (getD-set-other es n k e 0 (λ q. omega arith))))
     (same-entry (ap (λ k. getD (set xs n a) k 0) (zero-plus n) ∙ getD-set-same xs n a 0 p) (ap (λ k. getD (set es n e) k 0) (zero-plus n) ∙ getD-set-same es n e 0 q)))

@@ -1,23 +1,47 @@
 -- A buffer whose last mark is a free, in a plan without broken marks: every operation with a mark on it is at or before
--- that free, so there is no stray use. Assumes nothing.
+-- that free, so a queue that sees the free sees them all, and the verdict goes by the last mark alone. Assumes nothing.
 use mathlib.Core.Path.{_≡_, sym, ap, _∙_, subst, subst₂}
-use mathlib.Core.Logic.{_⊎_, inl, inr}
+use mathlib.Core.Bool.{Bool, true}
+use mathlib.Core.Logic.{_⊎_, inl, inr, _↔_}
 use mathlib.Core.List.{[], _∷_}
+use mathlib.Core.Option.{some}
 use Prim.Native.Nat.{ℕ, zero, suc, _+_, _-_, _≤_, _<_}
 use native.Mathlib.Omega.{arith}
 use lib.Dec.{eqb}
 use lib.ListN.{length, length-append}
 use lib.Seq.{getD-append-seam}
 use borrow.Author.Tests.{eqb-true, eqb-false}
-use Rattle.base_lists.proofs.Tests.{by-cases}
+use Rattle.base_lists.specs.Lists.{all}
+use Rattle.base_lists.proofs.Tests.{by-cases, by-option}
+use Rattle.base_lists.proofs.Searches.{all-by, all-no}
 use Rattle.base_lists.proofs.Places.{mem-place}
+use Rattle.plan_format.specs.Refusal.{Refusal, refusal, none-given}
 use Rattle.plan_format.specs.Plan.{Plan}
 use Rattle.plan_order.specs.Precedence.{Before}
-use Rattle.plan_order.specs.Holdings.{Placed, buffer-marks}
-use Rattle.plan_order.specs.Meaning.{mark-at, Frees, No-free, Forced, Marked, Last-mark, When}
-use Rattle.plan_order.specs.declared.Verdict.the-variants.{StrayUse}
+use Rattle.plan_order.specs.Holdings.{Placed, is-free, buffer-marks}
+use Rattle.plan_order.specs.Check.{order-refusal}
+use Rattle.plan_order.specs.Reuse.{number-of, last-on, seen-by, last-mark, verdict-on, verdict}
+use Rattle.plan_order.specs.FiveVerdicts.{five-on, five-verdict}
+use Rattle.plan_order.specs.Meaning.{mark-at, Frees, No-free, Forced, Marked, Last-mark, Seen, Free-unseen, When}
+use Rattle.plan_order.specs.declared.Verdict.the-variants.{NotOrdered}
 use Rattle.plan_order.proofs.Precedence.{before-chain, chain-before, before-join}
-use Rattle.plan_order.proofs.MarksMeaning.{marked-mark}
+use Rattle.plan_order.proofs.Demand3.{Ordered, stuck-there, broken-there, in-order, order-cases}
+use Rattle.plan_order.proofs.AskedMarks.{free-kind}
+use Rattle.plan_order.proofs.KeepsMeaning.{unbroken-means}
+use Rattle.plan_order.proofs.MarksMeaning.{mark-marked, marked-mark}
+use Rattle.plan_order.proofs.VerdictMeaning.{seen-means, some-last, last-in}
+
+-- a plan whose order is not refused has no broken mark
+order-forced : (p : Plan) (f : Refusal) → Ordered p f → f .number ≡ 0 →
+    (b k : ℕ) → b < length (p .sizes) → k < length (buffer-marks p b) → Forced p b k
+unfolding refusal none-given
+order-forced p f (stuck-there i m) z = absurd (omega arith)
+order-forced p f (broken-there i m e) z = absurd (omega arith)
+order-forced p f (in-order m e) z = unbroken-means p .0 e
+
+pub passed-forced : (p : Plan) → order-refusal p .number ≡ 0 →
+    (b k : ℕ) → b < length (p .sizes) → k < length (buffer-marks p b) → Forced p b k
+passed-forced p z = order-forced p (order-refusal p) (order-cases p) z
 
 -- at or before, by chains
 module _ (p : Plan) where
@@ -70,7 +94,39 @@ module _ (p : Plan) (b : ℕ) (forced : (k : ℕ) → k < length (buffer-marks p
       (ap (λ (z : Placed). z .kind) m-is ∙ frees) in
       subst₂ (λ (y z : ℕ). At p y z) (ap (λ (z : Placed). z .by) x-is ∙ x-by) (ap (λ (z : Placed). z .by) m-is) reached
 
-  pub no-stray : (q : ℕ) → When p q b StrayUse → ⊥
-  unfolding When
-  no-stray q (m, last-mark, frees, (j, last, seen), (i, marked, unseen)) =
-      unseen (j, last, at-join p i (m .by) j (marked-by-free m last-mark frees i marked) seen)
+  -- a queue that sees the last free sees every operation with a mark on the buffer
+  pub marked-seen : (q : ℕ) (m : Placed) → Last-mark p b m → m .kind ≡ 1 → Seen p q (m .by) →
+      (i : ℕ) → Marked p b i → Seen p q i
+  marked-seen q m last frees (j, last-op, seen) i marked =
+      (j, last-op, at-join p i (m .by) j (marked-by-free m last frees i marked) seen)
+
+  -- ---- the verdict by the last mark alone
+  module _ (q : ℕ) where
+    abbrev sees : Placed → Bool
+    sees n = seen-by p (last-on p q) (n .by)
+
+    pub all-by-last : (m : Placed) → last-mark (buffer-marks p b) ≡ some m → is-free m ≡ true →
+        all sees (buffer-marks p b) ≡ sees m
+    all-by-last m e t =
+        let last = some-last (buffer-marks p b) m e in
+        by-cases (sees m)
+        (λ s. let seen = marked-seen q m last (free-kind m t) (seen-means p q (m .by) .0 s) in
+        rw s (all-by sees (buffer-marks p b) (λ n among. seen-means p q (n .by) .1 (seen (n .by) (mark-marked p b n among)))))
+        (λ s. rw s (all-no sees (buffer-marks p b) m (last-in p q b m last) s))
+
+    -- the number is that of the five-line table
+    pub five-same : number-of (verdict p q b) ≡ five-verdict p q b
+    unfolding verdict verdict-on five-verdict five-on number-of
+    five-same =
+        by-option (last-mark (buffer-marks p b)) (λ e. rw e)
+        (λ m e. by-cases (is-free m)
+        (λ t. by-cases (sees m) (λ s. rw (e, t, all-by-last m e t, s)) (λ s. rw (e, t, all-by-last m e t, s)))
+        (λ f. rw (e, f)))
+
+    -- not ordered: the last free is not seen
+    pub unseen-free : When p q b NotOrdered ↔ Free-unseen p q b
+    unfolding When
+    unseen-free = (
+      (λ w. (w .0, w .1, w .2, λ s. let x = w .3 in x .2 (marked-seen q (w .0) (w .1) (w .2) s (x .0) (x .1)))),
+      (λ w. (w .0, w .1, w .2, (w .0 .by, mark-marked p b (w .0) (last-in p q b (w .0) (w .1)), w .3))),
+    )

@@ -6,9 +6,9 @@ use mathlib.Core.Logic.{_↔_}
 use mathlib.Core.List.{List, []}
 use Prim.Native.Nat.{ℕ, _≤_, _<_}
 use native.Mathlib.Omega.{arith}
-use lib.Dec.{leb}
+use lib.Dec.{leb, eqb}
 use lib.ListN.{length}
-use borrow.Author.Tests.{leb-true, leb-false, le-leb, lt-leb}
+use borrow.Author.Tests.{leb-true, leb-false, le-leb, lt-leb, eqb-true, eqb-false}
 use Rattle.base_lists.specs.Lists.{member, all}
 use Rattle.base_lists.proofs.Tests.{by-cases}
 use Rattle.plan_format.specs.Plan.{Plan, queues, plan-of}
@@ -19,14 +19,14 @@ use Rattle.plan_format.specs.Form.{first-form, plan-grammar, scanned-by}
 use Rattle.plan_format.specs.Stored.{scanned, plan-in, plan-refusal}
 use Rattle.plan_format.specs.Meaning.{Refuses}
 use Rattle.plan_format.specs.declared.Told.{Told}
-use Rattle.plan_format.proofs.Judged.{zero-not-given}
+use Rattle.plan_format.proofs.Judged.{zero-not-given, other-given}
 use Rattle.plan_order.specs.Check.{untouched, rows-and-run, outcome, or-then, check-outcome}
 use Rattle.plan_order.specs.Reuse.{number-of, verdict, question-refusal, reuse-outcome, Reuse-says}
 use Rattle.plan_order.specs.Meaning.{Verdict-table, Question-means, Left-means}
 use Rattle.plan_order.specs.Promise.{Safe, unrefused}
 use Rattle.plan_order.proofs.Asking.{plan-first, gives-asked, asked-own, asked-safe, asked-number, asked-leaves-by, asked-left}
 use Rattle.plan_order.proofs.CheckMeaning.{check-means}
-use Rattle.plan_order.proofs.VerdictMeaning.{one-use, verdict-table}
+use Rattle.plan_order.proofs.VerdictMeaning.{one-use, number-most, verdict-table}
 
 -- no bytes, and a queue that they do not have: the plan is refused
 unread-first : reuse-outcome [] 0 0 0 0 ≡ outcome (refusal 1 0) untouched
@@ -139,11 +139,26 @@ module _ (bs : List ℕ) (q b : ℕ) (r : Told) (t x l y : List ℕ) (s : Reuse-
   unfolding Reuse-says reuse-outcome
   question-left = asked-left bs (question-refusal (plan-in bs) q b) (number-of (verdict (plan-in bs) q b)) r t x l y s
 
-  -- an answer is the number of the verdict whose line of the table holds
-  pub question-answer : r .number ≡ 0 → Verdict-table (plan-in bs) q b (r .answer)
+  -- an answer is the number of the verdict
+  pub question-number : r .number ≡ 0 → r .answer ≡ number-of (verdict (plan-in bs) q b)
   unfolding Reuse-says
-  question-answer z =
+  question-number z =
       let f = reuse-outcome bs q b (length t) (length l) .refusal in
-      let e : r .answer ≡ number-of (verdict (plan-in bs) q b) =
-      s .tells .answer-is ∙ rw (zero-not-given f (sym (s .tells .number) ∙ z)) in
-      subst (Verdict-table (plan-in bs) q b) (sym e) (verdict-table (plan-in bs) q b)
+      s .tells .answer-is ∙ rw (zero-not-given f (sym (s .tells .number) ∙ z))
+
+  -- of the one whose line of the table holds
+  pub question-answer : r .number ≡ 0 → Verdict-table (plan-in bs) q b (r .answer)
+  question-answer z = subst (Verdict-table (plan-in bs) q b) (sym (question-number z)) (verdict-table (plan-in bs) q b)
+
+  -- and 0 beside a refusal
+  pub question-no-answer : (r .number ≡ 0 → ⊥) → r .answer ≡ 0
+  unfolding Reuse-says
+  question-no-answer z =
+      let f = reuse-outcome bs q b (length t) (length l) .refusal in
+      s .tells .answer-is ∙ rw (other-given f (λ e. z (s .tells .number ∙ e)))
+
+  pub question-most : r .answer ≤ 3
+  question-most =
+      by-cases (eqb (r .number) 0)
+      (λ t. let e = question-number (eqb-true (r .number) 0 t) in omega (arith, e, number-most (verdict (plan-in bs) q b)))
+      (λ f. let e = question-no-answer (eqb-false (r .number) 0 f) in omega arith)

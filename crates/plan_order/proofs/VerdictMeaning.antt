@@ -4,19 +4,21 @@ use mathlib.Core.Bool.{Bool, true, false, false≢true}
 use mathlib.Core.Logic.{_↔_}
 use mathlib.Core.List.{List, [], _∷_, _++_, List·Memᴰ, List·Memᴰ·head, List·Memᴰ·not-nil, Memᴰ·append-right}
 use mathlib.Core.Option.{Option, none, some}
-use Prim.Native.Nat.{ℕ, zero, suc}
+use Prim.Native.Nat.{ℕ, zero, suc, _≤_}
 use native.Mathlib.Omega.{arith}
 use lib.Dec.{ltb, eqb}
 use borrow.Author.Tests.{ltb-true, ltb-false, eqb-true, eqb-false}
-use Rattle.base_lists.specs.Lists.{all}
+use Rattle.base_lists.specs.Lists.{member, all, highest-below}
 use Rattle.base_lists.proofs.Tests.{by-cases, by-option, clash, is-false}
 use Rattle.base_lists.proofs.Searches.{all-gives, all-by, all-fails, all-no, highest-some, highest-none}
+use Rattle.order.specs.Closure.{any-of, fresh as found, round, rounds, predecessors}
 use Rattle.plan_format.specs.Plan.{Plan, count, op}
+use Rattle.plan_order.specs.Precedence.{same-queue, any-rests-on, direct, all-before, before, at-or-before}
 use Rattle.plan_order.specs.Holdings.{Placed, placed, marks-of, marks-from, is-free, buffer-marks}
 use Rattle.plan_order.specs.Reuse.{number-of, last-on, seen-by, last-mark, verdict-on, verdict}
 use Rattle.plan_order.specs.Meaning.{Last-on, Seen, Last-mark, When, Verdict-table}
 use Rattle.plan_order.specs.declared.Verdict.{Verdict}
-use Rattle.plan_order.specs.declared.Verdict.the-variants.{Fresh, Reusable, Held, NotOrdered, StrayUse}
+use Rattle.plan_order.specs.declared.Verdict.the-variants.{Fresh, Reusable, Held, NotOrdered}
 use Rattle.plan_order.proofs.Precedence.{at-or-means}
 use Rattle.plan_order.proofs.AskedMarks.{free-kind, kind-free, kind-use, use-kind}
 use Rattle.plan_order.proofs.MarksMeaning.{mark-marked, marked-mark}
@@ -33,6 +35,23 @@ one-use = record {
 used-held : verdict one-use 0 0 ≡ Held
 unfolding one-use verdict verdict-on buffer-marks marks-from marks-of placed last-mark is-free
 used-held = refl
+
+-- T11: one queue uses the buffer, and another one frees it; the first sees its own operation alone
+two-queues : Plan
+two-queues = record {
+  axes = 0 ∷ 1 ∷ [];
+  owners = [];
+  sizes = 0 ∷ [];
+  operations =
+      record { queue = 0; waits = []; signals = []; marks = record { buffer = 0; kind = 0 } ∷ [] }
+      ∷ record { queue = 1; waits = []; signals = []; marks = record { buffer = 0; kind = 1 } ∷ [] } ∷ [];
+}
+
+not-all-seen : verdict two-queues 0 0 ≡ NotOrdered
+unfolding two-queues verdict verdict-on last-on highest-below buffer-marks marks-from marks-of placed last-mark is-free
+    all seen-by at-or-before before all-before predecessors rounds round found any-of direct any-rests-on same-queue
+    member count op
+not-all-seen = refl
 
 module _ (p : Plan) (q : ℕ) where
   -- ---- the queue's last operation
@@ -73,13 +92,13 @@ module _ (p : Plan) (q : ℕ) where
   unseen i f w = clash (seen-by p (last-on p q) i) (seen-means i .1 w) f
 
 -- ---- the last mark
-last-some : (ms : List Placed) (m : Placed) → last-mark (ms ++ (m ∷ [])) ≡ some m
+pub last-some : (ms : List Placed) (m : Placed) → last-mark (ms ++ (m ∷ [])) ≡ some m
 unfolding last-mark
 last-some [] m = refl
 last-some (n ∷ []) m = refl
 last-some (n ∷ n′ ∷ ms) m = last-some (n′ ∷ ms) m
 
-some-last : (ms : List Placed) (m : Placed) → last-mark ms ≡ some m → (ns : List Placed) × (ms ≡ ns ++ (m ∷ []))
+pub some-last : (ms : List Placed) (m : Placed) → last-mark ms ≡ some m → (ns : List Placed) × (ms ≡ ns ++ (m ∷ []))
 unfolding last-mark
 some-last [] m e = absurd (let z : _≡_ {A = ℕ} 0 1 = cc in omega arith)
 some-last (n ∷ []) m e = ([], (let same : n ≡ m = cc in cc))
@@ -96,8 +115,7 @@ verdict-of : ℕ → Verdict
 verdict-of zero = Fresh
 verdict-of (suc zero) = Reusable
 verdict-of (suc (suc zero)) = Held
-verdict-of (suc (suc (suc zero))) = NotOrdered
-verdict-of (suc (suc (suc (suc n)))) = StrayUse
+verdict-of (suc (suc (suc n))) = NotOrdered
 
 of-number : (v : Verdict) → verdict-of (number-of v) ≡ v
 unfolding verdict-of number-of
@@ -105,10 +123,17 @@ of-number Fresh = refl
 of-number Reusable = refl
 of-number Held = refl
 of-number NotOrdered = refl
-of-number StrayUse = refl
 
 number-one : (u v : Verdict) → number-of u ≡ number-of v → u ≡ v
 number-one u v e = sym (of-number u) ∙ ap verdict-of e ∙ of-number v
+
+-- and there are four
+pub number-most : (v : Verdict) → number-of v ≤ 3
+unfolding number-of
+number-most Fresh = omega arith
+number-most Reusable = omega arith
+number-most Held = omega arith
+number-most NotOrdered = omega arith
 
 -- ---- the table
 module _ (p : Plan) (q b : ℕ) where
@@ -121,7 +146,7 @@ module _ (p : Plan) (q b : ℕ) where
   last-is : (m : Placed) → Last-mark p b m → last-mark marks ≡ some m
   last-is m w = ap (λ (z : List Placed). last-mark z) (w .1) ∙ last-some (w .0) m
 
-  last-in : (m : Placed) → Last-mark p b m → List·Memᴰ m marks
+  pub last-in : (m : Placed) → Last-mark p b m → List·Memᴰ m marks
   last-in m w = subst (λ (z : List Placed). List·Memᴰ m z) (sym (w .1)) (Memᴰ·append-right (w .0) (List·Memᴰ·head refl))
 
   -- one line each
@@ -130,17 +155,13 @@ module _ (p : Plan) (q b : ℕ) where
     unfolding verdict verdict-on
     is-held f = rw (e, f)
 
-    is-not-ordered : is-free m ≡ true → sees m ≡ false → verdict p q b ≡ NotOrdered
+    is-reusable : is-free m ≡ true → all sees marks ≡ true → verdict p q b ≡ Reusable
     unfolding verdict verdict-on
-    is-not-ordered t f = rw (e, t, f)
+    is-reusable t a = rw (e, t, a)
 
-    is-reusable : is-free m ≡ true → sees m ≡ true → all sees marks ≡ true → verdict p q b ≡ Reusable
+    is-not-ordered : is-free m ≡ true → all sees marks ≡ false → verdict p q b ≡ NotOrdered
     unfolding verdict verdict-on
-    is-reusable t s a = rw (e, t, s, a)
-
-    is-stray : is-free m ≡ true → sees m ≡ true → all sees marks ≡ false → verdict p q b ≡ StrayUse
-    unfolding verdict verdict-on
-    is-stray t s a = rw (e, t, s, a)
+    is-not-ordered t a = rw (e, t, a)
 
   is-fresh : _≡_ {A = Option Placed} (last-mark marks) none → verdict p q b ≡ Fresh
   unfolding verdict verdict-on
@@ -153,12 +174,17 @@ module _ (p : Plan) (q b : ℕ) where
       (λ e. rw (is-fresh e) (λ i w. let x = marked-mark p b i w in List·Memᴰ·not-nil (subst (λ (z : List Placed). List·Memᴰ (x .0) z) (none-last marks e) (x .1))))
       (λ m e. let last = some-last marks m e in
       by-cases (is-free m)
-      (λ t. by-cases (sees m)
-      (λ s. by-cases (all sees marks)
-      (λ a. rw (is-reusable m e t s a) (m, last, free-kind m t, λ i w. let x = marked-mark p b i w in subst (λ (z : ℕ). Seen p q z) (x .2) (seen-means p q (x .0 .by) .0 (all-gives sees marks a (x .0) (x .1)))))
-      (λ a. rw (is-stray m e t s a) (let x = all-fails sees marks a in
-      (m, last, free-kind m t, seen-means p q (m .by) .0 s, (x .0 .by, mark-marked p b (x .0) (x .1), unseen p q (x .0 .by) (x .2))))))
-      (λ s. rw (is-not-ordered m e t s) (m, last, free-kind m t, unseen p q (m .by) s)))
+      (λ t. by-cases (all sees marks)
+      (λ a. rw (is-reusable m e t a) (
+        m,
+        last,
+        free-kind m t,
+        λ i w.
+            let x = marked-mark p b i w in
+            subst (λ (z : ℕ). Seen p q z) (x .2) (seen-means p q (x .0 .by) .0 (all-gives sees marks a (x .0) (x .1))),
+      ))
+      (λ a. rw (is-not-ordered m e t a) (let x = all-fails sees marks a in
+      (m, last, free-kind m t, (x .0 .by, mark-marked p b (x .0) (x .1), unseen p q (x .0 .by) (x .2))))))
       (λ f. rw (is-held m e f) (m, last, use-kind m f)))
 
   sees-not : (i : ℕ) → (Seen p q i → ⊥) → seen-by p (last-on p q) i ≡ false
@@ -170,13 +196,12 @@ module _ (p : Plan) (q b : ℕ) where
   when-is Held w = is-held (w .0) (last-is (w .0) (w .1)) (kind-use (w .0) (w .2))
   when-is Reusable w =
       let m = w .0 in
-      is-reusable m (last-is m (w .1)) (kind-free m (w .2)) (seen-means p q (m .by) .1 (w .3 (m .by) (mark-marked p b m (last-in m (w .1)))))
+      is-reusable m (last-is m (w .1)) (kind-free m (w .2))
       (all-by sees marks (λ n t. seen-means p q (n .by) .1 (w .3 (n .by) (mark-marked p b n t))))
-  when-is NotOrdered w = is-not-ordered (w .0) (last-is (w .0) (w .1)) (kind-free (w .0) (w .2)) (sees-not (w .0 .by) (w .3))
-  when-is StrayUse w =
-      let x = w .4 in
+  when-is NotOrdered w =
+      let x = w .3 in
       let n = marked-mark p b (x .0) (x .1) in
-      is-stray (w .0) (last-is (w .0) (w .1)) (kind-free (w .0) (w .2)) (seen-means p q (w .0 .by) .1 (w .3))
+      is-not-ordered (w .0) (last-is (w .0) (w .1)) (kind-free (w .0) (w .2))
       (all-no sees marks (n .0) (n .1) (sees-not (n .0 .by) (λ v. x .2 (subst (λ (z : ℕ). Seen p q z) (n .2) v))))
 
   -- R58, the table of verdicts
@@ -191,7 +216,6 @@ module _ (p : Plan) (q b : ℕ) where
     reusable = numbered Reusable;
     held = numbered Held;
     not-ordered = numbered NotOrdered;
-    stray-use = numbered StrayUse;
   }
     where
       numbered : (v : Verdict) → (number-of (verdict p q b) ≡ number-of v) ↔ When p q b v

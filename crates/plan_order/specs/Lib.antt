@@ -4,5 +4,6 @@ pub mod Runs
 pub mod Holdings
 pub mod Check
 pub mod Reuse
+pub mod FiveVerdicts
 pub mod Promise
 pub mod Meaning

@@ -18,7 +18,7 @@ use Rattle.plan_order.specs.Precedence.{Before}
 use Rattle.plan_order.specs.Holdings.{Placed, buffer-marks}
 use Rattle.plan_order.specs.Check.{room-refusal, Outcome, Leaves, untouched, zeros, rows-and-run, check-outcome}
 use Rattle.plan_order.specs.declared.Verdict.{Verdict}
-use Rattle.plan_order.specs.declared.Verdict.the-variants.{Fresh, Reusable, Held, NotOrdered, StrayUse}
+use Rattle.plan_order.specs.declared.Verdict.the-variants.{Fresh, Reusable, Held, NotOrdered}
 
 -- ---- order
 -- the operation signals the value on the semaphore
@@ -183,11 +183,13 @@ When p q b Fresh = (i : ℕ) → Marked p b i → ⊥
 When p q b Held = (m : Placed) × Last-mark p b m × (m .kind ≡ 1 → ⊥)
 -- the last mark is a free, and all operations with a mark are seen
 When p q b Reusable = (m : Placed) × Last-mark p b m × (m .kind ≡ 1) × ((i : ℕ) → Marked p b i → Seen p q i)
--- the last mark is a free that is seen, and some operation with a mark is not
-When p q b StrayUse =
-    (m : Placed) × Last-mark p b m × (m .kind ≡ 1) × Seen p q (m .by) × ((i : ℕ) × Marked p b i × (Seen p q i → ⊥))
--- the last mark is a free that is not seen
-When p q b NotOrdered = (m : Placed) × Last-mark p b m × (m .kind ≡ 1) × (Seen p q (m .by) → ⊥)
+-- the last mark is a free, and some operation with a mark is not seen
+When p q b NotOrdered =
+    (m : Placed) × Last-mark p b m × (m .kind ≡ 1) × ((i : ℕ) × Marked p b i × (Seen p q i → ⊥))
+
+-- the last mark is a free in an operation that is not seen
+abbrev pub Free-unseen : Plan → (q b : ℕ) → Type 0
+Free-unseen p q b = (m : Placed) × Last-mark p b m × (m .kind ≡ 1) × (Seen p q (m .by) → ⊥)
 
 -- R58: each number by its line of the table; n is the number handed back
 pub record Verdict-table (p : Plan) (q b n : ℕ) : Type 0 where
@@ -195,7 +197,6 @@ pub record Verdict-table (p : Plan) (q b n : ℕ) : Type 0 where
   pub reusable : (n ≡ 1) ↔ When p q b Reusable
   pub held : (n ≡ 2) ↔ When p q b Held
   pub not-ordered : (n ≡ 3) ↔ When p q b NotOrdered
-  pub stray-use : (n ≡ 4) ↔ When p q b StrayUse
 
 -- ---- room
 -- R46, refusal 9: the table is judged before the run list, each with the length that is enough

@@ -14,7 +14,7 @@ use Rattle.plan_order.specs.Precedence.{at-or-before}
 use Rattle.plan_order.specs.Holdings.{Placed, is-free, buffer-marks}
 use Rattle.plan_order.specs.Check.{Outcome, outcome, or-then, rows-and-run, check-outcome, Says}
 use Rattle.plan_order.specs.declared.Verdict.{Verdict}
-use Rattle.plan_order.specs.declared.Verdict.the-variants.{Fresh, Reusable, Held, NotOrdered, StrayUse}
+use Rattle.plan_order.specs.declared.Verdict.the-variants.{Fresh, Reusable, Held, NotOrdered}
 
 -- R58: the number of a verdict
 unfoldable pub number-of : Verdict → ℕ
@@ -22,7 +22,6 @@ number-of Fresh = 0
 number-of Reusable = 1
 number-of Held = 2
 number-of NotOrdered = 3
-number-of StrayUse = 4
 
 -- the queue's last operation
 unfoldable pub last-on : Plan → (q : ℕ) → Option ℕ
@@ -38,12 +37,10 @@ last-mark [] = none
 last-mark (m ∷ []) = some m
 last-mark (m ∷ n ∷ ms) = last-mark (n ∷ ms)
 
--- R58, verdicts: by the last mark on the buffer, and by which of the operations with a mark are seen
+-- R58, verdicts: by the last mark on the buffer, and by whether every operation with a mark is seen
 unfoldable pub verdict-on : Plan → (last : Option ℕ) → (marks : List Placed) → (last-mark : Option Placed) → Verdict
 verdict-on p j ms none = Fresh
-verdict-on p j ms (some m) =
-    cond (not (is-free m)) Held
-    (cond (not (seen-by p j (m .by))) NotOrdered (cond (all (λ n. seen-by p j (n .by)) ms) Reusable StrayUse))
+verdict-on p j ms (some m) = cond (not (is-free m)) Held (cond (all (λ n. seen-by p j (n .by)) ms) Reusable NotOrdered)
 
 unfoldable pub verdict : Plan → (q b : ℕ) → Verdict
 verdict p q b = let ms = buffer-marks p b in verdict-on p (last-on p q) ms (last-mark ms)

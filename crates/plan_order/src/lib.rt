@@ -6,5 +6,4 @@ pub enum Verdict {
     Reusable,
     Held,
     NotOrdered,
-    StrayUse,
 }

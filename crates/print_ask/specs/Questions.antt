@@ -14,14 +14,12 @@ use Rattle.ask_frontier.specs.declared.Sent.{Sent}
 use Rattle.base_text.specs.Ascii.{ascii}
 use Rattle.base_text.specs.Text.{Puts, decimal, after-blank, or-refused}
 
--- the name of a verdict's number, after a blank
+-- R58: the name of a verdict's number, after a blank
 unfoldable pub verdict-name : (number : ℕ) → List ℕ
 verdict-name n =
     cond (eqb n 0) (ascii " fresh")
     (cond (eqb n 1) (ascii " reusable")
-    (cond (eqb n 2) (ascii " held")
-    (cond (eqb n 3) (ascii " not-ordered")
-    (ascii " stray-use"))))
+    (cond (eqb n 2) (ascii " held") (ascii " not-ordered")))
 
 -- R74, the line of a verdict: its number and its name
 unfoldable pub verdict-text : (number : ℕ) → List ℕ

@@ -43,10 +43,7 @@ fn verdict(out: &mut [u8], at: usize, number: u64) -> usize
     if number == 2 {
         return base_text::words(out, at, b" held");
     }
-    if number == 3 {
-        return base_text::words(out, at, b" not-ordered");
-    }
-    base_text::words(out, at, b" stray-use")
+    base_text::words(out, at, b" not-ordered")
 }
 
 // The frontier sent out for an operation.

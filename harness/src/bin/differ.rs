@@ -59,7 +59,7 @@ struct Tally {
     by_brute_force: u64,
     traces_by_brute_force: u64,
     numbers: [[u64; NUMBERS]; FUNCTIONS.len()],
-    verdicts: [u64; 5],
+    verdicts: [u64; 4],
     dominance: [u64; 3],
     /// Answers of the trace question.
     followed: [u64; 6],
@@ -102,7 +102,7 @@ impl Tally {
             }
             println!();
         }
-        println!("reuse verdicts 0 to 4: {:?}", self.verdicts);
+        println!("reuse verdicts 0 to 3: {:?}", self.verdicts);
         println!(
             "traces full, unfinished, unknown, repeated, not first, wait not met: {:?}",
             self.followed
@@ -122,9 +122,7 @@ impl Tally {
                 return Some(format!("{name} never gave {number}"));
             }
         }
-        // Verdict 4 is not asked for: the marks of a passed plan are all before
-        // the last free, or in it.
-        if self.verdicts[..4].contains(&0) || self.dominance.contains(&0) {
+        if self.verdicts.contains(&0) || self.dominance.contains(&0) {
             return Some("an answer never occurred".to_string());
         }
         if let Some(answer) = self.followed.iter().position(|&count| count == 0) {

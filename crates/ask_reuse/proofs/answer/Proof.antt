@@ -1,7 +1,7 @@
 -- `answer` refuses the queue, then the buffer, and else gives the verdict's number. Assumes nothing.
 use mathlib.Core.Path.{ap, _∙_}
 use Rattle.plan_order.specs.Reuse.{number-of}
-use Rattle.ask_reuse.proofs.ReuseAsked.{no-queue, no-buffer, answered}
+use Rattle.ask_reuse.proofs.ReuseAsked.{buffer-known, no-queue, no-buffer, answered}
 use borrow.Author.Needs.{needs}
 use Rattle.ask_reuse.proofs.answer.Statement.{statement}
 use Rattle.ask_reuse.proofs.answer.Tie as tie
@@ -32,8 +32,9 @@ returns-3 c =
     let asked = c .before in
     let branch = asked .before .before in
     rw (c .answered .ensures)
-    (λ p o. answered o _ _ (branch .before .before .if1 .left) (branch .if2 .left)
-    (asked .number-of .ensures ∙ ap number-of (asked .before .verdict .ensures p (o .shown))))
+    (λ p o. let known = buffer-known o (branch .if2 .left) in
+    answered o _ _ (branch .before .before .if1 .left) (branch .if2 .left)
+    (asked .number-of .ensures ∙ ap number-of (asked .before .verdict .ensures p known (o .shown))))
 
 pub answer-spec : {M : Type 1} → statement M
 answer-spec =

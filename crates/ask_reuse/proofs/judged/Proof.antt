@@ -1,20 +1,27 @@
--- `judged` goes from the first mark to the last: the verdict from here is that of the whole. Assumes nothing.
+-- `judged` goes from the last mark to the first: the last one on the buffer is among those left. Assumes nothing.
 use mathlib.Core.Path.{ap}
 use Prim.Native.Nat.{ℕ, _-_, _%_}
 use borrow.Author.Needs.{needs}
 use Rattle.plan_format.specs.Sizes.{most-operations}
-use Rattle.ask_reuse.proofs.ReuseTurns.{Judging, judging-none, judging-end, judging-other, judging-own}
+use Rattle.check_columns.specs.Shown.{mark-codes}
+use Rattle.ask_reuse.proofs.ReuseTurns.{Left, left-all, left-none, left-other, left-own}
 use Rattle.ask_reuse.proofs.judged.Statement.{statement}
 use Rattle.ask_reuse.proofs.judged.Tie as tie
 
 abbrev Inv-loop : tie.InvT-loop
-Inv-loop b last marks queue mark mop table verdict₀ all₀ k₀ verdict all k = Judging queue table mark mop b last marks verdict all k
+Inv-loop b last marks queue mark mop table back₀ back = Left mark b marks back
 
 abbrev μ-loop : tie.MeasureT-loop
-μ-loop b last marks queue mark mop table verdict₀ all₀ k₀ verdict all k = marks - k
+μ-loop b last marks queue mark mop table back₀ back = marks - back
 
 loop-holds : tie.Need-loop-holds Inv-loop μ-loop
-loop-holds c = judging-none
+loop-holds c = left-all
+
+add-back : tie.Need-add-back Inv-loop μ-loop
+add-back c = search needs
+
+sub-k : tie.Need-sub-k Inv-loop μ-loop
+sub-k c = search needs
 
 get16-requires : tie.Need-get16-requires Inv-loop μ-loop
 get16-requires c κs = search needs
@@ -22,35 +29,29 @@ get16-requires c κs = search needs
 get16-requires-2 : tie.Need-get16-requires-2 Inv-loop μ-loop
 get16-requires-2 c κs = search needs
 
-add-k : tie.Need-add-k Inv-loop μ-loop
-add-k c = search needs
-
 seen-requires : tie.Need-seen-requires Inv-loop μ-loop
 seen-requires c κs = search needs
 
 after-requires : tie.Need-after-requires Inv-loop μ-loop
 after-requires c κs = search needs
 
+returns : tie.Need-returns Inv-loop μ-loop
+returns c =
+    let own = c .before .before .before in
+    left-own (own .before .before .before .loop .inv) (own .before .before .loop-test .taken)
+    (ap (λ (z : ℕ). z % mark-codes) (own .before .get16 .ensures)) _ _ (own .if1 .taken)
+    (ap (λ (z : ℕ). z % most-operations) (c .before .before .get162 .ensures)) (c .before .seen .ensures) (c .after .ensures)
+
 loop-less : tie.Need-loop-less Inv-loop μ-loop
 loop-less c = search needs
 
 loop-again : tie.Need-loop-again Inv-loop μ-loop
 loop-again c =
-    judging-own (c .before .before .before .before .before .before .loop .inv) (c .before .before .before .before .before .loop-test .taken)
-    (ap (λ (z : ℕ). z % 512) (c .before .before .before .before .get16 .ensures))
-    (ap (λ (z : ℕ). z % most-operations) (c .before .before .before .get162 .ensures)) (c .before .before .if1 .taken)
-    (c .before .seen .ensures) (c .after .ensures)
+    left-other (c .before .before .before .loop .inv) (c .before .before .loop-test .taken)
+    (ap (λ (z : ℕ). z % mark-codes) (c .before .get16 .ensures)) (c .if1 .left)
 
-loop-less-2 : tie.Need-loop-less-2 Inv-loop μ-loop
-loop-less-2 c = search needs
-
-loop-again-2 : tie.Need-loop-again-2 Inv-loop μ-loop
-loop-again-2 c =
-    judging-other (c .before .before .before .before .loop .inv) (c .before .before .before .loop-test .taken)
-    (ap (λ (z : ℕ). z % 512) (c .before .before .get16 .ensures)) (c .if1 .left)
-
-returns : tie.Need-returns Inv-loop μ-loop
-returns c = judging-end (c .before .loop .inv) (c .loop-test .left)
+returns-2 : tie.Need-returns-2 Inv-loop μ-loop
+returns-2 c = left-none (c .before .loop .inv) _ _ (c .loop-test .left)
 
 pub judged-spec : {M : Type 1} → statement M
 judged-spec =
@@ -59,13 +60,13 @@ judged-spec =
     Inv-loop
     μ-loop
     loop-holds
+    add-back
+    sub-k
     get16-requires
     get16-requires-2
-    add-k
     seen-requires
     after-requires
+    returns
     loop-less
     loop-again
-    loop-less-2
-    loop-again-2
-    returns)
+    returns-2)

@@ -16,9 +16,6 @@ enum-told-3 c = search needs
 enum-told-4 : tie.Need-enum-told-4
 enum-told-4 c = search needs
 
-enum-told-5 : tie.Need-enum-told-5
-enum-told-5 c = search needs
-
 returns : tie.Need-returns
 unfolding number-of
 returns c = search needs
@@ -35,10 +32,6 @@ returns-4 : tie.Need-returns-4
 unfolding number-of
 returns-4 c = search needs
 
-returns-5 : tie.Need-returns-5
-unfolding number-of
-returns-5 c = search needs
-
 pub number-of-spec : {M : Type 1} → statement M
 number-of-spec =
     tie.close
@@ -47,9 +40,7 @@ number-of-spec =
     enum-told-2
     enum-told-3
     enum-told-4
-    enum-told-5
     returns
     returns-2
     returns-3
-    returns-4
-    returns-5)
+    returns-4)

@@ -11,7 +11,9 @@ judged-requires : tie.Need-judged-requires
 judged-requires c κs = search needs
 
 returns : tie.Need-returns
-returns c = λ p shown. verdict-right _ _ shown (c .before .before .before .before .last-on .ensures) (c .judged .ensures)
+returns c =
+    let last = c .before .before .before .before .last-on .ensures in
+    λ p known shown. verdict-right _ _ known shown last (c .judged .ensures)
 
 pub verdict-spec : {M : Type 1} → statement M
 verdict-spec = tie.close (tie.spec last-on-requires judged-requires returns)

@@ -55,20 +55,12 @@ same-length-4 c = search needs
 
 returns-4 : tie.Need-returns-4
 unfolding verdict-name
-returns-4 c = rw (ne-eqb (c .before .before .before .before .before .before .before .before .before .before .args .number) 0 (c .before .before .before .before .before .before .before .before .if1 .left), ne-eqb (c .before .before .before .before .before .before .before .before .before .before .args .number) 1 (c .before .before .before .before .before .before .before .if2 .left), ne-eqb (c .before .before .before .before .before .before .before .before .before .before .args .number) 2 (c .before .before .before .before .before .before .if3 .left), eq-eqb (c .before .before .before .before .before .before .before .before .before .before .args .number) 3 (c .before .before .before .before .before .if4 .taken)) (c .before .before .words4 .ensures)
-
-slice-aggregate-words-5 : tie.Need-slice-aggregate-words-5
-slice-aggregate-words-5 c = search needs
-
-words-requires-5 : tie.Need-words-requires-5
-words-requires-5 c κs = search needs
-
-same-length-5 : tie.Need-same-length-5
-same-length-5 c = search needs
-
-returns-5 : tie.Need-returns-5
-unfolding verdict-name
-returns-5 c = rw (ne-eqb (c .before .before .before .before .before .before .before .before .before .before .args .number) 0 (c .before .before .before .before .before .before .before .before .if1 .left), ne-eqb (c .before .before .before .before .before .before .before .before .before .before .args .number) 1 (c .before .before .before .before .before .before .before .if2 .left), ne-eqb (c .before .before .before .before .before .before .before .before .before .before .args .number) 2 (c .before .before .before .before .before .before .if3 .left), ne-eqb (c .before .before .before .before .before .before .before .before .before .before .args .number) 3 (c .before .before .before .before .before .if4 .left)) (c .before .before .words5 .ensures)
+returns-4 c =
+    let third = c .before .before .before .before .before in
+    let first = third .before .before in
+    let n = first .before .before .args .number in
+    rw (ne-eqb n 0 (first .if1 .left), ne-eqb n 1 (third .before .if2 .left), ne-eqb n 2 (third .if3 .left))
+    (c .before .before .words4 .ensures)
 
 pub verdict-spec : {M : Type 1} → statement M
 verdict-spec =
@@ -89,8 +81,4 @@ verdict-spec =
     slice-aggregate-words-4
     words-requires-4
     same-length-4
-    returns-4
-    slice-aggregate-words-5
-    words-requires-5
-    same-length-5
-    returns-5)
+    returns-4)
