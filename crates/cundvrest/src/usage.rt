@@ -22,13 +22,11 @@ It prints one of these; N is the refusal and P its place.
   passed 0, then size QUEUES SEMAPHORES BUFFERS OPERATIONS, run, ready, and a row for each operation
   verdict N WORD        fresh, reusable, held or not-ordered
   frontier whole|tainted AXIS:EPOCH ..
-  trace full, trace unfinished STEPS, or trace departs STEP RULE OPERATION, then queues and semaphores with how far each had come
-                        RULE is unknown, repeated, not-first, or wait-not-met with the wait after the operation
+  trace full, unfinished STEPS or departs STEP RULE OPERATION, then queues and semaphores: how far each had come
   refused N P
      1 cut short       2 count over its limit     3 bytes follow          4 not in its list     5 axis twice
      6 not the owner   7 signal not higher        8 wait for no signal   10 stuck              11 broken mark
-    12 no such queue  13 no such buffer          15 capacity not 1..16   21 no such operation
-    22 trace badly formed
+    12 no such queue  13 no such buffer          15 capacity not 1..16   21 no such operation  22 bad trace
 
 All numbers are decimal. The launcher ./cundvrest also knows --help, -h and --version. Its exit status:
   0 yes, go on    passed; fresh or reusable; a frontier, numbers or a plan; a full trace
