@@ -1,5 +1,5 @@
 # Part of the launcher, in the repository alone: sees to it that the program is there and as new as what it is made
-# of. Takes `home`, `program` and `fail` from it.
+# of. Takes `home`, `program`, `form` and `fail` from it.
 built=$home/target/cundvrest.built
 
 # The mark lists what the program is made of: the code and the contracts of its own crates, each file and each folder.
@@ -40,6 +40,7 @@ if ! fresh; then
         sed -n '/^ *b"cundvrest: /,$ { /^"/q; s/^ *b"//; p; }' "$home/crates/cundvrest/src/usage.rt" || exit 2
         exit 0
     fi
+    [ -n "$form" ] || fail "no such question; right: cundvrest help"
     # One call builds; others that find the program missing or old wait for it. What builds keeps the lock, also where
     # the launcher itself has been ended.
     mkdir -p "$home/target" 2>/dev/null && : 2>/dev/null >>"$home/target/lock" || fail "cannot write below $home/target"
