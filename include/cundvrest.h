@@ -16,8 +16,9 @@
  *       before it                             where the field begins
  *    2  a count exceeds its limit             where the count begins
  *    3  the input goes on after the plan      the first byte too many
- *    4  a position out of its section, or
- *       a kind that is neither 0 nor 1        where the field begins
+ *    4  a position out of its section, a kind
+ *       that is neither 0 nor 1, or in write
+ *       a size of 2^32 or more                where the field begins
  *    5  two queues with one axis              where the later axis begins
  *    6  a signal on another queue's
  *       semaphore                             the operation
@@ -98,8 +99,8 @@ extern "C" {
 /* The stack that a call may use, in bytes. */
 #define CUNDVREST_STACK 524288
 
-/* Verdicts: the answer of cundvrest_reuse. These are all: no plan that passes
- * gets another, and the constant CUNDVREST_STRAY_USE, which was 4, is gone. */
+/* Verdicts: the answer of cundvrest_reuse. There is no CUNDVREST_STRAY_USE, 4:
+ * no plan that passes gets it. */
 #define CUNDVREST_FRESH 0
 #define CUNDVREST_REUSABLE 1
 #define CUNDVREST_HELD 2
@@ -159,8 +160,9 @@ void cundvrest_reuse(const uint8_t *plan, size_t plan_len,
                      uint32_t *table, size_t table_len,
                      uint32_t *list, size_t list_len, uint64_t told[3]);
 
-/* The frontier that is sent out for an operation: its row's entries above 0
- * under the queues' axes, cut to the capacity. The plan is checked first:
+/* The frontier that is sent out for an operation: an entry for each number above
+ * 0 in its row, under the axis of that column's queue, cut as a merge is. The
+ * plan is checked first:
  * refusals 1 to 11, then 21, then 15. An answer, 21 and 15 leave the rows and the
  * run. A refusal writes the empty untainted frontier, which is 34 zeros. */
 void cundvrest_frontier(const uint8_t *plan, size_t plan_len,
@@ -204,10 +206,11 @@ void cundvrest_trace(const uint8_t *plan, size_t plan_len,
 /* Frontiers. Well formed: at most 16 entries, axes rising, epochs above 0, slots
  * past the length zero, taint 0 or 1. Anything else is refusal 14. */
 
-/* The larger epoch of each axis. If more than the capacity remain, those with
- * the largest epochs stay, of equal epochs the larger axis, and the result is
- * tainted; it is also tainted if either side was. Refusals 15, then 14 for the
- * left, then for the right; they write the empty untainted frontier. */
+/* Every axis of either side, with the larger of its epochs. Of more entries than
+ * the capacity only as many are kept: larger epochs before smaller ones, and for
+ * the same epoch larger axes first. What was cut, or has a tainted side, is
+ * tainted. Refusals 15, then 14, the left side first; they write the empty
+ * untainted frontier. */
 void cundvrest_merge(const uint64_t left[34], const uint64_t right[34],
                      uint32_t capacity, uint64_t merged[34], uint64_t told[3]);
 

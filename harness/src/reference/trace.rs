@@ -64,8 +64,7 @@ impl<'a> Cell<'a> {
         }
     }
 
-    /// "Unknown operation, repeated, not first in its queue, or a wait not met
-    /// (naming the first such in its list), tested in that order."
+    /// R81: the first reason why a step with this operation departs.
     fn judge(&self, operation: u16) -> Result<(), Departs> {
         let position = usize::from(operation);
         let Some(&has_run) = self.has_run.get(position) else {
@@ -123,8 +122,7 @@ impl<'a> Cell<'a> {
     }
 }
 
-/// "Say that such a trace is a full run, an unfinished run, or name the first
-/// step that departs and why."
+/// R80 to R84: what was followed, where it departs, and the state.
 pub fn trace(
     plan: &[u8],
     trace: &[u8],
