@@ -184,6 +184,7 @@ module _ (bs ts : List ℕ) (t l s : ℕ) where
   pub outcome-means : Outcome-means bs ts t l s (trace-outcome bs ts t l s)
   unfolding trace-outcome
   outcome-means = record {
+    check = check-means bs t l;
     plan-first = plan-first;
     short = λ z h. gives-asked 9 state-size z (short-is ts s h);
     disagrees = λ z h w. gives-asked 22 0 z (ill-is ts s h w);

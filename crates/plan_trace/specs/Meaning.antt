@@ -19,7 +19,7 @@ use Rattle.plan_format.specs.RefusalNumbers.{
 use Rattle.plan_format.specs.Plan.{Point, Plan, count, op, queues}
 use Rattle.plan_format.specs.Meaning.{wait-at}
 use Rattle.plan_order.specs.Check.{Outcome, untouched, zeros, rows-and-run, check-outcome}
-use Rattle.plan_order.specs.Meaning.{Highest-signalled, Run-means, Full-means, Gives}
+use Rattle.plan_order.specs.Meaning.{Highest-signalled, Run-means, Full-means, Gives, Check-means}
 use Rattle.plan_trace.specs.declared.Followed.{Followed}
 use Rattle.plan_trace.specs.declared.Followed.the-variants.{
   Full,
@@ -117,6 +117,7 @@ pub record Traced-means (p : Plan) (steps : List ℕ) (x : Traced) : Type 0 wher
 -- R84: the check's refusals, then 9 with the size of the state, then 22 at 0; and what is left goes by the check,
 -- whatever the number
 pub record Outcome-means (bytes trace : List ℕ) (table list state : ℕ) (o : Outcome) : Type 0 where
+  pub check : Check-means bytes table list (check-outcome bytes table list)
   pub plan-first : (check-outcome bytes table list .refusal .number ≡ 0 → ⊥) → o ≡ check-outcome bytes table list
   pub short : check-outcome bytes table list .refusal .number ≡ 0 → state < state-size →
       Gives o 9 state-size rows-and-run

@@ -87,7 +87,7 @@ fn why(plan: &Plan, run: &[Position], position: Position) -> (u64, usize) {
     (5, unmet.expect("a step that breaks no rule extends a run"))
 }
 
-/// "How far each queue and semaphore had come."
+/// R83: the state after a run.
 fn state(plan: &Plan, run: &[Position]) -> [u64; STATE] {
     let mut state = [0; STATE];
     let (queues, semaphores) = state.split_at_mut(16);
