@@ -24,7 +24,7 @@ use Rattle.plan_order.proofs.QuestionMeaning.{question-number, question-answer,
 use Rattle.check_plan.specs.Opening.{Lent, Opened-plan}
 use Rattle.check_plan.specs.declared.Counted.{Counted}
 use Rattle.check_plan.specs.declared.Opened.{Opened}
-use Rattle.ask_reuse.specs.Reuse.{Asked}
+use Rattle.ask_reuse.specs.Reuse.{Reuse-asked}
 use Rattle.ask_reuse.specs.ReusePass.{Question-given}
 
 -- ---- all that a caller gets
@@ -41,7 +41,7 @@ answered-forced : (bs : List ℕ) (q b t l : ℕ) → reuse-outcome bs q b t l .
     (k : ℕ) → k < length (buffer-marks (plan-in bs) b) → Forced (plan-in bs) b k
 answered-forced bs q b t l e = let w = question-answered bs q b t l e in checked-forced bs b t l (w .0) (w .2)
 
-pub asked : (bs : List ℕ) (q b : ℕ) (r : Told) (t x l y : List ℕ) → Reuse-says bs q b r t x l y → Asked bs q b r t x l y
+pub asked : (bs : List ℕ) (q b : ℕ) (r : Told) (t x l y : List ℕ) → Reuse-says bs q b r t x l y → Reuse-asked bs q b r t x l y
 unfolding Reuse-says
 asked bs q b r t x l y s =
     let n = s .tells .number in

@@ -20,7 +20,7 @@ ghost use Rattle.plan_format.specs.Sizes.{most-operations};
 ghost use Rattle.plan_format.specs.Plan.{Plan};
 ghost use Rattle.plan_format.specs.Stored.{Tells};
 ghost use Rattle.plan_order.specs.Reuse.{verdict as verdict-of, number-of, question-refusal};
-ghost use Rattle.ask_reuse.specs.Reuse.{Asked};
+ghost use Rattle.ask_reuse.specs.Reuse.{Reuse-asked};
 ghost use Rattle.ask_reuse.specs.ReusePass.{Question-given, Verdict-given, last-shown, last-marked};
 ghost use Rattle.ask_reuse.specs.ReusePass.{seen as is-seen, verdict-after, verdict-at};
 
@@ -32,7 +32,7 @@ pub fn reuse_question(
     table: &mut [u32],
     list: &mut [u32],
 ) -> Told
-    ensures { λ r. ⌜ Asked (now (plan .entry)) queue buffer r (now (table .entry)) (now (table .exit)) (now (list .entry)) (now (list .exit)) ⌝ }
+    ensures { λ r. ⌜ Reuse-asked (now (plan .entry)) queue buffer r (now (table .entry)) (now (table .exit)) (now (list .entry)) (now (list .exit)) ⌝ }
 {
     let mut head = [0u64; HEAD_NUMBERS];
     let mut queues = [0u16; MOST_OPERATIONS];

@@ -99,18 +99,18 @@ all-at f (x ∷ bs) zero h n = rw n
 all-at f (x ∷ bs) (suc i) h n = by-cases (f x) (λ t. rw t (all-at f bs i (omega arith) n)) (λ e. rw e)
 
 -- the first digits of a word, read
-pub record Reads (text : List ℕ) (i : ℕ) (d : Digits) : Type 0 where
+pub record Digits-read (text : List ℕ) (i : ℕ) (d : Digits) : Type 0 where
   pub inside : i ≤ length text
   pub digits : all digit-test (take i text) ≡ true
   pub value : d ≡ digits-of (value-after 0 (take i text))
 
-pub reads-none : (text : List ℕ) → Reads text 0 (record { value = 0; large = false })
+pub reads-none : (text : List ℕ) → Digits-read text 0 (record { value = 0; large = false })
 unfolding all value-after
 reads-none text = record { inside = omega arith; digits = refl; value = sym (within 0 (omega arith)) }
 
 pub reads-more :
-    (text : List ℕ) (i : ℕ) (d r : Digits) → i < length text → digit-value (getD text i 0) ≤ 9 → Reads text i d →
-    r ≡ more-of d (digit-value (getD text i 0)) → Reads text (i + 1) r
+    (text : List ℕ) (i : ℕ) (d r : Digits) → i < length text → digit-value (getD text i 0) ≤ 9 → Digits-read text i d →
+    r ≡ more-of d (digit-value (getD text i 0)) → Digits-read text (i + 1) r
 reads-more text i d r h t k step =
     let known = digit-known (getD text i 0) t in
     record {
@@ -139,7 +139,7 @@ word-whole limit (b ∷ bs) h t = rw t
 
 -- the whole word, read
 module _
-    (limit : ℕ) (text : List ℕ) (i : ℕ) (d : Digits) (some : 0 < length text) (end : length text ≤ i) (k : Reads text i d)
+    (limit : ℕ) (text : List ℕ) (i : ℕ) (d : Digits) (some : 0 < length text) (end : length text ≤ i) (k : Digits-read text i d)
     (wide : limit ≤ 18446744073709551615) where
   whole : limited limit (value-after 0 text) ≡ word-of limit text
   whole = word-whole limit text some (rw (take-all i text end) at (k .digits))

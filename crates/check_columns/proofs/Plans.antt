@@ -43,10 +43,10 @@ module _ {X : List ℕ} {f : Part} {room n first : ℕ} {before now : List ℕ} 
   column-many = column-count done b ∙ parts-long
 
 -- ---- a plan whose operations are among the numbers
-module _ (p : Plan) (limits : Limits p) (X : List ℕ) (n first : ℕ) (stand : p .operations ≡ operations-in n (drop first X)) where
+module _ (p : Plan) (limits : Limits p) (X : List ℕ) (n first : ℕ) (stored-as : p .operations ≡ operations-in n (drop first X)) where
   many-is : count p ≡ n
   unfolding count
-  many-is = ap (λ (z : List Operation). length z) stand ∙ operations-long n (drop first X)
+  many-is = ap (λ (z : List Operation). length z) stored-as ∙ operations-long n (drop first X)
 
   plan-fits : (j : ℕ) → j < count p → Fits (op p j)
   plan-fits j l =
@@ -64,12 +64,12 @@ module _ (p : Plan) (limits : Limits p) (X : List ℕ) (n first : ℕ) (stand : 
 
   all-fit : (j : ℕ) → j < n → Fits (getD (operations-in n (drop first X)) j empty-operation)
   unfolding op
-  all-fit j l = subst (λ (z : List Operation). Fits (getD z j empty-operation)) stand (plan-fits j (omega (arith, many-is)))
+  all-fit j l = subst (λ (z : List Operation). Fits (getD z j empty-operation)) stored-as (plan-fits j (omega (arith, many-is)))
 
   -- a column's parts, by the plan's operations
   says : {A : Type 0} (f : Part) (h : A → ℕ) (of : ℕ → Operation → List A) → ((i at : ℕ) → Fits (here X at) → f i at ≡ map h (of i (here X at))) →
       parts X f n 0 first ≡ map h (joined of 0 (p .operations))
-  says f h of same = parts-map X f h of same n 0 first all-fit ∙ ap (λ (z : List Operation). map h (joined of 0 z)) (sym stand)
+  says f h of same = parts-map X f h of same n 0 first all-fit ∙ ap (λ (z : List Operation). map h (joined of 0 z)) (sym stored-as)
 
   module _ {cs₀ cs : Columns} {i at signals marks : ℕ} (done : n ≤ i)
       (b : Filling X n first cs₀ cs i at signals marks) where

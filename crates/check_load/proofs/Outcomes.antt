@@ -42,8 +42,8 @@ plan-by head r all e inside few =
     record { read = head .plan ∙ e; inside = inside; few = omega (arith, head .few, head .few-operations, few) }
 
 -- a cursor after all numbers, which are in front of the most that a plan has
-abbrev behind : (number at : ℕ) → (all : List ℕ) → Cursor
-behind n a all = record { number = n; at = a; got = length all; value = 0 }
+abbrev cursor-after : (number at : ℕ) → (all : List ℕ) → Cursor
+cursor-after n a all = record { number = n; at = a; got = length all; value = 0 }
 
 abbrev padded : List ℕ → List ℕ
 padded all = all ++ replicate (plan-numbers - length all) 0
@@ -51,13 +51,13 @@ padded all = all ++ replicate (plan-numbers - length all) 0
 padded-long : (all : List ℕ) → length all ≤ plan-numbers → length (padded all) ≡ plan-numbers
 padded-long all l = length-append all (replicate (plan-numbers - length all) 0) ∙ omega (arith, length-replicate {A = ℕ} (plan-numbers - length all) 0)
 
-here-behind : (bs : List ℕ) (r : Cursor) (all : List ℕ) → here bs (behind (r .number) (r .at) all) (padded all) ≡ scan (drop (r .at) bs) (r .at) all (fault-of r)
+here-after : (bs : List ℕ) (r : Cursor) (all : List ℕ) → here bs (cursor-after (r .number) (r .at) all) (padded all) ≡ scan (drop (r .at) bs) (r .at) all (fault-of r)
 unfolding here fault-of
-here-behind bs r all = ap (λ (l : List ℕ). scan (drop (r .at) bs) (r .at) l (fault-of r)) (take-append-seam all (replicate (plan-numbers - length all) 0))
+here-after bs r all = ap (λ (l : List ℕ). scan (drop (r .at) bs) (r .at) l (fault-of r)) (take-append-seam all (replicate (plan-numbers - length all) 0))
 
-here-clean-behind : (bs : List ℕ) (at : ℕ) (all : List ℕ) → here bs (behind 0 at all) (padded all) ≡ scan (drop at bs) at all none-given
+here-clean-after : (bs : List ℕ) (at : ℕ) (all : List ℕ) → here bs (cursor-after 0 at all) (padded all) ≡ scan (drop at bs) at all none-given
 unfolding here fault-of
-here-clean-behind bs at all = ap (λ (l : List ℕ). scan (drop at bs) at l none-given) (take-append-seam all (replicate (plan-numbers - length all) 0))
+here-clean-after bs at all = ap (λ (l : List ℕ). scan (drop at bs) at l none-given) (take-append-seam all (replicate (plan-numbers - length all) 0))
 
 -- after a refusal no more operations are read
 times-stops : (width : ℕ) (h : Head) (s : Scan) (i n : ℕ) → given (times i (step width h) s .fault) ≡ true → i ≤ n →
@@ -82,18 +82,18 @@ module _ (bs : List ℕ) (h : Head) (nums : List ℕ) (cs₀ : Columns) (head : 
       abbrev all-read : List ℕ
       all-read = (heading ++ l .blocks) ++ take (r .got) w-now
 
-      stopped : times (i + 1) (step 1 h) (here bs (head-cursor h) nums) ≡ here bs (behind (r .number) (r .at) all-read) (padded all-read)
+      stopped : times (i + 1) (step 1 h) (here bs (head-cursor h) nums) ≡ here bs (cursor-after (r .number) (r .at) all-read) (padded all-read)
       unfolding end-cursor
-      stopped = read-next 1 bs h nums cs₀ l on w-now r o ∙ sym (here-behind bs (end-cursor r) all-read)
+      stopped = read-next 1 bs h nums cs₀ l on w-now r o ∙ sym (here-after bs (end-cursor r) all-read)
 
       few-read : length all-read ≤ h .got + block-numbers * h .operations
       few-read =
           omega (arith, l .few, few-heading, length-append (heading ++ l .blocks) (take (r .got) w-now), length-append heading (l .blocks), few-numbers 1 (h .queues) (h .semaphores) (h .buffers) bs at w-now r o (l .inside))
 
-      refused-plan : Plan-read first-form bs (behind (r .number) (r .at) all-read) (padded all-read)
+      refused-plan : Plan-read first-form bs (cursor-after (r .number) (r .at) all-read) (padded all-read)
       refused-plan =
-          plan-by head (behind (r .number) (r .at) all-read) (padded all-read)
-          (times-stops 1 h (here bs (head-cursor h) nums) (i + 1) (h .operations) (ap (λ (s : Scan). given (s .fault)) stopped ∙ here-given bs (behind (r .number) (r .at) all-read) (padded all-read) z) (omega arith) ∙ stopped)
+          plan-by head (cursor-after (r .number) (r .at) all-read) (padded all-read)
+          (times-stops 1 h (here bs (head-cursor h) nums) (i + 1) (h .operations) (ap (λ (s : Scan). given (s .fault)) stopped ∙ here-given bs (cursor-after (r .number) (r .at) all-read) (padded all-read) z) (omega arith) ∙ stopped)
           (goes-on 1 (h .queues) (h .semaphores) (h .buffers) bs at w-now r o (l .inside))
           few-read
 
@@ -111,11 +111,11 @@ module _ (bs : List ℕ) (h : Head) (nums : List ℕ) (cs₀ : Columns) (head : 
       long : length (padded all) ≡ plan-numbers
       long = padded-long all (omega (arith, few-all, head .few, head .few-operations))
 
-      whole-plan : Plan-read first-form bs (behind 0 at all) (padded all)
+      whole-plan : Plan-read first-form bs (cursor-after 0 at all) (padded all)
       whole-plan =
           let e : h .operations ≡ i = omega arith in
-          plan-by head (behind 0 at all) (padded all)
-          (ap (λ (k : ℕ). times k (step 1 h) (here bs (head-cursor h) nums)) e ∙ l .read ∙ sym (here-clean-behind bs at all))
+          plan-by head (cursor-after 0 at all) (padded all)
+          (ap (λ (k : ℕ). times k (step 1 h) (here bs (head-cursor h) nums)) e ∙ l .read ∙ sym (here-clean-after bs at all))
           (l .inside)
           few-all
 
@@ -314,9 +314,9 @@ module _ {bs : List ℕ} {h : Head} {nums : List ℕ} (head : Head-read bs h num
       let s = here bs (head-cursor h) nums in
       let stays = read-stays bytes (operation-below 1 (h .queues) (h .semaphores) (h .buffers)) s (here-given bs (head-cursor h) nums z) in
       let all = take (h .got) nums in
-      let e = times-stays (h .operations) (step 1 h) s stays ∙ sym (here-behind bs (head-cursor h) all) in
+      let e = times-stays (h .operations) (step 1 h) s stays ∙ sym (here-after bs (head-cursor h) all) in
       let few : length all ≤ h .got = omega (arith, length-take (h .got) nums) in
-      let t = read-refused (plan-by head (behind (h .number) (h .at) all) (padded all) e (head .inside) (omega arith)) (padded-long all (omega (arith, head .few))) z .told in
+      let t = read-refused (plan-by head (cursor-after (h .number) (h .at) all) (padded all) e (head .inside) (omega arith)) (padded-long all (omega (arith, head .few))) z .told in
       (t .number, t .place)
 
   head-long : h .number ≡ 0 → (h .queues ≤ head-numbers) × (2 + h .queues + h .semaphores ≤ length nums)

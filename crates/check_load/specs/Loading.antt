@@ -64,7 +64,7 @@ head-operations bs = unless-refused (head-scan bs) (last-got (head-scan bs))
 
 -- the head's numbers, up to its refusal, are in front of what was lent for them; its owners, cut to sixteen bits, are
 -- in front of theirs, which stays beside a refusal of the head
-pub record Left (bytes : List ℕ) (r : Loaded) (head head-now owner owner-now : List ℕ) (cs cs′ : Columns) : Type 0 where
+pub record Load-left (bytes : List ℕ) (r : Loaded) (head head-now owner owner-now : List ℕ) (cs cs′ : Columns) : Type 0 where
   pub head-is : head-now ≡ in-front (head-got bytes) head
   pub owner-is : owner-now ≡ cond (given (head-scan bytes .fault)) owner
       (sets owner 0 (owner-numbers head-now (min (semaphore-count (head-got bytes)) most-semaphores)

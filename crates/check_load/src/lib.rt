@@ -20,7 +20,7 @@ ghost use Rattle.plan_format.specs.Stored.{plan-in};
 ghost use Rattle.check_columns.specs.Columns.{columns, Owner-column};
 ghost use Rattle.check_columns.specs.Filling.{owner-numbers};
 ghost use Rattle.stored_numbers.specs.Reading.{Head-read};
-ghost use Rattle.check_load.specs.Loading.{Loads, Keeps, Left};
+ghost use Rattle.check_load.specs.Loading.{Loads, Keeps, Load-left};
 
 // How many queues, semaphores, buffers, operations, signals and marks a plan has; or the reader's refusal and its
 // place.
@@ -53,7 +53,7 @@ pub fn load(
 ) -> Loaded
     ensures loads { λ r. ⌜ Loads (now (plan .entry)) r (now (head .exit)) (columns (now (queue .exit)) (now (wsem .exit)) (now (wval .exit)) (now (ssem .exit)) (now (sval .exit)) (now (sop .exit)) (now (mark .exit)) (now (mop .exit))) ⌝ }
     ensures owners { λ r. ⌜ (r .number ≡ 0 → Owner-column (plan-in (now (plan .entry))) (now (owner .exit))) ⌝ }
-    ensures left { λ r. ⌜ Left (now (plan .entry)) r (now (head .entry)) (now (head .exit)) (now (owner .entry)) (now (owner .exit))
+    ensures left { λ r. ⌜ Load-left (now (plan .entry)) r (now (head .entry)) (now (head .exit)) (now (owner .entry)) (now (owner .exit))
         (columns (now (queue .entry)) (now (wsem .entry)) (now (wval .entry)) (now (ssem .entry)) (now (sval .entry)) (now (sop .entry)) (now (mark .entry)) (now (mop .entry)))
         (columns (now (queue .exit)) (now (wsem .exit)) (now (wval .exit)) (now (ssem .exit)) (now (sval .exit)) (now (sop .exit)) (now (mark .exit)) (now (mop .exit))) ⌝ }
 {

@@ -24,7 +24,7 @@ use Rattle.check_run.proofs.Bounds.{run-past}
 use Rattle.check_stuck.specs.Zeros.{first-zero}
 use Rattle.check_marks.specs.Passes.{first-broken}
 use Rattle.check_passes.specs.Answering.{rules-by, Sources-by, order-by, Run-judged, Answers-by}
-use Rattle.check_passes.specs.Leaving.{Room, Left}
+use Rattle.check_passes.specs.Leaving.{Results-room, Results-left}
 use Rattle.check_passes.proofs.Inside.{order-inside}
 
 -- ---- 6 to 8
@@ -73,10 +73,10 @@ module _ (n ran marks i : ℕ) (queue mark mop rows : List ℕ) where
   order-passed l b e = tells (rw (le-ltb ran n l, ← e, le-ltb i n b))
 
 -- ---- what is left
-module _ (n ran marks : ℕ) (queue mark mop rows : List ℕ) {t t′ l l₁ l′ : List ℕ} {r : Told} (room : Room n t l)
+module _ (n ran marks : ℕ) (queue mark mop rows : List ℕ) {t t′ l l₁ l′ : List ℕ} {r : Told} (room : Results-room n t l)
     (bounded : Bounded n ran (replicate row-places 0) rows l l₁)
     (told-is : Tells (order-by n ran marks queue mark mop rows) 0 r)
-    (left : Left (r .number) n rows t t′ l₁ l′) where
+    (left : Results-left (r .number) n rows t t′ l₁ l′) where
   run-judged : Run-judged n marks queue mark mop r t t′ l l′
   run-judged = record {
     ran = ran;

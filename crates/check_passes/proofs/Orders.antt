@@ -30,7 +30,7 @@ use Rattle.plan_order.proofs.Standard.{standard-full, missing-some, missing-non
 use Rattle.check_columns.specs.Columns.{Row-columns}
 use Rattle.check_run.specs.Run.{Rows-of, Ran}
 use Rattle.check_marks.specs.Given.{Marks-given}
-use Rattle.check_passes.specs.Leaving.{Room, Left}
+use Rattle.check_passes.specs.Leaving.{Results-room, Results-left}
 use Rattle.check_passes.specs.Given.{Judge-given}
 use Rattle.check_passes.proofs.Untouched.{room-enough}
 
@@ -118,8 +118,8 @@ rows-taken p rows-now room shows =
     ∙ sym (rows-at p (k / row-width) (k % row-width) j-inside q-inside)
     ∙ ap (λ (x : ℕ). getD (rows p) x 0) place)
 
-module _ (p : Plan) {n ran : ℕ} {rows-now : List ℕ} {r : Told} {t t′ l l₁ l′ : List ℕ} (sound : Sound p) (many : count p ≡ n) (room : Room n t l)
-    (run : Ran p n ran rows-now l l₁) (told-is : Tells (order-refusal p) 0 r) (left : Left (r .number) n rows-now t t′ l₁ l′) where
+module _ (p : Plan) {n ran : ℕ} {rows-now : List ℕ} {r : Told} {t t′ l l₁ l′ : List ℕ} (sound : Sound p) (many : count p ≡ n) (room : Results-room n t l)
+    (run : Ran p n ran rows-now l l₁) (told-is : Tells (order-refusal p) 0 r) (left : Results-left (r .number) n rows-now t t′ l₁ l′) where
   ordered : plan-outcome p (length t) (length l) ≡ or-then (outcome (order-refusal p) zeros) (outcome none-given rows-and-run)
   unfolding plan-outcome or-then outcome refusal
   ordered =

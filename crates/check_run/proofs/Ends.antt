@@ -19,9 +19,9 @@ use Rattle.plan_format.specs.Plan.{Plan, count}
 use Rattle.plan_order.specs.Runs.{enabled, is-run, next, number-ready, ready-numbers, standard, run-list}
 use Rattle.check_columns.specs.Columns.{Queue-column, Row-columns}
 use Rattle.check_run.specs.Words.{has, all-queues}
-use Rattle.check_run.specs.Queues.{First, found, absent, Chained, Looked}
-use Rattle.check_run.specs.Run.{Run-given, Cleared, Rows-of, Listed, Ran}
-use Rattle.check_run.specs.State.{Head, waiting, finished, Last, unused, Places, Watch, Going, Tables, Prepared}
+use Rattle.check_run.specs.Queues.{First-from, found, absent, Chained, Heads-looked}
+use Rattle.check_run.specs.Run.{Run-given, Cleared, Rows-of, Run-listed, Ran}
+use Rattle.check_run.specs.State.{Head, waiting, finished, Last, unused, Run-places, Watch, Going, Tables, Prepared}
 use Rattle.check_run.proofs.Words.{has-none, has-all}
 use Rattle.check_run.proofs.Sources.{source-small}
 use Rattle.check_run.proofs.Watches.{noted-by}
@@ -48,7 +48,7 @@ tables-are queue n head next unit chained e = record {
 
 -- ---- the beginning
 module _ (p : Plan) (n : ℕ) (queue source head next : List ℕ) (shown : Run-given p n queue source) (chained : Chained queue 0 n head next) where
-  first-head : (q x : ℕ) → First queue q 0 n x → Head p [] q x
+  first-head : (q x : ℕ) → First-from queue q 0 n x → Head p [] q x
   unfolding Queue-column member
   first-head q x (found _ a b e clear) =
       let l : x < count p = omega (arith, shown .many) in
@@ -57,7 +57,7 @@ module _ (p : Plan) (n : ℕ) (queue source head next : List ℕ) (shown : Run-g
 
   module _ (prev ran : List ℕ) (prev-is : prev ≡ replicate most-queues no-operation)
       (ran-is : ran ≡ set (replicate (no-operation + 1) 0) no-operation 1) where
-    first-places : Places p [] head prev ran
+    first-places : Run-places p [] head prev ran
     unfolding is-run member
     first-places = record {
       a-run = runs-nil (count p) (enabled p) [];
@@ -78,7 +78,7 @@ module _ (p : Plan) (n : ℕ) (queue source head next : List ℕ) (shown : Run-g
           ∙ length-replicate {A = ℕ} (no-operation + 1) 0;
     }
 
-    first-watch : (ready : ℕ) (waiter : List ℕ) → Looked all-queues 0 head source ran
+    first-watch : (ready : ℕ) (waiter : List ℕ) → Heads-looked all-queues 0 head source ran
         (replicate (no-operation + 1) 0) ready waiter → Watch source head ran waiter ready
     first-watch ready waiter looked = record {
       readies = λ k l. looked .readies k l ∙ rw (has-none k, has-all 16 k l);
@@ -120,7 +120,7 @@ module _ (p : Plan) where
   numbers-at r (j ∷ js) (suc k) l =
       numbers-at (r ++ (j ∷ [])) js k (le-of-suc-le-suc l) ∙ ap (λ (x : List ℕ). number-ready p x) (append-assoc r (j ∷ []) (take k js))
 
-  module _ (n : ℕ) (list list-now : List ℕ) (room : 2 * n ≤ length list) (full : length (standard p) ≡ n) (listed : Listed p n (standard p) list list-now) where
+  module _ (n : ℕ) (list list-now : List ℕ) (room : 2 * n ≤ length list) (full : length (standard p) ≡ n) (listed : Run-listed p n (standard p) list list-now) where
     whole-long : length (run-list p) ≡ 2 * n
     unfolding run-list
     whole-long = length-append (standard p) (ready-numbers p [] (standard p)) ∙ omega (arith, numbers-long [] (standard p))
@@ -155,7 +155,7 @@ module _ (p : Plan) (n : ℕ) (queue source : List ℕ) (shown : Run-given p n q
     (rows list list-now : List ℕ) (room : 2 * n ≤ length list) (going : Going p n i source head prev ran waiter ready rows list list-now) where
   ended : going .run ≡ standard p → Ran p n i rows list list-now
   ended e =
-      let listed : Listed p n (standard p) list list-now = subst (λ (x : List ℕ). Listed p n x list list-now) e (going .listed) in
+      let listed : Run-listed p n (standard p) list list-now = subst (λ (x : List ℕ). Run-listed p n x list list-now) e (going .listed) in
       let many : i ≡ length (standard p) = sym (going .many) ∙ ap length e in
       record {
         many = many;

@@ -31,7 +31,7 @@ use Rattle.plan_order.proofs.Rows.{entry, row-at}
 use Rattle.check_columns.specs.Columns.{Row-columns}
 use Rattle.check_run.specs.Merge.{cell, largest, Merged}
 use Rattle.check_run.specs.Run.{Run-given, Rows-of}
-use Rattle.check_run.specs.State.{Last, latest, unused, Places, Tables, slot-of}
+use Rattle.check_run.specs.State.{Last, latest, unused, Run-places, Tables, slot-of}
 use Rattle.check_run.proofs.Sources.{Rest, on-nothing, on-operation, source-is, source-has}
 use Rattle.check_run.proofs.Readies.{Goes, run-inside, ready-gives}
 
@@ -90,7 +90,7 @@ other-column : (most one x : ℕ) → one ≡ 0 → x ≡ max 0 most → x ≤ m
 other-column most one x a b c = omega arith
 
 module _ (p : Plan) (n : ℕ) (queue source next unit : List ℕ) (shown : Run-given p n queue source) (tables : Tables queue n next unit)
-    (r head prev ran : List ℕ) (places : Places p r head prev ran) (q j : ℕ) (inside : q < 16)
+    (r head prev ran : List ℕ) (places : Run-places p r head prev ran) (q j : ℕ) (inside : q < 16)
     (goes : Goes p n queue source shown r head prev ran places q j) (rows : List ℕ) (filled : Rows-of p r rows) where
   few : count p ≤ most-operations
   few = shown .sound .few-operations

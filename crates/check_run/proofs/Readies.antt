@@ -23,12 +23,12 @@ use Rattle.plan_order.proofs.Readiness.{Why, by-queue, by-wait, direct-why, dir
 use Rattle.check_run.specs.Words.{has, Lowest-bit}
 use Rattle.check_run.specs.Queues.{blocker-of, can-go}
 use Rattle.check_run.specs.Run.{Run-given}
-use Rattle.check_run.specs.State.{Head, waiting, finished, Places}
+use Rattle.check_run.specs.State.{Head, waiting, finished, Run-places}
 use Rattle.check_run.proofs.Words.{ones-bits}
-use Rattle.check_run.proofs.Sources.{Rest, on-nothing, on-operation, source-is, source-has, blocker-none, blocker-free}
+use Rattle.check_run.proofs.Sources.{Rest, on-nothing, on-operation, source-is, source-has, blocker-none, no-blocker-gives}
 use Rattle.check_run.proofs.Watches.{go-gives, go-by}
 
-module _ (p : Plan) (n : ℕ) (queue source : List ℕ) (shown : Run-given p n queue source) (r head prev ran : List ℕ) (places : Places p r head prev ran) where
+module _ (p : Plan) (n : ℕ) (queue source : List ℕ) (shown : Run-given p n queue source) (r head prev ran : List ℕ) (places : Run-places p r head prev ran) where
   pub run-inside : (i : ℕ) → member i r ≡ true → i < count p
   unfolding is-run
   run-inside i m = run-below (count p) (enabled p) r (places .a-run) i m
@@ -46,23 +46,23 @@ module _ (p : Plan) (n : ℕ) (queue source : List ℕ) (shown : Run-given p n q
   sentinel z = omega (arith, places .none-run)
 
   -- ---- nothing holds an operation exactly if all that is directly before it has run
-  enabled-free : (j : ℕ) → j < count p → enabled p r j ≡ true → blocker-of source ran j ≡ no-operation
-  enabled-free j l e = blocker-none source ran j (λ k b z. at-rest (getD source (3 * j + k) 0) (source-is p n queue source shown j k l b) z)
+  enabled-unblocked : (j : ℕ) → j < count p → enabled p r j ≡ true → blocker-of source ran j ≡ no-operation
+  enabled-unblocked j l e = blocker-none source ran j (λ k b z. at-rest (getD source (3 * j + k) 0) (source-is p n queue source shown j k l b) z)
     where
       at-rest : (x : ℕ) → Rest p j x → getD ran x 0 ≡ 0 → ⊥
       at-rest x on-nothing z = sentinel z
       at-rest x (on-operation _ u w m t) z =
           ran-one x (predecessors-run p (rules-good p (shown .sound) .0) r x j (unfold is-run in (places .a-run)) e (direct-by p x j u l (by-wait w m t))) z
 
-  free-enabled : (j : ℕ) → j < count p → ((k : ℕ) → k < j → op p k .queue ≡ op p j .queue → member k r ≡ true) →
+  unblocked-enabled : (j : ℕ) → j < count p → ((k : ℕ) → k < j → op p k .queue ≡ op p j .queue → member k r ≡ true) →
       blocker-of source ran j ≡ no-operation → enabled p r j ≡ true
-  free-enabled j l earlier e = predecessors-suffice p (rules-good p (shown .sound) .1) r j l (λ i d. of-why i (direct-below p i j d .0) (direct-why p i j d))
+  unblocked-enabled j l earlier e = predecessors-suffice p (rules-good p (shown .sound) .1) r j l (λ i d. of-why i (direct-below p i j d .0) (direct-why p i j d))
     where
       of-why : (i : ℕ) → i < count p → Why p i j → member i r ≡ true
       of-why i u (by-queue b q) = earlier i b q
       of-why i u (by-wait w m t) =
           let g = source-has p n queue source shown j l w m i t in
-          ran-member i u (λ z. blocker-free source ran j sentinel e (g .0) (g .1) (ap (λ (x : ℕ). getD ran x 0) (g .2) ∙ z))
+          ran-member i u (λ z. no-blocker-gives source ran j sentinel e (g .0) (g .1) (ap (λ (x : ℕ). getD ran x 0) (g .2) ∙ z))
 
   pub ready-gives : (j : ℕ) → ready p r j ≡ true → (j < count p) × (member j r ≡ false) × (enabled p r j ≡ true)
   unfolding ready
@@ -89,7 +89,7 @@ module _ (p : Plan) (n : ℕ) (queue source : List ℕ) (shown : Run-given p n q
     on-queue = e;
     fresh = f;
     earlier = earlier;
-    is-ready = ready-by x l f (free-enabled x l (λ k v z. earlier k v (z ∙ e)) b);
+    is-ready = ready-by x l f (unblocked-enabled x l (λ k v z. earlier k v (z ∙ e)) b);
   }
   head-goes q x (finished h) u b = absurd (omega arith)
 
@@ -117,7 +117,7 @@ module _ (p : Plan) (n : ℕ) (queue source : List ℕ) (shown : Run-given p n q
       by-cases (ltb i x) (λ b. clash (member i r) (earlier i (ltb-true i x b) e) (w .1))
       (λ b. by-cases (eqb i x)
       (λ s. let ix = eqb-true i x s in
-      held (omega (arith, shown .sound .few-operations)) (enabled-free x l (subst (λ (y : ℕ). enabled p r y ≡ true) ix (w .2))))
+      held (omega (arith, shown .sound .few-operations)) (enabled-unblocked x l (subst (λ (y : ℕ). enabled p r y ≡ true) ix (w .2))))
       (λ s. clash (member x r) (enabled-gives p r i (w .2) .earlier x (omega (arith, ltb-false i x b, eqb-false i x s)) (z ∙ sym e)) f))
 
   stays-on : (q : ℕ) → q < 16 → can-go head source ran q ≡ false → _≡_ {A = Option ℕ} (ready-on p r q) none

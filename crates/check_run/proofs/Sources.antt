@@ -15,7 +15,7 @@ use Rattle.base_lists.proofs.Elements.{element-at, element-place}
 use Rattle.plan_format.specs.Sizes.{no-operation}
 use Rattle.plan_format.specs.Plan.{Point, Plan, count, op}
 use Rattle.plan_order.specs.Precedence.{Resolution, at-once, on, never, resolve, rests-on}
-use Rattle.plan_order.proofs.Resolution.{Resolved, at-signal, resolve-is}
+use Rattle.plan_order.proofs.Resolution.{Resolution-case, at-signal, resolve-is}
 use Rattle.check_columns.specs.Columns.{no-point, wait-at, source-of, Source-column}
 use Rattle.check_run.specs.Queues.{held-by, blocker-of}
 use Rattle.check_run.specs.Run.{Run-given}
@@ -27,7 +27,7 @@ pub data Rest (p : Plan) (j : ℕ) : ℕ → Type 0 where
   on-operation : (i : ℕ) → i < count p → (w : Point) → List·Memᴰ w (op p j .waits) → rests-on (resolve p w) i ≡ true → Rest p j i
 
 module _ (p : Plan) (n : ℕ) (queue source : List ℕ) (shown : Run-given p n queue source) where
-  source-rest : (j : ℕ) (w : Point) → List·Memᴰ w (op p j .waits) → (x : Resolution) → x ≡ resolve p w → Resolved p w x → Rest p j (source-of x)
+  source-rest : (j : ℕ) (w : Point) → List·Memᴰ w (op p j .waits) → (x : Resolution) → x ≡ resolve p w → Resolution-case p w x → Rest p j (source-of x)
   unfolding source-of
   source-rest j w m at-once e d = on-nothing
   source-rest j w m (on x) e (at-signal _ t) =
@@ -94,10 +94,10 @@ module _ (source ran : List ℕ) (j : ℕ) where
       rw first-place (held-no ran (getD source (3 * j + 0) 0) _ (h 0 (omega arith)) ∙ held-no ran (getD source (3 * j + 1) 0) _ (h 1 (omega arith))
       ∙ held-no ran (getD source (3 * j + 2) 0) no-operation (h 2 (omega arith)))
 
-  pub blocker-free : (getD ran no-operation 0 ≡ 0 → ⊥) → blocker-of source ran j ≡ no-operation → (k : ℕ) → k < 3 →
+  pub no-blocker-gives : (getD ran no-operation 0 ≡ 0 → ⊥) → blocker-of source ran j ≡ no-operation → (k : ℕ) → k < 3 →
       getD ran (getD source (3 * j + k) 0) 0 ≡ 0 → ⊥
   unfolding blocker-of
-  blocker-free stays e =
+  no-blocker-gives stays e =
       let a = held-none ran (getD source (3 * j) 0)
       (held-by ran (getD source (3 * j + 1) 0) (held-by ran (getD source (3 * j + 2) 0) no-operation)) stays e in
       let b = held-none ran (getD source (3 * j + 1) 0) (held-by ran (getD source (3 * j + 2) 0) no-operation) stays

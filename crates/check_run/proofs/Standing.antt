@@ -18,14 +18,14 @@ use Rattle.plan_format.specs.Plan.{Plan, count, op}
 use Rattle.plan_order.specs.Runs.{enabled, ready, is-run}
 use Rattle.plan_order.proofs.Readiness.{queue-in}
 use Rattle.check_columns.specs.Columns.{Queue-column}
-use Rattle.check_run.specs.Queues.{First, found, absent}
+use Rattle.check_run.specs.Queues.{First-from, found, absent}
 use Rattle.check_run.specs.Run.{Run-given}
-use Rattle.check_run.specs.State.{Head, waiting, finished, Last, latest, unused, Places, Tables}
+use Rattle.check_run.specs.State.{Head, waiting, finished, Last, latest, unused, Run-places, Tables}
 use Rattle.check_run.proofs.Chains.{first-small}
 use Rattle.check_run.proofs.Readies.{Goes}
 
 module _ (p : Plan) (n : ℕ) (queue source next unit : List ℕ) (shown : Run-given p n queue source) (tables : Tables queue n next unit)
-    (r head prev ran : List ℕ) (places : Places p r head prev ran) (q j : ℕ) (inside : q < 16)
+    (r head prev ran : List ℕ) (places : Run-places p r head prev ran) (q j : ℕ) (inside : q < 16)
     (goes : Goes p n queue source shown r head prev ran places q j) (head′ prev′ ran′ : List ℕ)
     (head-is : head′ ≡ set head q (getD next j 0 % 65536)) (prev-is : prev′ ≡ set prev q j) (ran-is : ran′ ≡ set ran j 1) where
   -- ---- members of the longer run
@@ -51,7 +51,7 @@ module _ (p : Plan) (n : ℕ) (queue source next unit : List ℕ) (shown : Run-g
   column i l = shown .queues i l
 
   -- ---- the heads
-  next-head : (x : ℕ) → First queue q (suc j) n x → Head p (r ++ (j ∷ [])) q x
+  next-head : (x : ℕ) → First-from queue q (suc j) n x → Head p (r ++ (j ∷ [])) q x
   next-head x (found _ a b e clear) =
       let l : x < count p = omega (arith, shown .many) in
       let on-it : op p x .queue ≡ q = sym (column x l) ∙ e in
@@ -69,7 +69,7 @@ module _ (p : Plan) (n : ℕ) (queue source next unit : List ℕ) (shown : Run-g
   own-head =
       let l : j < n = omega (arith, goes .inside, shown .many) in
       let qj : getD queue j 0 ≡ q = column j (goes .inside) ∙ goes .on-queue in
-      let f : First queue q (suc j) n (getD next j 0) = subst (λ (x : ℕ). First queue x (suc j) n (getD next j 0)) qj (tables .nexts j l (rw qj inside)) in
+      let f : First-from queue q (suc j) n (getD next j 0) = subst (λ (x : ℕ). First-from queue x (suc j) n (getD next j 0)) qj (tables .nexts j l (rw qj inside)) in
       let few : n ≤ most-operations = omega (arith, shown .many, shown .sound .few-operations) in
       let small : getD next j 0 < 65536 = omega (arith, first-small queue q (suc j) n (getD next j 0) few f) in
       subst (λ (x : ℕ). Head p (r ++ (j ∷ [])) q x)
@@ -101,7 +101,7 @@ module _ (p : Plan) (n : ℕ) (queue source next unit : List ℕ) (shown : Run-g
       getD-set-other ran j i 1 0 ne ∙ places .has-run i l ∙ ap (λ (b : Bool). cond b 1 0)
       (by-cases (member i r) (λ t. t ∙ sym (grows i t)) (λ u. u ∙ sym (still-out i u ne))))
 
-  pub places-more : Places p (r ++ (j ∷ [])) head′ prev′ ran′
+  pub places-more : Run-places p (r ++ (j ∷ [])) head′ prev′ ran′
   unfolding is-run ready
   places-more = record {
     a-run = runs-snoc (count p) (enabled p) r j (places .a-run) (goes .is-ready);

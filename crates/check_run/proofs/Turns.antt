@@ -12,7 +12,7 @@ use Rattle.plan_format.specs.Sizes.{no-operation}
 use Rattle.plan_format.specs.Plan.{Plan, count}
 use Rattle.plan_order.specs.Runs.{standard, next as next-of}
 use Rattle.check_run.specs.Words.{Lowest-bit}
-use Rattle.check_run.specs.Queues.{can-go, Looked}
+use Rattle.check_run.specs.Queues.{can-go, Heads-looked}
 use Rattle.check_run.specs.Run.{Run-given}
 use Rattle.check_run.specs.State.{Head, waiting, finished, Tables, slot-of, Stepped, Going}
 use Rattle.check_run.proofs.Sources.{source-small}
@@ -35,7 +35,7 @@ module _ (p : Plan) (n : ℕ) (queue source next unit first : List ℕ) (shown :
       (list₁ list₂ : List ℕ) → list₁ ≡ set list (i + n) (ones ready % 4294967296) → list₂ ≡ set list₁ i (j % 4294967296) →
       (head′ prev′ ran′ rows′ : List ℕ) → Stepped j q source next unit head prev ran rows head′ prev′ ran′ rows′ →
       (seen bit : ℕ) → seen ≡ getD waiter j 0 → bit ≡ 2 ^ q →
-      (ready′ : ℕ) (waiter′ : List ℕ) → Looked (bitOr (seen % 65536) bit) (ready - bit) head′ source ran′ waiter ready′ waiter′ →
+      (ready′ : ℕ) (waiter′ : List ℕ) → Heads-looked (bitOr (seen % 65536) bit) (ready - bit) head′ source ran′ waiter ready′ waiter′ →
       Going p n (i + 1) source head′ prev′ ran′ waiter′ ready′ rows′ first list₂
   turned i ready head prev ran waiter rows list going pos small b q j l low j-is list₁ list₂ e₁ e₂ head′ prev′ ran′ rows′ st seen bit s-is bit-is ready′ waiter′ looked =
       let r = going .run in

@@ -13,10 +13,10 @@ use borrow.Author.Tests.{ltb-true, lt-ltb, eqb-true, eqb-false, eq-eqb}
 use Rattle.base_lists.proofs.Tests.{by-cases, clash, is-false, and-left, and-right, and-both, or-left, or-right}
 use Rattle.plan_format.specs.Sizes.{no-operation}
 use Rattle.check_run.specs.Words.{has}
-use Rattle.check_run.specs.Queues.{blocker-of, can-go, Looked}
+use Rattle.check_run.specs.Queues.{blocker-of, can-go, Heads-looked}
 use Rattle.check_run.specs.State.{Noted, Watch}
 use Rattle.check_run.proofs.Words.{has-cut, has-unit, has-or, has-minus}
-use Rattle.check_run.proofs.Sources.{blocker-none, blocker-free, blocker-where}
+use Rattle.check_run.proofs.Sources.{blocker-none, no-blocker-gives, blocker-where}
 
 -- ---- a queue that can go
 module _ (head source ran : List ℕ) (q : ℕ) where
@@ -41,7 +41,7 @@ module _ (head source ran : List ℕ) (q : ℕ) where
 
 -- a queue that was looked at and cannot go is noted at what holds it
 pub noted-by :
-    (mask ready : ℕ) (head source ran waiter : List ℕ) (ready′ : ℕ) (waiter′ : List ℕ) → Looked mask ready head source ran waiter ready′ waiter′ →
+    (mask ready : ℕ) (head source ran waiter : List ℕ) (ready′ : ℕ) (waiter′ : List ℕ) → Heads-looked mask ready head source ran waiter ready′ waiter′ →
     (k : ℕ) → k < 16 → has mask k ≡ true → ((m : ℕ) → m < 3 → getD source (3 * getD head k 0 + m) 0 ≤ no-operation) →
     getD head k 0 < no-operation → can-go head source ran k ≡ false → Noted head source ran waiter′ k
 noted-by mask ready head source ran waiter ready′ waiter′ looked k l m small h f =
@@ -59,7 +59,7 @@ module _ (source head ran waiter : List ℕ) (ready : ℕ) (watch : Watch source
     (sources-small : (k : ℕ) → k < 16 → getD head′ k 0 < no-operation → (m : ℕ) → m < 3 →
     getD source (3 * getD head′ k 0 + m) 0 ≤ no-operation)
     (seen bit : ℕ) (seen-is : seen ≡ getD waiter j 0) (bit-is : bit ≡ 2 ^ q) (ready′ : ℕ) (waiter′ : List ℕ)
-    (looked : Looked (bitOr (seen % 65536) bit) (ready - bit) head′ source ran′ waiter ready′ waiter′) where
+    (looked : Heads-looked (bitOr (seen % 65536) bit) (ready - bit) head′ source ran′ waiter ready′ waiter′) where
   head-other : (k : ℕ) → (q ≡ k → ⊥) → getD head′ k 0 ≡ getD head k 0
   head-other k ne = ap (λ (x : List ℕ). getD x k 0) head-is ∙ getD-set-other head q k after 0 (λ z. ne (sym z))
 
@@ -98,12 +98,12 @@ module _ (source head ran waiter : List ℕ) (ready : ℕ) (watch : Watch source
       let e = head-other k ne in
       go-by head′ source ran′ k (rw e (g .0))
       (ap (λ (x : ℕ). blocker-of source ran′ x) e
-      ∙ blocker-none source ran′ (getD head k 0) (λ m b z. blocker-free source ran (getD head k 0) sentinel (g .1) m b (ran-still (getD source (3 * getD head k 0 + m) 0) z)))
+      ∙ blocker-none source ran′ (getD head k 0) (λ m b z. no-blocker-gives source ran (getD head k 0) sentinel (g .1) m b (ran-still (getD source (3 * getD head k 0 + m) 0) z)))
 
   still-held : (k : ℕ) → (q ≡ k → ⊥) → (N : Noted head source ran waiter k) → (N .at ≡ j → ⊥) → can-go head′ source ran′ k ≡ false
   still-held k ne N far =
       is-false (can-go head′ source ran′ k) (λ t.
-      blocker-free source ran′ (getD head′ k 0) sentinel′ (go-gives head′ source ran′ k t .1) (N .place) (N .few)
+      no-blocker-gives source ran′ (getD head′ k 0) sentinel′ (go-gives head′ source ran′ k t .1) (N .place) (N .few)
       (ap (λ (x : ℕ). getD ran′ x 0) (ap (λ (x : ℕ). getD source (3 * x + N .place) 0) (head-other k ne) ∙ N .source-is) ∙ ran-other (N .at) far ∙ N .held))
 
   -- a held queue that can go now was noted at j

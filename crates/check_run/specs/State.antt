@@ -10,9 +10,9 @@ use Rattle.plan_format.specs.Sizes.{most-queues, most-operations, most-waits, r
 use Rattle.plan_format.specs.Plan.{Plan, count, op}
 use Rattle.plan_order.specs.Runs.{is-run, next, standard}
 use Rattle.check_run.specs.Words.{has, all-queues}
-use Rattle.check_run.specs.Queues.{First, Chained, can-go, Looked}
+use Rattle.check_run.specs.Queues.{First-from, Chained, can-go, Heads-looked}
 use Rattle.check_run.specs.Merge.{Merged}
-use Rattle.check_run.specs.Run.{Rows-of, Listed, Bounded}
+use Rattle.check_run.specs.Run.{Rows-of, Run-listed, Bounded}
 
 -- the next operation of queue q: the first that has not run; 1,024 where each has
 pub data Head (p : Plan) (r : List ℕ) (q : ℕ) : ℕ → Type 0 where
@@ -28,7 +28,7 @@ pub data Last (p : Plan) (r : List ℕ) (q : ℕ) : ℕ → Type 0 where
   unused : ((k : ℕ) → member k r ≡ true → op p k .queue ≡ q → ⊥) → Last p r q no-operation
 
 -- where the run is on each queue, and what has run; 1,024 counts as run
-pub record Places (p : Plan) (r head prev ran : List ℕ) : Type 0 where
+pub record Run-places (p : Plan) (r head prev ran : List ℕ) : Type 0 where
   pub a-run : is-run p r ≡ true
   pub heads : (q : ℕ) → q < most-queues → Head p r q (getD head q 0)
   pub lasts : (q : ℕ) → q < most-queues → Last p r q (getD prev q 0)
@@ -59,15 +59,15 @@ pub record Going (p : Plan) (n k : ℕ) (source head prev ran waiter : List ℕ)
   pub run : List ℕ
   pub many : length run ≡ k
   pub left : greedy (λ r. next p r) (n - k) run ≡ standard p
-  pub places : Places p run head prev ran
+  pub places : Run-places p run head prev ran
   pub watch : Watch source head ran waiter ready
   pub filled : Rows-of p run rows
   pub rows-long : length rows ≡ row-places
-  pub listed : Listed p n run list list-now
+  pub listed : Run-listed p n run list list-now
 
 -- what stays the same through the pass: after each operation the next of its queue, and a row with a one at place 16
 pub record Tables (queue : List ℕ) (n : ℕ) (next unit : List ℕ) : Type 0 where
-  pub nexts : (i : ℕ) → i < n → getD queue i 0 < most-queues → First queue (getD queue i 0) (suc i) n (getD next i 0)
+  pub nexts : (i : ℕ) → i < n → getD queue i 0 < most-queues → First-from queue (getD queue i 0) (suc i) n (getD next i 0)
   pub one : getD unit row-width 0 ≡ 1
   pub zeros : (k : ℕ) → (k ≡ row-width → ⊥) → getD unit k 0 ≡ 0
 
@@ -75,7 +75,7 @@ pub record Tables (queue : List ℕ) (n : ℕ) (next unit : List ℕ) : Type 0 w
 pub record Prepared (queue : List ℕ) (n : ℕ) (source head next ran waiter : List ℕ) (ready : ℕ) : Type 0 where
   pub chained : Chained queue 0 n head next
   pub ran-is : ran ≡ set (replicate (no-operation + 1) 0) no-operation 1
-  pub looked : Looked all-queues 0 head source ran (replicate (no-operation + 1) 0) ready waiter
+  pub looked : Heads-looked all-queues 0 head source ran (replicate (no-operation + 1) 0) ready waiter
 
 -- operation numbers past 1,024 read as 1,024
 abbrev pub slot-of : ℕ → ℕ
@@ -94,7 +94,7 @@ pub record Stepped (j q : ℕ) (source next unit head prev ran rows head-now pre
 -- queue is before the start.
 pub record Ahead (queue : List ℕ) (n q i : ℕ) (list : List ℕ) (x : ℕ) : Type 0 where
   pub start : ℕ
-  pub first : First queue q start n x
+  pub first : First-from queue q start n x
   pub before : (k : ℕ) → k < i → k < length list → getD queue (getD list k 0) 0 ≡ q → getD list k 0 < start
 
 -- the pass after i steps, whatever the columns show: every ready queue has a next operation

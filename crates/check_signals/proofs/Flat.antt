@@ -35,11 +35,11 @@ after-append t [] ys = refl
 after-append t (x ∷ xs) ys = after-append (set t (x .semaphore) (x .value)) xs ys
 
 -- the table holds f of each semaphore
-pub record Holds (p : Plan) (t : List ℕ) (f : ℕ → ℕ) : Type 0 where
+pub record Table-holds (p : Plan) (t : List ℕ) (f : ℕ → ℕ) : Type 0 where
   pub room : length (p .owners) ≤ length t
   pub values : (s : ℕ) → s < length (p .owners) → getD t s 0 ≡ f s
 
-holds-same : {p : Plan} {t : List ℕ} (f g : ℕ → ℕ) → ((s : ℕ) → f s ≡ g s) → Holds p t f → Holds p t g
+holds-same : {p : Plan} {t : List ℕ} (f g : ℕ → ℕ) → ((s : ℕ) → f s ≡ g s) → Table-holds p t f → Table-holds p t g
 holds-same f g e h = record { room = h .room; values = λ s l. h .values s l ∙ e s }
 
 -- semaphores that a list names are in the plan
@@ -51,8 +51,8 @@ module _ (p : Plan) (bs : List Operation) where
   abbrev so-far : List Point → ℕ → ℕ
   so-far own s = max (highest s bs) (highest-in s own)
 
-  holds-set : (t : List ℕ) (own : List Point) (x : Point) → Holds p t (so-far own) → x .semaphore < length (p .owners) → leb (x .value) (so-far own (x .semaphore)) ≡ false →
-      Holds p (set t (x .semaphore) (x .value)) (so-far (x ∷ own))
+  holds-set : (t : List ℕ) (own : List Point) (x : Point) → Table-holds p t (so-far own) → x .semaphore < length (p .owners) → leb (x .value) (so-far own (x .semaphore)) ≡ false →
+      Table-holds p (set t (x .semaphore) (x .value)) (so-far (x ∷ own))
   unfolding highest-in
   holds-set t own x h inside high = record {
     room = rw length-set (h .room);
@@ -65,7 +65,7 @@ module _ (p : Plan) (bs : List Operation) where
 
   module _ (i q : ℕ) (on : op p i .queue ≡ q) where
     -- one operation's signals, then the rest
-    of-flat : (k : ℕ) (t : List ℕ) (own xs : List Point) (rest : List Signal) → Holds p t (so-far own) → Named p xs →
+    of-flat : (k : ℕ) (t : List ℕ) (own xs : List Point) (rest : List Signal) → Table-holds p t (so-far own) → Named p xs →
         flat p t (signals-of i k xs ++ rest) ≡ cond (eqb (signals-number p q bs own xs) 0) (flat p (after t (signals-of i k xs)) rest) (refusal (signals-number p q bs own xs) i)
     unfolding flat after signals-of signals-number
     of-flat k t own [] rest h ok = refl
@@ -78,8 +78,8 @@ module _ (p : Plan) (bs : List Operation) where
         (of-flat (suc k) (set t (x .semaphore) (x .value)) (x ∷ own) xs rest (holds-set t own x h inside b) (λ j l. ok (suc j) (omega arith)))))
         (λ a. rw (on, a))
 
-    of-holds : (k : ℕ) (t : List ℕ) (own xs : List Point) → Holds p t (so-far own) → Named p xs → signals-number p q bs own xs ≡ 0 →
-        Holds p (after t (signals-of i k xs)) (λ s. max (so-far own s) (highest-in s xs))
+    of-holds : (k : ℕ) (t : List ℕ) (own xs : List Point) → Table-holds p t (so-far own) → Named p xs → signals-number p q bs own xs ≡ 0 →
+        Table-holds p (after t (signals-of i k xs)) (λ s. max (so-far own s) (highest-in s xs))
     unfolding after signals-of signals-number highest-in
     of-holds k t own [] h ok z = holds-same (so-far own) (λ s. max (so-far own s) 0) (λ s. omega arith) h
     of-holds k t own (x ∷ xs) h ok z =
@@ -111,19 +111,19 @@ tail-first : {p : Plan} {i : ℕ} {o : Operation} {os : List Operation} → Tail
 tail-first {p} {i} {o} h = subst (λ (n : ℕ). op p n .queue ≡ o .queue) (let e : i + 0 ≡ i = omega arith in e) (h .queues-there 0 (omega arith))
 
 module _ (p : Plan) where
-  started : {t : List ℕ} (bs : List Operation) → Holds p t (λ s. highest s bs) → Holds p t (so-far p bs [])
+  started : {t : List ℕ} (bs : List Operation) → Table-holds p t (λ s. highest s bs) → Table-holds p t (so-far p bs [])
   unfolding highest-in
   started bs h = holds-same (λ s. highest s bs) (so-far p bs []) (λ s. omega arith) h
 
   -- the table after one more operation that is given neither 6 nor 7
-  stepped : (i : ℕ) (t : List ℕ) (bs : List Operation) (o : Operation) → op p i .queue ≡ o .queue → Named p (o .signals) → Holds p t (λ s. highest s bs) →
-      signals-number p (o .queue) bs [] (o .signals) ≡ 0 → Holds p (after t (signals-of i 0 (o .signals))) (λ s. highest s (bs ++ (o ∷ [])))
+  stepped : (i : ℕ) (t : List ℕ) (bs : List Operation) (o : Operation) → op p i .queue ≡ o .queue → Named p (o .signals) → Table-holds p t (λ s. highest s bs) →
+      signals-number p (o .queue) bs [] (o .signals) ≡ 0 → Table-holds p (after t (signals-of i 0 (o .signals))) (λ s. highest s (bs ++ (o ∷ [])))
   unfolding highest-in
   stepped i t bs o on ok h z =
       holds-same (λ s. max (so-far p bs [] s) (highest-in s (o .signals))) (λ s. highest s (bs ++ (o ∷ []))) (λ s. omega (arith, highest-snoc s bs o))
       (of-holds p bs i (o .queue) on 0 t [] (o .signals) (started bs h) ok z)
 
-  pub refusal-flat : (i : ℕ) (t : List ℕ) (bs os : List Operation) → Holds p t (λ s. highest s bs) → Tail p i os → signals-refusal i p bs os ≡ flat p t (signals-from i os)
+  pub refusal-flat : (i : ℕ) (t : List ℕ) (bs os : List Operation) → Table-holds p t (λ s. highest s bs) → Tail p i os → signals-refusal i p bs os ≡ flat p t (signals-from i os)
   unfolding signals-refusal signals-from flat
   refusal-flat i t bs [] h ok = refl
   refusal-flat i t bs (o ∷ os) h ok =
@@ -136,8 +136,8 @@ module _ (p : Plan) where
       (λ e. rw (of-flat p bs i (o .queue) on 0 t [] (o .signals) (signals-from (suc i) os) (started bs h) names, e))
 
   -- where none is given the table ends with the highest of all
-  pub refusal-holds : (i : ℕ) (t : List ℕ) (bs os : List Operation) → Holds p t (λ s. highest s bs) → Tail p i os → signals-refusal i p bs os .number ≡ 0 →
-      Holds p (after t (signals-from i os)) (λ s. max (highest s bs) (highest s os))
+  pub refusal-holds : (i : ℕ) (t : List ℕ) (bs os : List Operation) → Table-holds p t (λ s. highest s bs) → Tail p i os → signals-refusal i p bs os .number ≡ 0 →
+      Table-holds p (after t (signals-from i os)) (λ s. max (highest s bs) (highest s os))
   unfolding signals-refusal signals-from after highest refusal
   refusal-holds i t bs [] h ok z = holds-same (λ s. highest s bs) (λ s. max (highest s bs) 0) (λ s. omega arith) h
   refusal-holds i t bs (o ∷ os) h ok z =
@@ -180,7 +180,7 @@ module _ (p : Plan) (few : length (p .owners) ≤ 64) (in-range : (i : ℕ) → 
   unfolding op count
   tail = record { queues-there = λ k l. let e : 0 + k ≡ k = omega arith in rw e; named = λ k l. in-range k l .signals }
 
-  start : Holds p zeros (λ s. highest s [])
+  start : Table-holds p zeros (λ s. highest s [])
   unfolding highest
   start = record { room = omega (arith, few); values = λ s l. getD-replicate 64 s 0 0 (omega (arith, few)) }
 
@@ -188,7 +188,7 @@ module _ (p : Plan) (few : length (p .owners) ≤ 64) (in-range : (i : ℕ) → 
   unfolding plan-signals
   plan-flat = refusal-flat p 0 zeros [] (p .operations) start tail
 
-  pub plan-holds : signals-refusal 0 p [] (p .operations) .number ≡ 0 → Holds p (after zeros (plan-signals p)) (λ s. highest s (p .operations))
+  pub plan-holds : signals-refusal 0 p [] (p .operations) .number ≡ 0 → Table-holds p (after zeros (plan-signals p)) (λ s. highest s (p .operations))
   unfolding plan-signals highest
   plan-holds z =
       holds-same (λ s. max 0 (highest s (p .operations))) (λ s. highest s (p .operations)) (λ s. omega arith)

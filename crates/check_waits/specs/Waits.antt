@@ -49,7 +49,7 @@ unfoldable pub waits-found : (n signals : ℕ) → (wsem wval last : List ℕ) �
 waits-found n signals wsem wval last = cond (has-places n signals) (waits-walk wsem wval last (most-waits * n) 0) none-given
 
 -- signal j is of semaphore s and reaches v, above 0: none before it does, and all from it on do
-pub record Rests (ssem sval : List ℕ) (signals s v j : ℕ) : Type 0 where
+pub record Rests-on-signal (ssem sval : List ℕ) (signals s v j : ℕ) : Type 0 where
   pub inside : j < signals
   pub above : 0 < v
   pub own : getD ssem j 0 ≡ s
@@ -75,4 +75,4 @@ pub record Sources (n signals number : ℕ) (ssem sval sop wsem wval source : Li
   pub within : has-places n signals ≡ true → number ≡ 0 → (k : ℕ) → k < most-waits * n →
       Rests-within signals sop (getD source k 0)
   pub found : has-places n signals ≡ true → number ≡ 0 → Low most-semaphores ssem signals → (k j : ℕ) → k < most-waits * n →
-      Rests ssem sval signals (getD wsem k 0 % most-semaphores) (getD wval k 0) j → getD source k 0 ≡ getD sop j 0
+      Rests-on-signal ssem sval signals (getD wsem k 0 % most-semaphores) (getD wval k 0) j → getD source k 0 ≡ getD sop j 0

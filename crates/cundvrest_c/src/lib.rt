@@ -5,7 +5,7 @@ ghost use mathlib.Core.Bool.{true, _||_};
 ghost use Rattle.plan_format.specs.Meaning.{Read-means, Write-means};
 ghost use Rattle.plan_format.specs.Stored.{Read-says, Write-says};
 ghost use Rattle.plan_order.specs.Promise.{Checked};
-ghost use Rattle.ask_reuse.specs.Reuse.{Asked};
+ghost use Rattle.ask_reuse.specs.Reuse.{Reuse-asked};
 ghost use Rattle.ask_frontier.specs.SentMeaning.{Frontier-right};
 ghost use Rattle.frontier.specs.Frontiers.{capable, merge, raise, dominance};
 ghost use Rattle.frontier.specs.Meaning.{Merge-right, Raise-right, Dominance-means};
@@ -53,7 +53,7 @@ pub extern "C" fn cundvrest_reuse(
     list: &mut [u32],
     told: &mut [u64; 3],
 )
-    ensures { λ _. ⌜ Asked (now (plan .entry)) queue buffer (told-of (now (told .exit))) (now (table .entry)) (now (table .exit)) (now (list .entry)) (now (list .exit)) ⌝ }
+    ensures { λ _. ⌜ Reuse-asked (now (plan .entry)) queue buffer (told-of (now (told .exit))) (now (table .entry)) (now (table .exit)) (now (list .entry)) (now (list .exit)) ⌝ }
 {
     c_lent::tell(
         ask_reuse::reuse_question(plan, queue, buffer, table, list),

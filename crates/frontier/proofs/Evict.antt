@@ -82,12 +82,12 @@ nearer-found b x best e f = rw (e, f)
 
 -- what is found is the best so far or an entry above the bound, and it exceeds neither the best so far nor an entry
 -- above the bound
-record Nearest (b best m : Entry) (xs : List Entry) : Type 0 where
+record Best-after (b best m : Entry) (xs : List Entry) : Type 0 where
   from : (m ≡ best) ⊎ (In m xs × (exceeds m b ≡ true))
   not-best : exceeds m best ≡ false
   under : (y : Entry) → In y xs → exceeds y b ≡ true → exceeds m y ≡ false
 
-nearest : (b best : Entry) (xs : List Entry) → Nearest b best (least-above b best xs) xs
+nearest : (b best : Entry) (xs : List Entry) → Best-after b best (least-above b best xs) xs
 unfolding least-above
 nearest b best [] = record { from = inl refl; not-best = exceeds-not-itself best; under = λ y i. absurd i }
 nearest b best (x ∷ xs) =

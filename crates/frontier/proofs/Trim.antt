@@ -100,7 +100,7 @@ module _ (xs es : List ℕ) (n : ℕ) (b : Entry) where
 
 -- THE BOUND: no fewer than the capacity exceed the greatest that is lost, fewer the least that is kept, and fewer each
 -- slot before i that is above the lost one
-pub record Bounded (lost kept : Entry) (xs es : List ℕ) (n c i : ℕ) : Type 0 where
+pub record Cut-bound (lost kept : Entry) (xs es : List ℕ) (n c i : ℕ) : Type 0 where
   pub many : c ≤ exceeding lost (slots xs es n 0)
   pub few : exceeding kept (slots xs es n 0) < c
   pub seen : (k : ℕ) → k < i → exceeds (slot xs es k) lost ≡ true → exceeding (slot xs es k) (slots xs es n 0) < c
@@ -165,7 +165,7 @@ module _ (xs es : List ℕ) where
       )
 
 module _ (xs es : List ℕ) (n c : ℕ) where
-  pub bounded-none : (top : Entry) → rising-from 0 (slots xs es n 0) ≡ true → c < n → 1 ≤ c → ((k : ℕ) → getD xs k 0 ≤ top .axis) → ((k : ℕ) → getD es k 0 ≤ top .epoch) → Bounded (record { axis = 0; epoch = 0 }) top xs es n c 0
+  pub bounded-none : (top : Entry) → rising-from 0 (slots xs es n 0) ≡ true → c < n → 1 ≤ c → ((k : ℕ) → getD xs k 0 ≤ top .axis) → ((k : ℕ) → getD es k 0 ≤ top .epoch) → Cut-bound (record { axis = 0; epoch = 0 }) top xs es n c 0
   bounded-none top r h l p q = record {
     many = omega (arith, bound-start 0 (slots xs es n 0) (sorted 0 (slots xs es n 0) r), slots-length xs es n 0);
     few = omega (arith, exceeding-none top (slots xs es n 0) (λ y j. let w = in-slots xs es n y j in rw (w .2) (low (w .0))));
@@ -180,28 +180,28 @@ module _ (xs es : List ℕ) (n c : ℕ) where
   seen-more lost i s h k l =
       by-cases (eqb k i) (λ t. rw (eqb-true k i t) h) (λ t. s k (omega (arith, eqb-false k i t)))
 
-  pub bounded-lost : (lost kept : Entry) (i : ℕ) → Bounded lost kept xs es n c i → exceeds (slot xs es i) lost ≡ false → Bounded lost kept xs es n c (i + 1)
+  pub bounded-lost : (lost kept : Entry) (i : ℕ) → Cut-bound lost kept xs es n c i → exceeds (slot xs es i) lost ≡ false → Cut-bound lost kept xs es n c (i + 1)
   bounded-lost lost kept i w e = record {
     many = w .many;
     few = w .few;
     seen = seen-more lost i (w .seen) (λ t. clash (exceeds (slot xs es i) lost) t e);
   }
 
-  pub bounded-kept : (lost kept : Entry) (i : ℕ) → Bounded lost kept xs es n c i → exceeds kept (slot xs es i) ≡ false → Bounded lost kept xs es n c (i + 1)
+  pub bounded-kept : (lost kept : Entry) (i : ℕ) → Cut-bound lost kept xs es n c i → exceeds kept (slot xs es i) ≡ false → Cut-bound lost kept xs es n c (i + 1)
   bounded-kept lost kept i w e = record {
     many = w .many;
     few = w .few;
     seen = seen-more lost i (w .seen) (λ t. omega (arith, w .few, exceeding-over (slot xs es i) kept (slots xs es n 0) e));
   }
 
-  pub bounded-low : (lost kept : Entry) (i m : ℕ) → Bounded lost kept xs es n c i → m ≡ exceeding (slot xs es i) (slots xs es n 0) → m < c → Bounded lost (slot xs es i) xs es n c (i + 1)
+  pub bounded-low : (lost kept : Entry) (i m : ℕ) → Cut-bound lost kept xs es n c i → m ≡ exceeding (slot xs es i) (slots xs es n 0) → m < c → Cut-bound lost (slot xs es i) xs es n c (i + 1)
   bounded-low lost kept i m w e h = record {
     many = w .many;
     few = omega arith;
     seen = seen-more lost i (w .seen) (λ t. omega arith);
   }
 
-  pub bounded-high : (lost kept : Entry) (i m : ℕ) → Bounded lost kept xs es n c i → exceeds (slot xs es i) lost ≡ true → m ≡ exceeding (slot xs es i) (slots xs es n 0) → c ≤ m → Bounded (slot xs es i) kept xs es n c (i + 1)
+  pub bounded-high : (lost kept : Entry) (i m : ℕ) → Cut-bound lost kept xs es n c i → exceeds (slot xs es i) lost ≡ true → m ≡ exceeding (slot xs es i) (slots xs es n 0) → c ≤ m → Cut-bound (slot xs es i) kept xs es n c (i + 1)
   bounded-high lost kept i m w u e h = record {
     many = omega arith;
     few = w .few;
@@ -209,7 +209,7 @@ module _ (xs es : List ℕ) (n c : ℕ) where
         (λ t. clash (exceeds (slot xs es i) (slot xs es i)) t (exceeds-not-itself (slot xs es i)));
   }
 
-  pub bounded-end : (lost kept : Entry) (i : ℕ) → Bounded lost kept xs es n c i → n ≤ i → cut c (slots xs es n 0) ≡ filter (λ x. exceeds x lost) (slots xs es n 0)
+  pub bounded-end : (lost kept : Entry) (i : ℕ) → Cut-bound lost kept xs es n c i → n ≤ i → cut c (slots xs es n 0) ≡ filter (λ x. exceeds x lost) (slots xs es n 0)
   bounded-end lost kept i w h =
       cut-at lost c (slots xs es n 0) (w .many) (λ x j. let k = in-slots xs es n x j in rw (k .2) (w .seen (k .0) (omega (arith, k .1))))
 

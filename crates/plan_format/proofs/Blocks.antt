@@ -37,17 +37,17 @@ pub record Block (q s b : ℕ) (xs : List ℕ) : Type 0 where
   pub numbers-are : xs ≡ queue ∷ (waits ∷ (ws ++ (signals ∷ (ss ++ (marks ∷ ms)))))
 
 -- the counts that the numbers read so far begin with
-pub record Counts (q s b : ℕ) (got : List ℕ) : Type 0 where
+pub record Counts-given (q s b : ℕ) (got : List ℕ) : Type 0 where
   pub queues : queue-count got ≡ q
   pub semaphores : semaphore-count got ≡ s
   pub buffers : buffer-count got ≡ b
 
 -- they stay whatever is read after
 abbrev pub Kept : (q s b : ℕ) → List ℕ → Type 0
-Kept q s b got = (more : List ℕ) → Counts q s b (got ++ more)
+Kept q s b got = (more : List ℕ) → Counts-given q s b (got ++ more)
 
 module _ (q s b : ℕ) where
-  pub kept-now : (got : List ℕ) → Kept q s b got → Counts q s b got
+  pub kept-now : (got : List ℕ) → Kept q s b got → Counts-given q s b got
   kept-now got k = rw append-nil at (k [])
 
   pub kept-more : (got vs : List ℕ) → Kept q s b got → Kept q s b (got ++ vs)

@@ -15,7 +15,7 @@ use Rattle.plan_format.specs.Refusal.{Refusal, refusal, none-given}
 use Rattle.plan_format.specs.Plan.{Point, Operation, Plan, empty-operation, op}
 use Rattle.plan_format.specs.Sound.{highest-in, highest, is-queue, owns, signals-number, signals-refusal}
 use Rattle.plan_format.specs.Sound.{too-high, any-too-high, waits-refusal}
-use Rattle.plan_format.specs.Meaning.{signal-at, wait-at, Is-signal, Owned, Rising, First, Bad-owner, Not-rising, Signals-good, Too-high}
+use Rattle.plan_format.specs.Meaning.{signal-at, wait-at, Is-signal, Owned, Rising, Good-before, Bad-owner, Not-rising, Signals-good, Too-high}
 use Rattle.plan_format.proofs.Heights.{begins, ends, owns-means, Over, over-in, in-over, over-highest, highest-over, over-taken, taken-over, all-taken, taken-all, highest-more}
 
 abbrev pub no-point : Point
@@ -121,7 +121,7 @@ module _ (p : Plan) where
     signals-six : (i k : ℕ) → f ≡ refusal 6 i → Bad-owner p i k → Signals-say f
     signals-seven : (i k : ℕ) → f ≡ refusal 7 i → Not-rising p i k → Signals-say f
 
-  first-by : (i k : ℕ) → ((j l : ℕ) → j < i → Is-signal p j l → Good j l) → ((l : ℕ) → l < k → Good i l) → First p i k
+  first-by : (i k : ℕ) → ((j l : ℕ) → j < i → Is-signal p j l → Good j l) → ((l : ℕ) → l < k → Good i l) → Good-before p i k
   first-by i k lower own j l g w =
       either w (λ a. lower j l a g) (λ a. subst (λ (z : ℕ). Good z l) (sym (a .0)) (own l (a .1)))
 

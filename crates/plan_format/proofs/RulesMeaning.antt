@@ -13,7 +13,7 @@ use Rattle.plan_format.specs.Refusal.{Refusal, refusal, none-given, or-e
 use Rattle.plan_format.specs.RefusalNumbers.{None-or, rule-numbers}
 use Rattle.plan_format.specs.Plan.{Plan}
 use Rattle.plan_format.specs.Sound.{signals-refusal, waits-refusal, rules-refusal}
-use Rattle.plan_format.specs.Meaning.{Refuses, Is-signal, Earlier, Owned, Rising, First, Bad-owner, Not-rising, Signals-good, Too-high, Unmet-wait, Rules-mean}
+use Rattle.plan_format.specs.Meaning.{Refuses, Is-signal, Earlier, Owned, Rising, Good-before, Bad-owner, Not-rising, Signals-good, Too-high, Unmet-wait, Rules-mean}
 use Rattle.plan_format.proofs.Judged.{or-else-first, or-else-second, refusal-given}
 use Rattle.plan_format.proofs.RefusalNumbers.{one-is}
 use Rattle.plan_format.proofs.RulesFirst.{Signals-say, signals-good, signals-six, signals-seven, Waits-say, waits-good, waits-eight, plan-signals-say, plan-waits-say}
@@ -28,7 +28,7 @@ module _ (p : Plan) where
   record Wrong (i k : ℕ) : Type 0 where
     signal : Is-signal p i k
     bad : Owned p i k × Rising p i k → ⊥
-    first : First p i k
+    first : Good-before p i k
 
   owner-wrong : (i k : ℕ) → Bad-owner p i k → Wrong i k
   owner-wrong i k w = record { signal = w .signal; bad = λ g. w .not-owned (g .0); first = w .first }

@@ -11,7 +11,7 @@ use Rattle.plan_format.specs.Plan.{Plan, operations-in, plan-of}
 use Rattle.plan_format.proofs.Parses.{Spelt, Many, Field, Parses}
 use Rattle.plan_format.proofs.Entries.{Row, listing, many-fields}
 use Rattle.plan_format.proofs.Seams.{at-seam, after-seam}
-use Rattle.plan_format.proofs.Blocks.{Counts, Kept, kept-more, operation-block}
+use Rattle.plan_format.proofs.Blocks.{Counts-given, Kept, kept-more, operation-block}
 use Rattle.plan_format.proofs.Operations.{Blocks, operations-front}
 
 pub record Sections (F : Form) (xs : List ℕ) : Type 0 where
@@ -61,7 +61,7 @@ module _ (q s b : ℕ) (axes owners sizes : List ℕ) (la : length axes ≡ q) (
   unfolding header queue-count semaphore-count
   header-semaphores more = at-seam (header ++ more) (q ∷ axes) (owners ++ (b ∷ (sizes ++ more))) s (1 + q) (simp append-assoc) (omega arith)
 
-  header-counts : (more : List ℕ) → Counts q s b (header ++ more)
+  header-counts : (more : List ℕ) → Counts-given q s b (header ++ more)
   unfolding header queue-count buffer-count
   header-counts more = record {
     queues = refl;

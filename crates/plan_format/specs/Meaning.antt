@@ -186,21 +186,21 @@ pub record Rising (p : Plan) (i k : ℕ) : Type 0 where
       signal-at p j l .value < signal-at p i k .value
 
 -- every earlier signal is neither 6 nor 7
-abbrev pub First : Plan → (i k : ℕ) → Type 0
-First p i k = (j l : ℕ) → Is-signal p j l → Earlier j l i k → Owned p j l × Rising p j l
+abbrev pub Good-before : Plan → (i k : ℕ) → Type 0
+Good-before p i k = (j l : ℕ) → Is-signal p j l → Earlier j l i k → Owned p j l × Rising p j l
 
 -- R43, refusal 6: the first fault is a signal on a queue that is not the owner
 pub record Bad-owner (p : Plan) (i k : ℕ) : Type 0 where
   pub signal : Is-signal p i k
   pub not-owned : Owned p i k → ⊥
-  pub first : First p i k
+  pub first : Good-before p i k
 
 -- R44, refusal 7: the first fault is a signal by the owner that does not rise
 pub record Not-rising (p : Plan) (i k : ℕ) : Type 0 where
   pub signal : Is-signal p i k
   pub owned : Owned p i k
   pub not-rising : Rising p i k → ⊥
-  pub first : First p i k
+  pub first : Good-before p i k
 
 -- no signal is 6 or 7
 abbrev pub Signals-good : Plan → Type 0

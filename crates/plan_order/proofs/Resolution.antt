@@ -21,17 +21,17 @@ abbrev pub no-point : Point
 no-point = record { semaphore = 0; value = 0 }
 
 -- ---- a list of signals has just those of its operations
-pub record Stands (i k : ℕ) (xs : List Point) (y : Signal) : Type 0 where
+pub record Signal-at (i k : ℕ) (xs : List Point) (y : Signal) : Type 0 where
   pub by-it : y .operation ≡ i
   pub low : k ≤ y .position
   pub high : y .position < length xs + k
   pub semaphore-there : getD xs (y .position - k) no-point .semaphore ≡ y .semaphore
   pub value-there-is : getD xs (y .position - k) no-point .value ≡ y .value
 
-of-stands : (i k : ℕ) (xs : List Point) (y : Signal) → List·Memᴰ y (signals-of i k xs) → Stands i k xs y
+of-signal-at : (i k : ℕ) (xs : List Point) (y : Signal) → List·Memᴰ y (signals-of i k xs) → Signal-at i k xs y
 unfolding signals-of
-of-stands i k [] y m = absurd (List·Memᴰ·not-nil m)
-of-stands i k (x ∷ xs) y m =
+of-signal-at i k [] y m = absurd (List·Memᴰ·not-nil m)
+of-signal-at i k (x ∷ xs) y m =
     either (List·Memᴰ·cases-cons m)
     (λ e. let o : y .operation ≡ i = ap (λ (z : Signal). z .operation) e in
     let q : y .position ≡ k = ap (λ (z : Signal). z .position) e in
@@ -43,7 +43,7 @@ of-stands i k (x ∷ xs) y m =
       semaphore-there = ap (λ (n : ℕ). getD (x ∷ xs) n no-point .semaphore) here ∙ sym (ap (λ (z : Signal). z .semaphore) e);
       value-there-is = ap (λ (n : ℕ). getD (x ∷ xs) n no-point .value) here ∙ sym (ap (λ (z : Signal). z .value) e);
     })
-    (λ t. let w = of-stands i (suc k) xs y t in
+    (λ t. let w = of-signal-at i (suc k) xs y t in
     let next-one : y .position - k ≡ suc (y .position - suc k) = omega (arith, w .low) in
     record {
       by-it = w .by-it;
@@ -70,27 +70,27 @@ value-at s v (x ∷ xs) (suc k) l a b = value-there s v x xs (value-at s v xs k 
 pub record Signalled (os : List Operation) (i : ℕ) (y : Signal) : Type 0 where
   pub low : i ≤ y .operation
   pub high : y .operation < length os + i
-  pub stands : Stands (y .operation) 0 (getD os (y .operation - i) empty-operation .signals) y
+  pub listed : Signal-at (y .operation) 0 (getD os (y .operation - i) empty-operation .signals) y
 
 from-signalled : (i : ℕ) (os : List Operation) (y : Signal) → List·Memᴰ y (signals-from i os) → Signalled os i y
 unfolding signals-from
 from-signalled i [] y m = absurd (List·Memᴰ·not-nil m)
 from-signalled i (o ∷ os) y m =
     either (List·Memᴰ·append-cases (signals-of i 0 (o .signals)) m)
-    (λ t. let w = of-stands i 0 (o .signals) y t in
+    (λ t. let w = of-signal-at i 0 (o .signals) y t in
     let here : 0 ≡ y .operation - i = omega (arith, w .by-it) in
     record {
       low = omega (arith, w .by-it);
       high = omega (arith, w .by-it);
-      stands = subst (λ (n : ℕ). Stands (y .operation) 0 (getD (o ∷ os) n empty-operation .signals) y) here
-          (subst (λ (n : ℕ). Stands n 0 (o .signals) y) (sym (w .by-it)) w);
+      listed = subst (λ (n : ℕ). Signal-at (y .operation) 0 (getD (o ∷ os) n empty-operation .signals) y) here
+          (subst (λ (n : ℕ). Signal-at n 0 (o .signals) y) (sym (w .by-it)) w);
     })
     (λ t. let w = from-signalled (suc i) os y t in
     let further : suc (y .operation - suc i) ≡ y .operation - i = omega (arith, w .low) in
     record {
       low = omega (arith, w .low);
       high = omega (arith, w .high);
-      stands = subst (λ (n : ℕ). Stands (y .operation) 0 (getD (o ∷ os) n empty-operation .signals) y) further (w .stands);
+      listed = subst (λ (n : ℕ). Signal-at (y .operation) 0 (getD (o ∷ os) n empty-operation .signals) y) further (w .listed);
     })
 
 from-has : (i s v : ℕ) (os : List Operation) (k : ℕ) → k < length os → signals-value s v (getD os k empty-operation .signals) ≡ true →
@@ -166,10 +166,10 @@ pub record Rests (p : Plan) (w : Point) (x : Signal) : Type 0 where
   pub enough : w .value ≤ x .value
   pub least : (i v : ℕ) → i < count p → signals-value (w .semaphore) v (op p i .signals) ≡ true → w .value ≤ v → x .value ≤ v
 
-pub data Resolved (p : Plan) (w : Point) : Resolution → Type 0 where
-  at-zero : w .value ≡ 0 → Resolved p w at-once
-  at-signal : (x : Signal) → Rests p w x → Resolved p w (on x)
-  at-none : 0 < w .value → ((i v : ℕ) → i < count p → signals-value (w .semaphore) v (op p i .signals) ≡ true → v < w .value) → Resolved p w never
+pub data Resolution-case (p : Plan) (w : Point) : Resolution → Type 0 where
+  at-zero : w .value ≡ 0 → Resolution-case p w at-once
+  at-signal : (x : Signal) → Rests p w x → Resolution-case p w (on x)
+  at-none : 0 < w .value → ((i v : ℕ) → i < count p → signals-value (w .semaphore) v (op p i .signals) ≡ true → v < w .value) → Resolution-case p w never
 
 module _ (p : Plan) (w : Point) where
   rests : (x : Signal) → 0 < w .value → nearest w (plan-signals p) ≡ some x → Rests p w x
@@ -177,12 +177,12 @@ module _ (p : Plan) (w : Point) where
   rests x pos e =
       let n = nearest-some w (plan-signals p) x e in
       let s = from-signalled 0 (p .operations) x (n .among) in
-      let st = s .stands in
+      let st = s .listed in
       let r = n .reaching in
       let sem = eqb-true (x .semaphore) (w .semaphore) (and-left (eqb (x .semaphore) (w .semaphore)) (leb (w .value) (x .value)) r) in
       let at-it : x .operation - 0 ≡ x .operation = omega arith in
       let in-it : x .position - 0 ≡ x .position = omega arith in
-      let whole : Stands (x .operation) 0 (op p (x .operation) .signals) x = subst (λ (k : ℕ). Stands (x .operation) 0 (getD (p .operations) k empty-operation .signals) x) at-it st in
+      let whole : Signal-at (x .operation) 0 (op p (x .operation) .signals) x = subst (λ (k : ℕ). Signal-at (x .operation) 0 (getD (p .operations) k empty-operation .signals) x) at-it st in
       let sem-at : getD (op p (x .operation) .signals) (x .position) no-point .semaphore ≡ w .semaphore = ap (λ (k : ℕ). getD (op p (x .operation) .signals) k no-point .semaphore) (sym in-it) ∙ whole .semaphore-there ∙ sem in
       let val-at : getD (op p (x .operation) .signals) (x .position) no-point .value ≡ x .value = ap (λ (k : ℕ). getD (op p (x .operation) .signals) k no-point .value) (sym in-it) ∙ whole .value-there-is in
       let inside-it : x .position < length (op p (x .operation) .signals) = omega (arith, whole .high) in
@@ -205,7 +205,7 @@ module _ (p : Plan) (w : Point) where
       by-cases (ltb v (w .value)) (λ t. ltb-true v (w .value) t)
       (λ f. clash (reaches w (y .0)) (reaches-by w (y .0) (y .3) (omega (arith, y .4, ltb-false v (w .value) f))) (nearest-none w (plan-signals p) e (y .0) (y .1)))
 
-  pub resolve-is : Resolved p w (resolve p w)
+  pub resolve-is : Resolution-case p w (resolve p w)
   unfolding resolve resolution-of
   resolve-is =
       by-cases (eqb (w .value) 0)
@@ -217,7 +217,7 @@ module _ (p : Plan) (w : Point) where
   pub rests-gives : (i : ℕ) → rests-on (resolve p w) i ≡ true → (x : Signal) × Rests p w x × (x .operation ≡ i)
   rests-gives i e = rests-of (resolve p w) resolve-is i e
     where
-      rests-of : (r : Resolution) → Resolved p w r → (i : ℕ) → rests-on r i ≡ true → (x : Signal) × Rests p w x × (x .operation ≡ i)
+      rests-of : (r : Resolution) → Resolution-case p w r → (i : ℕ) → rests-on r i ≡ true → (x : Signal) × Rests p w x × (x .operation ≡ i)
       rests-of at-once d i e = absurd (false≢true (unfold rests-on in e))
       rests-of (on x) (at-signal _ t) i e = (x, t, eqb-true (x .operation) i (unfold rests-on in e))
       rests-of never d i e = absurd (false≢true (unfold rests-on in e))
@@ -227,7 +227,7 @@ module _ (p : Plan) (w : Point) where
       (x : Signal) × Rests p w x × (rests-on (resolve p w) (x .operation) ≡ true)
   rests-somewhere pos k v l g h = rests-of (resolve p w) resolve-is
     where
-      rests-of : (r : Resolution) → Resolved p w r → (x : Signal) × Rests p w x × (rests-on r (x .operation) ≡ true)
+      rests-of : (r : Resolution) → Resolution-case p w r → (x : Signal) × Rests p w x × (rests-on r (x .operation) ≡ true)
       rests-of at-once (at-zero z) = absurd (omega arith)
       rests-of (on x) (at-signal _ t) = (x, t, unfold rests-on in (eq-eqb (x .operation) (x .operation) refl))
       rests-of never (at-none a none-such) = absurd (omega (arith, none-such k v l g))

@@ -19,7 +19,7 @@ use Rattle.plan_format.proofs.Faults.{read-stays}
 use Rattle.plan_format.proofs.Judged.{other-given}
 use Rattle.plan_format.proofs.Seams.{last-snoc}
 use Rattle.stored_bytes.specs.declared.cursor.Cursor.{Cursor}
-use Rattle.stored_bytes.specs.Writing.{fault-of, here, spelling, Writes, Puts, Limited}
+use Rattle.stored_bytes.specs.Writing.{fault-of, here, spelling, Writes, Number-put, Limited}
 
 module _ (w : ℕ) (c : ℕ → ℕ) (rest : List ℕ) (p : ℕ) (got : List ℕ) where
   field-missing : length rest < 1 → read-field numbers w c (scan rest p got none-given) ≡ scan rest p got (refusal 1 p)
@@ -119,7 +119,7 @@ module _ {w : ℕ} {check : Check} {xs : List ℕ} {c : Cursor} {bytes : List �
     wide e k = stopped (eqb-false 4 0 refl) (field-wide w (λ u. check (take (c .at) xs) u) (drop (c .at) xs) (c .at) (take (c .at) xs) (some-left xs (c .at) l) (rw (← front-is xs (c .at) v d) e) (rw (← front-is xs (c .at) v d) k))
 
     pub kept : {bytes-now : List ℕ} → w ≤ 8 → check (take (c .at) xs) v ≡ 0 → v < 256 ^ w →
-        Puts w bytes (c .put) v bytes-now → Writes (field w check) w xs c bytes
+        Number-put w bytes (c .put) v bytes-now → Writes (field w check) w xs c bytes
         (cursor 0 (c .at + 1) (c .put + w) v) bytes-now
     unfolding here fault-of spelling spell-by spell-field
     kept {bytes-now} narrow e k q =
@@ -168,7 +168,7 @@ module _ {w limit over : ℕ} {xs : List ℕ} {c : Cursor} {bytes : List ℕ} wh
           value-below = omega arith;
         }
 
-    pub limited-kept : {bytes-now : List ℕ} → w ≤ 8 → v < limit → v < 256 ^ w → Puts w bytes (c .put) v bytes-now →
+    pub limited-kept : {bytes-now : List ℕ} → w ≤ 8 → v < limit → v < 256 ^ w → Number-put w bytes (c .put) v bytes-now →
         Limited w limit over xs c bytes (cursor 0 (c .at + 1) (c .put + w) v) bytes-now
     unfolding limited here scan last-got
     limited-kept narrow m k q =

@@ -11,7 +11,7 @@ use lib.ListN.{length, take, drop, set, length-set}
 use lib.Seq.{take-suc-set, drop-set-lt}
 use Rattle.base_lists.proofs.Fronts.{past-later}
 use Rattle.plan_format.specs.Grammar.{digits}
-use Rattle.stored_bytes.specs.Writing.{Puts}
+use Rattle.stored_bytes.specs.Writing.{Number-put}
 
 pow-pos : (m : ℕ) → 0 < 256 ^ m
 pow-pos zero = lit< tt
@@ -31,7 +31,7 @@ digits-low (suc m) v =
     rw (pow-suc 256 m, mod-mul v (pow-pos m) (lit< tt), digits-div (v / 256 % 256 ^ m) (mod-lt v (lit< tt)), digits-mod (v / 256 % 256 ^ m) (mod-lt v (lit< tt)), digits-low m (v / 256))
 
 -- a number is put by its halves
-pub joined : (w : ℕ) {bytes bytes₁ bytes₂ : List ℕ} {at v : ℕ} → Puts w bytes at (v % 256 ^ w) bytes₁ → Puts w bytes₁ (at + w) (v / 256 ^ w) bytes₂ → Puts (w + w) bytes at v bytes₂
+pub joined : (w : ℕ) {bytes bytes₁ bytes₂ : List ℕ} {at v : ℕ} → Number-put w bytes at (v % 256 ^ w) bytes₁ → Number-put w bytes₁ (at + w) (v / 256 ^ w) bytes₂ → Number-put (w + w) bytes at v bytes₂
 joined w {bytes} {bytes₁} {bytes₂} {at} {v} p q =
     record {
       front =
@@ -44,7 +44,7 @@ joined w {bytes} {bytes₁} {bytes₂} {at} {v} p q =
     }
 
 -- one byte
-pub byte-put : (bytes : List ℕ) (at v : ℕ) → at < length bytes → v < 256 → Puts 1 bytes at v (set bytes at v)
+pub byte-put : (bytes : List ℕ) (at v : ℕ) → at < length bytes → v < 256 → Number-put 1 bytes at v (set bytes at v)
 unfolding digits
 byte-put bytes at v h b =
     record {

@@ -45,7 +45,7 @@ pub record Writes (g : Grammar) (many : ℕ) (xs : List ℕ) (c : Cursor) (bytes
   pub past : drop (r .put) bytes-now ≡ drop (r .put) bytes
 
 -- the bytes of a number were put at a place, and nothing after them
-pub record Puts (width : ℕ) (bytes : List ℕ) (at v : ℕ) (bytes-now : List ℕ) : Type 0 where
+pub record Number-put (width : ℕ) (bytes : List ℕ) (at v : ℕ) (bytes-now : List ℕ) : Type 0 where
   pub front : take (at + width) bytes-now ≡ take at bytes ++ digits width v
   pub as-long : length bytes-now ≡ length bytes
   pub past : drop (at + width) bytes-now ≡ drop (at + width) bytes

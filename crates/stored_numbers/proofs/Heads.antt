@@ -15,7 +15,7 @@ use Rattle.plan_format.specs.Refusal.{none-given}
 use Rattle.plan_format.specs.Grammar.{field, bytes, Scan, scan, last-got, times, count-check, read-by}
 use Rattle.plan_format.specs.Form.{first-form, queue-count, semaphore-count, buffer-count}
 use Rattle.plan_format.specs.Sections.{repeat, limited, operation-below}
-use Rattle.plan_format.proofs.Blocks.{Counts, kept-now}
+use Rattle.plan_format.proofs.Blocks.{Counts-given, kept-now}
 use Rattle.plan_format.proofs.Counts.{count-limited}
 use Rattle.plan_format.proofs.Faults.{read-stays}
 use Rattle.plan_format.proofs.Fields.{field-done}
@@ -63,7 +63,7 @@ unless-clean s n z = rw (zero-not-given (s .fault) z)
 
 -- ---- the head
 -- the counts are at their places among the numbers
-heading-counts : {q m b n : ℕ} {nums : List ℕ} → Heading q m b n nums → Counts q m b nums
+heading-counts : {q m b n : ℕ} {nums : List ℕ} → Heading q m b n nums → Counts-given q m b nums
 heading-counts {q} {m} {b} {n} h =
     let v₁ = q ∷ h .axes in
     let v₂ = m ∷ h .owners in
@@ -71,7 +71,7 @@ heading-counts {q} {m} {b} {n} h =
     let all = ((v₁ ++ v₂) ++ v₃) ++ (n ∷ []) in
     let split : ((h .axes ++ v₂) ++ v₃) ++ (n ∷ []) ≡ h .axes ++ (m ∷ (h .owners ++ (b ∷ (h .sizes ++ (n ∷ []))))) =
     simp append-assoc in
-    subst (Counts q m b) (ap (λ (l : List ℕ). q ∷ l) split ∙ sym (h .numbers-are))
+    subst (Counts-given q m b) (ap (λ (l : List ℕ). q ∷ l) split ∙ sym (h .numbers-are))
     (kept-now q m b all (sections-kept q m b (h .axes) (h .owners) (h .sizes) (h .axes-long) (h .owners-long)
     (h .sizes-long) v₁ v₂ v₃ n refl refl refl))
 

@@ -4,12 +4,12 @@ use Prim.Native.Nat.{ℕ, _-_, _%_}
 use borrow.Author.Needs.{needs}
 use Rattle.plan_format.specs.Sizes.{most-operations}
 use Rattle.check_columns.specs.Shown.{mark-codes}
-use Rattle.ask_reuse.proofs.ReuseTurns.{Left, left-all, left-none, left-other, left-own}
+use Rattle.ask_reuse.proofs.ReuseTurns.{Marks-left, left-all, left-none, left-other, left-own}
 use Rattle.ask_reuse.proofs.judged.Statement.{statement}
 use Rattle.ask_reuse.proofs.judged.Tie as tie
 
 abbrev Inv-loop : tie.InvT-loop
-Inv-loop b last marks queue mark mop table back₀ back = Left mark b marks back
+Inv-loop b last marks queue mark mop table back₀ back = Marks-left mark b marks back
 
 abbrev μ-loop : tie.MeasureT-loop
 μ-loop b last marks queue mark mop table back₀ back = marks - back

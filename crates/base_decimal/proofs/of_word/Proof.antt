@@ -2,13 +2,13 @@
 use native.Mathlib.Omega.{arith}
 use Prim.Native.Nat.{_-_}
 use lib.ListN.{length}
-use Rattle.base_decimal.proofs.Decimals.{Reads, reads-none, reads-more, word-none, word-other, word-large, word-over, word-number}
+use Rattle.base_decimal.proofs.Decimals.{Digits-read, reads-none, reads-more, word-none, word-other, word-large, word-over, word-number}
 use borrow.Author.Needs.{needs}
 use Rattle.base_decimal.proofs.of_word.Statement.{statement}
 use Rattle.base_decimal.proofs.of_word.Tie as tie
 
 abbrev Inv-loop : tie.InvT-loop
-Inv-loop text limit d₀ i₀ d i = Reads text i d
+Inv-loop text limit d₀ i₀ d i = Digits-read text i d
 
 abbrev μ-loop : tie.MeasureT-loop
 μ-loop text limit d₀ i₀ d i = length text - i

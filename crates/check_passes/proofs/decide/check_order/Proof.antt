@@ -1,5 +1,5 @@
 -- `decide::check_order` meets its contract: 9, or the run, the judgement of it, and what is left. Assumes nothing.
-use Rattle.check_passes.specs.Leaving.{Room}
+use Rattle.check_passes.specs.Leaving.{Results-room}
 use Rattle.check_passes.proofs.Untouched.{no-room, has-room}
 use Rattle.check_passes.proofs.AnyColumns.{answers-over, answers-first, answers-run}
 use Rattle.check_passes.proofs.Columns.{order-sound, order-few, run-given, judge-given}
@@ -47,7 +47,7 @@ returns-3 c =
     let few = room-test .before .before .if1 .left in
     let lent = room-test .before .before .before .room .ensures in
     let fits = has-room _ _ _ lent (room-test .if2 .left) in
-    let room : Room _ _ _ = record { few = few; in-table = fits .0; in-list = fits .1 } in (
+    let room : Results-room _ _ _ = record { few = few; in-table = fits .0; in-list = fits .1 } in (
       answers-run _ _ _ _ _ _ _ room (run .run .ensures .0) (judge .judge .ensures .0) (left .results .ensures) lent (room-test .if2 .left),
       λ p given.
           let ran = run .run .ensures .1 p (run-given given) cleared (fits .1) in

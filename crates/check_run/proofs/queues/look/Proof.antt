@@ -9,7 +9,7 @@ use lib.ListN.{length}
 use native.Mathlib.Omega.{arith}
 use lib.Bits.{or-lt}
 use denote.Ref.{now}
-use Rattle.check_run.proofs.Looks.{unit-shifted, shifted-small, looked-closed, looked-free, looked-held}
+use Rattle.check_run.proofs.Looks.{unit-shifted, shifted-small, looked-closed, looked-unblocked, looked-held}
 
 get16-requires : tie.Need-get16-requires
 get16-requires c κs = search needs
@@ -31,7 +31,7 @@ returns-2 c =
     let start = c .before .before .before .before .before in
     let q = start .args .q in (
       or-lt 16 _ _ (start .pre .1) (shifted-small q 4294967296 (start .pre .0) (omega arith)),
-      looked-free _ _ _ _ _ _ _ (c .before .before .before .get16 .ensures) (c .before .before .if1 .left) _ (c .before .blocker .ensures) (c .if2 .taken)
+      looked-unblocked _ _ _ _ _ _ _ (c .before .before .before .get16 .ensures) (c .before .before .if1 .left) _ (c .before .blocker .ensures) (c .if2 .taken)
           _ (unit-shifted q 4294967296 (start .pre .0) (omega arith)),
     )
 

@@ -7,14 +7,14 @@ use mathlib.Core.List.{List}
 use Prim.Native.Nat.{ℕ, _<_}
 use native.Mathlib.Omega.{arith}
 use lib.Pow.{pow-pos}
-use Rattle.check_run.specs.Queues.{Looked}
+use Rattle.check_run.specs.Queues.{Heads-looked}
 use Rattle.check_run.proofs.Words.{has-le}
 use Rattle.check_run.proofs.Looks.{unit-shifted, looked-lowest, looked-end}
 
 abbrev Inv-loop : tie.InvT-loop
 Inv-loop mask ready head source ran waiter₀ left₀ r₀ waiter left r =
     (left < 65536) × (r < 65536)
-    × ((x : ℕ) (w : List ℕ) → Looked left r head source ran waiter x w → Looked mask ready head source ran waiter₀ x w)
+    × ((x : ℕ) (w : List ℕ) → Heads-looked left r head source ran waiter x w → Heads-looked mask ready head source ran waiter₀ x w)
 
 abbrev μ-loop : tie.MeasureT-loop
 μ-loop mask ready head source ran waiter₀ left₀ r₀ waiter left r = left

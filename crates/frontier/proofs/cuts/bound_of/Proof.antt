@@ -1,4 +1,4 @@
--- `bound_of` meets its contract: the loop's invariant is `Bounded`: the bounds are right, and so is every slot seen.
+-- `bound_of` meets its contract: the loop's invariant is `Cut-bound`: the bounds are right, and so is every slot seen.
 -- Assumes nothing.
 use Prim.Native.Nat.{_-_}
 use native.Mathlib.Omega.{arith}
@@ -6,12 +6,12 @@ use mathlib.Core.Path.{sym, _∙_}
 use borrow.Author.Tests.{not-true, not-false}
 use borrow.Author.Needs.{needs}
 use Rattle.frontier.specs.Frontiers.{slot}
-use Rattle.frontier.proofs.Trim.{Bounded, bounded-none, bounded-lost, bounded-kept, bounded-low, bounded-high, bounded-end, bounded-one}
+use Rattle.frontier.proofs.Trim.{Cut-bound, bounded-none, bounded-lost, bounded-kept, bounded-low, bounded-high, bounded-end, bounded-one}
 use Rattle.frontier.proofs.cuts.bound_of.Statement.{statement}
 use Rattle.frontier.proofs.cuts.bound_of.Tie as tie
 
 abbrev Inv-loop : tie.InvT-loop
-Inv-loop axes epochs len capacity lost₀ kept₀ i₀ lost kept i = Bounded lost kept axes epochs len capacity i
+Inv-loop axes epochs len capacity lost₀ kept₀ i₀ lost kept i = Cut-bound lost kept axes epochs len capacity i
 
 abbrev μ-loop : tie.MeasureT-loop
 μ-loop axes epochs len capacity lost₀ kept₀ i₀ lost kept i = len - i
