@@ -56,12 +56,13 @@ loop-less : tie.Need-loop-less Inv-loop μ-loop
 loop-less c = search needs
 
 loop-again : tie.Need-loop-again Inv-loop μ-loop
-loop-again c = (
-  omega arith,
-  raised-more _ _ _ _ _ _ _ _ (c .before .before .before .before .before .loop-test .taken)
-      (c .before .before .u32-to-u64 .ensures) (c .before .raise .ensures .0)
-      ∙ c .before .before .before .before .before .before .loop .inv .1,
-)
+loop-again c =
+    let turn = c .before .before .before .before .before .before in (
+      omega arith,
+      raised-more _ _ _ _ _ _ _ _ (c .before .before .before .before .before .loop-test .taken)
+          (c .before .before .u32-to-u64 .ensures) (c .before .raise .ensures .0)
+          ∙ turn .loop .inv .1,
+    )
 
 returns : tie.Need-returns Inv-loop μ-loop
 returns c =

@@ -25,7 +25,9 @@ same-length-2 : tie.Need-same-length-2
 same-length-2 c = search needs
 
 returns-2 : tie.Need-returns-2
-returns-2 c = rw (take-all (c .before .before .before .before .before .before .before .args .n) (c .before .before .before .before .before .before .before .args .numbers .now) (omega arith)) (c .before .before .spaced-list2 .ensures)
+returns-2 c =
+    let start = c .before .before .before .before .before .before .before in
+    rw (take-all (start .args .n) (start .args .numbers .now) (omega arith)) (c .before .before .spaced-list2 .ensures)
 
 pub line-spec : {M : Type 1} → statement M
 line-spec =

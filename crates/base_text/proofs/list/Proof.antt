@@ -37,14 +37,15 @@ loop-less : tie.Need-loop-less Inv-loop μ-loop
 loop-less c = omega arith
 
 loop-again : tie.Need-loop-again Inv-loop μ-loop
-loop-again c = (
-  omega arith,
-  puts-number
-      (c .before .before .before .before .before .before .before .before .before .before .args .numbers .now)
-      (c .before .before .before .before .before .before .before .loop .i) (omega arith)
-      (c .before .before .before .before .before .before .before .loop .inv .1)
-      (rw (c .before .before .before .u32-to-u64 .ensures) at (c .before .before .next .ensures)),
-)
+loop-again c =
+    let turn = c .before .before .before .before .before .before .before in (
+      omega arith,
+      puts-number
+          (turn .before .before .before .args .numbers .now)
+          (turn .loop .i) (omega arith)
+          (turn .loop .inv .1)
+          (rw (c .before .before .before .u32-to-u64 .ensures) at (c .before .before .next .ensures)),
+    )
 
 same-length : tie.Need-same-length Inv-loop μ-loop
 same-length c = puts-length (c .before .loop .inv .1)

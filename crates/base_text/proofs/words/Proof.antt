@@ -31,7 +31,8 @@ loop-less c = omega arith
 
 loop-again : tie.Need-loop-again Inv-loop μ-loop
 loop-again c =
-    (omega arith, puts-more (c .before .before .before .before .before .before .before .before .before .args .text .now) (c .before .before .before .before .before .before .loop .i) (omega arith) (c .before .before .before .before .before .before .loop .inv .1) (c .before .before .byte .ensures))
+    let turn = c .before .before .before .before .before .before in
+    (omega arith, puts-more (turn .before .before .before .args .text .now) (turn .loop .i) (omega arith) (turn .loop .inv .1) (c .before .before .byte .ensures))
 
 same-length : tie.Need-same-length Inv-loop μ-loop
 same-length c = puts-length (c .before .loop .inv .1)

@@ -87,11 +87,14 @@ loop-less c = search needs
 
 loop-again : tie.Need-loop-again Inv-loop μ-loop
 loop-again c =
-    let l = c .before .before .before .before .before .before .before .before .before .before .before .before .before .loop .inv in
-    let on = c .before .before .before .before .before .before .before .before .before .before .before .before .loop-test .taken in (
-      putting-next (l .0) on (c .before .before .before .before .before .before .put16 .ensures)
-          (code-is _ _ _ _ (c .before .before .before .before .before .before .before .before .before .before .u64-to-usize2 .ensures) (c .before .before .before .before .before .before .before .before .u64-to-usize3 .ensures)),
-      putting-next (l .1) on (c .before .before .put162 .ensures) (small-is _ (c .before .before .before .before .before .before .before .before .before .before .before .before .before .before .before .before .before .before .pre .1)),
+    let earlier = c .before .before .before .before .before .before in
+    let midway = earlier .before .before .before .before .before .before in
+    let start = midway .before .before .before .before .before .before in
+    let l = earlier .before .before .before .before .before .before .before .loop .inv in
+    let on = earlier .before .before .before .before .before .before .loop-test .taken in (
+      putting-next (l .0) on (earlier .put16 .ensures)
+          (code-is _ _ _ _ (earlier .before .before .before .before .u64-to-usize2 .ensures) (earlier .before .before .u64-to-usize3 .ensures)),
+      putting-next (l .1) on (c .before .before .put162 .ensures) (small-is _ (start .pre .1)),
     )
 
 same-length : tie.Need-same-length Inv-loop μ-loop

@@ -84,14 +84,17 @@ loop-less c = search needs
 
 loop-again : tie.Need-loop-again Inv-loop μ-loop
 loop-again c =
-    let l = c .before .before .before .before .before .before .before .before .before .before .before .before .before .before .before .before .loop .inv in
-    let on = c .before .before .before .before .before .before .before .before .before .before .before .before .before .before .before .loop-test .taken in (
+    let earlier = c .before .before .before .before .before .before in
+    let first = earlier .before .before .before .before .before .before in
+    let start = first .before .before .before .before .before .before .before .before .before .before in
+    let l = first .before .before .before .before .loop .inv in
+    let on = first .before .before .before .loop-test .taken in (
       putting-next (l .0) on
-          (c .before .before .before .before .before .before .before .before .before .before .before .put16 .ensures)
+          (earlier .before .before .before .before .before .put16 .ensures)
           (ap (λ (z : ℕ). z % 65536)
-          (c .before .before .before .before .before .before .before .before .before .before .before .before .u64-to-usize2 .ensures)),
-      putting-next (l .1) on (c .before .before .before .before .before .before .put64 .ensures) refl,
-      putting-next (l .2) on (c .before .before .put162 .ensures) (small-is _ (c .before .before .before .before .before .before .before .before .before .before .before .before .before .before .before .before .before .before .before .before .before .before .pre .1)),
+          (first .u64-to-usize2 .ensures)),
+      putting-next (l .1) on (earlier .put64 .ensures) refl,
+      putting-next (l .2) on (c .before .before .put162 .ensures) (small-is _ (start .pre .1)),
     )
 
 same-length : tie.Need-same-length Inv-loop μ-loop

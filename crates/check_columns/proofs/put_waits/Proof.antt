@@ -78,7 +78,9 @@ mul-value-2 : tie.Need-mul-value-2 Inv-loop μ-loop
 mul-value-2 c = search needs
 
 slice-write-value : tie.Need-slice-write-value Inv-loop μ-loop
-slice-write-value c = omega (arith, putting-length (c .before .before .before .before .before .before .loop .inv .1))
+slice-write-value c =
+    let turn = c .before .before .before .before .before .before in
+    omega (arith, putting-length (turn .loop .inv .1))
 
 add-j : tie.Need-add-j Inv-loop μ-loop
 add-j c = search needs

@@ -18,7 +18,9 @@ returns c =
     rw (c .refused .ensures) (refused-loads (head-refused (read .1) taken) taken, ((λ e. absurd (taken e)), left-refused (read .0) _ _ taken taken _))
 
 columns-requires : tie.Need-columns-requires
-columns-requires c κs = (c .before .before .before .before .before .before .before .before .before .before .before .before .read-head .ensures .1, c .before .before .before .before .before .before .before .before .before .before .if1 .left)
+columns-requires c κs =
+    let earlier = c .before .before .before .before .before .before .before .before .before .before in
+    (earlier .before .before .read-head .ensures .1, earlier .if1 .left)
 
 returns-2 : tie.Need-returns-2
 returns-2 c =

@@ -51,12 +51,14 @@ add-requires c κs = search needs
 
 cast-signals : tie.Need-cast-signals Inv-loop μ-loop
 cast-signals c =
-    let l = c .before .before .before .before .before .before .before .before .before .before .before .before .before .before .before .before .loop .inv in
+    let midway = c .before .before .before .before .before .before .before .before in
+    let l = midway .before .before .before .before .before .before .before .before .loop .inv in
     omega (arith, few-more (c .before .add .ensures .0 (omega (arith, l .1))) .0, l .1, l .2, l .3)
 
 cast-marks : tie.Need-cast-marks Inv-loop μ-loop
 cast-marks c =
-    let l = c .before .before .before .before .before .before .before .before .before .before .before .before .before .before .before .before .before .loop .inv in
+    let midway = c .before .before .before .before .before .before .before .before in
+    let l = midway .before .before .before .before .before .before .before .before .before .loop .inv in
     omega (arith, few-more (c .before .before .add .ensures .0 (omega (arith, l .1))) .1, l .1, l .2, l .4)
 
 add-i : tie.Need-add-i Inv-loop μ-loop
@@ -67,15 +69,16 @@ loop-less c = search needs
 
 loop-again : tie.Need-loop-again Inv-loop μ-loop
 loop-again c =
-    let l = c .before .before .before .before .before .before .before .before .before .before .before .before .before .before .before .before .before .loop .inv in
+    let earlier = c .before .before .before .before .before .before .before .before .before .before .before .before in
+    let l = earlier .before .before .before .before .before .loop .inv in
     let a = c .before .before .add .ensures .0 (omega (arith, l .1)) in
-    let on = c .before .before .before .before .before .before .before .before .before .before .before .before .before .before .before .before .loop-test .taken in (
+    let on = earlier .before .before .before .before .loop-test .taken in (
       refl,
       l .1,
       omega arith,
       omega (arith, few-more a .0, l .3),
       omega (arith, few-more a .1, l .4),
-      λ nums head z. load-next _ _ _ nums _ (l .5 nums head z) on _ _ (c .before .before .before .before .before .before .before .before .before .before .before .before .before .before .read-operation .ensures .1) (c .before .before .before .before .before .before .before .before .before .before .before .before .if1 .left) a,
+      λ nums head z. load-next _ _ _ nums _ (l .5 nums head z) on _ _ (earlier .before .before .read-operation .ensures .1) (earlier .if1 .left) a,
     )
 
 refused-requires-2 : tie.Need-refused-requires-2 Inv-loop μ-loop

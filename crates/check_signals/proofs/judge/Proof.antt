@@ -37,8 +37,9 @@ get16-requires-4 c κs = search needs
 returns : tie.Need-returns Inv-loop μ-loop
 returns c =
     let read = c .before in
-    let first = read .before .before .before .before .before .before .before .before in
-    let e = signals-six (first .before .before .before .loop .inv .1) (first .before .before .loop-test .taken) (first .get16 .ensures) (read .before .before .before .before .before .before .get162 .ensures) (read .before .before .before .before .get64 .ensures)
+    let earlier = read .before .before .before .before .before .before in
+    let first = earlier .before .before in
+    let e = signals-six (first .before .before .before .loop .inv .1) (first .before .before .loop-test .taken) (first .get16 .ensures) (earlier .get162 .ensures) (read .before .before .before .before .get64 .ensures)
     (read .before .before .get163 .ensures) (read .get164 .ensures) (c .if1 .taken) in
     (e .found, (e .table, λ p shown. judged shown _ e))
 
@@ -51,8 +52,9 @@ get64-requires-2 c κs = search needs
 returns-2 : tie.Need-returns-2 Inv-loop μ-loop
 returns-2 c =
     let read = c .before .before .before .before in
-    let first = read .before .before .before .before .before .before .before .before in
-    let e = signals-seven (first .before .before .before .loop .inv .1) (first .before .before .loop-test .taken) (first .get16 .ensures) (read .before .before .before .before .before .before .get162 .ensures) (read .before .before .before .before .get64 .ensures)
+    let earlier = read .before .before .before .before .before .before in
+    let first = earlier .before .before in
+    let e = signals-seven (first .before .before .before .loop .inv .1) (first .before .before .loop-test .taken) (first .get16 .ensures) (earlier .get162 .ensures) (read .before .before .before .before .get64 .ensures)
     (read .before .before .get163 .ensures) (read .get164 .ensures) (c .before .before .before .if1 .left) (c .before .get642 .ensures) (c .if2 .taken) in
     (e .found, (e .table, λ p shown. judged shown _ e))
 
@@ -70,11 +72,13 @@ loop-less c = search needs
 
 loop-again : tie.Need-loop-again Inv-loop μ-loop
 loop-again c =
-    let read = c .before .before .before .before .before .before .before in
-    let first = read .before .before .before .before .before .before .before .before in (
+    let start-of = c .before .before .before .before .before .before in
+    let read = start-of .before in
+    let earlier = read .before .before .before .before .before .before in
+    let first = earlier .before .before in (
       ap length (c .before .put64 .ensures) ∙ simp length-set (first .before .before .before .loop .inv .0),
-      signals-more (first .before .before .before .loop .inv .1) (first .before .before .loop-test .taken) (first .get16 .ensures) (read .before .before .before .before .before .before .get162 .ensures) (read .before .before .before .before .get64 .ensures)
-          (read .before .before .get163 .ensures) (read .get164 .ensures) (c .before .before .before .before .before .before .if1 .left) (c .before .before .before .before .get642 .ensures) (c .before .before .before .if2 .left) (c .before .put64 .ensures),
+      signals-more (first .before .before .before .loop .inv .1) (first .before .before .loop-test .taken) (first .get16 .ensures) (earlier .get162 .ensures) (read .before .before .before .before .get64 .ensures)
+          (read .before .before .get163 .ensures) (read .get164 .ensures) (start-of .if1 .left) (c .before .before .before .before .get642 .ensures) (c .before .before .before .if2 .left) (c .before .put64 .ensures),
     )
 
 returns-3 : tie.Need-returns-3 Inv-loop μ-loop

@@ -36,11 +36,12 @@ loop-less c = search needs
 
 loop-again : tie.Need-loop-again Inv-loop μ-loop
 unfolding entry-text
-loop-again c = (
-  omega arith,
-  puts-join (entry-text (c .before .before .before .before .before .before .before .before .before .before .before .args .axes .now) (c .before .before .before .before .before .before .before .before .before .before .before .args .epochs .now)) (c .before .before .before .before .before .before .before .loop .i) (c .before .before .before .before .before .before .before .loop .inv .1)
-      (rw (c .before .before .before .before .get64 .ensures, c .before .before .before .get642 .ensures) at (c .before .before .entry .ensures)),
-)
+loop-again c =
+    let turn = c .before .before .before .before .before .before .before in (
+      omega arith,
+      puts-join (entry-text (turn .before .before .before .before .args .axes .now) (turn .before .before .before .before .args .epochs .now)) (turn .loop .i) (turn .loop .inv .1)
+          (rw (c .before .before .before .before .get64 .ensures, c .before .before .before .get642 .ensures) at (c .before .before .entry .ensures)),
+    )
 
 same-length : tie.Need-same-length Inv-loop μ-loop
 same-length c = puts-length (c .before .loop .inv .1)

@@ -29,7 +29,9 @@ loop-less : tie.Need-loop-less Inv-loop μ-loop
 loop-less c = search needs
 
 loop-again : tie.Need-loop-again Inv-loop μ-loop
-loop-again c = (omega arith, puts-join (row-text (c .before .before .before .before .before .before .before .before .args .queues) (c .before .before .before .before .before .before .before .before .args .table .now)) (c .before .before .before .before .before .loop .i) (c .before .before .before .before .before .loop .inv .1) (c .before .before .row .ensures))
+loop-again c =
+    let start = c .before .before .before .before .before .before .before .before in
+    (omega arith, puts-join (row-text (start .args .queues) (start .args .table .now)) (c .before .before .before .before .before .loop .i) (c .before .before .before .before .before .loop .inv .1) (c .before .before .row .ensures))
 
 same-length : tie.Need-same-length Inv-loop μ-loop
 same-length c = puts-length (c .before .loop .inv .1)

@@ -29,8 +29,9 @@ judge-requires c κs = search needs
 
 results-requires : tie.Need-results-requires
 results-requires c κs =
-    let fits = has-room _ _ _ (c .before .before .before .before .before .before .before .before .before .before .before .before .before .room .ensures) (c .before .before .before .before .before .before .before .before .before .before .if2 .left) in
-    record { few = c .before .before .before .before .before .before .before .before .before .before .before .before .if1 .left; in-table = fits .0; in-list = omega (arith, fits .1) }
+    let earlier = c .before .before .before .before .before .before .before .before .before .before in
+    let fits = has-room _ _ _ (earlier .before .before .before .room .ensures) (earlier .if2 .left) in
+    record { few = earlier .before .before .if1 .left; in-table = fits .0; in-list = omega (arith, fits .1) }
 
 same-length : tie.Need-same-length
 same-length c = search needs

@@ -61,7 +61,9 @@ loop-less-2 c = search needs
 
 loop-again-2 : tie.Need-loop-again-2 Inv-loop μ-loop
 unfolding slot
-loop-again-2 c = bounded-kept _ _ _ _ _ _ _ (c .before .before .before .before .before .before .before .loop .inv) (sym (c .before .above2 .ensures) ∙ not-true _ (c .if3 .taken))
+loop-again-2 c =
+    let turn = c .before .before .before .before .before .before .before in
+    bounded-kept _ _ _ _ _ _ _ (turn .loop .inv) (sym (c .before .above2 .ensures) ∙ not-true _ (c .if3 .taken))
 
 count-above-requires : tie.Need-count-above-requires Inv-loop μ-loop
 count-above-requires c κs = search needs
@@ -71,14 +73,18 @@ loop-less-3 c = search needs
 
 loop-again-3 : tie.Need-loop-again-3 Inv-loop μ-loop
 unfolding slot
-loop-again-3 c = bounded-low _ _ _ _ _ _ _ _ (c .before .before .before .before .before .before .before .before .before .loop .inv) (c .before .count-above .ensures) (c .if4 .taken)
+loop-again-3 c =
+    let turn = c .before .before .before .before .before .before .before .before .before in
+    bounded-low _ _ _ _ _ _ _ _ (turn .loop .inv) (c .before .count-above .ensures) (c .if4 .taken)
 
 loop-less-4 : tie.Need-loop-less-4 Inv-loop μ-loop
 loop-less-4 c = search needs
 
 loop-again-4 : tie.Need-loop-again-4 Inv-loop μ-loop
 unfolding slot
-loop-again-4 c = bounded-high _ _ _ _ _ _ _ _ (c .before .before .before .before .before .before .before .before .before .loop .inv) (sym (c .before .before .before .before .before .above .ensures) ∙ not-false _ (c .before .before .before .before .if2 .left)) (c .before .count-above .ensures) (c .if4 .left)
+loop-again-4 c =
+    let turn = c .before .before .before .before .before .before .before .before .before in
+    bounded-high _ _ _ _ _ _ _ _ (turn .loop .inv) (sym (c .before .before .before .before .before .above .ensures) ∙ not-false _ (c .before .before .before .before .if2 .left)) (c .before .count-above .ensures) (c .if4 .left)
 
 returns-2 : tie.Need-returns-2 Inv-loop μ-loop
 returns-2 c = bounded-end _ _ _ _ _ _ _ (c .before .loop .inv) (c .loop-test .left)

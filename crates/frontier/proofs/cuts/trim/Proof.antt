@@ -20,7 +20,9 @@ abbrev μ-loop : tie.MeasureT-loop
 -- there is room for one more that is kept
 room : (c : tie.Else1 Inv-loop μ-loop) → c .before .before .before .before .before .loop .n < most-entries
 unfolding slot
-room c = trim-room _ _ _ _ _ _ _ _ (c .before .before .before .before .before .loop .inv .1) (c .before .before .before .before .loop-test .taken) (sym (c .before .above .ensures) ∙ not-false _ (c .if1 .left)) (c .before .before .before .before .before .before .before .before .pre .1)
+room c =
+    let start = c .before .before .before .before .before .before .before .before in
+    trim-room _ _ _ _ _ _ _ _ (c .before .before .before .before .before .loop .inv .1) (c .before .before .before .before .loop-test .taken) (sym (c .before .above .ensures) ∙ not-false _ (c .if1 .left)) (start .pre .1)
 
 loop-holds : tie.Need-loop-holds Inv-loop μ-loop
 loop-holds c = (search needs, trim-none _ _ _ _ _ _ refl refl)

@@ -55,10 +55,12 @@ first-slots-requires-2 : tie.Need-first-slots-requires-2 Inv-loop μ-loop
 first-slots-requires-2 c κs = c .before .before .before .before .before .loop .inv .epochs-long
 
 returns : tie.Need-returns Inv-loop μ-loop
-returns c = ap handed
-    (join-whole _ _ _ _ _ _ _ _ _ _ _ _ _ _ _ (c .before .before .before .before .before .before .loop .inv)
+returns c =
+    let turn = c .before .before .before .before .before .before in
+    ap handed
+    (join-whole _ _ _ _ _ _ _ _ _ _ _ _ _ _ _ (turn .loop .inv)
     (c .before .before .before .before .before .loop-test .left) (c .before .before .before .before .if1 .taken)
-    (c .before .before .before .before .before .before .before .pre .1 .1 .1) (c .before .before .first-slots .ensures)
+    (turn .before .pre .1 .1 .1) (c .before .before .first-slots .ensures)
     (c .first-slots2 .ensures))
 
 slice-aggregate-bound-of : tie.Need-slice-aggregate-bound-of Inv-loop μ-loop
@@ -78,15 +80,18 @@ slice-aggregate-trim-2 c = search needs
 
 trim-requires : tie.Need-trim-requires Inv-loop μ-loop
 trim-requires c κs =
-    let w = join-fits _ _ _ _ _ _ _ _ _ _ _ (c .before .before .before .before .before .before .before .loop .inv) (c .before .before .before .before .before .before .loop-test .left) (c .before .before .before .before .before .before .before .before .pre .1 .0 .0) (c .before .before .before .before .before .before .before .before .pre .1 .0 .1) (c .before .before .before .before .before .before .before .before .pre .0 .0) (c .before .before .before .before .before .before .before .before .pre .0 .1) in
-    ((w .0, w .1), cut-fits _ _ _ _ _ (w .2) (c .before .before .before .before .before .before .before .before .pre .1 .1 .1) (c .before .before .bound-of .ensures))
+    let turn = c .before .before .before .before .before .before in
+    let w = join-fits _ _ _ _ _ _ _ _ _ _ _ (turn .before .loop .inv) (turn .loop-test .left) (turn .before .before .pre .1 .0 .0) (turn .before .before .pre .1 .0 .1) (turn .before .before .pre .0 .0) (turn .before .before .pre .0 .1) in
+    ((w .0, w .1), cut-fits _ _ _ _ _ (w .2) (turn .before .before .pre .1 .1 .1) (c .before .before .bound-of .ensures))
 
 returns-2 : tie.Need-returns-2 Inv-loop μ-loop
-returns-2 c = cut-packed _ _ (c .trim .ensures) (c .before .before .before .bound-of .ensures)
+returns-2 c =
+    let earlier = c .before .before .before .before .before .before in
+    cut-packed _ _ (c .trim .ensures) (c .before .before .before .bound-of .ensures)
     ∙ ap handed (join-packed _ _ _ _ _ _ _ _ _ _ _ _ _
-    (c .before .before .before .before .before .before .before .before .loop .inv)
-    (c .before .before .before .before .before .before .before .loop-test .left)
-    (c .before .before .before .before .before .before .if1 .left))
+    (earlier .before .before .loop .inv)
+    (earlier .before .loop-test .left)
+    (earlier .if1 .left))
 
 pub join-spec : {M : Type 1} → statement M
 join-spec =

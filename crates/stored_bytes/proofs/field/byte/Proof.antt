@@ -18,7 +18,8 @@ refused-requires-2 c κs = search needs
 
 returns-2 : tie.Need-returns-2
 returns-2 c =
-    rw (c .refused2 .ensures) (limited-missing (c .before .before .if1 .left) (c .before .before .before .before .before .before .pre .0 .inside) (c .before .if2 .taken))
+    let start = c .before .before .before .before .before .before in
+    rw (c .refused2 .ensures) (limited-missing (c .before .before .if1 .left) (start .pre .0 .inside) (c .before .if2 .taken))
 
 mul-value : tie.Need-mul-value
 mul-value c = search needs
@@ -40,8 +41,9 @@ refused-requires-4 c κs = search needs
 
 returns-4 : tie.Need-returns-4
 returns-4 c =
+    let start = c .before .before .before .before .before .before .before .before .before in
     rw (c .refused4 .ensures)
-    (limited-wide (c .before .before .before .before .before .if1 .left) (c .before .before .before .before .before .before .before .before .before .pre .0 .inside) (c .before .before .before .before .if2 .left) refl (c .before .before .if3 .left) (c .before .if4 .taken))
+    (limited-wide (c .before .before .before .before .before .if1 .left) (start .pre .0 .inside) (c .before .before .before .before .if2 .left) refl (c .before .before .if3 .left) (c .before .if4 .taken))
 
 put1-requires : tie.Need-put1-requires
 put1-requires c κs = search needs
@@ -54,9 +56,11 @@ same-length c = search needs
 
 returns-5 : tie.Need-returns-5
 returns-5 c =
+    let earlier = c .before .before .before .before .before .before in
+    let start = earlier .before .before .before .before .before .before .before in
     rw (c .past .ensures)
-    (limited-kept (c .before .before .before .before .before .before .before .before .before .if1 .left)
-    (c .before .before .before .before .before .before .before .before .before .before .before .before .before .pre .0 .inside) (c .before .before .before .before .before .before .before .before .if2 .left) refl (omega arith) (c .before .before .before .before .before .before .if3 .left) (c .before .before .before .before .before .if4 .left) (c .before .before .before .put1 .ensures))
+    (limited-kept (earlier .before .before .before .if1 .left)
+    (start .pre .0 .inside) (earlier .before .before .if2 .left) refl (omega arith) (earlier .if3 .left) (c .before .before .before .before .before .if4 .left) (c .before .before .before .put1 .ensures))
 
 pub byte-spec : {M : Type 1} → statement M
 byte-spec =
