@@ -43,10 +43,12 @@ module _ (queue : List ℕ) (q : ℕ) where
   unfolding last-shown place-or
   last-here i x l e h = rw (highest-here own i (i - 1) (omega arith) (eq-eqb (getD queue (i - 1) 0) q (sym e ∙ h)))
 
-  pub last-past : (i x : ℕ) → 0 < i → x ≡ getD queue (i - 1) 0 → (x ≡ q → ⊥) → last-shown queue q (i - 1) ≡ last-shown queue q i
+  pub last-past : (i x : ℕ) → 0 < i → x ≡ getD queue (i - 1) 0 → (x ≡ q → ⊥) →
+      last-shown queue q (i - 1) ≡ last-shown queue q i
   unfolding last-shown
   last-past i x l e h =
-      ap (place-or no-operation) (highest-past own i (i - 1) (omega arith) (ne-eqb (getD queue (i - 1) 0) q (λ z. h (e ∙ z))))
+      ap (place-or no-operation)
+      (highest-past own i (i - 1) (omega arith) (ne-eqb (getD queue (i - 1) 0) q (λ z. h (e ∙ z))))
 
 -- ---- whether an operation is seen
 module _ (queue rows : List ℕ) where

@@ -79,7 +79,8 @@ module _ (queue source rows counts : List ℕ) where
       (λ f. le-ltb (i / no-operation) 1 (omega (arith, ltb-false i no-operation f)) ∙
       sym (ap (λ (b : Bool). b && true) f))
 
-  pub wait-unmet-is : (at i u : ℕ) (ran : Bool) → i ≡ getD source at 0 → ran ≡ ran-at queue rows counts i → u ≡ cond ran 0 1 →
+  pub wait-unmet-is : (at i u : ℕ) (ran : Bool) → i ≡ getD source at 0 → ran ≡ ran-at queue rows counts i →
+      u ≡ cond ran 0 1 →
       ltb (i / no-operation) u ≡ wait-unmet-at queue source rows counts at
   unfolding wait-unmet-at
   wait-unmet-is at i u ran e f g = ap (ltb (i / no-operation)) g ∙ below-unless i ran ∙ rw (← e, f)
@@ -90,7 +91,8 @@ module _ (queue source rows counts : List ℕ) where
       k ≡ place-or most-waits (lowest-below most-waits (wait-unmet queue source rows counts j))
   unfolding place-or
   unmet-at j k l t h =
-      let e = lowest-is most-waits (wait-unmet queue source rows counts j) k (record { inside = l; passes = t; lower = h }) in
+      let e = lowest-is most-waits (wait-unmet queue source rows counts j) k
+      (record { inside = l; passes = t; lower = h }) in
       rw e
 
   pub unmet-nowhere : (j k : ℕ) → most-waits ≤ k → ((i : ℕ) → i < k → wait-unmet queue source rows counts j i ≡ false) →
@@ -125,7 +127,8 @@ module _ (queue source rows counts : List ℕ) where
           )
 
       pub judge-waits : getD counts q 0 < x → x - getD counts q 0 ≤ 1 →
-          of-wait j (lowest-below most-waits (λ k. wait-unmet queue source rows counts j k)) ≡ judged-shown n queue source
+          of-wait j (lowest-below most-waits (λ k. wait-unmet queue source rows counts j k)) ≡
+          judged-shown n queue source
           rows counts j
       unfolding judged-shown ran-at
       judge-waits a l =

@@ -34,7 +34,8 @@ wait-unmet-at queue source rows counts at = ltb (getD source at 0) no-operation 
     (ran-at queue rows counts (getD source at 0))
 
 unfoldable pub wait-unmet : (queue source rows counts : List ℕ) → (j k : ℕ) → Bool
-wait-unmet queue source rows counts j k = wait-unmet-at queue source rows counts (most-waits * (j % most-operations) + k)
+wait-unmet queue source rows counts j k =
+    wait-unmet-at queue source rows counts (most-waits * (j % most-operations) + k)
 
 -- R81: the rule that a step breaks
 unfoldable pub judged-shown : (n : ℕ) → (queue source rows counts : List ℕ) → (j : ℕ) → Followed

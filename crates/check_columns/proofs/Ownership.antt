@@ -34,6 +34,7 @@ module _ (p : Plan) (X before now : List ℕ) (first many : ℕ) where
       let own : getD (p .owners) s 0 ≡ getD X (first + s) 0 =
       ap (λ (z : List ℕ). getD z s 0) stored-as ∙ getD-take many (drop first X) s 0 inside ∙ getD-drop first X s 0 in
       ap (λ (z : List ℕ). getD z s 0) (rw (at-is, m-is) at stored)
-      ∙ sets-at before (owner-numbers X many first) s 0 (omega (arith, tabulate-length f many 0)) (omega (arith, tabulate-length f many 0))
+      ∙ sets-at before (owner-numbers X many first) s 0 (omega (arith, tabulate-length f many 0))
+      (omega (arith, tabulate-length f many 0))
       ∙ tabulate-at f many 0 s 0 (omega arith) ∙ ap f (zero-add s)
       ∙ omega (arith, own, known s l)

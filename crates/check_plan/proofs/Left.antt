@@ -53,7 +53,8 @@ module _ {bs head head-now owner owner-now : List ℕ} {r : Loaded} {cs cs′ : 
   }
 
   -- a plan that is judged
-  pub left-judged : r .number ≡ 0 → {source : List ℕ} → Past-kept (most-waits * r .operations) (cs′ .wait-semaphore) source →
+  pub left-judged : r .number ≡ 0 → {source : List ℕ} →
+      Past-kept (most-waits * r .operations) (cs′ .wait-semaphore) source →
       Lent-left bs (opened-of r n i) (lent-by head cs (cs .wait-semaphore)) (lent-by head-now cs′ source)
   left-judged z s = record {
     head-is = left .head-is;

@@ -31,7 +31,8 @@ module _ (next : List ℕ → Option ℕ) where
       (n i : ℕ) (r : List ℕ) (j : ℕ) (whole : List ℕ) → i < n → next r ≡ some j → greedy next (n - i) r ≡ whole →
       greedy next (n - (i + 1)) (r ++ (j ∷ [])) ≡ whole
   greedy-left n i r j whole l e h =
-      sym (ap (λ (x : ℕ). greedy next x r) (let z : n - i ≡ suc (n - (i + 1)) = omega arith in z) ∙ greedy-step (n - (i + 1)) r j e) ∙ h
+      sym (ap (λ (x : ℕ). greedy next x r) (let z : n - i ≡ suc (n - (i + 1)) = omega arith in z)
+      ∙ greedy-step (n - (i + 1)) r j e) ∙ h
 
 -- ---- the list after a step: the number ready and the operation, each where the list has the place
 module _ (n : ℕ) (list list₁ list₂ : List ℕ) (i j ready : ℕ) (inside : i < n) (few : j < no-operation)
@@ -104,7 +105,8 @@ module _ (p : Plan) (n : ℕ) (first r list list₁ list₂ : List ℕ) (i j rea
         (λ f. let ne = eqb-false k i f in
         let b : k < length r = omega (arith, length-more) in
         other (n + k) (λ z. absurd (omega arith)) (λ z. ne (let e : k ≡ i = omega arith in e)) ∙ listed .readies k b
-        ∙ ap (λ (x : List ℕ). number-ready p x) (sym (take-append-le k r (j ∷ []) (let h : k ≤ length r = omega arith in h))));
+        ∙ ap (λ (x : List ℕ). number-ready p x)
+        (sym (take-append-le k r (j ∷ []) (let h : k ≤ length r = omega arith in h))));
     past = step-past n list list₁ list₂ i j ready inside few small first-is then-is (2 * n) (omega arith)
         ∙ listed .past;
     long = step-long n list list₁ list₂ i j ready inside few small first-is then-is ∙ listed .long;

@@ -36,11 +36,13 @@ module _ (source ran : List ℕ) (j : ℕ) (a x : ℕ) (a-is : a ≡ getD source
   module _ (x-ran : x ≡ 0 → ⊥) (b y : ℕ) (b-is : b ≡ getD source (3 * j + 1) 0) (y-is : y ≡ getD ran b 0) where
     pub held-second : y ≡ 0 → b ≡ blocker-of source ran j
     unfolding blocker-of
-    held-second e = rw (← a-is, ← b-is) (sym (held-no ran a _ (λ z. x-ran (x-is ∙ z)) ∙ held-yes ran b _ (sym y-is ∙ e)))
+    held-second e =
+        rw (← a-is, ← b-is) (sym (held-no ran a _ (λ z. x-ran (x-is ∙ z)) ∙ held-yes ran b _ (sym y-is ∙ e)))
 
     module _ (y-ran : y ≡ 0 → ⊥) (c z : ℕ) (c-is : c ≡ getD source (3 * j + 2) 0) (z-is : z ≡ getD ran c 0) where
       passed : (last : ℕ) → held-by ran a (held-by ran b last) ≡ last
-      passed last = held-no ran a (held-by ran b last) (λ u. x-ran (x-is ∙ u)) ∙ held-no ran b last (λ u. y-ran (y-is ∙ u))
+      passed last = held-no ran a (held-by ran b last) (λ u. x-ran (x-is ∙ u))
+          ∙ held-no ran b last (λ u. y-ran (y-is ∙ u))
 
       pub held-third : z ≡ 0 → c ≡ blocker-of source ran j
       unfolding blocker-of
@@ -80,7 +82,8 @@ module _ (head source ran : List ℕ) where
   -- ---- nothing looked at
   looked-none : (ready : ℕ) (waiter : List ℕ) → Heads-looked 0 ready head source ran waiter ready waiter
   looked-none ready waiter = record {
-    readies = λ q l. sym (ap (λ (b : Bool). has ready q || (b && can-go head source ran q)) (has-none q) ∙ or-false (has ready q));
+    readies = λ q l.
+        sym (ap (λ (b : Bool). has ready q || (b && can-go head source ran q)) (has-none q) ∙ or-false (has ready q));
     kept = λ b q l h. h;
     noted = λ q b l m u e v. clash (has 0 q) m (has-none q);
     long = refl;
@@ -105,8 +108,10 @@ module _ (head source ran : List ℕ) where
 
   -- the lowest queue of a word, and then the others
   pub looked-lowest :
-      (m q unit ready : ℕ) (waiter : List ℕ) (r : ℕ) (w : List ℕ) (ready-now : ℕ) (waiter-now : List ℕ) → Lowest-bit m q → unit ≡ 2 ^ q →
-      Heads-looked (2 ^ q) ready head source ran waiter r w → Heads-looked (m - unit) r head source ran w ready-now waiter-now →
+      (m q unit ready : ℕ) (waiter : List ℕ) (r : ℕ) (w : List ℕ) (ready-now : ℕ) (waiter-now : List ℕ) →
+      Lowest-bit m q → unit ≡ 2 ^ q →
+      Heads-looked (2 ^ q) ready head source ran waiter r w →
+      Heads-looked (m - unit) r head source ran w ready-now waiter-now →
       Heads-looked m ready head source ran waiter ready-now waiter-now
   looked-lowest m q unit ready waiter r w ready-now waiter-now h e a b =
       looked-join (2 ^ q) (m - 2 ^ q) m ready waiter r w ready-now waiter-now (λ k l. has-split m q k (h .there)) a
@@ -119,7 +124,8 @@ module _ (head source ran : List ℕ) where
   -- ---- one queue
   module _ (q ready : ℕ) (waiter : List ℕ) (j : ℕ) (is-head : j ≡ getD head q 0) where
     -- a queue that cannot go adds nothing
-    not-added : ((k : ℕ) → q ≡ k → can-go head source ran k ≡ false) → (k : ℕ) → has ready k ≡ (has ready k || (has (2 ^ q) k && can-go head source ran k))
+    not-added : ((k : ℕ) → q ≡ k → can-go head source ran k ≡ false) → (k : ℕ) →
+        has ready k ≡ (has ready k || (has (2 ^ q) k && can-go head source ran k))
     not-added none-go k =
         by-cases (has (2 ^ q) k)
         (λ t. rw (none-go k (unit-only q k t), and-false (has (2 ^ q) k)) (sym (or-false (has ready k))))
@@ -144,7 +150,8 @@ module _ (head source ran : List ℕ) where
     looked-unblocked h b b-is z unit u = record {
       readies = λ k m. has-or ready unit k ∙ ap (λ (x : Bool). has ready k || x) (ap (λ (x : ℕ). has x k) u ∙ added k);
       kept = λ i k m t. t;
-      noted = λ k i m t v y w. absurd (omega (arith, e, ap (λ (x : ℕ). blocker-of source ran (getD head x 0)) (unit-only q k t)));
+      noted = λ k i m t v y w.
+          absurd (omega (arith, e, ap (λ (x : ℕ). blocker-of source ran (getD head x 0)) (unit-only q k t)));
       long = refl;
     }
       where
@@ -175,7 +182,8 @@ module _ (head source ran : List ℕ) where
           let qk = unit-only q k t in
           let ib : b ≡ i = e ∙ ap (λ (x : ℕ). blocker-of source ran (getD head x 0)) qk ∙ z in
           subst (λ (x : ℕ). has (getD (set waiter b (bitOr (getD waiter b 0) unit % 65536)) x 0) k ≡ true) ib
-          (marked k m (omega (arith, ib)) (or-right (has (getD waiter b 0) k) (has unit k) (ap (λ (x : ℕ). has x k) u ∙ t)));
+          (marked k m (omega (arith, ib))
+          (or-right (has (getD waiter b 0) k) (has unit k) (ap (λ (x : ℕ). has x k) u ∙ t)));
       long = length-set waiter b (bitOr (getD waiter b 0) unit % 65536);
     }
       where
@@ -190,13 +198,16 @@ module _ (head source ran : List ℕ) where
         marked : (k : ℕ) → k < 16 → b < no-operation + 1 → (has (getD waiter b 0) k || has unit k) ≡ true →
             has (getD (set waiter b (bitOr (getD waiter b 0) unit % 65536)) b 0) k ≡ true
         marked k m v t =
-            rw (getD-set-same waiter b (bitOr (getD waiter b 0) unit % 65536) 0 (let h : b < length waiter = omega arith in h))
+            rw (getD-set-same waiter b (bitOr (getD waiter b 0) unit % 65536) 0
+            (let h : b < length waiter = omega arith in h))
             (has-cut 16 (bitOr (getD waiter b 0) unit) k m ∙ has-or (getD waiter b 0) unit k ∙ t)
 
-        same : (i k : ℕ) → k < 16 → i ≡ b → has (getD waiter i 0) k ≡ true → has (getD (set waiter b (bitOr (getD waiter b 0) unit % 65536)) i 0) k ≡ true
+        same : (i k : ℕ) → k < 16 → i ≡ b → has (getD waiter i 0) k ≡ true →
+            has (getD (set waiter b (bitOr (getD waiter b 0) unit % 65536)) i 0) k ≡ true
         same i k m z t =
             by-cases (ltb b (no-operation + 1))
-            (λ y. subst (λ (x : ℕ). has (getD (set waiter b (bitOr (getD waiter b 0) unit % 65536)) x 0) k ≡ true) (sym z)
+            (λ y. subst (λ (x : ℕ). has (getD (set waiter b (bitOr (getD waiter b 0) unit % 65536)) x 0) k ≡ true)
+            (sym z)
             (marked k m (ltb-true b (no-operation + 1) y)
             (or-left (has (getD waiter b 0) k) (has unit k) (ap (λ (x : ℕ). has (getD waiter x 0) k) (sym z) ∙ t))))
             (λ y. rw (set-out waiter b (bitOr (getD waiter b 0) unit % 65536)

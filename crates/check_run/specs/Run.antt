@@ -29,7 +29,8 @@ pub record Cleared (rows : List ℕ) : Type 0 where
 -- the rows of the operations that have run; every other row of the 1,026 is zero
 pub record Rows-of (p : Plan) (run rows : List ℕ) : Type 0 where
   pub ran : Row-columns p (λ j. member j run ≡ true) rows
-  pub others : (j q : ℕ) → j < most-operations + 2 → member j run ≡ false → q < row-width → getD rows (row-width * j + q) 0 ≡ 0
+  pub others : (j q : ℕ) → j < most-operations + 2 → member j run ≡ false → q < row-width →
+      getD rows (row-width * j + q) 0 ≡ 0
 
 -- the run in the front of the list, the number ready before each step from place n on, and nothing past 2 n
 pub record Run-listed (p : Plan) (n : ℕ) (run list list-now : List ℕ) : Type 0 where

@@ -86,12 +86,15 @@ module _ (D : Spelt) where
 
     are-points : (k : ℕ) (got vs ds : List ℕ) → Kept q s b got → Many (Parses D (point F)) k got vs ds → Points s k vs
     unfolding point
-    are-points = many-pairs D (Kept q s b) (kept-more q s b) (λ v. v < s) (λ _. Unit {0}) (F .semaphore-width) 8 a-semaphore any-number is-semaphore
+    are-points =
+        many-pairs D (Kept q s b) (kept-more q s b) (λ v. v < s)
+        (λ _. Unit {0}) (F .semaphore-width) 8 a-semaphore any-number is-semaphore
         (λ _ _ _ _. tt)
 
     are-marks : (k : ℕ) (got vs ds : List ℕ) → Kept q s b got → Many (Parses D mark) k got vs ds → Marks b k vs
     unfolding mark
-    are-marks = many-pairs D (Kept q s b) (kept-more q s b) (λ v. v < b) (λ v. v < 2) 2 1 a-buffer a-kind is-buffer is-kind
+    are-marks =
+        many-pairs D (Kept q s b) (kept-more q s b) (λ v. v < b) (λ v. v < 2) 2 1 a-buffer a-kind is-buffer is-kind
 
     pub operation-block : (got vs ds : List ℕ) → Kept q s b got → Parses D (operation F) got vs ds → Block q s b vs
     unfolding operation

@@ -14,7 +14,8 @@ use Rattle.ask_frontier.proofs.gather.Tie as tie
 
 abbrev Inv-loop : tie.InvT-loop
 Inv-loop head table queues first f₀ q₀ f q =
-    (q ≤ queues) × (raises (left-from head table first queues q) f ≡ raises (left-from head table first queues 0) (pack [] false))
+    (q ≤ queues) ×
+    (raises (left-from head table first queues q) f ≡ raises (left-from head table first queues 0) (pack [] false))
 
 abbrev μ-loop : tie.MeasureT-loop
 μ-loop head table queues first f₀ q₀ f q = queues - q
@@ -66,7 +67,8 @@ loop-again c =
 
 returns : tie.Need-returns Inv-loop μ-loop
 returns c =
-    sym (raised-all _ _ _ _ _ _ (c .loop-test .left)) ∙ c .before .loop .inv .1 ∙ raised-whole _ _ _ _ (c .before .before .before .before .pre .0)
+    sym (raised-all _ _ _ _ _ _ (c .loop-test .left)) ∙ c .before .loop .inv .1
+    ∙ raised-whole _ _ _ _ (c .before .before .before .before .pre .0)
 
 pub gather-spec : {M : Type 1} → statement M
 gather-spec =

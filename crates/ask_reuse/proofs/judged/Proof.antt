@@ -40,7 +40,8 @@ returns c =
     let own = c .before .before .before in
     left-own (own .before .before .before .loop .inv) (own .before .before .loop-test .taken)
     (ap (λ (z : ℕ). z % mark-codes) (own .before .get16 .ensures)) _ _ (own .if1 .taken)
-    (ap (λ (z : ℕ). z % most-operations) (c .before .before .get162 .ensures)) (c .before .seen .ensures) (c .after .ensures)
+    (ap (λ (z : ℕ). z % most-operations) (c .before .before .get162 .ensures)) (c .before .seen .ensures)
+    (c .after .ensures)
 
 loop-less : tie.Need-loop-less Inv-loop μ-loop
 loop-less c = search needs

@@ -7,7 +7,9 @@ use Rattle.base_text.proofs.line.Statement.{statement}
 use Rattle.base_text.proofs.line.Tie as tie
 
 slice-aggregate-spaced-list : tie.Need-slice-aggregate-spaced-list
-slice-aggregate-spaced-list c = sym (length-take-le (c .before .before .before .before .before .args .n) (c .before .before .before .before .before .args .numbers .now) (omega arith))
+slice-aggregate-spaced-list c =
+    sym (length-take-le (c .before .before .before .before .before .args .n)
+    (c .before .before .before .before .before .args .numbers .now) (omega arith))
 
 spaced-list-requires : tie.Need-spaced-list-requires
 spaced-list-requires c κs = search needs

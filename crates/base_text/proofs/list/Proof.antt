@@ -51,9 +51,12 @@ same-length : tie.Need-same-length Inv-loop μ-loop
 same-length c = puts-length (c .before .loop .inv .1)
 
 returns : tie.Need-returns Inv-loop μ-loop
-returns c = puts-list (c .before .before .before .before .args .numbers .now) (c .before .loop .i) (omega arith) (c .before .loop .inv .1)
+returns c =
+    puts-list (c .before .before .before .before .args .numbers .now) (c .before .loop .i) (omega arith)
+    (c .before .loop .inv .1)
 
 pub list-spec : {M : Type 1} → statement M
 list-spec =
     tie.close
-    (tie.spec Inv-loop μ-loop loop-holds mul-u32-to-u64 shared-slice-read-u32-to-u64 u32-to-u64-requires next-requires add-i loop-less loop-again same-length returns)
+    (tie.spec Inv-loop μ-loop loop-holds mul-u32-to-u64 shared-slice-read-u32-to-u64 u32-to-u64-requires next-requires
+    add-i loop-less loop-again same-length returns)

@@ -28,7 +28,8 @@ unfolding refused-text
 returns c =
     let earlier = c .before .before .before .before .before .before in
     let first = earlier .before .before .before .before .before .before .before .before in
-    puts-both (puts-both (puts-both (first .words .ensures) (earlier .before .before .before .before .next .ensures)) (earlier .next2 .ensures)) (c .before .before .byte .ensures)
+    puts-both (puts-both (puts-both (first .words .ensures) (earlier .before .before .before .before .next .ensures))
+    (earlier .next2 .ensures)) (c .before .before .byte .ensures)
 
 pub refused-spec : {M : Type 1} → statement M
 refused-spec =

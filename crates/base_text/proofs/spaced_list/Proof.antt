@@ -38,7 +38,9 @@ returns-2 c =
     let earlier = c .before .before .before .before .before .before .before in
     let start = earlier .before .before .before .before .before .before in
     rw (spaced-some (start .args .numbers .now) (omega arith))
-    (puts-both (earlier .number .ensures) (rw (take-all (length (start .args .numbers .now) - 1) (drop 1 (start .args .numbers .now)) (omega (arith, length-drop 1 (start .args .numbers .now)))) at (c .before .before .long-list .ensures)))
+    (puts-both (earlier .number .ensures)
+    (rw (take-all (length (start .args .numbers .now) - 1) (drop 1 (start .args .numbers .now))
+    (omega (arith, length-drop 1 (start .args .numbers .now)))) at (c .before .before .long-list .ensures)))
 
 pub spaced-list-spec : {M : Type 1} → statement M
 spaced-list-spec =

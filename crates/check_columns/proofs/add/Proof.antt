@@ -4,7 +4,9 @@ use Prim.Native.Nat.{ℕ, _%_}
 use native.Mathlib.Omega.{arith}
 use lib.ListN.{set}
 use borrow.Author.Needs.{needs}
-use Rattle.check_columns.proofs.Parts.{wait-semaphores-put, wait-values-put, signal-semaphores-put, signal-values-put, signal-operations-put, marks-put, mark-operations-put, signals-more, marks-more}
+use Rattle.check_columns.proofs.Parts.{wait-semaphores-put, wait-values-put, signal-semaphores-put}
+use Rattle.check_columns.proofs.Parts.{signal-values-put, signal-operations-put, marks-put, mark-operations-put}
+use Rattle.check_columns.proofs.Parts.{signals-more, marks-more}
 use Rattle.check_columns.proofs.add.Statement.{statement}
 use Rattle.check_columns.proofs.add.Tie as tie
 
@@ -65,14 +67,25 @@ returns-2 c =
     let (s, signals) = c .before .before .before .put-signals .ensures in
     let (m, marks) = c .put-marks .ensures in (
       λ _. record {
-        queues-added = record { stored = earlier .before .before .before .before .put16 .ensures ∙ ap (λ (z : ℕ). set (a .queue .now) (a .i) (z % 65536)) (earlier .before .before .before .before .before .u64-to-usize .ensures); size = first .put16-arg .given .0 .1 };
-        wait-semaphores-added = wait-semaphores-put _ 0 w s m (a .i) (waits .0) (earlier .before .before .before .put-waits-arg .given .0 .1);
-        wait-values-added = wait-values-put _ 0 w s m (a .i) (waits .1) (earlier .before .before .put-waits-arg2 .given .0 .1);
-        signal-semaphores-added = signal-semaphores-put _ 0 w s m (a .i) (signals .0) (earlier .put-signals-arg .given .0 .1);
-        signal-values-added = signal-values-put _ 0 w s m (a .i) (signals .1 .0) (c .before .before .before .before .before .put-signals-arg2 .given .0 .1);
-        signal-operations-added = signal-operations-put _ 0 w s m (a .i) (signals .1 .1) (c .before .before .before .before .put-signals-arg3 .given .0 .1);
+        queues-added = record {
+          stored = earlier .before .before .before .before .put16 .ensures
+              ∙ ap (λ (z : ℕ). set (a .queue .now) (a .i) (z % 65536))
+              (earlier .before .before .before .before .before .u64-to-usize .ensures);
+          size = first .put16-arg .given .0 .1;
+        };
+        wait-semaphores-added = wait-semaphores-put _ 0 w s m (a .i) (waits .0)
+            (earlier .before .before .before .put-waits-arg .given .0 .1);
+        wait-values-added = wait-values-put _ 0 w s m (a .i) (waits .1)
+            (earlier .before .before .put-waits-arg2 .given .0 .1);
+        signal-semaphores-added = signal-semaphores-put _ 0 w s m (a .i) (signals .0)
+            (earlier .put-signals-arg .given .0 .1);
+        signal-values-added = signal-values-put _ 0 w s m (a .i) (signals .1 .0)
+            (c .before .before .before .before .before .put-signals-arg2 .given .0 .1);
+        signal-operations-added = signal-operations-put _ 0 w s m (a .i) (signals .1 .1)
+            (c .before .before .before .before .put-signals-arg3 .given .0 .1);
         marks-added = marks-put _ 0 w s m (a .i) (marks .0) (c .before .before .put-marks-arg .given .0 .1);
-        mark-operations-added = mark-operations-put _ 0 w s m (a .i) (marks .1) (c .before .put-marks-arg2 .given .0 .1);
+        mark-operations-added = mark-operations-put _ 0 w s m (a .i) (marks .1)
+            (c .before .put-marks-arg2 .given .0 .1);
         next = refl;
         more-signals = signals-more _ 0 w s m _;
         more-marks = marks-more _ 0 w s m _;

@@ -3,12 +3,15 @@ use mathlib.Core.Path.{refl, ap}
 use Prim.Native.Nat.{ℕ, _-_, _%_}
 use borrow.Author.Needs.{needs}
 use Rattle.check_columns.specs.Filling.{first-at, second-at}
-use Rattle.check_columns.proofs.Putting.{Putting, putting-none, putting-next, putting-end, putting-length, small-is}
+use Rattle.check_columns.proofs.Putting.{Putting, putting-none, putting-next, putting-end, putting-length}
+use Rattle.check_columns.proofs.Putting.{small-is}
 use Rattle.check_columns.proofs.put_signals.Statement.{statement}
 use Rattle.check_columns.proofs.put_signals.Tie as tie
 
 abbrev Inv-loop : tie.InvT-loop
-Inv-loop window at i had semaphore₀ value₀ operation₀ many j₀ semaphore value operation j = Putting (λ j. first-at window at j % 65536) had many semaphore₀ semaphore j × Putting (λ j. second-at window at j) had many value₀ value j × Putting (λ j. i) had many operation₀ operation j
+Inv-loop window at i had semaphore₀ value₀ operation₀ many j₀ semaphore value operation j =
+    Putting (λ j. first-at window at j % 65536) had many semaphore₀ semaphore j ×
+    Putting (λ j. second-at window at j) had many value₀ value j × Putting (λ j. i) had many operation₀ operation j
 
 abbrev μ-loop : tie.MeasureT-loop
 μ-loop window at i had semaphore₀ value₀ operation₀ many j₀ semaphore value operation j = many - j

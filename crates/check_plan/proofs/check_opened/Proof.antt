@@ -85,4 +85,5 @@ returns-2 c =
 pub check-opened-spec : {M : Type 1} → statement M
 check-opened-spec =
     tie.close
-    (tie.spec load-requires with-lists-requires returns cast-judge-columns cast-judge-columns-2 judge-columns-requires with-lists-requires-2 same-length same-length-2 returns-2)
+    (tie.spec load-requires with-lists-requires returns cast-judge-columns cast-judge-columns-2 judge-columns-requires
+    with-lists-requires-2 same-length same-length-2 returns-2)

@@ -14,7 +14,8 @@ same-length c = search needs
 returns : tie.Need-returns
 returns c =
     let start = c .before .before .before .before .before .before .before in
-    rw (line-refused (start .args .sent .number) (start .args .sent .place) _ (c .before .before .before .before .if1 .taken)) (c .before .before .refused .ensures)
+    rw (line-refused (start .args .sent .number) (start .args .sent .place) _
+    (c .before .before .before .before .if1 .taken)) (c .before .before .refused .ensures)
 
 whole-requires : tie.Need-whole-requires
 whole-requires c κs = search needs
@@ -40,7 +41,8 @@ returns-2 c =
     let earlier = c .before .before .before .before .before .before in
     let first = earlier .before .before .before .before .before .before in
     let start = first .before .before .before .before .before .before .before .before in
-    rw (line-answered (start .args .sent .number) (start .args .sent .place) _ (first .before .before .before .before .before .if1 .left))
+    rw (line-answered (start .args .sent .number) (start .args .sent .place) _
+    (first .before .before .before .before .before .if1 .left))
     (puts-both (puts-both (first .whole .ensures) (earlier .entries .ensures)) (c .before .before .byte .ensures))
 
 pub entered-spec : {M : Type 1} → statement M

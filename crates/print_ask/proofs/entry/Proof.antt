@@ -19,7 +19,8 @@ same-length c = search needs
 returns : tie.Need-returns
 returns c =
     let earlier = c .before .before .before .before .before .before in
-    puts-both (puts-both (earlier .before .before .before .before .next .ensures) (earlier .byte .ensures)) (c .before .before .number .ensures)
+    puts-both (puts-both (earlier .before .before .before .before .next .ensures) (earlier .byte .ensures))
+    (c .before .before .number .ensures)
 
 pub entry-spec : {M : Type 1} → statement M
 entry-spec = tie.close (tie.spec next-requires byte-requires number-requires same-length returns)

@@ -14,7 +14,8 @@ same-length c = search needs
 returns : tie.Need-returns
 returns c =
     let start = c .before .before .before .before .before .before .before in
-    rw (line-refused (start .args .told .number) (start .args .told .place) _ (c .before .before .before .before .if1 .taken)) (c .before .before .refused .ensures)
+    rw (line-refused (start .args .told .number) (start .args .told .place) _
+    (c .before .before .before .before .if1 .taken)) (c .before .before .refused .ensures)
 
 slice-aggregate-words : tie.Need-slice-aggregate-words
 slice-aggregate-words c = search needs
@@ -40,8 +41,10 @@ returns-2 c =
     let earlier = c .before .before .before .before .before .before in
     let first = earlier .before .before .before .before .before .before .before .before in
     let start = first .before .before .before .before .before .before in
-    rw (line-answered (start .args .told .number) (start .args .told .place) _ (first .before .before .before .if1 .left))
-    (puts-both (puts-both (puts-both (first .words .ensures) (earlier .before .before .before .before .next .ensures)) (earlier .verdict .ensures)) (c .before .before .byte .ensures))
+    rw (line-answered (start .args .told .number) (start .args .told .place) _
+    (first .before .before .before .if1 .left))
+    (puts-both (puts-both (puts-both (first .words .ensures) (earlier .before .before .before .before .next .ensures))
+    (earlier .verdict .ensures)) (c .before .before .byte .ensures))
 
 pub judged-spec : {M : Type 1} → statement M
 judged-spec =

@@ -14,7 +14,8 @@ same-length c = search needs
 returns : tie.Need-returns
 returns c =
     let start = c .before .before .before .before .before .before .before .before .before in
-    rw (line-refused (start .args .counts .number) (start .args .counts .place) _ (c .before .before .before .before .if1 .taken)) (c .before .before .refused .ensures)
+    rw (line-refused (start .args .counts .number) (start .args .counts .place) _
+    (c .before .before .before .before .if1 .taken)) (c .before .before .refused .ensures)
 
 sizes-requires : tie.Need-sizes-requires
 sizes-requires c κs = search needs
@@ -33,8 +34,10 @@ unfolding passed-text
 returns-2 c =
     let earlier = c .before .before .before .before .before .before in
     let first = earlier .before .before .before .before .before .before in
-    rw (line-answered (first .before .before .before .before .before .args .counts .number) (first .before .before .before .before .before .args .counts .place) _ (first .if1 .left))
-    (puts-both (puts-both (earlier .before .before .before .before .sizes .ensures) (earlier .runs .ensures)) (c .before .before .rows .ensures))
+    rw (line-answered (first .before .before .before .before .before .args .counts .number)
+    (first .before .before .before .before .before .args .counts .place) _ (first .if1 .left))
+    (puts-both (puts-both (earlier .before .before .before .before .sizes .ensures) (earlier .runs .ensures))
+    (c .before .before .rows .ensures))
 
 pub checked-spec : {M : Type 1} → statement M
 checked-spec =

@@ -27,7 +27,8 @@ returns : tie.Need-returns
 unfolding row-text
 returns c =
     let earlier = c .before .before .before .before .before .before in
-    puts-both (puts-both (earlier .before .before .before .before .before .number .ensures) (earlier .listed .ensures)) (c .before .before .byte .ensures)
+    puts-both (puts-both (earlier .before .before .before .before .before .number .ensures) (earlier .listed .ensures))
+    (c .before .before .byte .ensures)
 
 pub row-spec : {M : Type 1} → statement M
 row-spec =

@@ -27,7 +27,8 @@ returns : tie.Need-returns
 unfolding runs-text
 returns c =
     let earlier = c .before .before .before .before .before .before in
-    puts-both (puts-both (earlier .before .before .before .before .before .listed .ensures) (earlier .listed2 .ensures)) (c .before .before .byte .ensures)
+    puts-both (puts-both (earlier .before .before .before .before .before .listed .ensures) (earlier .listed2 .ensures))
+    (c .before .before .byte .ensures)
 
 pub runs-spec : {M : Type 1} → statement M
 runs-spec =

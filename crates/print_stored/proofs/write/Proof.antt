@@ -7,7 +7,9 @@ use Rattle.print_stored.proofs.write.Statement.{statement}
 use Rattle.print_stored.proofs.write.Tie as tie
 
 slice-aggregate-written : tie.Need-slice-aggregate-written
-slice-aggregate-written c = sym (length-take-le (c .before .before .before .before .args .n) (c .before .before .before .before .args .numbers .now) (omega arith))
+slice-aggregate-written c =
+    sym (length-take-le (c .before .before .before .before .args .n)
+    (c .before .before .before .before .args .numbers .now) (omega arith))
 
 written-requires : tie.Need-written-requires
 written-requires c κs = search needs

@@ -14,7 +14,8 @@ unless-requires : tie.Need-unless-requires
 unless-requires c κs = search needs
 
 returns : tie.Need-returns
-returns c = wait-unmet-is _ _ _ _ _ _ _ _ (c .before .before .get16 .ensures) (c .before .has-run .ensures) (c .unless .ensures)
+returns c =
+    wait-unmet-is _ _ _ _ _ _ _ _ (c .before .before .get16 .ensures) (c .before .has-run .ensures) (c .unless .ensures)
 
 pub holds-spec : {M : Type 1} → statement M
 holds-spec = tie.close (tie.spec get16-requires has-run-requires unless-requires returns)

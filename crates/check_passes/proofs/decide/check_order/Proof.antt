@@ -14,7 +14,10 @@ room-requires : tie.Need-room-requires
 room-requires c κs = search needs
 
 returns : tie.Need-returns
-returns c = (answers-over (c .before .room .ensures) (c .if1 .taken), λ p given. absurd (omega (arith, order-few given, c .if1 .taken)))
+returns c = (
+  answers-over (c .before .room .ensures) (c .if1 .taken),
+  λ p given. absurd (omega (arith, order-few given, c .if1 .taken)),
+)
 
 returns-2 : tie.Need-returns-2
 returns-2 c =
@@ -49,11 +52,15 @@ returns-3 c =
     let lent = room-test .before .before .before .room .ensures in
     let fits = has-room _ _ _ lent (room-test .if2 .left) in
     let room : Results-room _ _ _ = record { few = few; in-table = fits .0; in-list = fits .1 } in (
-      answers-run _ _ _ _ _ _ _ room (run .run .ensures .0) (judge .judge .ensures .0) (left .results .ensures) lent (room-test .if2 .left),
+      answers-run _ _ _ _ _ _ _ room (run .run .ensures .0) (judge .judge .ensures .0) (left .results .ensures) lent
+          (room-test .if2 .left),
       λ p given.
           let ran = run .run .ensures .1 p (run-given given) cleared (fits .1) in
-          order-says p (order-sound given) (given .many) room ran (judge .judge .ensures .1 p (judge-given given _ _ (ran .many) (ran .filled))) (left .results .ensures),
+          order-says p (order-sound given) (given .many) room ran
+          (judge .judge .ensures .1 p (judge-given given _ _ (ran .many) (ran .filled))) (left .results .ensures),
     )
 
 pub check-order-spec : {M : Type 1} → statement M
-check-order-spec = tie.close (tie.spec room-requires returns returns-2 run-requires judge-requires results-requires same-length same-length-2 returns-3)
+check-order-spec =
+    tie.close (tie.spec room-requires returns returns-2 run-requires judge-requires results-requires same-length
+    same-length-2 returns-3)

@@ -6,7 +6,8 @@ use mathlib.Core.Path.{sym, _∙_}
 use borrow.Author.Tests.{not-true, not-false}
 use borrow.Author.Needs.{needs}
 use Rattle.frontier.specs.Frontiers.{slot}
-use Rattle.frontier.proofs.Trim.{Cut-bound, bounded-none, bounded-lost, bounded-kept, bounded-low, bounded-high, bounded-end, bounded-one}
+use Rattle.frontier.proofs.Trim.{Cut-bound, bounded-none, bounded-lost, bounded-kept, bounded-low, bounded-high}
+use Rattle.frontier.proofs.Trim.{bounded-end, bounded-one}
 use Rattle.frontier.proofs.cuts.bound_of.Statement.{statement}
 use Rattle.frontier.proofs.cuts.bound_of.Tie as tie
 
@@ -26,7 +27,10 @@ returns : tie.Need-returns Inv-loop μ-loop
 returns c = bounded-one _ _ _ _ _ (c .least .ensures) (c .before .if1 .taken)
 
 loop-holds : tie.Need-loop-holds Inv-loop μ-loop
-loop-holds c = bounded-none _ _ _ _ _ (c .before .before .before .pre .0 .2) (c .before .before .before .pre .1 .1) (c .before .before .before .pre .1 .0) (λ k. omega (arith, c .before .before .shared-slice-known .given k)) (λ k. omega (arith, c .before .shared-slice-known2 .given k))
+loop-holds c =
+    bounded-none _ _ _ _ _ (c .before .before .before .pre .0 .2) (c .before .before .before .pre .1 .1)
+    (c .before .before .before .pre .1 .0) (λ k. omega (arith, c .before .before .shared-slice-known .given k))
+    (λ k. omega (arith, c .before .shared-slice-known2 .given k))
 
 mul-axis : tie.Need-mul-axis Inv-loop μ-loop
 mul-axis c = search needs
@@ -51,7 +55,9 @@ loop-less c = search needs
 
 loop-again : tie.Need-loop-again Inv-loop μ-loop
 unfolding slot
-loop-again c = bounded-lost _ _ _ _ _ _ _ (c .before .before .before .before .before .loop .inv) (sym (c .before .above .ensures) ∙ not-true _ (c .if2 .taken))
+loop-again c =
+    bounded-lost _ _ _ _ _ _ _ (c .before .before .before .before .before .loop .inv)
+    (sym (c .before .above .ensures) ∙ not-true _ (c .if2 .taken))
 
 above-requires-2 : tie.Need-above-requires-2 Inv-loop μ-loop
 above-requires-2 c κs = search needs
@@ -84,7 +90,8 @@ loop-again-4 : tie.Need-loop-again-4 Inv-loop μ-loop
 unfolding slot
 loop-again-4 c =
     let turn = c .before .before .before .before .before .before .before .before .before in
-    bounded-high _ _ _ _ _ _ _ _ (turn .loop .inv) (sym (c .before .before .before .before .before .above .ensures) ∙ not-false _ (c .before .before .before .before .if2 .left)) (c .before .count-above .ensures) (c .if4 .left)
+    bounded-high _ _ _ _ _ _ _ _ (turn .loop .inv) (sym (c .before .before .before .before .before .above .ensures)
+    ∙ not-false _ (c .before .before .before .before .if2 .left)) (c .before .count-above .ensures) (c .if4 .left)
 
 returns-2 : tie.Need-returns-2 Inv-loop μ-loop
 returns-2 c = bounded-end _ _ _ _ _ _ _ (c .before .loop .inv) (c .loop-test .left)

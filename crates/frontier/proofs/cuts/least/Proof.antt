@@ -45,7 +45,8 @@ loop-less c = search needs
 
 loop-again : tie.Need-loop-again Inv-loop μ-loop
 unfolding slot
-loop-again c = (search needs, least-more _ _ _ _ _ (c .before .before .before .before .loop .inv .1) (c .lesser .ensures))
+loop-again c =
+    (search needs, least-more _ _ _ _ _ (c .before .before .before .before .loop .inv .1) (c .lesser .ensures))
 
 returns : tie.Need-returns Inv-loop μ-loop
 returns c =

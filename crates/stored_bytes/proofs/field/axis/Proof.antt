@@ -44,7 +44,9 @@ unfolding axis-field
 returns-3 c =
     let earlier = c .before .before .before .before .before .before in
     rw (c .refused2 .ensures)
-    (wrong (earlier .if1 .left) (earlier .before .before .before .before .pre .inside) (c .before .before .before .before .before .if2 .left) refl (axis-again _ _ _ (c .before .before .repeated .ensures) (c .before .if3 .taken)) (eqb-false 5 0 refl))
+    (wrong (earlier .if1 .left) (earlier .before .before .before .before .pre .inside)
+    (c .before .before .before .before .before .if2 .left) refl
+    (axis-again _ _ _ (c .before .before .repeated .ensures) (c .before .if3 .taken)) (eqb-false 5 0 refl))
 
 put8-requires : tie.Need-put8-requires
 put8-requires c κs = search needs
@@ -65,9 +67,11 @@ returns-4 c =
     (s .pre .inside) (earlier .before .before .before .if2 .left) refl
     (omega arith) (axis-new _ _ _ (earlier .repeated .ensures)
     (c .before .before .before .before .before .if3 .left))
-    (omega (arith, earlier .before .before .shared-slice-known2 .given (s .args .c .at))) (c .before .before .before .put8 .ensures))
+    (omega (arith, earlier .before .before .shared-slice-known2 .given (s .args .c .at)))
+    (c .before .before .before .put8 .ensures))
 
 pub axis-spec : {M : Type 1} → statement M
 axis-spec =
     tie.close
-    (tie.spec returns refused-requires returns-2 mul-value shared-slice-read-value slice-aggregate-repeated repeated-requires refused-requires-2 returns-3 put8-requires past-requires same-length returns-4)
+    (tie.spec returns refused-requires returns-2 mul-value shared-slice-read-value slice-aggregate-repeated
+    repeated-requires refused-requires-2 returns-3 put8-requires past-requires same-length returns-4)

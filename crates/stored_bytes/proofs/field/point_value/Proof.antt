@@ -41,9 +41,11 @@ returns-3 c =
     rw (c .past .ensures)
     (kept (earlier .before .if1 .left) (s .pre .inside)
     (earlier .if2 .left) refl (omega arith) refl
-    (omega (arith, c .before .before .before .before .before .shared-slice-known2 .given (s .args .c .at))) (c .before .before .before .put8 .ensures))
+    (omega (arith, c .before .before .before .before .before .shared-slice-known2 .given (s .args .c .at)))
+    (c .before .before .before .put8 .ensures))
 
 pub point-value-spec : {M : Type 1} → statement M
 point-value-spec =
     tie.close
-    (tie.spec returns refused-requires returns-2 mul-value shared-slice-read-value put8-requires past-requires same-length returns-3)
+    (tie.spec returns refused-requires returns-2 mul-value shared-slice-read-value put8-requires past-requires
+    same-length returns-3)

@@ -34,7 +34,8 @@ unfolding size-field any-number
 returns-3 c =
     let start = c .before .before .before .before .before .before .before .before in
     rw (c .refused2 .ensures)
-    (wide (c .before .before .before .before .if1 .left) (start .pre .inside) (c .before .before .before .if2 .left) refl refl (c .before .if3 .taken))
+    (wide (c .before .before .before .before .if1 .left) (start .pre .inside)
+    (c .before .before .before .if2 .left) refl refl (c .before .if3 .taken))
 
 put4-requires : tie.Need-put4-requires
 put4-requires c κs = search needs
@@ -51,9 +52,11 @@ returns-4 c =
     let earlier = c .before .before .before .before .before .before .before in
     rw (c .past .ensures)
     (kept (earlier .before .if1 .left)
-    (earlier .before .before .before .before .before .pre .inside) (earlier .if2 .left) refl (omega arith) refl (c .before .before .before .before .before .if3 .left) (c .before .before .before .put4 .ensures))
+    (earlier .before .before .before .before .before .pre .inside) (earlier .if2 .left) refl (omega arith) refl
+    (c .before .before .before .before .before .if3 .left) (c .before .before .before .put4 .ensures))
 
 pub size-spec : {M : Type 1} → statement M
 size-spec =
     tie.close
-    (tie.spec returns refused-requires returns-2 mul-value shared-slice-read-value refused-requires-2 returns-3 put4-requires past-requires same-length returns-4)
+    (tie.spec returns refused-requires returns-2 mul-value shared-slice-read-value refused-requires-2 returns-3
+    put4-requires past-requires same-length returns-4)

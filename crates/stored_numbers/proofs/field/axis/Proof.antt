@@ -50,7 +50,8 @@ unfolding axis-field
 returns-3 c =
     let earlier = c .before .before .before .before .before .before in
     rw (c .refused2 .ensures)
-    (wrong (earlier .if1 .left) (earlier .before .before .before .before .pre .inside) (c .before .before .before .before .before .if2 .left) (c .before .before .before .before .word8 .ensures)
+    (wrong (earlier .if1 .left) (earlier .before .before .before .before .pre .inside)
+    (c .before .before .before .before .before .if2 .left) (c .before .before .before .before .word8 .ensures)
     (axis-again _ _ _ (c .before .before .repeated .ensures) (c .before .if3 .taken)) (eqb-false 5 0 refl))
 
 mul-numbers : tie.Need-mul-numbers
@@ -70,10 +71,14 @@ unfolding axis-field
 returns-4 c =
     let earlier = c .before .before .before .before .before .before in
     rw (c .past .ensures)
-    (kept (earlier .if1 .left) (earlier .before .before .before .before .pre .inside) (c .before .before .before .before .before .if2 .left) (c .before .before .before .before .word8 .ensures) (omega arith)
+    (kept (earlier .if1 .left) (earlier .before .before .before .before .pre .inside)
+    (c .before .before .before .before .before .if2 .left)
+    (c .before .before .before .before .word8 .ensures) (omega arith)
     (axis-new _ _ _ (c .before .before .repeated .ensures) (c .before .if3 .left)))
 
 pub axis-spec : {M : Type 1} → statement M
 axis-spec =
     tie.close
-    (tie.spec returns sub-if2 refused-requires returns-2 word8-requires slice-reshare-prefix-repeated slice-aggregate-repeated repeated-requires refused-requires-2 same-length returns-3 mul-numbers slice-write-numbers past-requires same-length-2 returns-4)
+    (tie.spec returns sub-if2 refused-requires returns-2 word8-requires slice-reshare-prefix-repeated
+    slice-aggregate-repeated repeated-requires refused-requires-2 same-length returns-3 mul-numbers slice-write-numbers
+    past-requires same-length-2 returns-4)
