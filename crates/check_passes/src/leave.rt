@@ -10,7 +10,8 @@ ghost use Rattle.check_passes.specs.Leaving.{Results-room, Results-left}
 // Zeros over both on a refusal; else the rows in the table, the run being in the list already.
 pub fn results(number: u32, n: u16, from: &Rows, table: &mut [u32], list: &mut [u32])
     requires { ⌜ Results-room n (now table) (now list) ⌝ }
-    ensures { λ _. ⌜ Results-left number n (now (from .entry)) (now (table .entry)) (now (table .exit)) (now (list .entry)) (now (list .exit)) ⌝ }
+    ensures { λ _. ⌜ Results-left number n (now (from .entry)) (now (table .entry)) (now (table .exit))
+        (now (list .entry)) (now (list .exit)) ⌝ }
 {
     let many = n as usize;
     if number == 0 {
