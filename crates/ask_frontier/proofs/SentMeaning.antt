@@ -62,7 +62,8 @@ module _ (p : Plan) (sound : Sound p) where
       let entry-of : ℕ → Entry = λ q. record { axis = getD (p .axes) q 0; epoch = getD (row p j) q 0 } in
       omega (arith, gathered-length (row-entries p j), tabulate-length entry-of (queues p) 0, sound .few-queues)
 
-  listed-right : (j axis e : ℕ) → (find axis (sent-entries p j) ≡ Listed e) ↔ ((0 < e) × ((q : ℕ) × In-row p j axis e q))
+  listed-right : (j axis e : ℕ) →
+      (find axis (sent-entries p j) ≡ Listed e) ↔ ((0 < e) × ((q : ℕ) × In-row p j axis e q))
   unfolding epoch-at
   listed-right j axis e =
       let es = sent-entries p j in
@@ -74,7 +75,8 @@ module _ (p : Plan) (sound : Sound p) where
             (λ none. absurd (omega (arith, m .elsewhere axis none)))),
         (λ w. let q = w .1 .0 in
             let i = w .1 .1 in
-            epoch-listed (find axis es) e (w .0) (subst (λ (a : ℕ). epoch-at es a ≡ e) (i .1) (m .own q (i .0) ∙ i .2))),
+            epoch-listed (find axis es) e (w .0)
+            (subst (λ (a : ℕ). epoch-at es a ≡ e) (i .1) (m .own q (i .0) ∙ i .2))),
       )
 
   -- ---- the frontier
@@ -86,7 +88,8 @@ module _ (p : Plan) (sound : Sound p) where
     formed-sent : c ≤ 16 → well-formed (sent p j c) ≡ true
     unfolding sent
     formed-sent h =
-        well-formed-pack (cut c (sent-entries p j)) (ltb c (length (sent-entries p j))) (sorted-cut c 0 (sent-entries p j) (sorted-sent j))
+        well-formed-pack (cut c (sent-entries p j)) (ltb c (length (sent-entries p j)))
+        (sorted-cut c 0 (sent-entries p j) (sorted-sent j))
         (omega (arith, cut-length c 0 (sent-entries p j) (sorted-sent j)))
 
     taint-is : sent p j c .tainted ≡ ltb c (length (sent-entries p j))
@@ -95,19 +98,25 @@ module _ (p : Plan) (sound : Sound p) where
 
     completes-sent : (full : ℕ → ℕ) → Row-map p j full → Completion (sent p j c) full
     completes-sent full m = record {
-      at-least = λ a. rw found (omega (arith, epoch-cut c 0 (sent-entries p j) (sorted-sent j) a, map-same p sound j full m a));
-      exact = λ t a. rw (found, cut-whole c (sent-entries p j) (ltb-false c (length (sent-entries p j)) (sym taint-is ∙ t))) (map-same p sound j full m a);
+      at-least = λ a.
+          rw found (omega (arith, epoch-cut c 0 (sent-entries p j) (sorted-sent j) a, map-same p sound j full m a));
+      exact = λ t a.
+          rw (found, cut-whole c (sent-entries p j) (ltb-false c (length (sent-entries p j)) (sym taint-is ∙ t)))
+          (map-same p sound j full m a);
     }
 
   -- nothing is cut at sixteen, and a merge with the empty frontier cuts
   whole-is : (j : ℕ) → sent p j 16 ≡ pack (sent-entries p j) false
   unfolding sent
-  whole-is j = ap₂ pack (cut-whole 16 (sent-entries p j) (few-sent j)) (le-ltb 16 (length (sent-entries p j)) (few-sent j))
+  whole-is j =
+      ap₂ pack (cut-whole 16 (sent-entries p j) (few-sent j)) (le-ltb 16 (length (sent-entries p j)) (few-sent j))
 
-  merged-sent : (j c : ℕ) → 1 ≤ c → c ≤ 16 → merge (sent p j 16) (pack [] false) c ≡ record { number = 0; frontier = sent p j c }
+  merged-sent : (j c : ℕ) → 1 ≤ c → c ≤ 16 →
+      merge (sent p j 16) (pack [] false) c ≡ record { number = 0; frontier = sent p j c }
   unfolding sent
   merged-sent j c h k =
-      ap (λ (f : Frontier). merge f (pack [] false) c) (whole-is j) ∙ merge-empty (sent-entries p j) false c (sorted-sent j) (few-sent j) h k
+      ap (λ (f : Frontier). merge f (pack [] false) c) (whole-is j)
+      ∙ merge-empty (sent-entries p j) false c (sorted-sent j) (few-sent j) h k
 
   untainted : (j : ℕ) → sent p j 16 .tainted ≡ false
   untainted j = taint-is j 16 ∙ le-ltb 16 (length (sent-entries p j)) (few-sent j)

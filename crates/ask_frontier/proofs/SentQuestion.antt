@@ -24,20 +24,26 @@ use Rattle.ask_frontier.specs.SentMeaning.{Sent-means, Sent-number, Fron
 use Rattle.ask_frontier.specs.SentWalk.{Sent-tells}
 use Rattle.check_plan.proofs.Passed.{passes}
 use Rattle.ask_frontier.proofs.SentMeaning.{sent-means}
-use Rattle.ask_frontier.proofs.SentOutcome.{no-operation, no-capacity, none-refused, plan-first, then-asked, gives-asked, operation-if, capacity-if, answer-if, sent-only, sent-leaves-by, sent-passed}
+use Rattle.ask_frontier.proofs.SentOutcome.{no-operation, no-capacity, none-refused, plan-first, then-asked}
+use Rattle.ask_frontier.proofs.SentOutcome.{gives-asked, operation-if, capacity-if, answer-if, sent-only}
+use Rattle.ask_frontier.proofs.SentOutcome.{sent-leaves-by, sent-passed}
 
 -- ---- what is said
-module _ (bs : List ℕ) (j c : ℕ) (t x l y : List ℕ) (n i : ℕ) (s : Check-says bs (record { number = n; place = i; answer = 0 }) t x l y) where
+module _ (bs : List ℕ) (j c : ℕ) (t x l y : List ℕ) (n i : ℕ)
+    (s : Check-says bs (record { number = n; place = i; answer = 0 }) t x l y) where
   -- of a plan that the check refuses
-  pub plan-said : (n ≡ 0 → ⊥) → Frontier-says bs j c (record { number = n; place = i; frontier = pack [] false }) t x l y
+  pub plan-said : (n ≡ 0 → ⊥) →
+      Frontier-says bs j c (record { number = n; place = i; frontier = pack [] false }) t x l y
   unfolding Check-says
   plan-said h =
       let bad : check-outcome bs (length t) (length l) .refusal .number ≡ 0 → ⊥ = λ z. h (s .tells .number ∙ z) in
       let o = plan-first bs j c (length t) (length l) bad in
       record {
-        says = subst (λ (z : Outcome). Says z 0 (plan-in bs) (record { number = n; place = i; answer = 0 }) t x l y) (sym o) s;
+        says = subst (λ (z : Outcome). Says z 0 (plan-in bs) (record { number = n; place = i; answer = 0 }) t x l y)
+            (sym o) s;
         frontier-is = sym (ap (λ (b : Bool). cond b (pack [] false) (sent (plan-in bs) j c))
-            (ap (λ (z : Outcome). given (z .refusal)) o ∙ other-given (check-outcome bs (length t) (length l) .refusal) bad));
+            (ap (λ (z : Outcome). given (z .refusal)) o
+            ∙ other-given (check-outcome bs (length t) (length l) .refusal) bad));
       }
 
   -- of a plan that passes
@@ -53,7 +59,8 @@ module _ (bs : List ℕ) (j c : ℕ) (t x l y : List ℕ) (n i : ℕ) (s : Check
           table-holds = s .table-holds ∙ ap (λ (v : Leaves). table-left v (plan-in bs) t) leaves;
           list-holds = s .list-holds ∙ ap (λ (v : Leaves). list-left v (plan-in bs) l) leaves;
         });
-        frontier-is = a .frontier-is ∙ sym (ap (λ (z : Outcome). cond (given (z .refusal)) (pack [] false) (sent (plan-in bs) j c)) o);
+        frontier-is = a .frontier-is
+            ∙ sym (ap (λ (z : Outcome). cond (given (z .refusal)) (pack [] false) (sent (plan-in bs) j c)) o);
       }
 
 -- ---- what a caller gets
@@ -68,7 +75,8 @@ module _ (bs : List ℕ) (j c : ℕ) (r : Sent) (t x l y : List ℕ) (s : Fronti
   by-number =
       let n = s .says .tells .number in
       let i = s .says .tells .place in
-      let given-as : (k v : ℕ) → check .number ≡ 0 → Refuses (sent-refusal (plan-in bs) j c) k v → (r .number ≡ k) × (r .place ≡ v) =
+      let given-as : (k v : ℕ) → check .number ≡ 0 → Refuses (sent-refusal (plan-in bs) j c) k v →
+      (r .number ≡ k) × (r .place ≡ v) =
       λ k v z f. let g = gives-asked bs j c (length t) (length l) k v z f in (n ∙ g .0 .0, i ∙ g .0 .1) in
       record {
         plan-first = λ h. let o = plan-first bs j c (length t) (length l) h in (
@@ -91,7 +99,9 @@ module _ (bs : List ℕ) (j c : ℕ) (r : Sent) (t x l y : List ℕ) (s : Fronti
           (λ w. given-as 0 0 (w .0) (none-refused (plan-in bs) j c (w .1) (w .2) (w .3)) .0),
         );
         only = one-is (0 ∷ sent-gives) n (sent-only bs j c (length t) (length l));
-        refused = λ h. s .frontier-is ∙ ap (λ (b : Bool). cond b (pack [] false) (sent (plan-in bs) j c)) (other-given (out .refusal) (λ z. h (n ∙ z)));
+        refused = λ h. s .frontier-is
+            ∙ ap (λ (b : Bool). cond b (pack [] false) (sent (plan-in bs) j c))
+            (other-given (out .refusal) (λ z. h (n ∙ z)));
       }
 
   passed-by : r .number ≡ 0 → (check .number ≡ 0) × (j < count (plan-in bs)) × (1 ≤ c) × (c ≤ 16)
@@ -99,7 +109,9 @@ module _ (bs : List ℕ) (j c : ℕ) (r : Sent) (t x l y : List ℕ) (s : Fronti
 
   frontier-sent : r .number ≡ 0 → r .frontier ≡ sent (plan-in bs) j c
   frontier-sent z =
-      s .frontier-is ∙ ap (λ (b : Bool). cond b (pack [] false) (sent (plan-in bs) j c)) (zero-not-given (out .refusal) (sym (s .says .tells .number) ∙ z))
+      s .frontier-is
+      ∙ ap (λ (b : Bool). cond b (pack [] false) (sent (plan-in bs) j c))
+      (zero-not-given (out .refusal) (sym (s .says .tells .number) ∙ z))
 
   sent-left : Left-means (plan-in bs) (out .leaves) t x l y
   unfolding sent-outcome

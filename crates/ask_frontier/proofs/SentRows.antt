@@ -40,7 +40,8 @@ module _ (p : Plan) where
         let axis : ℕ → ℕ = λ q. getD (p .axes) q 0 in
         let epoch : ℕ → ℕ = λ q. getD (row p j) q 0 in
         record {
-          own = λ q l. gathered-own axis epoch (queues p) 0 (λ i k a b c. sound .axes-distinct i k b (omega arith)) q zero-le (omega arith);
+          own = λ q l. gathered-own axis epoch (queues p) 0
+              (λ i k a b c. sound .axes-distinct i k b (omega arith)) q zero-le (omega arith);
           elsewhere = λ a none. gathered-other axis epoch (queues p) 0 a (λ q l h. none q (omega arith));
         }
 
@@ -65,9 +66,11 @@ module _ (p : Plan) where
       rw (row-at p i q b, row-at p j q b)
       (tally-mono (count p) (λ k. on-queue p q k && at-or-before p k i) (λ k. on-queue p q k && at-or-before p k j)
       (λ k l u. let on = on-queue p q k in
-      and-both on (at-or-before p k j) (and-left on (at-or-before p k i) u) (at-or-join k i j (and-right on (at-or-before p k i) u) t)))
+      and-both on (at-or-before p k j) (and-left on (at-or-before p k i) u)
+      (at-or-join k i j (and-right on (at-or-before p k i) u) t)))
 
-  module _ (sound : Sound p) (i j : ℕ) (inside : i < count p) (full other : ℕ → ℕ) (m : Row-map p j full) (n : Row-map p i other) where
+  module _ (sound : Sound p) (i j : ℕ) (inside : i < count p) (full other : ℕ → ℕ) (m : Row-map p j full)
+      (n : Row-map p i other) where
     pub over-order : Over full other → (i ≡ j) ⊎ Before p i j
     unfolding Row-epoch
     over-order over =
@@ -75,7 +78,8 @@ module _ (p : Plan) where
         let known : q < queues p = sound .in-range i inside .queue in
         let few : q < 16 = omega (arith, sound .few-queues) in
         row-epoch p i j inside few .1
-        (omega (arith, row-epoch p i i inside few .0 (inl refl), over (getD (p .axes) q 0), m .own q known, n .own q known))
+        (omega
+        (arith, row-epoch p i i inside few .0 (inl refl), over (getD (p .axes) q 0), m .own q known, n .own q known))
 
     pub order-over : (i ≡ j) ⊎ Before p i j → Over full other
     order-over w axis =

@@ -48,7 +48,8 @@ abbrev pub told : Sent → Told
 told r = record { number = r .number; place = r .place; answer = 0 }
 
 -- R70, what the call hands back and leaves: beside a refusal, the empty untainted frontier
-pub record Frontier-says (bytes : List ℕ) (j capacity : ℕ) (r : Sent) (table table-now list list-now : List ℕ) : Type 0 where
+pub record Frontier-says (bytes : List ℕ) (j capacity : ℕ) (r : Sent)
+    (table table-now list list-now : List ℕ) : Type 0 where
   pub says : Says (sent-outcome bytes j capacity (length table) (length list)) 0 (plan-in bytes)
       (told r) table table-now list list-now
   pub frontier-is : r .frontier ≡

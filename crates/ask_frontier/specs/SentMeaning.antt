@@ -80,7 +80,8 @@ abbrev pub sent-outcome-in : (bytes : List ℕ) → (j capacity : ℕ) → (tabl
 sent-outcome-in bs j c t l = sent-outcome bs j c (length t) (length l)
 
 -- what a caller gets
-pub record Frontier-right (bytes : List ℕ) (j capacity : ℕ) (r : Sent) (table table-now list list-now : List ℕ) : Type 0 where
+pub record Frontier-right (bytes : List ℕ) (j capacity : ℕ) (r : Sent)
+    (table table-now list list-now : List ℕ) : Type 0 where
   pub says : Frontier-says bytes j capacity r table table-now list list-now
   pub check : Check-means bytes (length table) (length list) (check-outcome bytes (length table) (length list))
   pub number : Sent-number (check-outcome bytes (length table) (length list) .refusal) (plan-in bytes) j capacity r

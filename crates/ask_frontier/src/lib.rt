@@ -36,7 +36,8 @@ pub fn frontier_of(
     table: &mut [u32],
     list: &mut [u32],
 ) -> Sent
-    ensures { λ r. ⌜ Frontier-right (now (plan .entry)) operation capacity r (now (table .entry)) (now (table .exit)) (now (list .entry)) (now (list .exit)) ⌝ }
+    ensures { λ r. ⌜ Frontier-right (now (plan .entry)) operation capacity r (now (table .entry)) (now (table .exit))
+        (now (list .entry)) (now (list .exit)) ⌝ }
 {
     let mut head = [0u64; HEAD_NUMBERS];
     let mut queues = [0u16; MOST_OPERATIONS];
@@ -68,7 +69,8 @@ pub fn frontier_of(
 // The question on a plan that passes, by its counts, its axes and its rows in the table.
 fn answer(c: Counted, head: &HeadNumbers, table: &[u32], operation: u32, capacity: u32) -> Sent
     requires { ⌜ (c .queues ≤ most-queues) × (row-width * c .operations ≤ length (now table)) ⌝ }
-    ensures { λ r. ⌜ ((p : Plan) → Sent-given p c (now (head .entry)) (now (table .entry)) → Sent-tells p operation capacity r) ⌝ }
+    ensures { λ r. ⌜ ((p : Plan) → Sent-given p c (now (head .entry)) (now (table .entry)) →
+        Sent-tells p operation capacity r) ⌝ }
 {
     let j = operation as usize;
     if c.operations <= j {
@@ -101,7 +103,8 @@ fn refused(number: u32, place: u64) -> Sent
 
 // R69, R70: the row that begins at `first` in the table, under the axes, cut by a merge.
 fn send(head: &HeadNumbers, table: &[u32], queues: usize, first: usize, capacity: u32) -> Frontier
-    requires { ⌜ (queues ≤ most-queues) × (first + queues ≤ length (now table)) × (1 ≤ capacity) × (capacity ≤ most-entries) ⌝ }
+    requires { ⌜ (queues ≤ most-queues) × (first + queues ≤ length (now table)) × (1 ≤ capacity) ×
+        (capacity ≤ most-entries) ⌝ }
     ensures { λ r. ⌜ r ≡ cut-to capacity (gathered (row-in (now (head .entry)) (now (table .entry)) first queues 0)) ⌝ }
 {
     let whole = gather(head, table, queues, first);

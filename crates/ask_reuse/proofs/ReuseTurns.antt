@@ -43,10 +43,12 @@ module _ (queue : List ℕ) (q : ℕ) where
   unfolding last-shown place-or
   last-here i x l e h = rw (highest-here own i (i - 1) (omega arith) (eq-eqb (getD queue (i - 1) 0) q (sym e ∙ h)))
 
-  pub last-past : (i x : ℕ) → 0 < i → x ≡ getD queue (i - 1) 0 → (x ≡ q → ⊥) → last-shown queue q (i - 1) ≡ last-shown queue q i
+  pub last-past : (i x : ℕ) → 0 < i → x ≡ getD queue (i - 1) 0 → (x ≡ q → ⊥) →
+      last-shown queue q (i - 1) ≡ last-shown queue q i
   unfolding last-shown
   last-past i x l e h =
-      ap (place-or no-operation) (highest-past own i (i - 1) (omega arith) (ne-eqb (getD queue (i - 1) 0) q (λ z. h (e ∙ z))))
+      ap (place-or no-operation)
+      (highest-past own i (i - 1) (omega arith) (ne-eqb (getD queue (i - 1) 0) q (λ z. h (e ∙ z))))
 
 -- ---- whether an operation is seen
 module _ (queue rows : List ℕ) where
@@ -61,13 +63,13 @@ module _ (queue rows : List ℕ) where
   seen-some last i x a b l e f g = rw (lt-ltb last no-operation l) (ordered-is queue rows i last x a b e f g)
 
 -- ---- the last mark on the buffer: that of the marks that are left, after `back` marks from the end
-pub record Left (mark : List ℕ) (b many back : ℕ) : Type 0 where
+pub record Marks-left (mark : List ℕ) (b many back : ℕ) : Type 0 where
   pub last : last-marked mark b (many - back) ≡ last-marked mark b many
 
-pub left-all : {mark : List ℕ} {b many : ℕ} → Left mark b many 0
+pub left-all : {mark : List ℕ} {b many : ℕ} → Marks-left mark b many 0
 left-all {many} = let e : many - 0 ≡ many = omega arith in record { last = rw e }
 
-module _ {mark : List ℕ} {b many back : ℕ} (left : Left mark b many back) where
+module _ {mark : List ℕ} {b many back : ℕ} (left : Marks-left mark b many back) where
   abbrev on-buffer : (k : ℕ) → Bool
   on-buffer k = eqb (getD mark k 0 % mark-codes / 2) b
 
@@ -78,7 +80,7 @@ module _ {mark : List ℕ} {b many back : ℕ} (left : Left mark b many back) wh
 
   module _ (more : back < many) {m : ℕ} (m-is : m ≡ getD mark (many - (back + 1)) 0 % mark-codes) where
     -- a mark on another buffer
-    pub left-other : (m / 2 ≡ b → ⊥) → Left mark b many (back + 1)
+    pub left-other : (m / 2 ≡ b → ⊥) → Marks-left mark b many (back + 1)
     unfolding last-marked
     left-other h =
         let other : on-buffer (many - (back + 1)) ≡ false =

@@ -39,9 +39,11 @@ last-of : (p : Plan) (queue : List ℕ) (q : ℕ) → Queue-column p queue →
 unfolding last-shown last-on Queue-column
 last-of p queue q shown =
     ap (λ (o : Option ℕ). place-or no-operation o)
-    (highest-same (count p) (λ i. eqb (getD queue i 0) q) (λ i. eqb (op p i .queue) q) (λ i l. ap (λ (z : ℕ). eqb z q) (shown i l)))
+    (highest-same (count p) (λ i. eqb (getD queue i 0) q) (λ i. eqb (op p i .queue) q)
+    (λ i l. ap (λ (z : ℕ). eqb z q) (shown i l)))
 
-module _ {p : Plan} {n marks : ℕ} {queue mark operation rows : List ℕ} (shown : Verdict-given p n marks queue mark operation rows) where
+module _ {p : Plan} {n marks : ℕ} {queue mark operation rows : List ℕ}
+    (shown : Verdict-given p n marks queue mark operation rows) where
   seen-right : (q i : ℕ) → i < count p →
       seen queue rows (place-or no-operation (last-on p q)) i ≡ seen-by p (last-on p q) i
   unfolding seen seen-by place-or last-on

@@ -19,7 +19,7 @@ reuse-outcome-in bs q b t l = reuse-outcome bs q b (length t) (length l)
 
 -- R57, R58: what it hands back and leaves, by its definition, by quantifiers and by index; each line of the table of
 -- verdicts as an iff
-pub record Asked (bytes : List ℕ) (q b : ℕ) (r : Told) (table table-now list list-now : List ℕ) : Type 0 where
+pub record Reuse-asked (bytes : List ℕ) (q b : ℕ) (r : Told) (table table-now list list-now : List ℕ) : Type 0 where
   pub says : Reuse-says bytes q b r table table-now list list-now
   -- the number and the place are those of the outcome of which `means` speaks
   pub number : r .number ≡ reuse-outcome-in bytes q b table list .refusal .number

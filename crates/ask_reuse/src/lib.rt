@@ -20,7 +20,7 @@ ghost use Rattle.plan_format.specs.Sizes.{most-operations};
 ghost use Rattle.plan_format.specs.Plan.{Plan};
 ghost use Rattle.plan_format.specs.Stored.{Tells};
 ghost use Rattle.plan_order.specs.Reuse.{verdict as verdict-of, number-of, question-refusal};
-ghost use Rattle.ask_reuse.specs.Reuse.{Asked};
+ghost use Rattle.ask_reuse.specs.Reuse.{Reuse-asked};
 ghost use Rattle.ask_reuse.specs.ReusePass.{Question-given, Verdict-given, last-shown, last-marked};
 ghost use Rattle.ask_reuse.specs.ReusePass.{seen as is-seen, verdict-after, verdict-at};
 
@@ -32,7 +32,8 @@ pub fn reuse_question(
     table: &mut [u32],
     list: &mut [u32],
 ) -> Told
-    ensures { λ r. ⌜ Asked (now (plan .entry)) queue buffer r (now (table .entry)) (now (table .exit)) (now (list .entry)) (now (list .exit)) ⌝ }
+    ensures { λ r. ⌜ Reuse-asked (now (plan .entry)) queue buffer r (now (table .entry)) (now (table .exit))
+        (now (list .entry)) (now (list .exit)) ⌝ }
 {
     let mut head = [0u64; HEAD_NUMBERS];
     let mut queues = [0u16; MOST_OPERATIONS];
@@ -85,7 +86,9 @@ fn answer(
     mop: &MarkColumn,
     table: &[u32],
 ) -> Told
-    ensures { λ r. ⌜ ((p : Plan) → Question-given p c marks (now (queue .entry)) (now (mark .entry)) (now (mop .entry)) (now (table .entry)) → Tells (question-refusal p q b) (number-of (verdict-of p q b)) r) ⌝ }
+    ensures { λ r. ⌜ ((p : Plan) →
+        Question-given p c marks (now (queue .entry)) (now (mark .entry)) (now (mop .entry)) (now (table .entry)) →
+        Tells (question-refusal p q b) (number-of (verdict-of p q b)) r) ⌝ }
 {
     if c.queues <= q {
         return plan_format::refused(12, q);
@@ -108,7 +111,9 @@ fn verdict(
     mop: &MarkColumn,
     table: &[u32],
 ) -> Verdict
-    ensures { λ r. ⌜ ((p : Plan) → b < length (p .sizes) → Verdict-given p n marks (now (queue .entry)) (now (mark .entry)) (now (mop .entry)) (now (table .entry)) → r ≡ verdict-of p q b) ⌝ }
+    ensures { λ r. ⌜ ((p : Plan) → b < length (p .sizes) →
+        Verdict-given p n marks (now (queue .entry)) (now (mark .entry)) (now (mop .entry)) (now (table .entry)) →
+        r ≡ verdict-of p q b) ⌝ }
 {
     let last = last_on(n, queue, q);
     judged(b, last, marks, queue, mark, mop, table)
@@ -139,7 +144,8 @@ fn judged(
     mop: &[u16],
     table: &[u32],
 ) -> Verdict
-    ensures { λ r. ⌜ r ≡ verdict-at (is-seen (now (queue .entry)) (now (table .entry)) last) (now (mark .entry)) (now (mop .entry)) (last-marked (now (mark .entry)) b marks) ⌝ }
+    ensures { λ r. ⌜ r ≡ verdict-at (is-seen (now (queue .entry)) (now (table .entry)) last) (now (mark .entry))
+        (now (mop .entry)) (last-marked (now (mark .entry)) b marks) ⌝ }
 {
     let mut back: usize = 0;
     while back < marks {

@@ -38,13 +38,13 @@ use Rattle.check_plan.specs.Opening.{Lent, Opened-plan}
 use Rattle.ask_trace.specs.declared.TraceTold.{TraceTold}
 use Rattle.ask_trace.specs.Raising.{begun, raised-from}
 use Rattle.ask_trace.specs.Answer.{told, first-refusal, counted-as, walked, answer-by, state-by}
-use Rattle.ask_trace.proofs.Columns.{Shown, walked-right}
-use Rattle.ask_trace.proofs.Raising.{Shown-signals, state-right}
+use Rattle.ask_trace.proofs.Columns.{Trace-given, walked-right}
+use Rattle.ask_trace.proofs.Raising.{Trace-signals-given, state-right}
 use Rattle.ask_trace.proofs.Refusals.{check-first, then-own}
 
 -- ---- a plan that passes, opened
 module _ {p : Plan} {o : Opened} {c : Lent} {table : List ℕ} (opened : Opened-plan p o c table) where
-  pub shown-of : Shown p (o .counted .operations) (c .queue) (c .source) table
+  pub shown-of : Trace-given p (o .counted .operations) (c .queue) (c .source) table
   shown-of =
       let safe = demand-3 p (opened .sound) .exactly .0 (opened .passes) in
       record {
@@ -58,7 +58,7 @@ module _ {p : Plan} {o : Opened} {c : Lent} {table : List ℕ} (opened : Opened-
         full = safe .0 .1;
       }
 
-  pub signals-of : Shown-signals p (o .counted .operations) (o .signals) (c .queue) (c .source) table
+  pub signals-of : Trace-signals-given p (o .counted .operations) (o .signals) (c .queue) (c .source) table
       (c .signal-semaphore) (c .signal-value)
       (c .signal-operation)
   signals-of = record {

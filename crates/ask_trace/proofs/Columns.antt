@@ -26,7 +26,7 @@ use Rattle.plan_order.specs.Runs.{earlier-run, enabled, ready, is-run, is-full,
 use Rattle.plan_order.proofs.Demand3.{rules-good}
 use Rattle.plan_order.proofs.Rows.{row-at}
 use Rattle.plan_order.proofs.RunMeaning.{ready-adds}
-use Rattle.plan_order.proofs.Resolution.{Resolved, at-signal, resolve-is}
+use Rattle.plan_order.proofs.Resolution.{Resolution-case, at-signal, resolve-is}
 use Rattle.check_columns.specs.Columns.{Queue-column, Source-column, Row-columns, source-of, no-point}
 use Rattle.check_columns.specs.Columns as columns
 use Rattle.plan_trace.specs.declared.Followed.{Followed}
@@ -34,7 +34,7 @@ use Rattle.plan_trace.specs.declared.Traced.{Traced}
 use Rattle.plan_trace.specs.Trace.{unmet-wait, judged, departs, Found, found, follow, followed}
 use Rattle.plan_trace.specs.State.{queue-count, queue-counts, no-counts, traced, traced-of}
 use Rattle.plan_trace.proofs.Reasons.{
-  Judged,
+  Judged-case,
   unknown,
   repeated,
   not-first,
@@ -50,15 +50,15 @@ use Rattle.ask_trace.specs.Walk.{
   own-entry,
   count-of,
   ran-at,
-  held-at,
-  held,
+  wait-unmet-at,
+  wait-unmet,
   judged-shown,
   counts-after,
   walk-from,
 }
 
 -- a sound plan with a full run, shown by its columns, what its waits rest on, and its rows
-pub record Shown (p : Plan) (n : ℕ) (queue source rows : List ℕ) : Type 0 where
+pub record Trace-given (p : Plan) (n : ℕ) (queue source rows : List ℕ) : Type 0 where
   pub sound : Sound p
   pub many : count p ≡ n
   pub few-waits : (i : ℕ) → i < count p → length (op p i .waits) ≤ most-waits
@@ -84,7 +84,7 @@ lowest-cut m n f g l same past =
       lower = λ k b. sym (same k (omega arith)) ∙ w .lower k b;
     })))
 
-module _ (p : Plan) (n : ℕ) (queue source rows : List ℕ) (shown : Shown p n queue source rows) where
+module _ (p : Plan) (n : ℕ) (queue source rows : List ℕ) (shown : Trace-given p n queue source rows) where
   good : (signals-refusal 0 p [] (p .operations) .number ≡ 0) × (waits-refusal 0 p (p .operations) .number ≡ 0)
   good = rules-good p (shown .sound)
 
@@ -124,43 +124,43 @@ module _ (p : Plan) (n : ℕ) (queue source rows : List ℕ) (shown : Shown p n 
 
     -- ---- waits
     -- a wait that rests on an operation, or on none
-    of-source : (w : Point) (y : Resolution) → Resolved p w y → (at : ℕ) → getD source at 0 ≡ source-of y →
-        held-at queue source rows (queue-counts p r) at ≡ not (rested r y)
-    unfolding held-at source-of rested
+    of-source : (w : Point) (y : Resolution) → Resolution-case p w y → (at : ℕ) → getD source at 0 ≡ source-of y →
+        wait-unmet-at queue source rows (queue-counts p r) at ≡ not (rested r y)
+    unfolding wait-unmet-at source-of rested
     of-source w at-once d at e = rw e
     of-source w (on x) (at-signal _ t) at e =
         rw (e, lt-ltb (x .operation) no-operation (omega (arith, t .inside, shown .sound .few-operations)))
         (ap not (ran-right (x .operation) (t .inside)))
     of-source w never d at e = rw e
 
-    held-source : (j k : ℕ) → j < count p → k < most-waits →
-        held queue source rows (queue-counts p r) j k ≡ not (rested r (resolve p (wait-at p j k)))
-    unfolding held Source-column columns.wait-at
-    held-source j k l b =
+    unmet-source : (j k : ℕ) → j < count p → k < most-waits →
+        wait-unmet queue source rows (queue-counts p r) j k ≡ not (rested r (resolve p (wait-at p j k)))
+    unfolding wait-unmet Source-column columns.wait-at
+    unmet-source j k l b =
         rw (uncut j l) (of-source (wait-at p j k) (resolve p (wait-at p j k)) (resolve-is p (wait-at p j k))
         (most-waits * j + k)
         (shown .sources-shown j k l b))
 
-    held-right : (j k : ℕ) → j < count p → k < length (op p j .waits) →
-        held queue source rows (queue-counts p r) j k ≡ not (wait-met p r (wait-at p j k))
-    held-right j k l b =
-        held-source j k l (omega (arith, shown .few-waits j l))
+    unmet-by-run : (j k : ℕ) → j < count p → k < length (op p j .waits) →
+        wait-unmet queue source rows (queue-counts p r) j k ≡ not (wait-met p r (wait-at p j k))
+    unmet-by-run j k l b =
+        unmet-source j k l (omega (arith, shown .few-waits j l))
         ∙ ap not (sym (wait-is p r a-run (good .0) (good .1) j l (wait-at p j k) (mem-at (op p j .waits) no-point k b)))
 
     -- past the waits of an operation there is a wait for 0
-    held-past : (j k : ℕ) → j < count p → length (op p j .waits) ≤ k → k < most-waits →
-        held queue source rows (queue-counts p r) j k ≡ false
+    unmet-past : (j k : ℕ) → j < count p → length (op p j .waits) ≤ k → k < most-waits →
+        wait-unmet queue source rows (queue-counts p r) j k ≡ false
     unfolding resolve rested
-    held-past j k l a b =
-        held-source j k l b ∙ rw (List·getD-eq-default (op p j .waits) no-point a)
+    unmet-past j k l a b =
+        unmet-source j k l b ∙ rw (List·getD-eq-default (op p j .waits) no-point a)
 
     unmet-right : (j : ℕ) → j < count p →
-        lowest-below most-waits (λ k. held queue source rows (queue-counts p r) j k) ≡ unmet-wait p r j
+        lowest-below most-waits (λ k. wait-unmet queue source rows (queue-counts p r) j k) ≡ unmet-wait p r j
     unfolding unmet-wait
     unmet-right j l =
-        lowest-cut (length (op p j .waits)) most-waits (λ k. held queue source rows (queue-counts p r) j k)
-        (λ k. not (wait-met p r (wait-at p j k))) (shown .few-waits j l) (λ k b. held-right j k l b)
-        (λ k a b. held-past j k l a b)
+        lowest-cut (length (op p j .waits)) most-waits (λ k. wait-unmet queue source rows (queue-counts p r) j k)
+        (λ k. not (wait-met p r (wait-at p j k))) (shown .few-waits j l) (λ k b. unmet-by-run j k l b)
+        (λ k a b. unmet-past j k l a b)
 
     -- ---- one step
     judged-right : (j : ℕ) → judged-shown n queue source rows (queue-counts p r) j ≡ judged p r j
@@ -170,7 +170,7 @@ module _ (p : Plan) (n : ℕ) (queue source rows : List ℕ) (shown : Shown p n 
         (by-cases (leb (count p) j) (λ t. rw t)
         (λ f. let l = leb-false (count p) j f in rw (f, ran-right j l, late-right j l, unmet-right j l)))
 
-    case-stays : (j : ℕ) (f : Followed) → Judged p r j f → departs f ≡ false →
+    case-stays : (j : ℕ) (f : Followed) → Judged-case p r j f → departs f ≡ false →
         (j < count p) × (member j r ≡ false) × (earlier-run p r j ≡ true)
     unfolding departs
     case-stays j _ (unknown l) d = absurd (true≢false d)

@@ -24,7 +24,7 @@ use Rattle.plan_trace.proofs.StateMeaning.{counts-at, counts-long, state-long, 
 use Rattle.plan_trace.proofs.Tops.{top, top-reached}
 use Rattle.ask_trace.specs.Walk.{ran-at}
 use Rattle.ask_trace.specs.Raising.{begun, higher, raised-by, raised-from}
-use Rattle.ask_trace.proofs.Columns.{Shown, ran-right}
+use Rattle.ask_trace.proofs.Columns.{Trace-given, ran-right}
 
 -- ---- turns of the code
 pub higher-yes : (st : List ℕ) (at v old : ℕ) → old ≡ getD st at 0 → old < v → set st at v ≡ higher st at v
@@ -169,8 +169,8 @@ module _ (queue rows counts ssem sval sop : List ℕ) where
 
 -- ---- the plan's signals
 -- a plan with its signals, and a part of a run of it
-pub record Shown-signals (p : Plan) (n signals : ℕ) (queue source rows ssem sval sop : List ℕ) : Type 0 where
-  pub shown : Shown p n queue source rows
+pub record Trace-signals-given (p : Plan) (n signals : ℕ) (queue source rows ssem sval sop : List ℕ) : Type 0 where
+  pub shown : Trace-given p n queue source rows
   pub few-semaphores : length (p .owners) ≤ most-semaphores
   pub signals-in : (k : ℕ) → k < length (plan-signals p) →
       (getD (plan-signals p) k no-signal .operation < count p) ×
@@ -178,7 +178,7 @@ pub record Shown-signals (p : Plan) (n signals : ℕ) (queue source rows ssem sv
   pub signals-shown : Signal-columns p signals ssem sval sop
 
 module _ (p : Plan) (n signals : ℕ) (queue source rows ssem sval sop : List ℕ)
-    (x : Shown-signals p n signals queue source rows ssem sval sop) (r : List ℕ) (a-run : is-run p r ≡ true) where
+    (x : Trace-signals-given p n signals queue source rows ssem sval sop) (r : List ℕ) (a-run : is-run p r ≡ true) where
   abbrev ran : ℕ → Bool
   ran i = member i r
 

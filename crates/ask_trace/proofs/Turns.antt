@@ -25,8 +25,8 @@ use Rattle.ask_trace.specs.Walk.{
   own-entry,
   count-of,
   ran-at,
-  held-at,
-  held,
+  wait-unmet-at,
+  wait-unmet,
   judged-shown,
   counts-after,
   walk-from,
@@ -79,27 +79,29 @@ module _ (queue source rows counts : List ℕ) where
       (λ f. le-ltb (i / no-operation) 1 (omega (arith, ltb-false i no-operation f)) ∙
       sym (ap (λ (b : Bool). b && true) f))
 
-  pub held-is : (at i u : ℕ) (ran : Bool) → i ≡ getD source at 0 → ran ≡ ran-at queue rows counts i → u ≡ cond ran 0 1 →
-      ltb (i / no-operation) u ≡ held-at queue source rows counts at
-  unfolding held-at
-  held-is at i u ran e f g = ap (ltb (i / no-operation)) g ∙ below-unless i ran ∙ rw (← e, f)
+  pub wait-unmet-is : (at i u : ℕ) (ran : Bool) → i ≡ getD source at 0 → ran ≡ ran-at queue rows counts i →
+      u ≡ cond ran 0 1 →
+      ltb (i / no-operation) u ≡ wait-unmet-at queue source rows counts at
+  unfolding wait-unmet-at
+  wait-unmet-is at i u ran e f g = ap (ltb (i / no-operation)) g ∙ below-unless i ran ∙ rw (← e, f)
 
   -- ---- the first of three waits
-  pub unmet-at : (j k : ℕ) → k < most-waits → held queue source rows counts j k ≡ true →
-      ((i : ℕ) → i < k → held queue source rows counts j i ≡ false) →
-      k ≡ place-or most-waits (lowest-below most-waits (held queue source rows counts j))
+  pub unmet-at : (j k : ℕ) → k < most-waits → wait-unmet queue source rows counts j k ≡ true →
+      ((i : ℕ) → i < k → wait-unmet queue source rows counts j i ≡ false) →
+      k ≡ place-or most-waits (lowest-below most-waits (wait-unmet queue source rows counts j))
   unfolding place-or
   unmet-at j k l t h =
-      let e = lowest-is most-waits (held queue source rows counts j) k (record { inside = l; passes = t; lower = h }) in
+      let e = lowest-is most-waits (wait-unmet queue source rows counts j) k
+      (record { inside = l; passes = t; lower = h }) in
       rw e
 
-  pub unmet-nowhere : (j k : ℕ) → most-waits ≤ k → ((i : ℕ) → i < k → held queue source rows counts j i ≡ false) →
-      most-waits ≡ place-or most-waits (lowest-below most-waits (held queue source rows counts j))
+  pub unmet-nowhere : (j k : ℕ) → most-waits ≤ k → ((i : ℕ) → i < k → wait-unmet queue source rows counts j i ≡ false) →
+      most-waits ≡ place-or most-waits (lowest-below most-waits (wait-unmet queue source rows counts j))
   unfolding place-or
   unmet-nowhere j k l h =
-      by-option (lowest-below most-waits (held queue source rows counts j)) (λ e. rw e)
-      (λ i e. let w = lowest-some most-waits (held queue source rows counts j) i e in
-      clash (held queue source rows counts j i) (w .passes) (h i (omega (arith, w .inside))))
+      by-option (lowest-below most-waits (wait-unmet queue source rows counts j)) (λ e. rw e)
+      (λ i e. let w = lowest-some most-waits (wait-unmet queue source rows counts j) i e in
+      clash (wait-unmet queue source rows counts j i) (w .passes) (h i (omega (arith, w .inside))))
 
   -- ---- one step
   module _ (n j : ℕ) where
@@ -125,7 +127,8 @@ module _ (queue source rows counts : List ℕ) where
           )
 
       pub judge-waits : getD counts q 0 < x → x - getD counts q 0 ≤ 1 →
-          of-wait j (lowest-below most-waits (λ k. held queue source rows counts j k)) ≡ judged-shown n queue source
+          of-wait j (lowest-below most-waits (λ k. wait-unmet queue source rows counts j k)) ≡
+          judged-shown n queue source
           rows counts j
       unfolding judged-shown ran-at
       judge-waits a l =
@@ -138,12 +141,12 @@ module _ (queue source rows counts : List ℕ) where
           )
 
   pub none-found : (j k : ℕ) → k ≡ place-or most-waits
-      (lowest-below most-waits (λ k. held queue source rows counts j k)) → most-waits ≤ k →
-      Unfinished ≡ of-wait j (lowest-below most-waits (λ k. held queue source rows counts j k))
+      (lowest-below most-waits (λ k. wait-unmet queue source rows counts j k)) → most-waits ≤ k →
+      Unfinished ≡ of-wait j (lowest-below most-waits (λ k. wait-unmet queue source rows counts j k))
   unfolding of-wait place-or
   none-found j k e l =
-      by-option (lowest-below most-waits (λ k. held queue source rows counts j k)) (λ n. rw n)
-      (λ i s. let w = lowest-some most-waits (λ k. held queue source rows counts j k) i s in
+      by-option (lowest-below most-waits (λ k. wait-unmet queue source rows counts j k)) (λ n. rw n)
+      (λ i s. let w = lowest-some most-waits (λ k. wait-unmet queue source rows counts j k) i s in
       let e′ : k ≡ i = rw s at e in absurd (omega (arith, w .inside)))
 
 pub wait-found : (j k : ℕ) (o : Option ℕ) → k ≡ place-or most-waits o → k < most-waits →

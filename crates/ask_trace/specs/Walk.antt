@@ -29,12 +29,13 @@ unfoldable pub ran-at : (queue rows counts : List ℕ) → (i : ℕ) → Bool
 ran-at queue rows counts i = leb (own-entry queue rows i) (count-of queue counts i)
 
 -- the wait at a place rests on an operation that has not run
-unfoldable pub held-at : (queue source rows counts : List ℕ) → (at : ℕ) → Bool
-held-at queue source rows counts at = ltb (getD source at 0) no-operation && not
+unfoldable pub wait-unmet-at : (queue source rows counts : List ℕ) → (at : ℕ) → Bool
+wait-unmet-at queue source rows counts at = ltb (getD source at 0) no-operation && not
     (ran-at queue rows counts (getD source at 0))
 
-unfoldable pub held : (queue source rows counts : List ℕ) → (j k : ℕ) → Bool
-held queue source rows counts j k = held-at queue source rows counts (most-waits * (j % most-operations) + k)
+unfoldable pub wait-unmet : (queue source rows counts : List ℕ) → (j k : ℕ) → Bool
+wait-unmet queue source rows counts j k =
+    wait-unmet-at queue source rows counts (most-waits * (j % most-operations) + k)
 
 -- R81: the rule that a step breaks
 unfoldable pub judged-shown : (n : ℕ) → (queue source rows counts : List ℕ) → (j : ℕ) → Followed
@@ -42,7 +43,7 @@ judged-shown n queue source rows counts j =
     cond (leb n j) (Unknown j)
     (cond (ran-at queue rows counts j) (Repeated j)
     (cond (ltb (suc (count-of queue counts j)) (own-entry queue rows j)) (NotFirst j)
-    (of-wait j (lowest-below most-waits (λ k. held queue source rows counts j k)))))
+    (of-wait j (lowest-below most-waits (λ k. wait-unmet queue source rows counts j k)))))
 
 -- the queue's count after the next of its operations is that operation's own entry
 unfoldable pub counts-after : (queue rows counts : List ℕ) → (j : ℕ) → List ℕ

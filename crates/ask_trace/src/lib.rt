@@ -42,7 +42,8 @@ pub fn trace_question(
     state: &mut [u64],
 ) -> TraceTold
     ensures right { λ r. ⌜ Trace-right (now (plan .entry)) (now (trace .entry)) (told r) (r .traced)
-        (now (table .entry)) (now (table .exit)) (now (list .entry)) (now (list .exit)) (now (state .entry)) (now (state .exit)) ⌝ }
+        (now (table .entry)) (now (table .exit)) (now (list .entry)) (now (list .exit)) (now (state .entry))
+        (now (state .exit)) ⌝ }
     ensures sizes { λ r. ⌜ Sizes-told (now (plan .entry)) (r .counted) ⌝ }
 {
     let mut head = [0u64; HEAD_NUMBERS];
@@ -81,8 +82,11 @@ fn answer(
     table: &[u32],
     state: &mut [u64],
 ) -> TraceTold
-    ensures handed { λ r. ⌜ r ≡ answer-by o (now (queue .entry)) (now (source .entry)) (now (table .entry)) (now (trace .entry)) (length (now (state .entry))) ⌝ }
-    ensures left { λ _. ⌜ now (state .exit) ≡ state-by o (now (queue .entry)) (now (source .entry)) (now (ssem .entry)) (now (sval .entry)) (now (sop .entry)) (now (table .entry)) (now (trace .entry)) (now (state .entry)) ⌝ }
+    ensures handed { λ r. ⌜ r ≡ answer-by o (now (queue .entry)) (now (source .entry)) (now (table .entry))
+        (now (trace .entry)) (length (now (state .entry))) ⌝ }
+    ensures left { λ _. ⌜ now (state .exit) ≡
+        state-by o (now (queue .entry)) (now (source .entry)) (now (ssem .entry)) (now (sval .entry)) (now (sop .entry))
+        (now (table .entry)) (now (trace .entry)) (now (state .entry)) ⌝ }
 {
     let f = refusal(o.counted, state.len(), trace);
     let counted = with_number(o.counted, f.number, f.place);

@@ -23,7 +23,10 @@ pub(crate) fn tell(
     state: &mut [u64],
 )
     requires { ⌜ state-size ≤ length (now state) ⌝ }
-    ensures { λ _. ⌜ now (state .exit) ≡ raised-from (now (queue .entry)) (now (table .entry)) (now (counts .entry)) (now (ssem .entry)) (now (sval .entry)) (now (sop .entry)) signals 0 (in-front (begun (now (counts .entry))) (now (state .entry))) ⌝ }
+    ensures { λ _. ⌜ now (state .exit) ≡
+        raised-from (now (queue .entry)) (now (table .entry)) (now (counts .entry)) (now (ssem .entry))
+        (now (sval .entry)) (now (sop .entry)) signals 0
+        (in-front (begun (now (counts .entry))) (now (state .entry))) ⌝ }
 {
     begin(counts, state);
     let mut k: usize = 0;
@@ -56,7 +59,9 @@ fn raise(
     k: usize,
     state: &mut [u64],
 )
-    ensures { λ _. ⌜ now (state .exit) ≡ raised-by (now (queue .entry)) (now (table .entry)) (now (counts .entry)) (now (ssem .entry)) (now (sval .entry)) (now (sop .entry)) k (now (state .entry)) ⌝ }
+    ensures { λ _. ⌜ now (state .exit) ≡
+        raised-by (now (queue .entry)) (now (table .entry)) (now (counts .entry)) (now (ssem .entry))
+        (now (sval .entry)) (now (sop .entry)) k (now (state .entry)) ⌝ }
 {
     let i = base_slices::get16(sop, k);
     let s = base_slices::get16(ssem, k) % MOST_SEMAPHORES;

@@ -20,12 +20,14 @@ ghost use Rattle.plan_format.specs.Sizes.{most-queues, most-waits, step-bytes, 
 ghost use Rattle.plan_format.specs.Grammar.{value};
 ghost use Rattle.plan_trace.specs.Trace.{trace-formed, trace-steps, departs as is-departure, at-end};
 ghost use Rattle.plan_trace.specs.State.{no-counts};
-ghost use Rattle.ask_trace.specs.Walk.{place-of, own-entry, ran-at, held-at, held, judged-shown, walk-from};
+ghost use Rattle.ask_trace.specs.Walk.{place-of, own-entry, ran-at, wait-unmet-at, wait-unmet, judged-shown};
+ghost use Rattle.ask_trace.specs.Walk.{walk-from};
 
 // The walk from the first step on, over a plan of n operations. After n steps that depart nowhere, the next one
 // departs.
 pub(crate) fn walk(n: usize, queue: &[u16], source: &[u16], table: &[u32], trace: &[u8]) -> Traced
-    ensures { λ r. ⌜ r ≡ walk-from n (now (queue .entry)) (now (source .entry)) (now (table .entry)) no-counts 0 (trace-steps (now (trace .entry))) ⌝ }
+    ensures { λ r. ⌜ r ≡ walk-from n (now (queue .entry)) (now (source .entry)) (now (table .entry)) no-counts 0
+        (trace-steps (now (trace .entry))) ⌝ }
 {
     let mut counts = [0u64; MOST_QUEUES];
     let many = word(trace, 0);
@@ -59,7 +61,8 @@ fn judge(
     counts: &QueueCounts,
     j: usize,
 ) -> Followed
-    ensures { λ r. ⌜ r ≡ judged-shown n (now (queue .entry)) (now (source .entry)) (now (table .entry)) (now (counts .entry)) j ⌝ }
+    ensures { λ r. ⌜ r ≡ judged-shown n (now (queue .entry)) (now (source .entry)) (now (table .entry))
+        (now (counts .entry)) j ⌝ }
 {
     if n <= j {
         return Followed::Unknown(j);
@@ -84,7 +87,9 @@ fn judge(
 
 // The first of an operation's waits that is not met; 3 if each is.
 fn unmet(queue: &[u16], source: &[u16], table: &[u32], counts: &QueueCounts, j: usize) -> usize
-    ensures { λ r. ⌜ r ≡ place-or most-waits (lowest-below most-waits (held (now (queue .entry)) (now (source .entry)) (now (table .entry)) (now (counts .entry)) j)) ⌝ }
+    ensures { λ r. ⌜ r ≡
+        place-or most-waits (lowest-below most-waits
+        (wait-unmet (now (queue .entry)) (now (source .entry)) (now (table .entry)) (now (counts .entry)) j)) ⌝ }
 {
     let first = MOST_WAITS * (j % MOST_OPERATIONS);
     let mut k: usize = 0;
@@ -97,10 +102,11 @@ fn unmet(queue: &[u16], source: &[u16], table: &[u32], counts: &QueueCounts, j: 
     MOST_WAITS
 }
 
-// Whether the wait at a place rests on an operation that has not run. One comparison of numbers says so, since a wait that
-// rests on none has a number past every operation: no branch depends on whether there is a wait.
+// Whether the wait at a place rests on an operation that has not run. One comparison of numbers says so, since a wait
+// that rests on none has a number past every operation: no branch depends on whether there is a wait.
 fn holds(queue: &[u16], source: &[u16], table: &[u32], counts: &QueueCounts, at: usize) -> bool
-    ensures { λ r. ⌜ r ≡ held-at (now (queue .entry)) (now (source .entry)) (now (table .entry)) (now (counts .entry)) at ⌝ }
+    ensures { λ r. ⌜ r ≡ wait-unmet-at (now (queue .entry)) (now (source .entry)) (now (table .entry))
+        (now (counts .entry)) at ⌝ }
 {
     let i = base_slices::get16(source, at);
     let ran = has_run(queue, table, counts, i);

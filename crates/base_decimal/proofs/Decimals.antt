@@ -47,7 +47,10 @@ holds : (d : Digits) (v : ℕ) → d .large ≡ false → d ≡ digits-of v → 
 holds d v small e =
     by-cases (ltb 18446744073709551615 v)
     (λ t. clash (d .large) (ap (λ (x : Digits). x .large) (e ∙ over v (ltb-true 18446744073709551615 v t))) small)
-    (λ f. (ltb-false 18446744073709551615 v f, ap (λ (x : Digits). x .value) (e ∙ within v (ltb-false 18446744073709551615 v f))))
+    (λ f. (
+      ltb-false 18446744073709551615 v f,
+      ap (λ (x : Digits). x .value) (e ∙ within v (ltb-false 18446744073709551615 v f)),
+    ))
 
 beyond : (d : Digits) (v : ℕ) → d .large ≡ true → d ≡ digits-of v → 18446744073709551615 < v
 beyond d v large e =
@@ -61,11 +64,13 @@ module _ (d : Digits) (u : ℕ) where
   unfolding more-of
   stays large = rw large
 
-  pub passes : d .large ≡ false → (18446744073709551615 - u) / 10 < d .value → record { value = 0; large = true } ≡ more-of d u
+  pub passes : d .large ≡ false → (18446744073709551615 - u) / 10 < d .value →
+      record { value = 0; large = true } ≡ more-of d u
   unfolding more-of
   passes small h = rw small (sym (over (10 * d .value + u) (omega arith)))
 
-  pub grows : d .large ≡ false → u ≤ 255 → d .value ≤ (18446744073709551615 - u) / 10 → record { value = 10 * d .value + u; large = false } ≡ more-of d u
+  pub grows : d .large ≡ false → u ≤ 255 → d .value ≤ (18446744073709551615 - u) / 10 →
+      record { value = 10 * d .value + u; large = false } ≡ more-of d u
   unfolding more-of
   grows small byte h = rw small (sym (within (10 * d .value + u) (omega arith)))
 
@@ -74,7 +79,8 @@ more-digits : (d : Digits) (u v : ℕ) → d ≡ digits-of v → more-of d u ≡
 unfolding more-of
 more-digits d u v e =
     by-cases (d .large)
-    (λ large. let h = beyond d v large e in sym (stays d u large) ∙ e ∙ over v h ∙ sym (over (10 * v + u) (omega (arith, h))))
+    (λ large. let h = beyond d v large e in
+    sym (stays d u large) ∙ e ∙ over v h ∙ sym (over (10 * v + u) (omega (arith, h))))
     (λ small. rw (small, holds d v small e .1))
 
 -- ---- words
@@ -87,7 +93,8 @@ value-append v (x ∷ bs) b = value-append (10 * v + (x - 48)) bs b
 all-more : (f : ℕ → Bool) (bs : List ℕ) (b : ℕ) → all f bs ≡ true → f b ≡ true → all f (bs ++ (b ∷ [])) ≡ true
 unfolding all
 all-more f [] b h t = and-both (f b) true t refl
-all-more f (x ∷ bs) b h t = and-both (f x) (all f (bs ++ (b ∷ []))) (and-left (f x) (all f bs) h) (all-more f bs b (and-rest h) t)
+all-more f (x ∷ bs) b h t =
+    and-both (f x) (all f (bs ++ (b ∷ []))) (and-left (f x) (all f bs) h) (all-more f bs b (and-rest h) t)
   where
     and-rest : (f x && all f bs) ≡ true → all f bs ≡ true
     and-rest = and-right (f x) (all f bs)
@@ -99,23 +106,24 @@ all-at f (x ∷ bs) zero h n = rw n
 all-at f (x ∷ bs) (suc i) h n = by-cases (f x) (λ t. rw t (all-at f bs i (omega arith) n)) (λ e. rw e)
 
 -- the first digits of a word, read
-pub record Reads (text : List ℕ) (i : ℕ) (d : Digits) : Type 0 where
+pub record Digits-read (text : List ℕ) (i : ℕ) (d : Digits) : Type 0 where
   pub inside : i ≤ length text
   pub digits : all digit-test (take i text) ≡ true
   pub value : d ≡ digits-of (value-after 0 (take i text))
 
-pub reads-none : (text : List ℕ) → Reads text 0 (record { value = 0; large = false })
+pub reads-none : (text : List ℕ) → Digits-read text 0 (record { value = 0; large = false })
 unfolding all value-after
 reads-none text = record { inside = omega arith; digits = refl; value = sym (within 0 (omega arith)) }
 
 pub reads-more :
-    (text : List ℕ) (i : ℕ) (d r : Digits) → i < length text → digit-value (getD text i 0) ≤ 9 → Reads text i d →
-    r ≡ more-of d (digit-value (getD text i 0)) → Reads text (i + 1) r
+    (text : List ℕ) (i : ℕ) (d r : Digits) → i < length text → digit-value (getD text i 0) ≤ 9 → Digits-read text i d →
+    r ≡ more-of d (digit-value (getD text i 0)) → Digits-read text (i + 1) r
 reads-more text i d r h t k step =
     let known = digit-known (getD text i 0) t in
     record {
       inside = omega arith;
-      digits = rw (add-one, take-suc text i 0 h) (all-more digit-test (take i text) (getD text i 0) (k .digits) (known .0));
+      digits = rw (add-one, take-suc text i 0 h)
+          (all-more digit-test (take i text) (getD text i 0) (k .digits) (known .0));
       value =
           rw (add-one, take-suc text i 0 h, value-append 0 (take i text) (getD text i 0), ← (known .1))
           (step ∙ more-digits d (digit-value (getD text i 0)) (value-after 0 (take i text)) (k .value));
@@ -126,20 +134,23 @@ unfolding word-of
 word-none limit [] h = refl
 word-none limit (b ∷ bs) h = absurd (omega arith)
 
-pub word-other : (limit : ℕ) (text : List ℕ) (i : ℕ) → i < length text → 9 < digit-value (getD text i 0) → Other ≡ word-of limit text
+pub word-other : (limit : ℕ) (text : List ℕ) (i : ℕ) → i < length text → 9 < digit-value (getD text i 0) →
+    Other ≡ word-of limit text
 unfolding word-of
 word-other limit [] i h n = absurd (omega arith)
 word-other limit (b ∷ bs) i h n = rw (all-at digit-test (b ∷ bs) i h (digit-other (getD (b ∷ bs) i 0) n))
 
 word-whole :
-    (limit : ℕ) (text : List ℕ) → 0 < length text → all digit-test text ≡ true → limited limit (value-after 0 text) ≡ word-of limit text
+    (limit : ℕ) (text : List ℕ) → 0 < length text → all digit-test text ≡ true →
+    limited limit (value-after 0 text) ≡ word-of limit text
 unfolding word-of
 word-whole limit [] h t = absurd (omega arith)
 word-whole limit (b ∷ bs) h t = rw t
 
 -- the whole word, read
 module _
-    (limit : ℕ) (text : List ℕ) (i : ℕ) (d : Digits) (some : 0 < length text) (end : length text ≤ i) (k : Reads text i d)
+    (limit : ℕ) (text : List ℕ) (i : ℕ) (d : Digits) (some : 0 < length text) (end : length text ≤ i)
+    (k : Digits-read text i d)
     (wide : limit ≤ 18446744073709551615) where
   whole : limited limit (value-after 0 text) ≡ word-of limit text
   whole = word-whole limit text some (rw (take-all i text end) at (k .digits))

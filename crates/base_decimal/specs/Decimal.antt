@@ -32,7 +32,8 @@ word-of limit (b ∷ bs) = cond (all digit-test (b ∷ bs)) (limited limit (valu
 
 -- the value so far, or that it is of 2^64 or more
 unfoldable pub digits-of : ℕ → Digits
-digits-of v = cond (ltb 18446744073709551615 v) (record { value = 0; large = true }) (record { value = v; large = false })
+digits-of v =
+    cond (ltb 18446744073709551615 v) (record { value = 0; large = true }) (record { value = v; large = false })
 
 -- one digit more; what is of 2^64 or more stays so
 unfoldable pub more-of : Digits → (unit : ℕ) → Digits

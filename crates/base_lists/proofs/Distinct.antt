@@ -31,7 +31,8 @@ pub sized-snoc : (n x : ℕ) (xs : List ℕ) → x < n → member x xs ≡ false
 sized-snoc n x xs l a s =
     tally-one-more n (λ i. member i xs) (λ i. member i (xs ++ (x ∷ []))) x l a (member-last x xs)
     (λ i ne. by-cases (member i xs) (λ t. member-left i xs (x ∷ []) t ∙ sym t)
-    (λ f. is-false (member i (xs ++ (x ∷ []))) (λ t. either (member-snoc i xs x t) (λ u. clash (member i xs) u f) (λ q. ne (sym q))) ∙ sym f))
+    (λ f. is-false (member i (xs ++ (x ∷ [])))
+    (λ t. either (member-snoc i xs x t) (λ u. clash (member i xs) u f) (λ q. ne (sym q))) ∙ sym f))
     ∙ ap suc s ∙ more
   where
     more : suc (length xs) ≡ length (xs ++ (x ∷ []))

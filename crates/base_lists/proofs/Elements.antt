@@ -1,6 +1,7 @@
 -- Elements of a list and the places where they are; every place of a repeated number. Assumes nothing.
 use mathlib.Core.Path.{_≡_, refl, sym}
-use mathlib.Core.List.{List, [], _∷_, List·Memᴰ, List·Memᴰ·head, List·Memᴰ·tail, List·Memᴰ·not-nil, List·Memᴰ·cases-cons}
+use mathlib.Core.List.{List, [], _∷_, List·Memᴰ, List·Memᴰ·head, List·Memᴰ·tail, List·Memᴰ·not-nil}
+use mathlib.Core.List.{List·Memᴰ·cases-cons}
 use Prim.Native.Nat.{ℕ, zero, suc, _<_}
 use native.Mathlib.Nat.{not-suc-le-zero, le-of-suc-le-suc}
 use native.Mathlib.Omega.{arith}
@@ -16,7 +17,8 @@ module _ {A : Type 0} (d : A) where
   pub element-place : (xs : List A) (a : A) → List·Memᴰ a xs → (k : ℕ) × (k < length xs) × (getD xs k d ≡ a)
   element-place [] a m = absurd (List·Memᴰ·not-nil m)
   element-place (x ∷ xs) a m =
-      either (List·Memᴰ·cases-cons m) (λ e. (0, omega arith, sym e)) (λ t. let w = element-place xs a t in (suc (w .0), omega (arith, w .1), w .2))
+      either (List·Memᴰ·cases-cons m) (λ e. (0, omega arith, sym e))
+      (λ t. let w = element-place xs a t in (suc (w .0), omega (arith, w .1), w .2))
 
 pub replicate-at : {A : Type 0} (many : ℕ) (a : A) (k : ℕ) → getD (replicate many a) k a ≡ a
 replicate-at zero a k = refl

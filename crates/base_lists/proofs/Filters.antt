@@ -24,14 +24,16 @@ filter-has f (x ∷ xs) i m e =
     (λ t. rw (filter-yes f x xs t) (either (member-cons i x xs m)
     (λ q. subst (λ (z : ℕ). member i (z ∷ filter f xs) ≡ true) (sym q) (member-here i (filter f xs)))
     (λ m′. member-there i x (filter f xs) (filter-has f xs i m′ e))))
-    (λ n. rw (filter-no f x xs n) (either (member-cons i x xs m) (λ q. clash (f x) (ap f q ∙ e) n) (λ m′. filter-has f xs i m′ e)))
+    (λ n. rw (filter-no f x xs n)
+    (either (member-cons i x xs m) (λ q. clash (f x) (ap f q ∙ e) n) (λ m′. filter-has f xs i m′ e)))
 
 pub filter-passes : (f : ℕ → Bool) (xs : List ℕ) (i : ℕ) → member i (filter f xs) ≡ true → f i ≡ true
 unfolding filter
 filter-passes f [] i m = member-nil i m
 filter-passes f (x ∷ xs) i m =
     by-cases (f x)
-    (λ t. either (member-cons i x (filter f xs) (rw (filter-yes f x xs t) at m)) (λ q. ap f (sym q) ∙ t) (λ m′. filter-passes f xs i m′))
+    (λ t. either (member-cons i x (filter f xs) (rw (filter-yes f x xs t) at m)) (λ q. ap f (sym q) ∙ t)
+    (λ m′. filter-passes f xs i m′))
     (λ n. filter-passes f xs i (rw (filter-no f x xs n) at m))
 
 pub filter-among : (f : ℕ → Bool) (xs : List ℕ) (i : ℕ) → member i (filter f xs) ≡ true → member i xs ≡ true
@@ -40,10 +42,13 @@ filter-among f [] i m = m
 filter-among f (x ∷ xs) i m =
     by-cases (f x)
     (λ t. either (member-cons i x (filter f xs) (rw (filter-yes f x xs t) at m))
-    (λ q. subst (λ (z : ℕ). member i (z ∷ xs) ≡ true) (sym q) (member-here i xs)) (λ m′. member-there i x xs (filter-among f xs i m′)))
+    (λ q. subst (λ (z : ℕ). member i (z ∷ xs) ≡ true) (sym q) (member-here i xs))
+    (λ m′. member-there i x xs (filter-among f xs i m′)))
     (λ n. member-there i x xs (filter-among f xs i (rw (filter-no f x xs n) at m)))
 
-pub filter-lengths : (f : ℕ → Bool) (xs : List ℕ) → length (filter f xs) + length (filter (λ i. not (f i)) xs) ≡ length xs
+pub filter-lengths : (f : ℕ → Bool) (xs : List ℕ) →
+    length (filter f xs) + length (filter (λ i. not (f i)) xs) ≡ length xs
 unfolding filter
 filter-lengths f [] = refl
-filter-lengths f (x ∷ xs) = by-cases (f x) (λ t. rw t (omega (arith, filter-lengths f xs))) (λ n. rw n (omega (arith, filter-lengths f xs)))
+filter-lengths f (x ∷ xs) =
+    by-cases (f x) (λ t. rw t (omega (arith, filter-lengths f xs))) (λ n. rw n (omega (arith, filter-lengths f xs)))

@@ -25,13 +25,15 @@ module _ {A : Type 0} (new old : List A) where
   front-length l = length-append new (drop (length new) old) ∙ omega (arith, length-drop (length new) old)
 
   -- one element more
-  pub front-more : (i : ℕ) (d : A) → i < length new → i < length old → set (in-front (take i new) old) i (getD new i d) ≡ in-front (take (i + 1) new) old
+  pub front-more : (i : ℕ) (d : A) → i < length new → i < length old →
+      set (in-front (take i new) old) i (getD new i d) ≡ in-front (take (i + 1) new) old
   unfolding in-front
   front-more i d l m =
       let a : length (take i new) ≡ i = length-take-le i new (omega arith) in
       let b : length (take (suc i) new) ≡ suc i = length-take-le (suc i) new l in
       rw (add-one, a, b, drop-cons old i d, take-suc new i d)
-      (set-at (take i new) (getD old i d) (drop (suc i) old) (getD new i d) i a ∙ sym (append-assoc (take i new) (getD new i d ∷ []) (drop (suc i) old)))
+      (set-at (take i new) (getD old i d) (drop (suc i) old) (getD new i d) i a
+      ∙ sym (append-assoc (take i new) (getD new i d ∷ []) (drop (suc i) old)))
 
   pub front-at : (k : ℕ) (d : A) → k < length new → getD (in-front new old) k d ≡ getD new k d
   unfolding in-front

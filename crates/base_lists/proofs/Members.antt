@@ -45,7 +45,8 @@ member-split i xs ys e = or-cases (member i xs) (member i ys) (sym (member-appen
 -- one more at the end
 pub member-snoc : (i : ℕ) (xs : List ℕ) (j : ℕ) → member i (xs ++ (j ∷ [])) ≡ true → (member i xs ≡ true) ⊎ (j ≡ i)
 member-snoc i xs j e =
-    either (member-split i xs (j ∷ []) e) (λ t. inl t) (λ t. either (member-cons i j [] t) (λ q. inr q) (λ z. member-nil i z))
+    either (member-split i xs (j ∷ []) e) (λ t. inl t)
+    (λ t. either (member-cons i j [] t) (λ q. inr q) (λ z. member-nil i z))
 
 pub member-last : (j : ℕ) (xs : List ℕ) → member j (xs ++ (j ∷ [])) ≡ true
 member-last j xs = member-right j xs (j ∷ []) (member-here j [])

@@ -2,7 +2,8 @@
 use mathlib.Core.Path.{_≡_, refl, sym, ap, _∙_, subst}
 use mathlib.Core.Bool.{Bool, true}
 use mathlib.Core.Logic.{_⊎_, inl, inr, _↔_}
-use mathlib.Core.List.{List, [], _∷_, List·Memᴰ, List·Memᴰ·head, List·Memᴰ·tail, List·Memᴰ·not-nil, List·Memᴰ·cases-cons}
+use mathlib.Core.List.{List, [], _∷_, List·Memᴰ, List·Memᴰ·head, List·Memᴰ·tail, List·Memᴰ·not-nil}
+use mathlib.Core.List.{List·Memᴰ·cases-cons}
 use Prim.Native.Nat.{ℕ, zero, suc, _≤_, _<_}
 use native.Mathlib.Nat.{not-suc-le-zero, le-of-suc-le-suc, le-refl, lt-irrefl, zero-add}
 use native.Mathlib.Numerals.{one-add}
@@ -21,7 +22,8 @@ use Rattle.base_lists.proofs.Distinct.{Sized, sized-nil, sized-cons}
 pub member-place : (xs : List ℕ) (i : ℕ) → member i xs ≡ true → Among xs (length xs) i
 member-place [] i m = member-nil i m
 member-place (x ∷ xs) i m =
-    either (member-cons i x xs m) (λ q. (0, omega arith, q)) (λ t. let w = member-place xs i t in (suc (w .0), omega (arith, w .1), w .2))
+    either (member-cons i x xs m) (λ q. (0, omega arith, q))
+    (λ t. let w = member-place xs i t in (suc (w .0), omega (arith, w .1), w .2))
 
 pub member-at : (xs : List ℕ) (l : ℕ) → l < length xs → member (getD xs l 0) xs ≡ true
 member-at [] l h = absurd (not-suc-le-zero h)
@@ -35,7 +37,8 @@ place-member xs i w = subst (λ (z : ℕ). member z xs ≡ true) (w .2) (member-
 pub mem-place : {A : Type 0} (xs : List A) (d x : A) → List·Memᴰ x xs → (k : ℕ) × (k < length xs) × (getD xs k d ≡ x)
 mem-place [] d x m = absurd (List·Memᴰ·not-nil m)
 mem-place (y ∷ ys) d x m =
-    either (List·Memᴰ·cases-cons m) (λ e. (0, omega arith, sym e)) (λ t. let w = mem-place ys d x t in (suc (w .0), omega (arith, w .1), w .2))
+    either (List·Memᴰ·cases-cons m) (λ e. (0, omega arith, sym e))
+    (λ t. let w = mem-place ys d x t in (suc (w .0), omega (arith, w .1), w .2))
 
 pub mem-at : {A : Type 0} (xs : List A) (d : A) (k : ℕ) → k < length xs → List·Memᴰ (getD xs k d) xs
 mem-at [] d k l = absurd (not-suc-le-zero l)
@@ -59,7 +62,8 @@ once-sized : (n : ℕ) (xs : List ℕ) → ((k : ℕ) → k < length xs → getD
 once-sized n [] below once = sized-nil n
 once-sized n (x ∷ xs) below once =
     sized-cons n x xs (below 0 (omega arith))
-    (is-false (member x xs) (λ t. let w = member-place xs x t in once 0 (suc (w .0)) (omega arith) (omega (arith, w .1)) (sym (w .2))))
+    (is-false (member x xs)
+    (λ t. let w = member-place xs x t in once 0 (suc (w .0)) (omega arith) (omega (arith, w .1)) (sym (w .2))))
     (once-sized n xs (λ k h. below (suc k) (omega arith)) (λ k l a b. once (suc k) (suc l) (omega arith) (omega arith)))
 
 -- ---- counting what has a property
@@ -79,7 +83,8 @@ module _ (P Q : ℕ → Type 0) (many : ℕ) (c : Counts P many) (more : (i : �
     long = ap suc (c .long);
     once = once;
     only = only;
-    every = λ i q. either (less i q) (λ e. (0, omega arith, e)) (λ t. let w = c .every i t in (suc (w .0), omega (arith, w .1), w .2));
+    every = λ i q. either (less i q) (λ e. (0, omega arith, e))
+        (λ t. let w = c .every i t in (suc (w .0), omega (arith, w .1), w .2));
   }
     where
       once : (k l : ℕ) → k < l → l < suc many → getD (n ∷ c .list) k 0 ≡ getD (n ∷ c .list) l 0 → ⊥
@@ -99,9 +104,11 @@ passing-more : (n : ℕ) (f : ℕ → Bool) → Counts (Passing n f) (tally n f)
 unfolding tally
 passing-more n f c =
     by-cases (f n)
-    (λ t. rw (t, one-add) (counts-one-more (Passing n f) (Passing (suc n) f) (tally n f) c (λ i w. (omega (arith, w .0), w .1)) n (λ w. lt-irrefl n (w .0)) (le-refl (suc n), t)
+    (λ t. rw (t, one-add) (counts-one-more (Passing n f) (Passing (suc n) f) (tally n f) c
+    (λ i w. (omega (arith, w .0), w .1)) n (λ w. lt-irrefl n (w .0)) (le-refl (suc n), t)
     (λ i w. by-cases (eqb n i) (λ q. inl (eqb-true n i q)) (λ q. inr (omega (arith, w .0, eqb-false n i q), w .1)))))
-    (λ e. rw (e, zero-add) (counts-same (Passing n f) (Passing (suc n) f) (tally n f) c (λ i w. (omega (arith, w .0), w .1))
+    (λ e. rw (e, zero-add)
+    (counts-same (Passing n f) (Passing (suc n) f) (tally n f) c (λ i w. (omega (arith, w .0), w .1))
     (λ i w. let other : n ≡ i → ⊥ = λ q. clash (f n) (ap f q ∙ w .1) e in (omega (arith, w .0), w .1))))
 
 passing : (n : ℕ) (f : ℕ → Bool) → Counts (Passing n f) (tally n f)
@@ -114,13 +121,18 @@ passing zero f = unfold tally in (record {
 })
 passing (suc n) f = passing-more n f (passing n f)
 
-pub tally-counts : (n : ℕ) (f : ℕ → Bool) (P : ℕ → Type 0) → ((i : ℕ) → P i ↔ Passing n f i) → (many : ℕ) → (tally n f ≡ many) ↔ Counts P many
+pub tally-counts : (n : ℕ) (f : ℕ → Bool) (P : ℕ → Type 0) → ((i : ℕ) → P i ↔ Passing n f i) → (many : ℕ) →
+    (tally n f ≡ many) ↔ Counts P many
 tally-counts n f P same many = (
-  (λ e. subst (λ (z : ℕ). Counts P z) e (counts-same (Passing n f) P (tally n f) (passing n f) (λ i. same i .1) (λ i. same i .0))),
+  (λ e. subst (λ (z : ℕ). Counts P z) e
+      (counts-same (Passing n f) P (tally n f) (passing n f) (λ i. same i .1) (λ i. same i .0))),
   (λ c. tally-same n f (λ i. member i (c .list)) (λ i l. by-cases (f i)
-      (λ t. t ∙ sym (place-member (c .list) i (let w = c .every i (same i .1 (l, t)) in (w .0, omega (arith, w .1, c .long), w .2))))
+      (λ t. t
+      ∙ sym (place-member (c .list) i
+      (let w = c .every i (same i .1 (l, t)) in (w .0, omega (arith, w .1, c .long), w .2))))
       (λ e. e ∙ sym (is-false (member i (c .list)) (λ t. let w = member-place (c .list) i t in
-      clash (f i) (subst (λ (z : ℕ). f z ≡ true) (w .2) (same (getD (c .list) (w .0) 0) .0 (c .only (w .0) (omega (arith, w .1, c .long))) .1)) e))))
+      clash (f i) (subst (λ (z : ℕ). f z ≡ true) (w .2)
+      (same (getD (c .list) (w .0) 0) .0 (c .only (w .0) (omega (arith, w .1, c .long))) .1)) e))))
       ∙ once-sized n (c .list) (λ k l. same (getD (c .list) k 0) .0 (c .only k (omega (arith, c .long))) .0)
       (λ k l a b. c .once k l a (omega (arith, c .long))) ∙ c .long),
 )

@@ -11,7 +11,8 @@ use Rattle.base_lists.proofs.Tests.{by-cases}
 use Rattle.base_lists.proofs.Tallies.{tally-further}
 
 -- a count in two parts
-pub tally-parts : (n : ℕ) (f g h : ℕ → Bool) → ((i : ℕ) → cond (h i) 1 0 ≡ cond (f i) 1 0 + cond (g i) 1 0) → tally n h ≡ tally n f + tally n g
+pub tally-parts : (n : ℕ) (f g h : ℕ → Bool) → ((i : ℕ) → cond (h i) 1 0 ≡ cond (f i) 1 0 + cond (g i) 1 0) →
+    tally n h ≡ tally n f + tally n g
 unfolding tally
 tally-parts zero f g h e = refl
 tally-parts (suc n) f g h e = omega (arith, e n, tally-parts n f g h e)

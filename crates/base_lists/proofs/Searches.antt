@@ -1,7 +1,8 @@
 -- Every number below a bound, every element of a list, the lowest and the highest that pass a test. Assumes nothing.
 use mathlib.Core.Path.{_≡_, refl, ap, _∙_, subst}
 use mathlib.Core.Bool.{Bool, true, false, true≢false}
-use mathlib.Core.List.{List, [], _∷_, List·Memᴰ, List·Memᴰ·head, List·Memᴰ·tail, List·Memᴰ·not-nil, List·Memᴰ·cases-cons}
+use mathlib.Core.List.{List, [], _∷_, List·Memᴰ, List·Memᴰ·head, List·Memᴰ·tail, List·Memᴰ·not-nil}
+use mathlib.Core.List.{List·Memᴰ·cases-cons}
 use mathlib.Core.Option.{Option, none, some, orElse}
 use Prim.Native.Nat.{ℕ, zero, suc, _+_, _≤_, _<_, zero-le}
 use native.Mathlib.Nat.{not-suc-le-zero, le-refl}
@@ -22,7 +23,8 @@ all-below-gives (suc n) f h i l =
 pub all-below-by : (n : ℕ) (f : ℕ → Bool) → ((i : ℕ) → i < n → f i ≡ true) → all-below n f ≡ true
 unfolding all-below
 all-below-by zero f h = refl
-all-below-by (suc n) f h = and-both (f n) (all-below n f) (h n (le-refl (suc n))) (all-below-by n f (λ i l. h i (omega arith)))
+all-below-by (suc n) f h =
+    and-both (f n) (all-below n f) (h n (le-refl (suc n))) (all-below-by n f (λ i l. h i (omega arith)))
 
 -- ---- all of a list
 module _ {A : Type 0} (f : A → Bool) where
@@ -66,9 +68,11 @@ module _ {A : Type 0} (f : ℕ → Option A) where
         λ m l u. by-cases (eqb i m) (λ t. subst (λ (z : ℕ). _≡_ {A = Option A} (f z) none) (eqb-true i m t) n)
             (λ t. w .4 m (omega (arith, eqb-false i m t)) u),
       ))
-      (λ b g. let same : some b ≡ some a = rw g at e in (i, le-refl i, omega arith, g ∙ same, λ m l u. absurd (omega arith)))
+      (λ b g. let same : some b ≡ some a = rw g at e in
+      (i, le-refl i, omega arith, g ∙ same, λ m l u. absurd (omega arith)))
 
-  pub first-none : (left i : ℕ) → _≡_ {A = Option A} (first-from left i f) none → (m : ℕ) → i ≤ m → m < left + i → _≡_ {A = Option A} (f m) none
+  pub first-none : (left i : ℕ) → _≡_ {A = Option A} (first-from left i f) none → (m : ℕ) → i ≤ m → m < left + i →
+      _≡_ {A = Option A} (f m) none
   unfolding first-from orElse
   first-none zero i e m l u = absurd (omega arith)
   first-none (suc left) i e m l u =
@@ -78,7 +82,8 @@ module _ {A : Type 0} (f : ℕ → Option A) where
       (λ b g. absurd (let same : some b ≡ none = rw g at e in let z : _≡_ {A = ℕ} 0 1 = cc in omega arith))
 
   -- what is found is the first
-  pub first-is : (left i k : ℕ) (a : A) → i ≤ k → k < left + i → f k ≡ some a → ((m : ℕ) → i ≤ m → m < k → _≡_ {A = Option A} (f m) none) → first-from left i f ≡ some a
+  pub first-is : (left i k : ℕ) (a : A) → i ≤ k → k < left + i → f k ≡ some a →
+      ((m : ℕ) → i ≤ m → m < k → _≡_ {A = Option A} (f m) none) → first-from left i f ≡ some a
   unfolding first-from orElse
   first-is zero i k a l u g h = absurd (omega arith)
   first-is (suc left) i k a l u g h =
@@ -119,7 +124,8 @@ lowest-none n f e k l = when-none (f k) k (first-none (λ k. when-true (f k) k) 
 
 pub lowest-is : (n : ℕ) (f : ℕ → Bool) (i : ℕ) → Lowest n f i → lowest-below n f ≡ some i
 lowest-is n f i w =
-    first-is (λ k. when-true (f k) k) n 0 i i zero-le (omega (arith, w .inside)) (when-yes (w .passes)) (λ m l u. when-not m (w .lower m u))
+    first-is (λ k. when-true (f k) k) n 0 i i zero-le (omega (arith, w .inside)) (when-yes (w .passes))
+    (λ m l u. when-not m (w .lower m u))
   where
     when-yes : f i ≡ true → when-true (f i) i ≡ some i
     when-yes e = unfold when-true in (rw e)
@@ -144,7 +150,8 @@ highest-some (suc n) f i e =
     record {
       inside = omega (arith, w .inside);
       passes = w .passes;
-      higher = λ k l u. by-cases (eqb k n) (λ q. ap f (eqb-true k n q) ∙ t) (λ q. w .higher k l (omega (arith, eqb-false k n q)));
+      higher = λ k l u. by-cases (eqb k n) (λ q. ap f (eqb-true k n q) ∙ t)
+          (λ q. w .higher k l (omega (arith, eqb-false k n q)));
     })
 
 pub highest-none : (n : ℕ) (f : ℕ → Bool) → _≡_ {A = Option ℕ} (highest-below n f) none → (k : ℕ) → k < n → f k ≡ false
@@ -152,7 +159,8 @@ unfolding highest-below
 highest-none zero f e k l = absurd (not-suc-le-zero l)
 highest-none (suc n) f e k l =
     by-cases (f n) (λ t. absurd (let same : some n ≡ none = rw t at e in let z : _≡_ {A = ℕ} 0 1 = cc in omega arith))
-    (λ t. by-cases (eqb k n) (λ q. ap f (eqb-true k n q) ∙ t) (λ q. highest-none n f (rw t at e) k (omega (arith, eqb-false k n q))))
+    (λ t. by-cases (eqb k n) (λ q. ap f (eqb-true k n q) ∙ t)
+    (λ q. highest-none n f (rw t at e) k (omega (arith, eqb-false k n q))))
 
 -- ---- some or none
 pub some-is {ℓ} : {A : Type ℓ} (o : Option A) (a : A) → o ≡ some a → is-some o ≡ true

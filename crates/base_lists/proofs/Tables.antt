@@ -38,9 +38,11 @@ module _ {A : Type 0} (w : ℕ) (f : ℕ → List A) (even : (i : ℕ) → lengt
   pub join-length : (many i : ℕ) → length (join-from many i f) ≡ w * many
   unfolding join-from
   join-length zero i = let e : 0 ≡ w * 0 = omega arith in e
-  join-length (suc k) i = length-append (f i) (join-from k (suc i) f) ∙ omega (arith, even i, join-length k (suc i), mul-suc w k)
+  join-length (suc k) i = length-append (f i) (join-from k (suc i) f)
+      ∙ omega (arith, even i, join-length k (suc i), mul-suc w k)
 
-  pub join-at : (many i k c : ℕ) (d : A) → k < many → c < w → getD (join-from many i f) (w * k + c) d ≡ getD (f (i + k)) c d
+  pub join-at : (many i k c : ℕ) (d : A) → k < many → c < w →
+      getD (join-from many i f) (w * k + c) d ≡ getD (f (i + k)) c d
   unfolding join-from
   join-at zero i k c d l b = absurd (not-suc-le-zero l)
   join-at (suc many) i zero c d l b =
@@ -48,22 +50,26 @@ module _ {A : Type 0} (w : ℕ) (f : ℕ → List A) (even : (i : ℕ) → lengt
       ∙ List·getD-append (f i) (join-from many (suc i) f) d c (omega (arith, even i))
       ∙ ap (λ (z : ℕ). getD (f z) c d) (let e : i ≡ i + 0 = omega arith in e)
   join-at (suc many) i (suc k) c d l b =
-      ap (λ (z : ℕ). getD (f i ++ join-from many (suc i) f) z d) (let e : w * suc k + c ≡ length (f i) + (w * k + c) = omega (arith, even i, mul-suc w k) in e)
+      ap (λ (z : ℕ). getD (f i ++ join-from many (suc i) f) z d)
+      (let e : w * suc k + c ≡ length (f i) + (w * k + c) = omega (arith, even i, mul-suc w k) in e)
       ∙ getD-append-add (f i) (join-from many (suc i) f) (w * k + c) d
       ∙ join-at many (suc i) k c d (le-of-suc-le-suc l) b
       ∙ ap (λ (z : ℕ). getD (f z) c d) (let e : suc i + k ≡ i + suc k = omega arith in e)
 
 -- ---- members of a joined list
-pub join-gives : {A : Type 0} (f : ℕ → List A) (many i : ℕ) (a : A) → List·Memᴰ a (join-from many i f) → (k : ℕ) × (i ≤ k) × (k < many + i) × List·Memᴰ a (f k)
+pub join-gives : {A : Type 0} (f : ℕ → List A) (many i : ℕ) (a : A) → List·Memᴰ a (join-from many i f) →
+    (k : ℕ) × (i ≤ k) × (k < many + i) × List·Memᴰ a (f k)
 unfolding join-from
 join-gives f zero i a e = absurd (List·Memᴰ·not-nil e)
 join-gives f (suc many) i a e =
     either (List·Memᴰ·append-cases (f i) e) (λ t. (i, le-refl i, omega arith, t))
     (λ t. let w = join-gives f many (suc i) a t in (w .0, omega (arith, w .1), omega (arith, w .2), w .3))
 
-pub join-has : {A : Type 0} (f : ℕ → List A) (many i k : ℕ) (a : A) → i ≤ k → k < many + i → List·Memᴰ a (f k) → List·Memᴰ a (join-from many i f)
+pub join-has : {A : Type 0} (f : ℕ → List A) (many i k : ℕ) (a : A) → i ≤ k → k < many + i → List·Memᴰ a (f k) →
+    List·Memᴰ a (join-from many i f)
 unfolding join-from
 join-has f zero i k a l u m = absurd (omega arith)
 join-has f (suc many) i k a l u m =
-    by-cases (eqb i k) (λ t. Memᴰ·append-left (join-from many (suc i) f) (subst (λ (z : ℕ). List·Memᴰ a (f z)) (sym (eqb-true i k t)) m))
+    by-cases (eqb i k)
+    (λ t. Memᴰ·append-left (join-from many (suc i) f) (subst (λ (z : ℕ). List·Memᴰ a (f z)) (sym (eqb-true i k t)) m))
     (λ t. Memᴰ·append-right (f i) (join-has f many (suc i) k a (omega (arith, eqb-false i k t)) (omega arith) m))

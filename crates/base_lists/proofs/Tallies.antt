@@ -48,11 +48,14 @@ unfolding tally
 tally-all zero f h i l = absurd (not-suc-le-zero l)
 tally-all (suc n) f h i l =
     by-cases (f n) (λ t. let h′ : suc n ≤ 1 + tally n f = subst (λ (b : Bool). suc n ≤ cond b 1 0 + tally n f) t h in
-    by-cases (eqb i n) (λ q. ap f (eqb-true i n q) ∙ t) (λ q. tally-all n f (omega arith) i (omega (arith, eqb-false i n q))))
-    (λ e. let h′ : suc n ≤ 0 + tally n f = subst (λ (b : Bool). suc n ≤ cond b 1 0 + tally n f) e h in absurd (omega (arith, tally-le n f)))
+    by-cases (eqb i n) (λ q. ap f (eqb-true i n q) ∙ t)
+    (λ q. tally-all n f (omega arith) i (omega (arith, eqb-false i n q))))
+    (λ e. let h′ : suc n ≤ 0 + tally n f = subst (λ (b : Bool). suc n ≤ cond b 1 0 + tally n f) e h in
+    absurd (omega (arith, tally-le n f)))
 
 -- one more passes: the count is one more
-pub tally-one-more : (n : ℕ) (f g : ℕ → Bool) (x : ℕ) → x < n → f x ≡ false → g x ≡ true → ((i : ℕ) → (i ≡ x → ⊥) → g i ≡ f i) → tally n g ≡ suc (tally n f)
+pub tally-one-more : (n : ℕ) (f g : ℕ → Bool) (x : ℕ) → x < n → f x ≡ false → g x ≡ true →
+    ((i : ℕ) → (i ≡ x → ⊥) → g i ≡ f i) → tally n g ≡ suc (tally n f)
 unfolding tally
 tally-one-more zero f g x l a b h = absurd (not-suc-le-zero l)
 tally-one-more (suc n) f g x l a b h =
@@ -72,14 +75,17 @@ tally-full (suc n) f h = rw (h n (le-refl (suc n)), tally-full n f (λ i l. h i 
 -- ---- a lower bound, and a test that fails from there on
 pub tally-further : (m n : ℕ) (f : ℕ → Bool) → m ≤ n → tally m f ≤ tally n f
 unfolding tally
-tally-further m zero f h = subst (λ (z : ℕ). tally m f ≤ tally z f) (let e : m ≡ 0 = omega arith in e) (le-refl (tally m f))
+tally-further m zero f h =
+    subst (λ (z : ℕ). tally m f ≤ tally z f) (let e : m ≡ 0 = omega arith in e) (le-refl (tally m f))
 tally-further m (suc n) f h =
-    by-cases (eqb m (suc n)) (λ t. subst (λ (z : ℕ). tally m f ≤ tally z f) (eqb-true m (suc n) t) (le-refl (tally m f)))
+    by-cases (eqb m (suc n))
+    (λ t. subst (λ (z : ℕ). tally m f ≤ tally z f) (eqb-true m (suc n) t) (le-refl (tally m f)))
     (λ e. omega (arith, tally-further m n f (omega (arith, eqb-false m (suc n) e))))
 
 pub tally-ends : (m n : ℕ) (f : ℕ → Bool) → ((k : ℕ) → m ≤ k → k < n → f k ≡ false) → tally n f ≤ tally m f
 unfolding tally
 tally-ends m zero f h = zero-le
 tally-ends m (suc n) f h =
-    by-cases (leb m n) (λ t. rw (h n (leb-true m n t) (le-refl (suc n))) (omega (arith, tally-ends m n f (λ k a b. h k a (omega arith)))))
+    by-cases (leb m n)
+    (λ t. rw (h n (leb-true m n t) (le-refl (suc n))) (omega (arith, tally-ends m n f (λ k a b. h k a (omega arith)))))
     (λ e. tally-further (suc n) m f (omega (arith, leb-false m n e)))

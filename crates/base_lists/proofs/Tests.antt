@@ -52,6 +52,7 @@ pub either {ℓ} : {A B : Type 0} {C : Type ℓ} → A ⊎ B → (A → C) → (
 either (inl a) f g = f a
 either (inr b) f g = g b
 
-pub by-option {ℓ κ} : {A : Type ℓ} {B : Type κ} (o : Option A) → (_≡_ {A = Option A} o none → B) → ((a : A) → o ≡ some a → B) → B
+pub by-option {ℓ κ} : {A : Type ℓ} {B : Type κ} (o : Option A) → (_≡_ {A = Option A} o none → B) →
+    ((a : A) → o ≡ some a → B) → B
 by-option none f g = f refl
 by-option (some a) f g = g a refl

@@ -26,13 +26,15 @@ put-out (b ∷ t) a o h = rw (set-out o a b h) (put-out t (suc a) o (omega arith
 pub put-append : (s t : List ℕ) (a : ℕ) (o : List ℕ) → put (s ++ t) a o ≡ put t (a + length s) (put s a o)
 unfolding put
 put-append [] t a o = ap (λ (k : ℕ). put t k o) (omega arith)
-put-append (b ∷ s) t a o = put-append s t (suc a) (set o a b) ∙ ap (λ (k : ℕ). put t k (put s (suc a) (set o a b))) (omega arith)
+put-append (b ∷ s) t a o = put-append s t (suc a) (set o a b)
+    ∙ ap (λ (k : ℕ). put t k (put s (suc a) (set o a b))) (omega arith)
 
 -- where one text ends is as good a place for the next as the sum of the lengths
 put-end : (t o : List ℕ) (a k e : ℕ) → e ≡ max a (min (a + k) (length o)) → put t e o ≡ put t (a + k) o
 put-end t o a k e h =
     by-cases (ltb (length o) (a + k))
-    (λ over. put-out t e o (omega (arith, ltb-true (length o) (a + k) over)) ∙ sym (put-out t (a + k) o (omega (arith, ltb-true (length o) (a + k) over))))
+    (λ over. put-out t e o (omega (arith, ltb-true (length o) (a + k) over))
+    ∙ sym (put-out t (a + k) o (omega (arith, ltb-true (length o) (a + k) over))))
     (λ fits. ap (λ (x : ℕ). put t x o) (omega (arith, ltb-false (length o) (a + k) fits)))
 
 pub puts-none : (o : List ℕ) (a : ℕ) → Puts [] o a o a
@@ -44,7 +46,9 @@ pub puts-both :
 puts-both {s} {t} {o} {x} {y} {a} {e} {f} p q =
     record {
       room-is =
-          q .room-is ∙ rw (p .room-is) (put-end t (put s a o) a (length s) e (rw put-length (p .end-is)) ∙ sym (put-append s t a o));
+          q .room-is
+          ∙ rw (p .room-is)
+          (put-end t (put s a o) a (length s) e (rw put-length (p .end-is)) ∙ sym (put-append s t a o));
       end-is = omega (arith, length-append s t, p .end-is, q .end-is, ap length (p .room-is), put-length s a o);
     }
 
@@ -57,7 +61,8 @@ puts-full o a b h = record { room-is = sym (put-out (b ∷ []) a o h); end-is = 
 
 -- one more byte of a text
 pub puts-more :
-    (t : List ℕ) (i : ℕ) {o x y : List ℕ} {a e f : ℕ} → i < length t → Puts (take i t) o a x e → Puts (getD t i 0 ∷ []) x e y f → Puts (take (i + 1) t) o a y f
+    (t : List ℕ) (i : ℕ) {o x y : List ℕ} {a e f : ℕ} → i < length t → Puts (take i t) o a x e →
+    Puts (getD t i 0 ∷ []) x e y f → Puts (take (i + 1) t) o a y f
 puts-more t i h p q = rw (add-one, take-suc t i 0 h) (puts-both p q)
 
 -- a whole text
@@ -79,10 +84,12 @@ pub puts-number :
     Puts (blanked (take i t)) o a x e → Puts (after-blank (getD t i 0)) x e y f →
     Puts (blanked (take (i + 1) t)) o a y f
 puts-number t i h p q =
-    rw (add-one, take-suc t i 0 h, blanked-append (take i t) (getD t i 0 ∷ []), blanked-one (getD t i 0)) (puts-both p q)
+    rw (add-one, take-suc t i 0 h, blanked-append (take i t) (getD t i 0 ∷ []), blanked-one (getD t i 0))
+    (puts-both p q)
 
 -- a whole list
-pub puts-list : (t : List ℕ) (i : ℕ) {o x : List ℕ} {a e : ℕ} → length t ≤ i → Puts (blanked (take i t)) o a x e → Puts (blanked t) o a x e
+pub puts-list : (t : List ℕ) (i : ℕ) {o x : List ℕ} {a e : ℕ} → length t ≤ i → Puts (blanked (take i t)) o a x e →
+    Puts (blanked t) o a x e
 puts-list t i h p = rw (take-all i t h) at p
 
 pub puts-length : {t o x : List ℕ} {a e : ℕ} → Puts t o a x e → length x ≡ length o
@@ -101,10 +108,12 @@ join-more (suc n) i f =
 pub puts-join :
     (f : ℕ → List ℕ) (i : ℕ) {o x y : List ℕ} {a e g : ℕ} →
     Puts (join-from i 0 f) o a x e → Puts (f i) x e y g → Puts (join-from (i + 1) 0 f) o a y g
-puts-join f i {o} {x} {y} {a} {e} {g} p q = rw (add-one, join-more i 0 f) (puts-both p (subst (λ (k : ℕ). Puts (f k) x e y g) (omega arith) q))
+puts-join f i {o} {x} {y} {a} {e} {g} p q =
+    rw (add-one, join-more i 0 f) (puts-both p (subst (λ (k : ℕ). Puts (f k) x e y g) (omega arith) q))
 
 pub puts-joined :
-    (f : ℕ → List ℕ) {n i : ℕ} {o x : List ℕ} {a e : ℕ} → i ≡ n → Puts (join-from i 0 f) o a x e → Puts (join-from n 0 f) o a x e
+    (f : ℕ → List ℕ) {n i : ℕ} {o x : List ℕ} {a e : ℕ} → i ≡ n → Puts (join-from i 0 f) o a x e →
+    Puts (join-from n 0 f) o a x e
 puts-joined f h p = rw h at p
 
 -- ---- a refusal's line or an answer

@@ -19,7 +19,8 @@ spelled-by (suc k) (suc f) n h l m =
     let p : 10 ^ suc k ≡ 10 ^ k * 10 = pow-suc 10 k in
     let q : 10 ^ suc (suc k) ≡ 10 ^ suc k * 10 = pow-suc 10 (suc k) in
     rw (le-ltb n 10 (omega arith))
-    (ap (λ (d : List ℕ). d ++ (glyph (n % 10) ∷ [])) (spelled-by k f (n / 10) (omega arith) (omega arith) (λ _. omega arith)))
+    (ap (λ (d : List ℕ). d ++ (glyph (n % 10) ∷ []))
+    (spelled-by k f (n / 10) (omega arith) (omega arith) (λ _. omega arith)))
 
 below-power : (k : ℕ) → k < 10 ^ k
 below-power zero = omega arith

@@ -10,10 +10,12 @@ use Rattle.frontier.specs.declared.Merged.{Merged}
 use Rattle.frontier.specs.declared.Dominance.{Dominance}
 use Rattle.frontier.specs.Frontiers.{well-formed, pack, capable, one-entry, merge, raise, dominance}
 use Rattle.frontier.specs.Meaning.{Merge-right, Raise-right, Dominance-means}
-use Rattle.c_lent.specs.Lent.{told-of, frontier-of, list-of, oversized, Merge-says, merged-of, Oversized-refused, dominance-told, dominance-of}
+use Rattle.c_lent.specs.Lent.{told-of, frontier-of, list-of, oversized, Merge-says, merged-of, Oversized-refused}
+use Rattle.c_lent.specs.Lent.{dominance-told, dominance-of}
 use Rattle.c_lent.proofs.Told.{dominance-back}
 use Rattle.c_lent.proofs.Frontiers.{merged-back}
-use Rattle.c_lent.proofs.Refusals.{first-fails, oversized-formed, either-oversized, dominance-fourteen, merge-refused}
+use Rattle.c_lent.proofs.Refusals.{first-fails, oversized-formed, either-oversized, dominance-fourteen}
+use Rattle.c_lent.proofs.Refusals.{merge-refused}
 
 module _ (m n : Merged) (told frontier : List ℕ) (s : Merge-says m told frontier) (same : m ≡ n) where
   says : Merge-says n told frontier
@@ -28,8 +30,10 @@ module _ (m n : Merged) (told frontier : List ℕ) (s : Merge-says m told fronti
   read : well-formed (m .frontier) ≡ true → m ≡ merged-of told frontier
   read w = sym (merged-back m told frontier (ap (λ (t : Told). t .number) (s .0)) (s .1) w)
 
-module _ (left right : List ℕ) (capacity : ℕ) (m : Merged) (told frontier : List ℕ) (s : Merge-says m told frontier) where
-  pub merge-answered : (f g : Frontier) → f ≡ frontier-of left → g ≡ frontier-of right → m ≡ merge f g capacity → Merge-right f g capacity m →
+module _ (left right : List ℕ) (capacity : ℕ) (m : Merged) (told frontier : List ℕ)
+    (s : Merge-says m told frontier) where
+  pub merge-answered : (f g : Frontier) → f ≡ frontier-of left → g ≡ frontier-of right → m ≡ merge f g capacity →
+      Merge-right f g capacity m →
       Merge-says (merge (frontier-of left) (frontier-of right) capacity) told frontier
       × (Merge-right (frontier-of left) (frontier-of right) capacity (merged-of told frontier)
       × Oversized-refused (oversized left || oversized right) (capable capacity) told)
@@ -38,13 +42,17 @@ module _ (left right : List ℕ) (capacity : ℕ) (m : Merged) (told frontier : 
       let h : Merge-right (frontier-of left) (frontier-of right) capacity m = rw (← ef, ← eg) right-of in (
         says m _ told frontier s e,
         (
-          subst (λ (k : Merged). Merge-right (frontier-of left) (frontier-of right) capacity k) (read m _ told frontier s e (h .formed)) h,
-          λ o. number m _ told frontier s e ∙ merge-refused (frontier-of left) (frontier-of right) (either-oversized left right o) capacity,
+          subst (λ (k : Merged). Merge-right (frontier-of left) (frontier-of right) capacity k)
+              (read m _ told frontier s e (h .formed)) h,
+          λ o. number m _ told frontier s e
+              ∙ merge-refused (frontier-of left) (frontier-of right) (either-oversized left right o) capacity,
         ),
       )
 
-module _ (old : List ℕ) (axis epoch capacity : ℕ) (m : Merged) (told frontier : List ℕ) (s : Merge-says m told frontier) where
-  pub raise-answered : (f : Frontier) → f ≡ frontier-of old → m ≡ raise f axis epoch capacity → Raise-right f axis epoch capacity m →
+module _ (old : List ℕ) (axis epoch capacity : ℕ) (m : Merged) (told frontier : List ℕ)
+    (s : Merge-says m told frontier) where
+  pub raise-answered : (f : Frontier) → f ≡ frontier-of old → m ≡ raise f axis epoch capacity →
+      Raise-right f axis epoch capacity m →
       Merge-says (raise (frontier-of old) axis epoch capacity) told frontier
       × (Raise-right (frontier-of old) axis epoch capacity (merged-of told frontier)
       × Oversized-refused (oversized old) (capable capacity) told)
@@ -54,14 +62,17 @@ module _ (old : List ℕ) (axis epoch capacity : ℕ) (m : Merged) (told frontie
       let h : Raise-right (frontier-of old) axis epoch capacity m = rw (← ef) right-of in (
         says m _ told frontier s e,
         (
-          subst (λ (k : Merged). Raise-right (frontier-of old) axis epoch capacity k) (read m _ told frontier s e (h .merged .formed)) h,
+          subst (λ (k : Merged). Raise-right (frontier-of old) axis epoch capacity k)
+              (read m _ told frontier s e (h .merged .formed)) h,
           λ o. number m _ told frontier s e
-              ∙ merge-refused (frontier-of old) (pack (one-entry axis epoch) false) (first-fails _ _ (oversized-formed old o)) capacity,
+              ∙ merge-refused (frontier-of old) (pack (one-entry axis epoch) false)
+              (first-fails _ _ (oversized-formed old o)) capacity,
         ),
       )
 
 module _ (left right : List ℕ) (r : Dominance) (told : List ℕ) (e : told-of told ≡ dominance-told r) where
-  pub dominance-answered : (f g : Frontier) → f ≡ frontier-of left → g ≡ frontier-of right → r ≡ dominance f g → Dominance-means f g r →
+  pub dominance-answered : (f g : Frontier) → f ≡ frontier-of left → g ≡ frontier-of right → r ≡ dominance f g →
+      Dominance-means f g r →
       (told-of told ≡ dominance-told (dominance (frontier-of left) (frontier-of right)))
       × (Dominance-means (frontier-of left) (frontier-of right) (dominance-of (told-of told))
       × Oversized-refused (oversized left || oversized right) true told)

@@ -57,10 +57,12 @@ module _ (axes epochs : List ℕ) (la : length axes ≡ most-entries) (le : leng
 
 pub frontier-back : (f : Frontier) → well-formed f ≡ true → frontier-of (list-of f) ≡ f
 unfolding list-of
-frontier-back f e = numbers-back (f .axes) (f .epochs) (formed f e .sixteen-axes) (formed f e .sixteen-epochs) (f .len) (f .tainted)
+frontier-back f e =
+    numbers-back (f .axes) (f .epochs) (formed f e .sixteen-axes) (formed f e .sixteen-epochs) (f .len) (f .tainted)
 
 -- what was told and stored of a merge is read as that merge
-pub merged-back : (m : Merged) (told frontier : List ℕ) → told-of told .number ≡ m .number → frontier ≡ list-of (m .frontier) →
+pub merged-back : (m : Merged) (told frontier : List ℕ) → told-of told .number ≡ m .number →
+    frontier ≡ list-of (m .frontier) →
     well-formed (m .frontier) ≡ true → merged-of told frontier ≡ m
 unfolding merged-of
 merged-back m told frontier en ef w =

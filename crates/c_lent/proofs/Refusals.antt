@@ -43,7 +43,8 @@ after-capacity : (capable left right : Bool) → (left && right) ≡ false →
 after-capacity true left right e = fourteen left right e
 after-capacity false left right e = refl
 
-given-back : (n : ℕ) (capable : Bool) (m : Merged) → n ≡ cond capable 14 15 → cond (eqb n 0) m (refusal n) .number ≡ cond capable 14 15
+given-back : (n : ℕ) (capable : Bool) (m : Merged) → n ≡ cond capable 14 15 →
+    cond (eqb n 0) m (refusal n) .number ≡ cond capable 14 15
 unfolding refusal
 given-back n true m e = rw e
 given-back n false m e = rw e

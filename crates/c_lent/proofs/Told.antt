@@ -9,7 +9,8 @@ use Rattle.frontier.specs.declared.Dominance.the-variants.{Refused}
 use Rattle.frontier.specs.Frontiers.{answer, dominance-number, dominance, number-of}
 use Rattle.c_lent.specs.Lent.{dominance-told, answer-read, dominance-of}
 
-answer-back : (reached left right : Bool) → dominance-of (dominance-told (answer reached left right)) ≡ answer reached left right
+answer-back : (reached left right : Bool) →
+    dominance-of (dominance-told (answer reached left right)) ≡ answer reached left right
 unfolding dominance-of number-of answer-read answer
 answer-back true left false = refl
 answer-back true left true = refl
@@ -22,4 +23,5 @@ refused-back n e = rw e
 
 pub dominance-back : (f g : Frontier) → dominance-of (dominance-told (dominance f g)) ≡ dominance f g
 unfolding dominance
-dominance-back f g = by-cases (eqb (dominance-number f g) 0) (λ t. rw t (answer-back _ _ _)) (λ e. rw e (refused-back _ e))
+dominance-back f g =
+    by-cases (eqb (dominance-number f g) 0) (λ t. rw t (answer-back _ _ _)) (λ e. rw e (refused-back _ e))

@@ -58,7 +58,8 @@ oversized ns = ltb most-entries (getD ns length-at 0) || ltb 1 (getD ns taint-at
 
 -- a frontier beside its number and place, with nothing to answer
 abbrev pub Handed : (number place : ℕ) → Frontier → (told frontier : List ℕ) → Type 0
-Handed number place f told frontier = (told-of told ≡ record { number = number; place = place; answer = 0 }) × (frontier ≡ list-of f)
+Handed number place f told frontier =
+    (told-of told ≡ record { number = number; place = place; answer = 0 }) × (frontier ≡ list-of f)
 
 -- ---- MERGE AND RAISE
 -- R50, R51: the place of 14 and 15 is 0

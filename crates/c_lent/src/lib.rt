@@ -9,7 +9,8 @@ ghost use lib.Dec.{ltb};
 ghost use lib.ListN.{length, getD, take, drop};
 ghost use lib.Seq.{sets};
 ghost use Rattle.frontier.specs.Entries.{most-entries};
-ghost use Rattle.c_lent.specs.Lent.{told-of, length-at, taint-at, frontier-numbers, over-long, frontier-of, list-of, Handed, dominance-told};
+ghost use Rattle.c_lent.specs.Lent.{told-of, length-at, taint-at, frontier-numbers, over-long, frontier-of};
+ghost use Rattle.c_lent.specs.Lent.{list-of, Handed, dominance-told};
 
 // Where the numbers of a frontier are: the axes come first, then the epochs, the length and the taint.
 const EPOCHS: usize = Frontier::SLOTS;

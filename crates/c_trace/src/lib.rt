@@ -22,7 +22,8 @@ pub extern "C" fn cundvrest_trace(
     told: &mut [u64; 3],
 )
     ensures { λ _. ⌜ Trace-handed (now (plan .entry)) (now (trace .entry)) (now (told .exit)) (now (found .exit))
-        (now (table .entry)) (now (table .exit)) (now (list .entry)) (now (list .exit)) (now (state .entry)) (now (state .exit)) ⌝ }
+        (now (table .entry)) (now (table .exit)) (now (list .entry)) (now (list .exit)) (now (state .entry))
+        (now (state .exit)) ⌝ }
 {
     let r = ask_trace::trace_question(plan, trace, table, list, state);
     let traced = r.traced;

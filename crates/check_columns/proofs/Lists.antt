@@ -15,8 +15,13 @@ use Rattle.base_lists.proofs.Tests.{by-cases}
 use Rattle.plan_format.specs.Plan.{Point, Mark, Operation, empty-operation, operation-long, operations-in}
 use Rattle.plan_order.specs.Precedence.{Signal, signals-of, signals-from}
 use Rattle.check_columns.specs.Columns.{no-point, no-signal, Marked, no-mark, marked-of, marked-from}
-use Rattle.check_columns.specs.Filling.{three, Part, wait-count, signal-count, mark-count, signals-at, marks-at, first-at, second-at, next-at, queue-part, wait-semaphore-part, wait-value-part, signal-semaphore-part, signal-value-part, signal-operation-part, mark-part, mark-operation-part, parts}
-use Rattle.check_columns.proofs.Operations.{plain-mark, Fits, here, next-is, queue-is, waits-many, signals-many, marks-many, wait-semaphore-is, wait-value-is, signal-semaphore-is, signal-value-is, mark-buffer-is, mark-kind-is}
+use Rattle.check_columns.specs.Filling.{three, Part, wait-count, signal-count, mark-count, signals-at, marks-at}
+use Rattle.check_columns.specs.Filling.{first-at, second-at, next-at, queue-part, wait-semaphore-part}
+use Rattle.check_columns.specs.Filling.{wait-value-part, signal-semaphore-part, signal-value-part}
+use Rattle.check_columns.specs.Filling.{signal-operation-part, mark-part, mark-operation-part, parts}
+use Rattle.check_columns.proofs.Operations.{plain-mark, Fits, here, next-is, queue-is, waits-many, signals-many}
+use Rattle.check_columns.proofs.Operations.{marks-many, wait-semaphore-is, wait-value-is, signal-semaphore-is}
+use Rattle.check_columns.proofs.Operations.{signal-value-is, mark-buffer-is, mark-kind-is}
 
 -- ---- lists of operations, one after the other
 unfoldable pub joined : {A : Type 0} → (of : ℕ → Operation → List A) → (i : ℕ) → List Operation → List A
@@ -25,7 +30,9 @@ joined of i (o ∷ os) = of i o ++ joined of (suc i) os
 
 module _ {A : Type 0} (of : ℕ → Operation → List A) where
   -- at most so many each
-  pub joined-few : (c i : ℕ) (os : List Operation) → ((j : ℕ) → j < length os → length (of (i + j) (getD os j empty-operation)) ≤ c) → length (joined of i os) ≤ c * length os
+  pub joined-few : (c i : ℕ) (os : List Operation) →
+      ((j : ℕ) → j < length os → length (of (i + j) (getD os j empty-operation)) ≤ c) →
+      length (joined of i os) ≤ c * length os
   unfolding joined
   joined-few c i [] h = omega arith
   joined-few c i (o ∷ os) h =
@@ -34,7 +41,9 @@ module _ {A : Type 0} (of : ℕ → Operation → List A) where
         arith,
         length-append (of i o) (joined of (suc i) os),
         mul-suc c (length os),
-        joined-few c (suc i) os (λ j l. subst (λ (z : ℕ). length (of z (getD os j empty-operation)) ≤ c) (omega arith) (h (suc j) (omega arith))),
+        joined-few c (suc i) os
+            (λ j l. subst (λ (z : ℕ). length (of z (getD os j empty-operation)) ≤ c) (omega arith)
+            (h (suc j) (omega arith))),
       )
 
   -- as many each
@@ -42,7 +51,13 @@ module _ {A : Type 0} (of : ℕ → Operation → List A) where
     pub joined-long : (i : ℕ) (os : List Operation) → length (joined of i os) ≡ width * length os
     unfolding joined
     joined-long i [] = omega arith
-    joined-long i (o ∷ os) = omega (arith, length-append (of i o) (joined of (suc i) os), even i o, joined-long (suc i) os, mul-suc width (length os))
+    joined-long i (o ∷ os) = omega (
+      arith,
+      length-append (of i o) (joined of (suc i) os),
+      even i o,
+      joined-long (suc i) os,
+      mul-suc width (length os),
+    )
 
     pub joined-at : (i : ℕ) (os : List Operation) (j c : ℕ) (d : A) → j < length os → c < width →
         getD (joined of i os) (width * j + c) d ≡ getD (of (i + j) (getD os j empty-operation)) c d
@@ -53,7 +68,8 @@ module _ {A : Type 0} (of : ℕ → Operation → List A) where
         ∙ List·getD-append (of i o) (joined of (suc i) os) d c (omega (arith, even i o))
         ∙ ap (λ (z : ℕ). getD (of z o) c d) (let e : i ≡ i + 0 = omega arith in e)
     joined-at i (o ∷ os) (suc j) c d l b =
-        ap (λ (z : ℕ). getD (of i o ++ joined of (suc i) os) z d) (let e : width * suc j + c ≡ length (of i o) + (width * j + c) = omega (arith, even i o, mul-suc width j) in e)
+        ap (λ (z : ℕ). getD (of i o ++ joined of (suc i) os) z d)
+        (let e : width * suc j + c ≡ length (of i o) + (width * j + c) = omega (arith, even i o, mul-suc width j) in e)
         ∙ getD-append-add (of i o) (joined of (suc i) os) (width * j + c) d
         ∙ joined-at (suc i) os j c d (le-of-suc-le-suc l) b
         ∙ ap (λ (z : ℕ). getD (of z (getD os j empty-operation)) c d) (let e : suc i + j ≡ i + suc j = omega arith in e)
@@ -70,22 +86,41 @@ module _ (X : List ℕ) {A : Type 0} (f : Part) (h : A → ℕ) (of : ℕ → Op
       let on : drop (next-at X at) X ≡ drop (operation-long (drop at X)) (drop at X) =
       ap (λ (z : ℕ). drop z X) (next-is X at fits) ∙ sym (drop-drop (operation-long (drop at X)) at X) in
       let rest = parts-map n (suc i) (next-at X at) (rw on (λ j l. fit (suc j) (omega arith))) in
-      ap₂ (λ (x y : List ℕ). x ++ y) (same i at fits) (rw on at rest) ∙ sym (map-append h (of i (here X at)) (joined of (suc i) (operations-in n (drop (operation-long (drop at X)) (drop at X)))))
+      ap₂ (λ (x y : List ℕ). x ++ y) (same i at fits) (rw on at rest)
+      ∙ sym (map-append h (of i (here X at))
+      (joined of (suc i) (operations-in n (drop (operation-long (drop at X)) (drop at X)))))
 
 -- ---- each column
-signal-at : (i a : ℕ) (xs : List Point) (j : ℕ) → j < length xs → getD (signals-of i a xs) j no-signal ≡ record { operation = i; position = a + j; semaphore = getD xs j no-point .semaphore; value = getD xs j no-point .value }
+signal-at : (i a : ℕ) (xs : List Point) (j : ℕ) → j < length xs →
+    getD (signals-of i a xs) j no-signal ≡ record {
+      operation = i;
+      position = a + j;
+      semaphore = getD xs j no-point .semaphore;
+      value = getD xs j no-point .value;
+    }
 unfolding signals-of
 signal-at i a [] j l = absurd (not-suc-le-zero l)
-signal-at i a (x ∷ xs) zero l = let e : a ≡ a + 0 = omega arith in λ k. record { operation = i; position = e k; semaphore = x .semaphore; value = x .value }
+signal-at i a (x ∷ xs) zero l = let e : a ≡ a + 0 = omega arith in
+    λ k. record { operation = i; position = e k; semaphore = x .semaphore; value = x .value }
 signal-at i a (x ∷ xs) (suc j) l =
-    signal-at i (suc a) xs j (le-of-suc-le-suc l) ∙ (let e : suc a + j ≡ a + suc j = omega arith in λ k. record { operation = i; position = e k; semaphore = getD xs j no-point .semaphore; value = getD xs j no-point .value })
+    signal-at i (suc a) xs j (le-of-suc-le-suc l)
+    ∙ (let e : suc a + j ≡ a + suc j = omega arith in
+    λ k.
+    record {
+      operation = i;
+      position = e k;
+      semaphore = getD xs j no-point .semaphore;
+      value = getD xs j no-point .value;
+    })
 
 pub signals-long : (i a : ℕ) (xs : List Point) → length (signals-of i a xs) ≡ length xs
 unfolding signals-of
 signals-long i a [] = refl
 signals-long i a (x ∷ xs) = ap suc (signals-long i (suc a) xs)
 
-marked-at : (i : ℕ) (ms : List Mark) (j : ℕ) → j < length ms → getD (marked-of i ms) j no-mark ≡ record { by = i; buffer = getD ms j plain-mark .buffer; kind = getD ms j plain-mark .kind }
+marked-at : (i : ℕ) (ms : List Mark) (j : ℕ) → j < length ms →
+    getD (marked-of i ms) j no-mark ≡
+    record { by = i; buffer = getD ms j plain-mark .buffer; kind = getD ms j plain-mark .kind }
 unfolding marked-of
 marked-at i [] j l = absurd (not-suc-le-zero l)
 marked-at i (m ∷ ms) zero l = refl
@@ -120,12 +155,14 @@ marks-joined i (o ∷ os) = rw (marks-joined (suc i) os)
 
 -- each of three numbers is the wait's, 0 past the last wait
 three-is : (h : Point → ℕ) (number : ℕ → ℕ) (many : ℕ) (xs : List Point) → h no-point ≡ 0 → many ≡ length xs →
-    ((j : ℕ) → j < length xs → number j ≡ h (getD xs j no-point)) → (j : ℕ) → three many number j ≡ h (getD xs j no-point)
+    ((j : ℕ) → j < length xs → number j ≡ h (getD xs j no-point)) → (j : ℕ) →
+    three many number j ≡ h (getD xs j no-point)
 three-is h number many xs z e same j =
     by-cases (ltb j many) (λ t. rw t (same j (omega (arith, ltb-true j many t))))
     (λ f. rw f (sym (ap h (List·getD-eq-default xs no-point (omega (arith, ltb-false j many f))) ∙ z)))
 
-waits-map : (f : ℕ → ℕ) (h : Point → ℕ) (i : ℕ) (o : Operation) → ((j : ℕ) → f j ≡ h (getD (o .waits) j no-point)) → tabulate-from 3 0 f ≡ map h (three-waits i o)
+waits-map : (f : ℕ → ℕ) (h : Point → ℕ) (i : ℕ) (o : Operation) → ((j : ℕ) → f j ≡ h (getD (o .waits) j no-point)) →
+    tabulate-from 3 0 f ≡ map h (three-waits i o)
 waits-map f h i o same =
     let g : ℕ → Point = λ j. getD (o .waits) j no-point in
     tabulate-map f h no-point 3 (three-waits i o) (tabulate-length g 3 0)
@@ -136,7 +173,9 @@ module _ (X : List ℕ) (i at : ℕ) (fits : Fits (here X at)) where
   o = here X at
 
   pub queue-same : queue-part X i at ≡ map (λ o. o .queue) (o ∷ [])
-  queue-same = ap (λ (z : ℕ). z ∷ []) (let e : getD X at 0 % 65536 ≡ o .queue = omega (arith, fits .queue, queue-is X at fits) in e)
+  queue-same =
+      ap (λ (z : ℕ). z ∷ [])
+      (let e : getD X at 0 % 65536 ≡ o .queue = omega (arith, fits .queue, queue-is X at fits) in e)
 
   -- a semaphore that is waited for, or 0
   low : (j : ℕ) → getD (o .waits) j no-point .semaphore < 65536
@@ -147,23 +186,39 @@ module _ (X : List ℕ) (i at : ℕ) (fits : Fits (here X at)) where
   pub wait-semaphore-same : wait-semaphore-part X i at ≡ map (λ x. x .semaphore) (three-waits i o)
   wait-semaphore-same =
       waits-map (λ j. three (wait-count X at) (first-at X (at + 1)) j % 65536) (λ x. x .semaphore) i o
-      (λ j. omega (arith, low j, three-is (λ x. x .semaphore) (first-at X (at + 1)) (wait-count X at) (o .waits) refl (waits-many X at fits) (wait-semaphore-is X at fits) j))
+      (λ j. omega (
+        arith,
+        low j,
+        three-is (λ x. x .semaphore) (first-at X (at + 1)) (wait-count X at) (o .waits) refl (waits-many X at fits)
+            (wait-semaphore-is X at fits) j,
+      ))
 
   pub wait-value-same : wait-value-part X i at ≡ map (λ x. x .value) (three-waits i o)
   wait-value-same =
       waits-map (three (wait-count X at) (second-at X (at + 1))) (λ x. x .value) i o
-      (three-is (λ x. x .value) (second-at X (at + 1)) (wait-count X at) (o .waits) refl (waits-many X at fits) (wait-value-is X at fits))
+      (three-is (λ x. x .value) (second-at X (at + 1)) (wait-count X at) (o .waits) refl (waits-many X at fits)
+      (wait-value-is X at fits))
 
-  signals-map : (f : ℕ → ℕ) (h : Signal → ℕ) → ((j : ℕ) → j < length (o .signals) → f j ≡ h (record { operation = i; position = 0 + j; semaphore = getD (o .signals) j no-point .semaphore; value = getD (o .signals) j no-point .value })) →
+  signals-map : (f : ℕ → ℕ) (h : Signal → ℕ) →
+      ((j : ℕ) → j < length (o .signals) →
+      f j ≡
+      h (record {
+        operation = i;
+        position = 0 + j;
+        semaphore = getD (o .signals) j no-point .semaphore;
+        value = getD (o .signals) j no-point .value;
+      })) →
       tabulate-from (signal-count X at) 0 f ≡ map h (its-signals i o)
   signals-map f h same =
       let many = signals-many X at fits in
       tabulate-map f h no-signal (signal-count X at) (its-signals i o) (signals-long i 0 (o .signals) ∙ sym many)
-      (λ j l. let b : j < length (o .signals) = omega (arith, many) in same j b ∙ sym (ap h (signal-at i 0 (o .signals) j b)))
+      (λ j l. let b : j < length (o .signals) = omega (arith, many) in
+      same j b ∙ sym (ap h (signal-at i 0 (o .signals) j b)))
 
   pub signal-semaphore-same : signal-semaphore-part X i at ≡ map (λ x. x .semaphore) (its-signals i o)
   signal-semaphore-same =
-      signals-map (λ j. first-at X (signals-at X at) j % 65536) (λ x. x .semaphore) (λ j l. omega (arith, fits .signal-semaphores j l, signal-semaphore-is X at fits j l))
+      signals-map (λ j. first-at X (signals-at X at) j % 65536) (λ x. x .semaphore)
+      (λ j l. omega (arith, fits .signal-semaphores j l, signal-semaphore-is X at fits j l))
 
   pub signal-value-same : signal-value-part X i at ≡ map (λ x. x .value) (its-signals i o)
   signal-value-same = signals-map (second-at X (signals-at X at)) (λ x. x .value) (signal-value-is X at fits)
@@ -171,7 +226,10 @@ module _ (X : List ℕ) (i at : ℕ) (fits : Fits (here X at)) where
   pub signal-operation-same : signal-operation-part X i at ≡ map (λ x. x .operation) (its-signals i o)
   signal-operation-same = signals-map (λ j. i) (λ x. x .operation) (λ j l. refl)
 
-  marks-map : (f : ℕ → ℕ) (h : Marked → ℕ) → ((j : ℕ) → j < length (o .marks) → f j ≡ h (record { by = i; buffer = getD (o .marks) j plain-mark .buffer; kind = getD (o .marks) j plain-mark .kind })) →
+  marks-map : (f : ℕ → ℕ) (h : Marked → ℕ) →
+      ((j : ℕ) → j < length (o .marks) →
+      f j ≡
+      h (record { by = i; buffer = getD (o .marks) j plain-mark .buffer; kind = getD (o .marks) j plain-mark .kind })) →
       tabulate-from (mark-count X at) 0 f ≡ map h (its-marks i o)
   marks-map f h same =
       let many = marks-many X at fits in
@@ -181,7 +239,8 @@ module _ (X : List ℕ) (i at : ℕ) (fits : Fits (here X at)) where
   pub mark-same : mark-part X i at ≡ map code-of (its-marks i o)
   mark-same =
       marks-map (λ j. 2 * (first-at X (marks-at X at) j % 256) + second-at X (marks-at X at) j % 2) code-of
-      (λ j l. omega (arith, fits .buffers j l, fits .kinds j l, mark-buffer-is X at fits j l, mark-kind-is X at fits j l))
+      (λ j l.
+      omega (arith, fits .buffers j l, fits .kinds j l, mark-buffer-is X at fits j l, mark-kind-is X at fits j l))
 
   pub mark-operation-same : mark-operation-part X i at ≡ map (λ m. m .by) (its-marks i o)
   mark-operation-same = marks-map (λ j. i) (λ m. m .by) (λ j l. refl)

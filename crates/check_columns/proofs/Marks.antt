@@ -31,19 +31,27 @@ module _ (P : Marked → Type 0) where
 
   each-of : (i : ℕ) (ms : List Mark) →
       ((k : ℕ) → k < length ms →
-      P (record { by = i; buffer = getD ms k (record { buffer = 0; kind = 0 }) .buffer; kind = getD ms k (record { buffer = 0; kind = 0 }) .kind })) →
+      P (record {
+        by = i;
+        buffer = getD ms k (record { buffer = 0; kind = 0 }) .buffer;
+        kind = getD ms k (record { buffer = 0; kind = 0 }) .kind;
+      })) →
       Each P (marked-of i ms)
   unfolding marked-of
   each-of i [] h = tt
   each-of i (m ∷ ms) h = (h 0 (omega arith), each-of i ms (λ k l. h (suc k) (omega arith)))
 
-  each-from : (i : ℕ) (os : List Operation) → ((k : ℕ) → k < length os → Each P (marked-of (i + k) (getD os k empty-operation .marks))) → Each P (marked-from i os)
+  each-from : (i : ℕ) (os : List Operation) →
+      ((k : ℕ) → k < length os → Each P (marked-of (i + k) (getD os k empty-operation .marks))) →
+      Each P (marked-from i os)
   unfolding marked-from
   each-from i [] h = tt
   each-from i (o ∷ os) h =
       each-append (marked-of i (o .marks)) (marked-from (suc i) os)
       (subst (λ (z : ℕ). Each P (marked-of z (o .marks))) (omega arith) (h 0 (omega arith)))
-      (each-from (suc i) os (λ k l. subst (λ (z : ℕ). Each P (marked-of z (getD os k empty-operation .marks))) (omega arith) (h (suc k) (omega arith))))
+      (each-from (suc i) os
+      (λ k l. subst (λ (z : ℕ). Each P (marked-of z (getD os k empty-operation .marks))) (omega arith)
+      (h (suc k) (omega arith))))
 
   pub each-at : (ms : List Marked) → Each P ms → (k : ℕ) → k < length ms → P (getD ms k no-mark)
   each-at [] a k l = absurd (not-suc-le-zero l)
@@ -60,7 +68,8 @@ pub marks-known : (p : Plan) → Sound p → Each (Known p) (plan-marks p)
 unfolding plan-marks count op
 marks-known p sound =
     each-from (Known p) 0 (p .operations) (λ k l. rw (zero-add k)
-    (each-of (Known p) k (op p k .marks) (λ j b. record { by = l; buffer = sound .in-range k l .marks j b; kind = sound .in-range k l .kinds j b })))
+    (each-of (Known p) k (op p k .marks)
+    (λ j b. record { by = l; buffer = sound .in-range k l .marks j b; kind = sound .in-range k l .kinds j b })))
 
 -- ---- in order of a key, from a number on
 abbrev pub Rising : {A : Type 0} → (key : A → ℕ) → ℕ → List A → Type 0
@@ -71,7 +80,8 @@ pub rising-down : {A : Type 0} (key : A → ℕ) (i j : ℕ) (xs : List A) → j
 rising-down key i j [] l h = tt
 rising-down key i j (x ∷ xs) l h = (omega arith, h .1)
 
-rising-of : (i : ℕ) (ms : List Mark) (rest : List Marked) → Rising (λ m. m .by) i rest → Rising (λ m. m .by) i (marked-of i ms ++ rest)
+rising-of : (i : ℕ) (ms : List Mark) (rest : List Marked) → Rising (λ m. m .by) i rest →
+    Rising (λ m. m .by) i (marked-of i ms ++ rest)
 unfolding marked-of
 rising-of i [] rest h = h
 rising-of i (m ∷ ms) rest h = (le-refl i, rising-of i ms rest h)
@@ -79,21 +89,25 @@ rising-of i (m ∷ ms) rest h = (le-refl i, rising-of i ms rest h)
 rising-from : (i : ℕ) (os : List Operation) → Rising (λ m. m .by) i (marked-from i os)
 unfolding marked-from
 rising-from i [] = tt
-rising-from i (o ∷ os) = rising-of i (o .marks) (marked-from (suc i) os) (rising-down (λ m. m .by) (suc i) i (marked-from (suc i) os) (omega arith) (rising-from (suc i) os))
+rising-from i (o ∷ os) =
+    rising-of i (o .marks) (marked-from (suc i) os)
+    (rising-down (λ m. m .by) (suc i) i (marked-from (suc i) os) (omega arith) (rising-from (suc i) os))
 
 pub marks-rising : (p : Plan) → Rising (λ m. m .by) 0 (plan-marks p)
 unfolding plan-marks
 marks-rising p = rising-from 0 (p .operations)
 
 -- ---- the columns show the marks
-same-mark : (x : Marked) (m i : ℕ) → m ≡ 2 * x .buffer + x .kind → i ≡ x .by → x .buffer < most-buffers → x .kind < 2 → x .by < most-operations → mark-of (m % mark-codes) (i % most-operations) ≡ x
+same-mark : (x : Marked) (m i : ℕ) → m ≡ 2 * x .buffer + x .kind → i ≡ x .by → x .buffer < most-buffers → x .kind < 2 →
+    x .by < most-operations → mark-of (m % mark-codes) (i % most-operations) ≡ x
 same-mark x m i e f l h u =
     let o : i % most-operations ≡ x .by = omega arith in
     let b : m % mark-codes / 2 ≡ x .buffer = omega arith in
     let k : m % mark-codes % 2 ≡ x .kind = omega arith in
     λ j. record { by = o j; buffer = b j; kind = k j }
 
-pub marks-shown : (p : Plan) (many : ℕ) (mark operation : List ℕ) → Sound p → length (p .sizes) ≤ most-buffers → Mark-columns p many mark operation →
+pub marks-shown : (p : Plan) (many : ℕ) (mark operation : List ℕ) → Sound p → length (p .sizes) ≤ most-buffers →
+    Mark-columns p many mark operation →
     shown-from mark operation many 0 ≡ plan-marks p
 marks-shown p many mark operation sound few c =
     let f : ℕ → Marked = λ k. mark-of (getD mark k 0 % mark-codes) (getD operation k 0 % most-operations) in
@@ -112,7 +126,9 @@ module _ (mark operation : List ℕ) where
   shown-none many k l = let e : many - k ≡ 0 = omega arith in rw e
 
   pub shown-next : (many k : ℕ) → k < many →
-      shown-from mark operation (many - k) k ≡ mark-of (getD mark k 0 % mark-codes) (getD operation k 0 % most-operations) ∷ shown-from mark operation (many - (k + 1)) (k + 1)
+      shown-from mark operation (many - k) k ≡
+      mark-of (getD mark k 0 % mark-codes) (getD operation k 0 % most-operations)
+      ∷ shown-from mark operation (many - (k + 1)) (k + 1)
   unfolding tabulate-from
   shown-next many k l = let e : many - k ≡ suc (many - (k + 1)) = omega arith in rw (e, add-one k)
 
@@ -137,7 +153,8 @@ of-marked i b (m ∷ ms) = by-cases (eqb (m .buffer) b) (λ t. rw (t, of-marked 
 of-from : (i b : ℕ) (os : List Operation) → of-buffer b (marked-from i os) ≡ marks-from i b os
 unfolding of-buffer marked-from marks-from
 of-from i b [] = refl
-of-from i b (o ∷ os) = of-append b (marked-of i (o .marks)) (marked-from (suc i) os) ∙ rw (of-marked i b (o .marks), of-from (suc i) b os)
+of-from i b (o ∷ os) = of-append b (marked-of i (o .marks)) (marked-from (suc i) os)
+    ∙ rw (of-marked i b (o .marks), of-from (suc i) b os)
 
 pub of-plan : (p : Plan) (b : ℕ) → of-buffer b (plan-marks p) ≡ buffer-marks p b
 unfolding plan-marks buffer-marks

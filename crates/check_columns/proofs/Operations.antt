@@ -6,9 +6,11 @@ use native.Mathlib.Nat.{not-suc-le-zero, le-of-suc-le-suc}
 use native.Mathlib.Omega.{arith}
 use lib.ListN.{length, getD, drop}
 use lib.Seq.{getD-drop}
-use Rattle.plan_format.specs.Plan.{Point, Mark, Operation, points-in, marks-in, heading, operation-in, operation-long, operations-in}
+use Rattle.plan_format.specs.Plan.{Point, Mark, Operation, points-in, marks-in, heading, operation-in, operation-long}
+use Rattle.plan_format.specs.Plan.{operations-in}
 use Rattle.check_columns.specs.Columns.{no-point}
-use Rattle.check_columns.specs.Filling.{first-at, second-at, wait-count, signals-at, signal-count, marks-at, mark-count, next-at}
+use Rattle.check_columns.specs.Filling.{first-at, second-at, wait-count, signals-at, signal-count, marks-at}
+use Rattle.check_columns.specs.Filling.{mark-count, next-at}
 
 abbrev pub plain-mark : Mark
 plain-mark = record { buffer = 0; kind = 0 }
@@ -33,19 +35,22 @@ operations-long (suc n) xs = ap suc (operations-long n (drop (operation-long xs)
 past : (xs : List ℕ) (j c : ℕ) → getD (drop 2 xs) (2 * j + c) 0 ≡ getD xs (2 * suc j + c) 0
 past xs j c = getD-drop 2 xs (2 * j + c) 0 ∙ ap (λ (z : ℕ). getD xs z 0) (omega arith)
 
-pub point-semaphore : (k : ℕ) (xs : List ℕ) (j : ℕ) → j < k → getD (points-in k xs) j no-point .semaphore ≡ getD xs (2 * j + 0) 0
+pub point-semaphore : (k : ℕ) (xs : List ℕ) (j : ℕ) → j < k →
+    getD (points-in k xs) j no-point .semaphore ≡ getD xs (2 * j + 0) 0
 unfolding points-in
 point-semaphore zero xs j l = absurd (not-suc-le-zero l)
 point-semaphore (suc k) xs zero l = refl
 point-semaphore (suc k) xs (suc j) l = point-semaphore k (drop 2 xs) j (le-of-suc-le-suc l) ∙ past xs j 0
 
-pub point-value : (k : ℕ) (xs : List ℕ) (j : ℕ) → j < k → getD (points-in k xs) j no-point .value ≡ getD xs (2 * j + 1) 0
+pub point-value : (k : ℕ) (xs : List ℕ) (j : ℕ) → j < k →
+    getD (points-in k xs) j no-point .value ≡ getD xs (2 * j + 1) 0
 unfolding points-in
 point-value zero xs j l = absurd (not-suc-le-zero l)
 point-value (suc k) xs zero l = refl
 point-value (suc k) xs (suc j) l = point-value k (drop 2 xs) j (le-of-suc-le-suc l) ∙ past xs j 1
 
-pub mark-buffer : (k : ℕ) (xs : List ℕ) (j : ℕ) → j < k → getD (marks-in k xs) j plain-mark .buffer ≡ getD xs (2 * j + 0) 0
+pub mark-buffer : (k : ℕ) (xs : List ℕ) (j : ℕ) → j < k →
+    getD (marks-in k xs) j plain-mark .buffer ≡ getD xs (2 * j + 0) 0
 unfolding marks-in
 mark-buffer zero xs j l = absurd (not-suc-le-zero l)
 mark-buffer (suc k) xs zero l = refl
@@ -111,10 +116,20 @@ module _ (X : List ℕ) (at : ℕ) where
     w-few = omega (arith, fits .waits, ap (λ (z : List Point). length z) waits-here, points-long w (drop 2 (drop at X)))
 
     s-few : s ≤ 3
-    s-few = omega (arith, fits .signals, ap (λ (z : List Point). length z) signals-here, points-long s (drop (3 + 2 * w) (drop at X)))
+    s-few = omega (
+      arith,
+      fits .signals,
+      ap (λ (z : List Point). length z) signals-here,
+      points-long s (drop (3 + 2 * w) (drop at X)),
+    )
 
     m-few : m ≤ 7
-    m-few = omega (arith, fits .marks, ap (λ (z : List Mark). length z) marks-here, marks-long m (drop (4 + 2 * w + 2 * s) (drop at X)))
+    m-few = omega (
+      arith,
+      fits .marks,
+      ap (λ (z : List Mark). length z) marks-here,
+      marks-long m (drop (4 + 2 * w + 2 * s) (drop at X)),
+    )
 
     wait-count-is : wait-count X at ≡ w
     unfolding wait-count
@@ -148,41 +163,56 @@ module _ (X : List ℕ) (at : ℕ) where
     waits-many = wait-count-is ∙ sym (ap (λ (z : List Point). length z) waits-here ∙ points-long w (drop 2 (drop at X)))
 
     pub signals-many : signal-count X at ≡ length (here .signals)
-    signals-many = signal-count-is ∙ sym (ap (λ (z : List Point). length z) signals-here ∙ points-long s (drop (3 + 2 * w) (drop at X)))
+    signals-many = signal-count-is
+        ∙ sym (ap (λ (z : List Point). length z) signals-here ∙ points-long s (drop (3 + 2 * w) (drop at X)))
 
     pub marks-many : mark-count X at ≡ length (here .marks)
-    marks-many = mark-count-is ∙ sym (ap (λ (z : List Mark). length z) marks-here ∙ marks-long m (drop (4 + 2 * w + 2 * s) (drop at X)))
+    marks-many =
+        mark-count-is
+        ∙ sym (ap (λ (z : List Mark). length z) marks-here ∙ marks-long m (drop (4 + 2 * w + 2 * s) (drop at X)))
 
-    pub wait-semaphore-is : (j : ℕ) → j < length (here .waits) → first-at X (at + 1) j ≡ getD (here .waits) j no-point .semaphore
+    pub wait-semaphore-is : (j : ℕ) → j < length (here .waits) →
+        first-at X (at + 1) j ≡ getD (here .waits) j no-point .semaphore
     wait-semaphore-is j l =
         let b : j < w = omega (arith, waits-many, wait-count-is) in
-        sym (ap (λ (z : List Point). getD z j no-point .semaphore) waits-here ∙ point-semaphore w (drop 2 (drop at X)) j b ∙ number-at 2 (2 * j + 0) (at + 1 + 1 + 2 * j) (omega arith))
+        sym (ap (λ (z : List Point). getD z j no-point .semaphore) waits-here
+        ∙ point-semaphore w (drop 2 (drop at X)) j b ∙ number-at 2 (2 * j + 0) (at + 1 + 1 + 2 * j) (omega arith))
 
-    pub wait-value-is : (j : ℕ) → j < length (here .waits) → second-at X (at + 1) j ≡ getD (here .waits) j no-point .value
+    pub wait-value-is : (j : ℕ) → j < length (here .waits) →
+        second-at X (at + 1) j ≡ getD (here .waits) j no-point .value
     wait-value-is j l =
         let b : j < w = omega (arith, waits-many, wait-count-is) in
-        sym (ap (λ (z : List Point). getD z j no-point .value) waits-here ∙ point-value w (drop 2 (drop at X)) j b ∙ number-at 2 (2 * j + 1) (at + 1 + 2 + 2 * j) (omega arith))
+        sym (ap (λ (z : List Point). getD z j no-point .value) waits-here ∙ point-value w (drop 2 (drop at X)) j b
+        ∙ number-at 2 (2 * j + 1) (at + 1 + 2 + 2 * j) (omega arith))
 
-    pub signal-semaphore-is : (j : ℕ) → j < length (here .signals) → first-at X (signals-at X at) j ≡ getD (here .signals) j no-point .semaphore
+    pub signal-semaphore-is : (j : ℕ) → j < length (here .signals) →
+        first-at X (signals-at X at) j ≡ getD (here .signals) j no-point .semaphore
     signal-semaphore-is j l =
         let b : j < s = omega (arith, signals-many, signal-count-is) in
-        sym (ap (λ (z : List Point). getD z j no-point .semaphore) signals-here ∙ point-semaphore s (drop (3 + 2 * w) (drop at X)) j b
+        sym (ap (λ (z : List Point). getD z j no-point .semaphore) signals-here
+        ∙ point-semaphore s (drop (3 + 2 * w) (drop at X)) j b
         ∙ number-at (3 + 2 * w) (2 * j + 0) (signals-at X at + 1 + 2 * j) (omega (arith, signals-at-is)))
 
-    pub signal-value-is : (j : ℕ) → j < length (here .signals) → second-at X (signals-at X at) j ≡ getD (here .signals) j no-point .value
+    pub signal-value-is : (j : ℕ) → j < length (here .signals) →
+        second-at X (signals-at X at) j ≡ getD (here .signals) j no-point .value
     signal-value-is j l =
         let b : j < s = omega (arith, signals-many, signal-count-is) in
-        sym (ap (λ (z : List Point). getD z j no-point .value) signals-here ∙ point-value s (drop (3 + 2 * w) (drop at X)) j b
+        sym (ap (λ (z : List Point). getD z j no-point .value) signals-here
+        ∙ point-value s (drop (3 + 2 * w) (drop at X)) j b
         ∙ number-at (3 + 2 * w) (2 * j + 1) (signals-at X at + 2 + 2 * j) (omega (arith, signals-at-is)))
 
-    pub mark-buffer-is : (j : ℕ) → j < length (here .marks) → first-at X (marks-at X at) j ≡ getD (here .marks) j plain-mark .buffer
+    pub mark-buffer-is : (j : ℕ) → j < length (here .marks) →
+        first-at X (marks-at X at) j ≡ getD (here .marks) j plain-mark .buffer
     mark-buffer-is j l =
         let b : j < m = omega (arith, marks-many, mark-count-is) in
-        sym (ap (λ (z : List Mark). getD z j plain-mark .buffer) marks-here ∙ mark-buffer m (drop (4 + 2 * w + 2 * s) (drop at X)) j b
+        sym (ap (λ (z : List Mark). getD z j plain-mark .buffer) marks-here
+        ∙ mark-buffer m (drop (4 + 2 * w + 2 * s) (drop at X)) j b
         ∙ number-at (4 + 2 * w + 2 * s) (2 * j + 0) (marks-at X at + 1 + 2 * j) (omega (arith, marks-at-is)))
 
-    pub mark-kind-is : (j : ℕ) → j < length (here .marks) → second-at X (marks-at X at) j ≡ getD (here .marks) j plain-mark .kind
+    pub mark-kind-is : (j : ℕ) → j < length (here .marks) →
+        second-at X (marks-at X at) j ≡ getD (here .marks) j plain-mark .kind
     mark-kind-is j l =
         let b : j < m = omega (arith, marks-many, mark-count-is) in
-        sym (ap (λ (z : List Mark). getD z j plain-mark .kind) marks-here ∙ mark-kind m (drop (4 + 2 * w + 2 * s) (drop at X)) j b
+        sym (ap (λ (z : List Mark). getD z j plain-mark .kind) marks-here
+        ∙ mark-kind m (drop (4 + 2 * w + 2 * s) (drop at X)) j b
         ∙ number-at (4 + 2 * w + 2 * s) (2 * j + 1) (marks-at X at + 2 + 2 * j) (omega (arith, marks-at-is)))

@@ -25,15 +25,16 @@ module _ (p : Plan) (X before now : List ℕ) (first many : ℕ) where
       now ≡ sets before 0 (owner-numbers X (min many most-semaphores) (min first plan-numbers)) →
       length before ≡ most-semaphores → Owner-column p now
   unfolding Owner-column
-  owners-shown stand low few queues-few known stored size s l =
+  owners-shown stored-as low few queues-few known stored size s l =
       let at-is : min first plan-numbers ≡ first = omega arith in
       let m-is : min many most-semaphores ≡ many = omega arith in
       let f : ℕ → ℕ = λ j. getD X (first + j) 0 % 65536 in
       let cut = length-take many (drop first X) in
-      let inside : s < many = omega (arith, ap (λ (z : List ℕ). length z) stand) in
+      let inside : s < many = omega (arith, ap (λ (z : List ℕ). length z) stored-as) in
       let own : getD (p .owners) s 0 ≡ getD X (first + s) 0 =
-      ap (λ (z : List ℕ). getD z s 0) stand ∙ getD-take many (drop first X) s 0 inside ∙ getD-drop first X s 0 in
+      ap (λ (z : List ℕ). getD z s 0) stored-as ∙ getD-take many (drop first X) s 0 inside ∙ getD-drop first X s 0 in
       ap (λ (z : List ℕ). getD z s 0) (rw (at-is, m-is) at stored)
-      ∙ sets-at before (owner-numbers X many first) s 0 (omega (arith, tabulate-length f many 0)) (omega (arith, tabulate-length f many 0))
+      ∙ sets-at before (owner-numbers X many first) s 0 (omega (arith, tabulate-length f many 0))
+      (omega (arith, tabulate-length f many 0))
       ∙ tabulate-at f many 0 s 0 (omega arith) ∙ ap f (zero-add s)
       ∙ omega (arith, own, known s l)

@@ -9,7 +9,8 @@ use lib.Seq.{getD-drop}
 use borrow.Author.Tests.{ltb-true, ltb-false}
 use Rattle.base_lists.proofs.Tests.{by-cases}
 use Rattle.plan_format.specs.Form.{Form}
-use Rattle.plan_format.specs.Plan.{Point, Mark, Operation, points-in, marks-in, heading, operation-in, operation-long, operations-in}
+use Rattle.plan_format.specs.Plan.{Point, Mark, Operation, points-in, marks-in, heading, operation-in, operation-long}
+use Rattle.plan_format.specs.Plan.{operations-in}
 
 -- two lists have the same numbers, 0 past the end
 abbrev pub Alike : (xs ys : List ℕ) → Type 0
@@ -23,13 +24,15 @@ padded-alike (x ∷ xs) m zero = refl
 padded-alike (x ∷ xs) m (suc k) = padded-alike xs m k
 
 pub drop-alike : (xs ys : List ℕ) → Alike xs ys → (c d : ℕ) → c ≡ d → Alike (drop c xs) (drop d ys)
-drop-alike xs ys same c d e k = getD-drop c xs k 0 ∙ same (c + k) ∙ ap (λ (z : ℕ). getD ys (z + k) 0) e ∙ sym (getD-drop d ys k 0)
+drop-alike xs ys same c d e k =
+    getD-drop c xs k 0 ∙ same (c + k) ∙ ap (λ (z : ℕ). getD ys (z + k) 0) e ∙ sym (getD-drop d ys k 0)
 
 points-alike : (k : ℕ) (xs ys : List ℕ) → Alike xs ys → points-in k xs ≡ points-in k ys
 unfolding points-in
 points-alike zero xs ys same = refl
 points-alike (suc k) xs ys same =
-    ap₂ {C = List Point} (λ (x : Point) (l : List Point). x ∷ l) (λ i. record { semaphore = same 0 i; value = same 1 i })
+    ap₂ {C = List Point} (λ (x : Point) (l : List Point). x ∷ l)
+    (λ i. record { semaphore = same 0 i; value = same 1 i })
     (points-alike k (drop 2 xs) (drop 2 ys) (drop-alike xs ys same 2 2 refl))
 
 marks-alike : (k : ℕ) (xs ys : List ℕ) → Alike xs ys → marks-in k xs ≡ marks-in k ys
@@ -54,13 +57,16 @@ module _ (F : Form) where
     s-same : getD xs (h + 1 + 2 * getD xs h 0) 0 ≡ getD ys (h + 1 + 2 * getD ys h 0) 0
     s-same = at-both (h + 1 + 2 * getD xs h 0) (h + 1 + 2 * getD ys h 0) (omega (arith, w-same))
 
-    to-marks : h + 2 + 2 * getD xs h 0 + 2 * getD xs (h + 1 + 2 * getD xs h 0) 0 ≡ h + 2 + 2 * getD ys h 0 + 2 * getD ys (h + 1 + 2 * getD ys h 0) 0
+    to-marks : h + 2 + 2 * getD xs h 0 + 2 * getD xs (h + 1 + 2 * getD xs h 0) 0 ≡
+        h + 2 + 2 * getD ys h 0 + 2 * getD ys (h + 1 + 2 * getD ys h 0) 0
     to-marks = omega (arith, w-same, s-same)
 
     m-same :
-        getD xs (h + 2 + 2 * getD xs h 0 + 2 * getD xs (h + 1 + 2 * getD xs h 0) 0) 0 ≡ getD ys (h + 2 + 2 * getD ys h 0 + 2 * getD ys (h + 1 + 2 * getD ys h 0) 0) 0
+        getD xs (h + 2 + 2 * getD xs h 0 + 2 * getD xs (h + 1 + 2 * getD xs h 0) 0) 0 ≡
+        getD ys (h + 2 + 2 * getD ys h 0 + 2 * getD ys (h + 1 + 2 * getD ys h 0) 0) 0
     m-same =
-        at-both (h + 2 + 2 * getD xs h 0 + 2 * getD xs (h + 1 + 2 * getD xs h 0) 0) (h + 2 + 2 * getD ys h 0 + 2 * getD ys (h + 1 + 2 * getD ys h 0) 0) to-marks
+        at-both (h + 2 + 2 * getD xs h 0 + 2 * getD xs (h + 1 + 2 * getD xs h 0) 0)
+        (h + 2 + 2 * getD ys h 0 + 2 * getD ys (h + 1 + 2 * getD ys h 0) 0) to-marks
 
     long-alike : operation-long xs ≡ operation-long ys
     unfolding operation-long
@@ -68,13 +74,15 @@ module _ (F : Form) where
 
     waits-alike : operation-in xs .waits ≡ operation-in ys .waits
     unfolding operation-in
-    waits-alike = ap (λ (k : ℕ). points-in k (drop (h + 1) xs)) w-same ∙ points-alike (getD ys h 0) (drop (h + 1) xs) (drop (h + 1) ys) (drop-alike xs ys same (h + 1) (h + 1) refl)
+    waits-alike = ap (λ (k : ℕ). points-in k (drop (h + 1) xs)) w-same
+        ∙ points-alike (getD ys h 0) (drop (h + 1) xs) (drop (h + 1) ys) (drop-alike xs ys same (h + 1) (h + 1) refl)
 
     signals-alike : operation-in xs .signals ≡ operation-in ys .signals
     unfolding operation-in
     signals-alike =
         ap (λ (k : ℕ). points-in k (drop (h + 2 + 2 * getD xs h 0) xs)) s-same
-        ∙ points-alike (getD ys (h + 1 + 2 * getD ys h 0) 0) (drop (h + 2 + 2 * getD xs h 0) xs) (drop (h + 2 + 2 * getD ys h 0) ys)
+        ∙ points-alike (getD ys (h + 1 + 2 * getD ys h 0) 0) (drop (h + 2 + 2 * getD xs h 0) xs)
+        (drop (h + 2 + 2 * getD ys h 0) ys)
         (drop-alike xs ys same (h + 2 + 2 * getD xs h 0) (h + 2 + 2 * getD ys h 0) (omega (arith, w-same)))
 
     marks-same : operation-in xs .marks ≡ operation-in ys .marks
@@ -83,10 +91,12 @@ module _ (F : Form) where
         let c = h + 3 + 2 * getD xs h 0 + 2 * getD xs (h + 1 + 2 * getD xs h 0) 0 in
         let d = h + 3 + 2 * getD ys h 0 + 2 * getD ys (h + 1 + 2 * getD ys h 0) 0 in
         ap (λ (k : ℕ). marks-in k (drop c xs)) m-same
-        ∙ marks-alike (getD ys (h + 2 + 2 * getD ys h 0 + 2 * getD ys (h + 1 + 2 * getD ys h 0) 0) 0) (drop c xs) (drop d ys) (drop-alike xs ys same c d (omega (arith, w-same, s-same)))
+        ∙ marks-alike (getD ys (h + 2 + 2 * getD ys h 0 + 2 * getD ys (h + 1 + 2 * getD ys h 0) 0) 0) (drop c xs)
+        (drop d ys) (drop-alike xs ys same c d (omega (arith, w-same, s-same)))
 
     operation-alike : operation-in xs ≡ operation-in ys
-    operation-alike = λ i. record { queue = queue-same i; waits = waits-alike i; signals = signals-alike i; marks = marks-same i }
+    operation-alike =
+        λ i. record { queue = queue-same i; waits = waits-alike i; signals = signals-alike i; marks = marks-same i }
       where
         queue-same : operation-in xs .queue ≡ operation-in ys .queue
         queue-same = unfold operation-in in (same 0)
@@ -96,9 +106,12 @@ module _ (F : Form) where
   operations-alike zero xs ys same = refl
   operations-alike (suc n) xs ys same =
       ap₂ {C = List Operation} (λ (o : Operation) (l : List Operation). o ∷ l) (operation-alike xs ys same)
-      (operations-alike n (drop (operation-long xs) xs) (drop (operation-long ys) ys) (drop-alike xs ys same (operation-long xs) (operation-long ys) (long-alike xs ys same)))
+      (operations-alike n (drop (operation-long xs) xs) (drop (operation-long ys) ys)
+      (drop-alike xs ys same (operation-long xs) (operation-long ys) (long-alike xs ys same)))
 
   -- after the first numbers, of a list with zeros after it
-  pub padded-operations : (n first : ℕ) (xs : List ℕ) (m : ℕ) → operations-in n (drop first (xs ++ replicate m 0)) ≡ operations-in n (drop first xs)
+  pub padded-operations : (n first : ℕ) (xs : List ℕ) (m : ℕ) →
+      operations-in n (drop first (xs ++ replicate m 0)) ≡ operations-in n (drop first xs)
   padded-operations n first xs m =
-      operations-alike n (drop first (xs ++ replicate m 0)) (drop first xs) (drop-alike (xs ++ replicate m 0) xs (padded-alike xs m) first first refl)
+      operations-alike n (drop first (xs ++ replicate m 0)) (drop first xs)
+      (drop-alike (xs ++ replicate m 0) xs (padded-alike xs m) first first refl)

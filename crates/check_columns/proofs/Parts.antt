@@ -11,7 +11,11 @@ use Rattle.base_lists.proofs.Stores.{sets-append}
 use Rattle.base_lists.proofs.Tables.{tabulate-length}
 use Rattle.plan_format.specs.Sizes.{most-operations, wait-places, signal-places, mark-places}
 use Rattle.check_columns.specs.Columns.{Columns}
-use Rattle.check_columns.specs.Filling.{repeated, Part, wait-semaphores, wait-values, signal-semaphores, signal-values, codes-of-marks, wait-count, signals-at, signal-count, marks-at, mark-count, next-at, queue-part, wait-semaphore-part, wait-value-part, signal-semaphore-part, signal-value-part, signal-operation-part, mark-part, mark-operation-part, parts, Put, Added}
+use Rattle.check_columns.specs.Filling.{repeated, Part, wait-semaphores, wait-values, signal-semaphores}
+use Rattle.check_columns.specs.Filling.{signal-values, codes-of-marks, wait-count, signals-at, signal-count}
+use Rattle.check_columns.specs.Filling.{marks-at, mark-count, next-at, queue-part, wait-semaphore-part}
+use Rattle.check_columns.specs.Filling.{wait-value-part, signal-semaphore-part, signal-value-part}
+use Rattle.check_columns.specs.Filling.{signal-operation-part, mark-part, mark-operation-part, parts, Put, Added}
 
 -- ---- one operation
 module _ (X : List ℕ) (at : ℕ) {w s m : ℕ} (w-is : w ≡ getD X (at + 1) 0 % 4) (s-is : s ≡ getD X (at + 2 + 2 * w) 0 % 4)
@@ -43,29 +47,43 @@ module _ (X : List ℕ) (at : ℕ) {w s m : ℕ} (w-is : w ≡ getD X (at + 1) 0
   marks-more had = rw m-right
 
   module _ (i : ℕ) {room place : ℕ} {old new : List ℕ} where
-    pub wait-semaphores-put : new ≡ sets old place (wait-semaphores X w (at + 1)) → length old ≡ room → Put room (wait-semaphore-part X i at) place old new
+    pub wait-semaphores-put : new ≡ sets old place (wait-semaphores X w (at + 1)) → length old ≡ room →
+        Put room (wait-semaphore-part X i at) place old new
     wait-semaphores-put e l = record { stored = e ∙ rw w-right; size = l }
 
-    pub wait-values-put : new ≡ sets old place (wait-values X w (at + 1)) → length old ≡ room → Put room (wait-value-part X i at) place old new
+    pub wait-values-put : new ≡ sets old place (wait-values X w (at + 1)) → length old ≡ room →
+        Put room (wait-value-part X i at) place old new
     wait-values-put e l = record { stored = e ∙ rw w-right; size = l }
 
-    pub signal-semaphores-put : new ≡ sets old place (signal-semaphores X s (at + 2 + 2 * w)) → length old ≡ room → Put room (signal-semaphore-part X i at) place old new
-    signal-semaphores-put e l = record { stored = e ∙ ap₂ (λ (k a : ℕ). sets old place (signal-semaphores X k a)) s-right signals-right; size = l }
+    pub signal-semaphores-put : new ≡ sets old place (signal-semaphores X s (at + 2 + 2 * w)) → length old ≡ room →
+        Put room (signal-semaphore-part X i at) place old new
+    signal-semaphores-put e l =
+        record {
+          stored = e ∙ ap₂ (λ (k a : ℕ). sets old place (signal-semaphores X k a)) s-right signals-right;
+          size = l;
+        }
 
-    pub signal-values-put : new ≡ sets old place (signal-values X s (at + 2 + 2 * w)) → length old ≡ room → Put room (signal-value-part X i at) place old new
-    signal-values-put e l = record { stored = e ∙ ap₂ (λ (k a : ℕ). sets old place (signal-values X k a)) s-right signals-right; size = l }
+    pub signal-values-put : new ≡ sets old place (signal-values X s (at + 2 + 2 * w)) → length old ≡ room →
+        Put room (signal-value-part X i at) place old new
+    signal-values-put e l =
+        record { stored = e ∙ ap₂ (λ (k a : ℕ). sets old place (signal-values X k a)) s-right signals-right; size = l }
 
-    pub signal-operations-put : new ≡ sets old place (repeated s i) → length old ≡ room → Put room (signal-operation-part X i at) place old new
+    pub signal-operations-put : new ≡ sets old place (repeated s i) → length old ≡ room →
+        Put room (signal-operation-part X i at) place old new
     signal-operations-put e l = record { stored = e ∙ rw s-right; size = l }
 
-    pub marks-put : new ≡ sets old place (codes-of-marks X m (at + 2 + 2 * w + 1 + 2 * s)) → length old ≡ room → Put room (mark-part X i at) place old new
-    marks-put e l = record { stored = e ∙ ap₂ (λ (k a : ℕ). sets old place (codes-of-marks X k a)) m-right marks-right; size = l }
+    pub marks-put : new ≡ sets old place (codes-of-marks X m (at + 2 + 2 * w + 1 + 2 * s)) → length old ≡ room →
+        Put room (mark-part X i at) place old new
+    marks-put e l =
+        record { stored = e ∙ ap₂ (λ (k a : ℕ). sets old place (codes-of-marks X k a)) m-right marks-right; size = l }
 
-    pub mark-operations-put : new ≡ sets old place (repeated m i) → length old ≡ room → Put room (mark-operation-part X i at) place old new
+    pub mark-operations-put : new ≡ sets old place (repeated m i) → length old ≡ room →
+        Put room (mark-operation-part X i at) place old new
     mark-operations-put e l = record { stored = e ∙ rw m-right; size = l }
 
 -- ---- operation after operation: one column
-parts-next : (X : List ℕ) (f : Part) (n i at next : ℕ) → i < n → next ≡ next-at X at → parts X f (n - i) i at ≡ f i at ++ parts X f (n - (i + 1)) (i + 1) next
+parts-next : (X : List ℕ) (f : Part) (n i at next : ℕ) → i < n → next ≡ next-at X at →
+    parts X f (n - i) i at ≡ f i at ++ parts X f (n - (i + 1)) (i + 1) next
 unfolding parts
 parts-next X f n i at next l e =
     let m : n - i ≡ suc (n - (i + 1)) = omega arith in rw (m, add-one i, e)
@@ -78,9 +96,11 @@ pub record Column (X : List ℕ) (f : Part) (room n first : ℕ) (before now : L
 module _ {X : List ℕ} {f : Part} {room n first : ℕ} {before : List ℕ} where
   pub column-none : Column X f room n first before before 0 first 0
   column-none =
-      let e : n - 0 ≡ n = omega arith in record { rest = rw e; counted = rw e (omega arith); size = λ l. absurd (omega arith) }
+      let e : n - 0 ≡ n = omega arith in
+      record { rest = rw e; counted = rw e (omega arith); size = λ l. absurd (omega arith) }
 
-  pub column-next : {old new : List ℕ} {i at next place further : ℕ} → Column X f room n first before old i at place → i < n → Put room (f i at) place old new →
+  pub column-next : {old new : List ℕ} {i at next place further : ℕ} → Column X f room n first before old i at place →
+      i < n → Put room (f i at) place old new →
       next ≡ next-at X at → further ≡ place + length (f i at) → Column X f room n first before new (i + 1) next further
   column-next {old} {new} {i} {at} {next} {place} b l p e h =
       let here = parts-next X f n i at next l e in
@@ -91,15 +111,19 @@ module _ {X : List ℕ} {f : Part} {room n first : ℕ} {before : List ℕ} wher
         size = λ k. sym (same-size (b .rest)) ∙ p .size;
       }
     where
-      same-size : sets old place (parts X f (n - i) i at) ≡ sets before 0 (parts X f n 0 first) → length old ≡ length before
+      same-size : sets old place (parts X f (n - i) i at) ≡ sets before 0 (parts X f n 0 first) →
+          length old ≡ length before
       same-size q =
-          sym (length-sets old place (parts X f (n - i) i at)) ∙ ap (λ (z : List ℕ). length z) q ∙ length-sets before 0 (parts X f n 0 first)
+          sym (length-sets old place (parts X f (n - i) i at)) ∙ ap (λ (z : List ℕ). length z) q
+          ∙ length-sets before 0 (parts X f n 0 first)
 
-  pub column-end : {now : List ℕ} {i at place : ℕ} → n ≤ i → Column X f room n first before now i at place → now ≡ sets before 0 (parts X f n 0 first)
+  pub column-end : {now : List ℕ} {i at place : ℕ} → n ≤ i → Column X f room n first before now i at place →
+      now ≡ sets before 0 (parts X f n 0 first)
   unfolding parts
   column-end {i} l b = let e : n - i ≡ 0 = omega arith in rw e at (b .rest)
 
-  pub column-count : {now : List ℕ} {i at place : ℕ} → n ≤ i → Column X f room n first before now i at place → place ≡ length (parts X f n 0 first)
+  pub column-count : {now : List ℕ} {i at place : ℕ} → n ≤ i → Column X f room n first before now i at place →
+      place ≡ length (parts X f n 0 first)
   unfolding parts
   column-count {i} {at} {place} l b =
       let e : n - i ≡ 0 = omega arith in
@@ -113,13 +137,18 @@ pub record Filling (X : List ℕ) (n first : ℕ) (cs₀ cs : Columns)
   pub few-signals : signals ≤ 3 * i
   pub few-marks : marks ≤ 7 * i
   pub queues : Column X (queue-part X) most-operations n first (cs₀ .queue) (cs .queue) i at i
-  pub wait-semaphores : Column X (wait-semaphore-part X) wait-places n first (cs₀ .wait-semaphore) (cs .wait-semaphore) i at (3 * i)
+  pub wait-semaphores : Column X (wait-semaphore-part X) wait-places n first (cs₀ .wait-semaphore)
+      (cs .wait-semaphore) i at (3 * i)
   pub wait-values : Column X (wait-value-part X) wait-places n first (cs₀ .wait-value) (cs .wait-value) i at (3 * i)
-  pub signal-semaphores : Column X (signal-semaphore-part X) signal-places n first (cs₀ .signal-semaphore) (cs .signal-semaphore) i at signals
-  pub signal-values : Column X (signal-value-part X) signal-places n first (cs₀ .signal-value) (cs .signal-value) i at signals
-  pub signal-operations : Column X (signal-operation-part X) signal-places n first (cs₀ .signal-operation) (cs .signal-operation) i at signals
+  pub signal-semaphores : Column X (signal-semaphore-part X) signal-places n first (cs₀ .signal-semaphore)
+      (cs .signal-semaphore) i at signals
+  pub signal-values : Column X (signal-value-part X) signal-places n first (cs₀ .signal-value)
+      (cs .signal-value) i at signals
+  pub signal-operations : Column X (signal-operation-part X) signal-places n first (cs₀ .signal-operation)
+      (cs .signal-operation) i at signals
   pub codes-of-marks : Column X (mark-part X) mark-places n first (cs₀ .mark) (cs .mark) i at marks
-  pub mark-operations : Column X (mark-operation-part X) mark-places n first (cs₀ .mark-operation) (cs .mark-operation) i at marks
+  pub mark-operations : Column X (mark-operation-part X) mark-places n first (cs₀ .mark-operation)
+      (cs .mark-operation) i at marks
 
 next-near : (X : List ℕ) (at : ℕ) → next-at X at ≤ at + 30
 unfolding next-at marks-at signals-at wait-count signal-count mark-count
@@ -154,9 +183,12 @@ module _ {X : List ℕ} {n first : ℕ} {cs₀ : Columns} where
       Added X i at signals marks cs cs′ at′ signals′ marks′ →
       Filling X n first cs₀ cs′ (i + 1) at′ signals′ marks′
   filling-next {i} {at} {signals} {marks} b l a =
-      let three : (f : ℕ → ℕ) → 3 * (i + 1) ≡ 3 * i + length (tabulate-from 3 0 f) = λ f. omega (arith, tabulate-length f 3 0) in
-      let more : (f : ℕ → ℕ) → _ ≡ signals + length (tabulate-from (signal-count X at) 0 f) = λ f. a .more-signals ∙ rw (tabulate-length f (signal-count X at) 0) in
-      let further : (f : ℕ → ℕ) → _ ≡ marks + length (tabulate-from (mark-count X at) 0 f) = λ f. a .more-marks ∙ rw (tabulate-length f (mark-count X at) 0) in
+      let three : (f : ℕ → ℕ) → 3 * (i + 1) ≡ 3 * i + length (tabulate-from 3 0 f) =
+      λ f. omega (arith, tabulate-length f 3 0) in
+      let more : (f : ℕ → ℕ) → _ ≡ signals + length (tabulate-from (signal-count X at) 0 f) =
+      λ f. a .more-signals ∙ rw (tabulate-length f (signal-count X at) 0) in
+      let further : (f : ℕ → ℕ) → _ ≡ marks + length (tabulate-from (mark-count X at) 0 f) =
+      λ f. a .more-marks ∙ rw (tabulate-length f (mark-count X at) 0) in
       record {
         near = omega (arith, b .near, a .next, next-near X at);
         few-signals = omega (arith, b .few-signals, a .more-signals, few-signals-more X at);

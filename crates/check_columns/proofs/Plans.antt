@@ -11,14 +11,22 @@ use Rattle.plan_format.specs.Sizes.{wait-places, signal-places, mark-places}
 use Rattle.plan_format.specs.Form.{first-form}
 use Rattle.plan_format.specs.Plan.{Point, Operation, Plan, empty-operation, count, op, operations-in}
 use Rattle.plan_order.specs.Precedence.{Signal, plan-signals}
-use Rattle.check_columns.specs.Columns.{Columns, no-point, no-signal, Marked, no-mark, plan-marks, Queue-column, wait-at, Wait-columns, Signal-columns, Mark-columns}
+use Rattle.check_columns.specs.Columns.{Columns, no-point, no-signal, Marked, no-mark, plan-marks, Queue-column}
+use Rattle.check_columns.specs.Columns.{wait-at, Wait-columns, Signal-columns, Mark-columns}
 use Rattle.plan_format.specs.Limits.{Limits}
-use Rattle.plan_format.proofs.Positions.{in-range, few-waits as few-waits-of, few-signals as few-signals-of, few-marks as few-marks-of}
+use Rattle.plan_format.proofs.Positions.{in-range, few-waits as few-waits-of, few-signals as few-signals-of}
+use Rattle.plan_format.proofs.Positions.{few-marks as few-marks-of}
 use Rattle.check_columns.specs.Shown.{Columns-of}
-use Rattle.check_columns.specs.Filling.{Part, parts, queue-part, wait-semaphore-part, wait-value-part, signal-semaphore-part, signal-value-part, signal-operation-part, mark-part, mark-operation-part}
+use Rattle.check_columns.specs.Filling.{Part, parts, queue-part, wait-semaphore-part, wait-value-part}
+use Rattle.check_columns.specs.Filling.{signal-semaphore-part, signal-value-part, signal-operation-part}
+use Rattle.check_columns.specs.Filling.{mark-part, mark-operation-part}
 use Rattle.check_columns.proofs.Limits.{few-queues, few-operations}
 use Rattle.check_columns.proofs.Operations.{Fits, here, operations-long}
-use Rattle.check_columns.proofs.Lists.{joined, joined-few, joined-long, joined-at, parts-map, signals-long, marked-long, three-waits, its-signals, its-marks, code-of, signals-joined, marks-joined, queue-same, wait-semaphore-same, wait-value-same, signal-semaphore-same, signal-value-same, signal-operation-same, mark-same, mark-operation-same}
+use Rattle.check_columns.proofs.Lists.{joined, joined-few, joined-long, joined-at, parts-map, signals-long}
+use Rattle.check_columns.proofs.Lists.{marked-long, three-waits, its-signals, its-marks, code-of, signals-joined}
+use Rattle.check_columns.proofs.Lists.{marks-joined, queue-same, wait-semaphore-same, wait-value-same}
+use Rattle.check_columns.proofs.Lists.{signal-semaphore-same, signal-value-same, signal-operation-same}
+use Rattle.check_columns.proofs.Lists.{mark-same, mark-operation-same}
 use Rattle.check_columns.proofs.Parts.{Column, column-end, column-count, Filling}
 
 -- ---- a column that holds what a list says
@@ -27,7 +35,8 @@ unfolding parts
 some-parts X f zero i at k l = absurd (omega arith)
 some-parts X f (suc n) i at k l = omega arith
 
-module _ {X : List ℕ} {f : Part} {room n first : ℕ} {before now : List ℕ} {i at place : ℕ} {A : Type 0} (done : n ≤ i) (b : Column X f room n first before now i at place)
+module _ {X : List ℕ} {f : Part} {room n first : ℕ} {before now : List ℕ} {i at place : ℕ} {A : Type 0} (done : n ≤ i)
+    (b : Column X f room n first before now i at place)
     (h : A → ℕ) (d : A) (ys : List A) (says : parts X f n 0 first ≡ map h ys) where
   parts-long : length (parts X f n 0 first) ≡ length ys
   parts-long = ap (λ (z : List ℕ). length z) says ∙ length-map ys h
@@ -43,10 +52,11 @@ module _ {X : List ℕ} {f : Part} {room n first : ℕ} {before now : List ℕ} 
   column-many = column-count done b ∙ parts-long
 
 -- ---- a plan whose operations are among the numbers
-module _ (p : Plan) (limits : Limits p) (X : List ℕ) (n first : ℕ) (stand : p .operations ≡ operations-in n (drop first X)) where
+module _ (p : Plan) (limits : Limits p) (X : List ℕ) (n first : ℕ)
+    (stored-as : p .operations ≡ operations-in n (drop first X)) where
   many-is : count p ≡ n
   unfolding count
-  many-is = ap (λ (z : List Operation). length z) stand ∙ operations-long n (drop first X)
+  many-is = ap (λ (z : List Operation). length z) stored-as ∙ operations-long n (drop first X)
 
   plan-fits : (j : ℕ) → j < count p → Fits (op p j)
   plan-fits j l =
@@ -64,12 +74,15 @@ module _ (p : Plan) (limits : Limits p) (X : List ℕ) (n first : ℕ) (stand : 
 
   all-fit : (j : ℕ) → j < n → Fits (getD (operations-in n (drop first X)) j empty-operation)
   unfolding op
-  all-fit j l = subst (λ (z : List Operation). Fits (getD z j empty-operation)) stand (plan-fits j (omega (arith, many-is)))
+  all-fit j l =
+      subst (λ (z : List Operation). Fits (getD z j empty-operation)) stored-as (plan-fits j (omega (arith, many-is)))
 
   -- a column's parts, by the plan's operations
-  says : {A : Type 0} (f : Part) (h : A → ℕ) (of : ℕ → Operation → List A) → ((i at : ℕ) → Fits (here X at) → f i at ≡ map h (of i (here X at))) →
+  says : {A : Type 0} (f : Part) (h : A → ℕ) (of : ℕ → Operation → List A) →
+      ((i at : ℕ) → Fits (here X at) → f i at ≡ map h (of i (here X at))) →
       parts X f n 0 first ≡ map h (joined of 0 (p .operations))
-  says f h of same = parts-map X f h of same n 0 first all-fit ∙ ap (λ (z : List Operation). map h (joined of 0 z)) (sym stand)
+  says f h of same = parts-map X f h of same n 0 first all-fit
+      ∙ ap (λ (z : List Operation). map h (joined of 0 z)) (sym stored-as)
 
   module _ {cs₀ cs : Columns} {i at signals marks : ℕ} (done : n ≤ i)
       (b : Filling X n first cs₀ cs i at signals marks) where
@@ -79,9 +92,12 @@ module _ (p : Plan) (limits : Limits p) (X : List ℕ) (n first : ℕ) (stand : 
         let of : ℕ → Operation → List Operation = λ i o. o ∷ [] in
         let long = joined-long of 1 (λ i o. refl) 0 (p .operations) in
         let e : 1 * j + 0 ≡ j = omega arith in
-        column-shows done (b .queues) (λ o. o .queue) empty-operation (joined of 0 (p .operations)) (says (queue-part X) (λ o. o .queue) of (λ i at f. queue-same X i at f)) refl
+        column-shows done (b .queues) (λ o. o .queue) empty-operation (joined of 0 (p .operations))
+        (says (queue-part X) (λ o. o .queue) of (λ i at f. queue-same X i at f)) refl
         (omega (arith, long, few-operations limits)) j (omega (arith, long))
-        ∙ ap (λ (o : Operation). o .queue) (subst (λ (z : ℕ). getD (joined of 0 (p .operations)) z empty-operation ≡ getD (p .operations) j empty-operation) e
+        ∙ ap (λ (o : Operation). o .queue)
+        (subst
+        (λ (z : ℕ). getD (joined of 0 (p .operations)) z empty-operation ≡ getD (p .operations) j empty-operation) e
         (joined-at of 1 (λ i o. refl) 0 (p .operations) j 0 empty-operation l (omega arith)))
 
     -- a number of a wait
@@ -90,18 +106,24 @@ module _ (p : Plan) (limits : Limits p) (X : List ℕ) (n first : ℕ) (stand : 
         (j k : ℕ) → j < count p → k < 3 → getD now (3 * j + k) 0 ≡ h (wait-at p j k)
     unfolding count op wait-at
     wait-shown h z s c j k l u =
-        let even : (i : ℕ) (o : Operation) → length (three-waits i o) ≡ 3 = λ i o. tabulate-length (λ j. getD (o .waits) j no-point) 3 0 in
+        let even : (i : ℕ) (o : Operation) → length (three-waits i o) ≡ 3 =
+        λ i o. tabulate-length (λ j. getD (o .waits) j no-point) 3 0 in
         let long = joined-long three-waits 3 even 0 (p .operations) in
         let o = getD (p .operations) j empty-operation in
-        column-shows done c h no-point (joined three-waits 0 (p .operations)) s z (omega (arith, long, few-operations limits)) (3 * j + k) (omega (arith, long))
-        ∙ ap h (joined-at three-waits 3 even 0 (p .operations) j k no-point l u ∙ tabulate-at (λ j. getD (o .waits) j no-point) 3 0 k no-point u
+        column-shows done c h no-point (joined three-waits 0 (p .operations)) s z
+        (omega (arith, long, few-operations limits)) (3 * j + k) (omega (arith, long))
+        ∙ ap h (joined-at three-waits 3 even 0 (p .operations) j k no-point l u
+        ∙ tabulate-at (λ j. getD (o .waits) j no-point) 3 0 k no-point u
         ∙ ap (λ (z : ℕ). getD (o .waits) z no-point) (let e : 0 + k ≡ k = omega arith in e))
 
     waits-shown : Wait-columns p (cs .wait-semaphore) (cs .wait-value)
     waits-shown = record {
       few = few-waits-of limits;
-      semaphores = wait-shown (λ x. x .semaphore) refl (says (wait-semaphore-part X) (λ x. x .semaphore) three-waits (λ i at f. wait-semaphore-same X i at f)) (b .wait-semaphores);
-      values = wait-shown (λ x. x .value) refl (says (wait-value-part X) (λ x. x .value) three-waits (λ i at f. wait-value-same X i at f)) (b .wait-values);
+      semaphores = wait-shown (λ x. x .semaphore) refl
+          (says (wait-semaphore-part X) (λ x. x .semaphore) three-waits (λ i at f. wait-semaphore-same X i at f))
+          (b .wait-semaphores);
+      values = wait-shown (λ x. x .value) refl
+          (says (wait-value-part X) (λ x. x .value) three-waits (λ i at f. wait-value-same X i at f)) (b .wait-values);
     }
 
     all-signals : joined its-signals 0 (p .operations) ≡ plan-signals p
@@ -115,10 +137,12 @@ module _ (p : Plan) (limits : Limits p) (X : List ℕ) (n first : ℕ) (stand : 
           arith,
           ap (λ (z : List Signal). length z) all-signals,
           few-operations limits,
-          joined-few its-signals 2 0 (p .operations) (λ j l. omega (arith, signals-long (0 + j) 0 (op p j .signals), few-signals-of limits j l)),
+          joined-few its-signals 2 0 (p .operations)
+              (λ j l. omega (arith, signals-long (0 + j) 0 (op p j .signals), few-signals-of limits j l)),
         )
 
-    signals-says : (f : Part) (h : Signal → ℕ) → ((i at : ℕ) → Fits (here X at) → f i at ≡ map h (its-signals i (here X at))) →
+    signals-says : (f : Part) (h : Signal → ℕ) →
+        ((i at : ℕ) → Fits (here X at) → f i at ≡ map h (its-signals i (here X at))) →
         parts X f n 0 first ≡ map h (plan-signals p)
     signals-says f h same = says f h its-signals same ∙ ap (λ (z : List Signal). map h z) all-signals
 
@@ -131,9 +155,12 @@ module _ (p : Plan) (limits : Limits p) (X : List ℕ) (n first : ℕ) (stand : 
         record {
           few = omega (arith, many, few-signals);
           all = many;
-          semaphores = λ k l. column-shows done (b .signal-semaphores) (λ x. x .semaphore) no-signal (plan-signals p) s refl few-signals k (omega (arith, many));
-          values = λ k l. column-shows done (b .signal-values) (λ x. x .value) no-signal (plan-signals p) v refl few-signals k (omega (arith, many));
-          operations = λ k l. column-shows done (b .signal-operations) (λ x. x .operation) no-signal (plan-signals p) o refl few-signals k (omega (arith, many));
+          semaphores = λ k l. column-shows done (b .signal-semaphores)
+              (λ x. x .semaphore) no-signal (plan-signals p) s refl few-signals k (omega (arith, many));
+          values = λ k l. column-shows done (b .signal-values)
+              (λ x. x .value) no-signal (plan-signals p) v refl few-signals k (omega (arith, many));
+          operations = λ k l. column-shows done (b .signal-operations)
+              (λ x. x .operation) no-signal (plan-signals p) o refl few-signals k (omega (arith, many));
         }
 
     all-marks : joined its-marks 0 (p .operations) ≡ plan-marks p
@@ -147,10 +174,12 @@ module _ (p : Plan) (limits : Limits p) (X : List ℕ) (n first : ℕ) (stand : 
           arith,
           ap (λ (z : List Marked). length z) all-marks,
           few-operations limits,
-          joined-few its-marks 4 0 (p .operations) (λ j l. omega (arith, marked-long (0 + j) (op p j .marks), few-marks-of limits j l)),
+          joined-few its-marks 4 0 (p .operations)
+              (λ j l. omega (arith, marked-long (0 + j) (op p j .marks), few-marks-of limits j l)),
         )
 
-    marks-says : (f : Part) (h : Marked → ℕ) → ((i at : ℕ) → Fits (here X at) → f i at ≡ map h (its-marks i (here X at))) →
+    marks-says : (f : Part) (h : Marked → ℕ) →
+        ((i at : ℕ) → Fits (here X at) → f i at ≡ map h (its-marks i (here X at))) →
         parts X f n 0 first ≡ map h (plan-marks p)
     marks-says f h same = says f h its-marks same ∙ ap (λ (z : List Marked). map h z) all-marks
 
@@ -162,9 +191,16 @@ module _ (p : Plan) (limits : Limits p) (X : List ℕ) (n first : ℕ) (stand : 
         record {
           few = omega (arith, many, few-marks);
           all = many;
-          marks = λ k l. column-shows done (b .codes-of-marks) code-of no-mark (plan-marks p) m refl few-marks k (omega (arith, many));
-          operations = λ k l. column-shows done (b .mark-operations) (λ x. x .by) no-mark (plan-marks p) o refl few-marks k (omega (arith, many));
+          marks = λ k l. column-shows done (b .codes-of-marks) code-of no-mark (plan-marks p) m refl few-marks k
+              (omega (arith, many));
+          operations = λ k l. column-shows done (b .mark-operations)
+              (λ x. x .by) no-mark (plan-marks p) o refl few-marks k (omega (arith, many));
         }
 
     pub filling-end : Columns-of p signals marks cs
-    filling-end = record { queues-shown = queue-shown; waits-shown = waits-shown; signals-shown = signals-shown; marks-shown = marks-shown }
+    filling-end = record {
+      queues-shown = queue-shown;
+      waits-shown = waits-shown;
+      signals-shown = signals-shown;
+      marks-shown = marks-shown;
+    }

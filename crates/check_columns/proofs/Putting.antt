@@ -21,7 +21,8 @@ module _ {f : ℕ → ℕ} {place many : ℕ} {before : List ℕ} where
       let m : many - 0 ≡ many = omega arith in
       record { inside = omega arith; rest = rw (e, m) }
 
-  pub putting-next : {old new : List ℕ} {j v : ℕ} → Putting f place many before old j → j < many → new ≡ set old (place + j) v → v ≡ f j →
+  pub putting-next : {old new : List ℕ} {j v : ℕ} → Putting f place many before old j → j < many →
+      new ≡ set old (place + j) v → v ≡ f j →
       Putting f place many before new (j + 1)
   unfolding tabulate-from
   putting-next {j} b l e h =
@@ -29,16 +30,19 @@ module _ {f : ℕ → ℕ} {place many : ℕ} {before : List ℕ} where
       let n : place + (j + 1) ≡ suc (place + j) = omega arith in
       record { inside = omega arith; rest = rw (e, h, n, add-one j) (rw (m, add-one j) at (b .rest)) }
 
-  pub putting-end : {now : List ℕ} {j : ℕ} → many ≤ j → Putting f place many before now j → now ≡ sets before place (tabulate-from many 0 f)
+  pub putting-end : {now : List ℕ} {j : ℕ} → many ≤ j → Putting f place many before now j →
+      now ≡ sets before place (tabulate-from many 0 f)
   unfolding tabulate-from
   putting-end {j} l b = let m : many - j ≡ 0 = omega arith in rw m at (b .rest)
 
   pub putting-length : {now : List ℕ} {j : ℕ} → Putting f place many before now j → length now ≡ length before
   putting-length {now} {j} b =
-      sym (length-sets now (place + j) (tabulate-from (many - j) j f)) ∙ ap (λ (l : List ℕ). length l) (b .rest) ∙ length-sets before place (tabulate-from many 0 f)
+      sym (length-sets now (place + j) (tabulate-from (many - j) j f)) ∙ ap (λ (l : List ℕ). length l) (b .rest)
+      ∙ length-sets before place (tabulate-from many 0 f)
 
 -- from the front on
-pub putting-front : {f : ℕ → ℕ} {many : ℕ} {before old new : List ℕ} {j v : ℕ} → Putting f 0 many before old j → j < many → new ≡ set old j v → v ≡ f j →
+pub putting-front : {f : ℕ → ℕ} {many : ℕ} {before old new : List ℕ} {j v : ℕ} → Putting f 0 many before old j →
+    j < many → new ≡ set old j v → v ≡ f j →
     Putting f 0 many before new (j + 1)
 putting-front {j} b l e h = putting-next b l (e ∙ rw (zero-add j)) h
 

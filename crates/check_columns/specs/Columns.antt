@@ -49,7 +49,8 @@ pub record Head-column (p : Plan) (head : List ℕ) : Type 0 where
   pub buffers-shown : getD head (2 + queues p + length (p .owners)) 0 ≡ length (p .sizes)
   pub operations-shown : getD head (3 + queues p + length (p .owners) + length (p .sizes)) 0 ≡ count p
   pub axes-shown : (q : ℕ) → q < queues p → getD head (1 + q) 0 ≡ getD (p .axes) q 0
-  pub sizes-shown : (b : ℕ) → b < length (p .sizes) → getD head (3 + queues p + length (p .owners) + b) 0 ≡ getD (p .sizes) b 0
+  pub sizes-shown : (b : ℕ) → b < length (p .sizes) →
+      getD head (3 + queues p + length (p .owners) + b) 0 ≡ getD (p .sizes) b 0
 
 -- the owner of each semaphore
 unfoldable pub Owner-column : Plan → (owner : List ℕ) → Type 0
@@ -66,7 +67,8 @@ wait-at p i k = getD (op p i .waits) k no-point
 -- three places for each operation
 pub record Wait-columns (p : Plan) (semaphore value : List ℕ) : Type 0 where
   pub few : (i : ℕ) → i < count p → length (op p i .waits) ≤ most-waits
-  pub semaphores : (i k : ℕ) → i < count p → k < most-waits → getD semaphore (most-waits * i + k) 0 ≡ wait-at p i k .semaphore
+  pub semaphores : (i k : ℕ) → i < count p → k < most-waits →
+      getD semaphore (most-waits * i + k) 0 ≡ wait-at p i k .semaphore
   pub values : (i k : ℕ) → i < count p → k < most-waits → getD value (most-waits * i + k) 0 ≡ wait-at p i k .value
 
 -- one place for each signal, and how many there are
@@ -101,7 +103,8 @@ plan-marks p = marked-from 0 (p .operations)
 pub record Mark-columns (p : Plan) (many : ℕ) (mark operation : List ℕ) : Type 0 where
   pub few : many ≤ mark-places
   pub all : many ≡ length (plan-marks p)
-  pub marks : (k : ℕ) → k < many → getD mark k 0 ≡ 2 * getD (plan-marks p) k no-mark .buffer + getD (plan-marks p) k no-mark .kind
+  pub marks : (k : ℕ) → k < many →
+      getD mark k 0 ≡ 2 * getD (plan-marks p) k no-mark .buffer + getD (plan-marks p) k no-mark .kind
   pub operations : (k : ℕ) → k < many → getD operation k 0 ≡ getD (plan-marks p) k no-mark .by
 
 -- the operation that a wait rests on; 1,024 for none
@@ -111,7 +114,8 @@ source-of (on x) = x .operation
 source-of never = no-operation
 
 unfoldable pub Source-column : Plan → (source : List ℕ) → Type 0
-Source-column p source = (i k : ℕ) → i < count p → k < most-waits → getD source (most-waits * i + k) 0 ≡ source-of (resolve p (wait-at p i k))
+Source-column p source = (i k : ℕ) → i < count p → k < most-waits →
+    getD source (most-waits * i + k) 0 ≡ source-of (resolve p (wait-at p i k))
 
 -- rows one after the other, sixteen places each, of the operations in a list
 unfoldable pub Row-columns : Plan → (done : ℕ → Type 0) → (rows : List ℕ) → Type 0

@@ -109,13 +109,19 @@ pub record Put (room : ℕ) (part : List ℕ) (place : ℕ) (before after : List
 -- operation i at a place is in every column; `signals` and `marks` are how many come before it
 pub record Added (numbers : List ℕ) (i at signals marks : ℕ) (cs cs′ : Columns) (at′ signals′ marks′ : ℕ) : Type 0 where
   pub queues-added : Put most-operations (queue-part numbers i at) i (cs .queue) (cs′ .queue)
-  pub wait-semaphores-added : Put wait-places (wait-semaphore-part numbers i at) (most-waits * i) (cs .wait-semaphore) (cs′ .wait-semaphore)
-  pub wait-values-added : Put wait-places (wait-value-part numbers i at) (most-waits * i) (cs .wait-value) (cs′ .wait-value)
-  pub signal-semaphores-added : Put signal-places (signal-semaphore-part numbers i at) signals (cs .signal-semaphore) (cs′ .signal-semaphore)
-  pub signal-values-added : Put signal-places (signal-value-part numbers i at) signals (cs .signal-value) (cs′ .signal-value)
-  pub signal-operations-added : Put signal-places (signal-operation-part numbers i at) signals (cs .signal-operation) (cs′ .signal-operation)
+  pub wait-semaphores-added : Put wait-places (wait-semaphore-part numbers i at) (most-waits * i) (cs .wait-semaphore)
+      (cs′ .wait-semaphore)
+  pub wait-values-added : Put wait-places (wait-value-part numbers i at) (most-waits * i) (cs .wait-value)
+      (cs′ .wait-value)
+  pub signal-semaphores-added : Put signal-places (signal-semaphore-part numbers i at) signals (cs .signal-semaphore)
+      (cs′ .signal-semaphore)
+  pub signal-values-added : Put signal-places (signal-value-part numbers i at) signals (cs .signal-value)
+      (cs′ .signal-value)
+  pub signal-operations-added : Put signal-places (signal-operation-part numbers i at) signals (cs .signal-operation)
+      (cs′ .signal-operation)
   pub marks-added : Put mark-places (mark-part numbers i at) marks (cs .mark) (cs′ .mark)
-  pub mark-operations-added : Put mark-places (mark-operation-part numbers i at) marks (cs .mark-operation) (cs′ .mark-operation)
+  pub mark-operations-added : Put mark-places (mark-operation-part numbers i at) marks (cs .mark-operation)
+      (cs′ .mark-operation)
   pub next : at′ ≡ next-at numbers at
   pub more-signals : signals′ ≡ signals + signal-count numbers at
   pub more-marks : marks′ ≡ marks + mark-count numbers at

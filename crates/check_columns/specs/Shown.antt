@@ -30,4 +30,5 @@ shown-from ms is many k = tabulate-from many k (λ k. mark-of (getD ms k 0 % mar
 
 -- i is j or before j, by their rows in the column of i's queue
 unfoldable pub ordered : (queue rows : List ℕ) → (i j : ℕ) → Bool
-ordered queue rows i j = let q = getD queue i 0 % row-width in leb (getD rows (row-width * i + q) 0) (getD rows (row-width * j + q) 0)
+ordered queue rows i j = let q = getD queue i 0 % row-width in
+    leb (getD rows (row-width * i + q) 0) (getD rows (row-width * j + q) 0)

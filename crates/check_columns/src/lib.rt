@@ -17,7 +17,8 @@ ghost use lib.Seq.{sets};
 ghost use Rattle.plan_format.specs.Sizes.{most-queues, most-semaphores, most-operations, wait-places, plan-numbers};
 ghost use Rattle.plan_format.specs.Plan.{Plan, queues};
 ghost use Rattle.check_columns.specs.Columns.{columns, Owner-column};
-ghost use Rattle.check_columns.specs.Filling.{owner-numbers, wait-semaphores, wait-values, signal-semaphores, signal-values, codes-of-marks, repeated, next-at, Added};
+ghost use Rattle.check_columns.specs.Filling.{owner-numbers, wait-semaphores, wait-values, signal-semaphores};
+ghost use Rattle.check_columns.specs.Filling.{signal-values, codes-of-marks, repeated, next-at, Added};
 
 // The columns of a plan: an owner for each semaphore, a queue for each operation; for each place of a wait a semaphore
 // or the operation that the wait rests on, and a value; for each signal a semaphore or its operation, and a value; for
@@ -54,8 +55,12 @@ pub struct Filled {
 // Fills the column of owners: `many` numbers from `first` on, cut to sixteen bits. It takes 64 at most, and a plan's
 // owners begin at 22,868 at most.
 pub fn owners(numbers: &[u64], first: usize, many: usize, owner: &mut OwnerColumn)
-    ensures stored { λ _. ⌜ now (owner .exit) ≡ sets (now (owner .entry)) 0 (owner-numbers (now (numbers .entry)) (min many most-semaphores) (min first plan-numbers)) ⌝ }
-    ensures of_plans { λ _. ⌜ ((p : Plan) → p .owners ≡ take many (drop first (now (numbers .entry))) → first ≤ plan-numbers → many ≤ most-semaphores → queues p ≤ most-queues → ((s : ℕ) → s < length (p .owners) → getD (p .owners) s 0 < queues p) → Owner-column p (now (owner .exit))) ⌝ }
+    ensures stored { λ _. ⌜ now (owner .exit) ≡
+        sets (now (owner .entry)) 0
+        (owner-numbers (now (numbers .entry)) (min many most-semaphores) (min first plan-numbers)) ⌝ }
+    ensures of_plans { λ _. ⌜ ((p : Plan) → p .owners ≡ take many (drop first (now (numbers .entry))) →
+        first ≤ plan-numbers → many ≤ most-semaphores → queues p ≤ most-queues →
+        ((s : ℕ) → s < length (p .owners) → getD (p .owners) s 0 < queues p) → Owner-column p (now (owner .exit))) ⌝ }
 {
     owned(
         numbers,
@@ -95,12 +100,16 @@ pub fn add(
     mop: &mut MarkColumn,
 ) -> Filled
     ensures added { λ r. ⌜ (i < most-operations → Added (now (window .entry)) i 0 signals marks
-        (columns (now (queue .entry)) (now (wsem .entry)) (now (wval .entry)) (now (ssem .entry)) (now (sval .entry)) (now (sop .entry)) (now (mark .entry)) (now (mop .entry)))
-        (columns (now (queue .exit)) (now (wsem .exit)) (now (wval .exit)) (now (ssem .exit)) (now (sval .exit)) (now (sop .exit)) (now (mark .exit)) (now (mop .exit)))
+        (columns (now (queue .entry)) (now (wsem .entry)) (now (wval .entry)) (now (ssem .entry)) (now (sval .entry))
+        (now (sop .entry)) (now (mark .entry)) (now (mop .entry)))
+        (columns (now (queue .exit)) (now (wsem .exit)) (now (wval .exit)) (now (ssem .exit)) (now (sval .exit))
+        (now (sop .exit)) (now (mark .exit)) (now (mop .exit)))
         (next-at (now (window .entry)) 0) (r .signals) (r .marks)) ⌝ }
     ensures full { λ r. ⌜ (most-operations ≤ i → (r .signals ≡ signals) × (r .marks ≡ marks)
-        × (columns (now (queue .exit)) (now (wsem .exit)) (now (wval .exit)) (now (ssem .exit)) (now (sval .exit)) (now (sop .exit)) (now (mark .exit)) (now (mop .exit))
-        ≡ columns (now (queue .entry)) (now (wsem .entry)) (now (wval .entry)) (now (ssem .entry)) (now (sval .entry)) (now (sop .entry)) (now (mark .entry)) (now (mop .entry)))) ⌝ }
+        × (columns (now (queue .exit)) (now (wsem .exit)) (now (wval .exit)) (now (ssem .exit)) (now (sval .exit))
+        (now (sop .exit)) (now (mark .exit)) (now (mop .exit))
+        ≡ columns (now (queue .entry)) (now (wsem .entry)) (now (wval .entry)) (now (ssem .entry)) (now (sval .entry))
+        (now (sop .entry)) (now (mark .entry)) (now (mop .entry)))) ⌝ }
 {
     let operation = i as usize;
     let signals_before = signals as usize;
@@ -135,8 +144,10 @@ pub fn add(
 fn put_waits(window: &Window, i: usize, semaphore: &mut [u16], value: &mut [u64]) -> usize
     requires { ⌜ (i < most-operations) × (wait-places ≤ length (now semaphore)) × (wait-places ≤ length (now value)) ⌝ }
     ensures many { λ r. ⌜ r ≡ getD (now (window .entry)) 1 0 % 4 ⌝ }
-    ensures semaphores { λ r. ⌜ now (semaphore .exit) ≡ sets (now (semaphore .entry)) (3 * i) (wait-semaphores (now (window .entry)) r 1) ⌝ }
-    ensures values { λ r. ⌜ now (value .exit) ≡ sets (now (value .entry)) (3 * i) (wait-values (now (window .entry)) r 1) ⌝ }
+    ensures semaphores { λ r. ⌜ now (semaphore .exit) ≡
+        sets (now (semaphore .entry)) (3 * i) (wait-semaphores (now (window .entry)) r 1) ⌝ }
+    ensures values { λ r. ⌜ now (value .exit) ≡
+        sets (now (value .entry)) (3 * i) (wait-values (now (window .entry)) r 1) ⌝ }
 {
     let many = base_numbers::u64_to_usize(window[1]) % 4;
     for j in 0..3 {
@@ -165,8 +176,10 @@ fn put_signals(
 ) -> usize
     requires { ⌜ (at ≤ 8) × (i < most-operations) × (had < 65536) ⌝ }
     ensures many { λ r. ⌜ r ≡ getD (now (window .entry)) at 0 % 4 ⌝ }
-    ensures semaphores { λ r. ⌜ now (semaphore .exit) ≡ sets (now (semaphore .entry)) had (signal-semaphores (now (window .entry)) r at) ⌝ }
-    ensures values { λ r. ⌜ now (value .exit) ≡ sets (now (value .entry)) had (signal-values (now (window .entry)) r at) ⌝ }
+    ensures semaphores { λ r. ⌜ now (semaphore .exit) ≡
+        sets (now (semaphore .entry)) had (signal-semaphores (now (window .entry)) r at) ⌝ }
+    ensures values { λ r. ⌜ now (value .exit) ≡
+        sets (now (value .entry)) had (signal-values (now (window .entry)) r at) ⌝ }
     ensures operations { λ r. ⌜ now (operation .exit) ≡ sets (now (operation .entry)) had (repeated r i) ⌝ }
 {
     let many = base_numbers::u64_to_usize(window[at]) % 4;
@@ -195,7 +208,8 @@ fn put_marks(
 ) -> usize
     requires { ⌜ (at ≤ 15) × (i < most-operations) × (had < 65536) ⌝ }
     ensures many { λ r. ⌜ r ≡ getD (now (window .entry)) at 0 % 8 ⌝ }
-    ensures marks { λ r. ⌜ now (mark .exit) ≡ sets (now (mark .entry)) had (codes-of-marks (now (window .entry)) r at) ⌝ }
+    ensures marks { λ r. ⌜ now (mark .exit) ≡
+        sets (now (mark .entry)) had (codes-of-marks (now (window .entry)) r at) ⌝ }
     ensures operations { λ r. ⌜ now (operation .exit) ≡ sets (now (operation .entry)) had (repeated r i) ⌝ }
 {
     let many = base_numbers::u64_to_usize(window[at]) % 8;

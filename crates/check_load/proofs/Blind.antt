@@ -8,7 +8,8 @@ use lib.Dec.{eqb}
 use lib.ListN.{drop}
 use Rattle.base_lists.proofs.Tests.{by-cases}
 use Rattle.plan_format.specs.Refusal.{given}
-use Rattle.plan_format.specs.Grammar.{Check, Grammar, field, seq, counted, Source, Scan, scan, refused, field-number, read-field, last-got, times, count-check, read-by}
+use Rattle.plan_format.specs.Grammar.{Check, Grammar, field, seq, counted, Source, Scan, scan, refused, field-number}
+use Rattle.plan_format.specs.Grammar.{read-field, last-got, times, count-check, read-by}
 use Rattle.plan_format.specs.Form.{any-number}
 use Rattle.plan_format.specs.Sections.{limited, point-below, mark-below, operation-below}
 use Rattle.plan_format.proofs.Judged.{not-given-zero}
@@ -32,37 +33,50 @@ module _ (S : Source) (front : List ℕ) where
       let v = S .front w (s .rest) in
       by-cases (given (s .fault)) (λ y. rw y)
       (λ n. by-cases (eqb (field-number S w c (s .rest)) 0)
-      (λ t. rw (n, t) (ap (λ (l : List ℕ). scan (drop (S .wide w) (s .rest)) (s .place + S .wide w) l (s .fault)) (append-assoc front (s .got) (v ∷ []))))
+      (λ t. rw (n, t) (ap (λ (l : List ℕ). scan (drop (S .wide w) (s .rest)) (s .place + S .wide w) l (s .fault))
+      (append-assoc front (s .got) (v ∷ []))))
       (λ f. rw (n, f)))
 
   -- a count just read is the last number got, whatever is in front
-  last-after : (w : ℕ) (c : ℕ → ℕ) (s : Scan) → given (read-field S w c s .fault) ≡ false → last-got (after front (read-field S w c s)) ≡ last-got (read-field S w c s)
+  last-after : (w : ℕ) (c : ℕ → ℕ) (s : Scan) → given (read-field S w c s .fault) ≡ false →
+      last-got (after front (read-field S w c s)) ≡ last-got (read-field S w c s)
   unfolding after scan
   last-after w c s n =
       let t = read-field S w c s in
       let v = S .front w (s .rest) in
-      let got : t .got ≡ s .got ++ (v ∷ []) = ap (λ (z : Scan). z .got) (field-done S w c s (not-given-zero (t .fault) n) .result) in
-      let last : (l : List ℕ) → last-got (scan (t .rest) (t .place) (l ++ (v ∷ [])) (t .fault)) ≡ v = λ l. last-is (t .rest) l (t .place) v (t .fault) in
-      ap (λ (l : List ℕ). last-got (scan (t .rest) (t .place) l (t .fault))) (ap (λ (l : List ℕ). front ++ l) got ∙ sym (append-assoc front (s .got) (v ∷ [])))
-      ∙ last (front ++ s .got) ∙ sym (last (s .got)) ∙ ap (λ (l : List ℕ). last-got (scan (t .rest) (t .place) l (t .fault))) (sym got)
+      let got : t .got ≡ s .got ++ (v ∷ []) =
+      ap (λ (z : Scan). z .got) (field-done S w c s (not-given-zero (t .fault) n) .result) in
+      let last : (l : List ℕ) → last-got (scan (t .rest) (t .place) (l ++ (v ∷ [])) (t .fault)) ≡ v =
+      λ l. last-is (t .rest) l (t .place) v (t .fault) in
+      ap (λ (l : List ℕ). last-got (scan (t .rest) (t .place) l (t .fault)))
+      (ap (λ (l : List ℕ). front ++ l) got ∙ sym (append-assoc front (s .got) (v ∷ [])))
+      ∙ last (front ++ s .got) ∙ sym (last (s .got))
+      ∙ ap (λ (l : List ℕ). last-got (scan (t .rest) (t .place) l (t .fault))) (sym got)
 
-  times-after : (f : Scan → Scan) → ((s : Scan) → f (after front s) ≡ after front (f s)) → (k : ℕ) (s : Scan) → times k f (after front s) ≡ after front (times k f s)
+  times-after : (f : Scan → Scan) → ((s : Scan) → f (after front s) ≡ after front (f s)) → (k : ℕ) (s : Scan) →
+      times k f (after front s) ≡ after front (times k f s)
   unfolding times
   times-after f h zero s = refl
   times-after f h (suc k) s = ap (λ (z : Scan). times k f z) (h s) ∙ times-after f h k (f s)
 
-  counted-after : (t : Scan) (f : Scan → Scan) → ((k : ℕ) (s : Scan) → times k f (after front s) ≡ after front (times k f s)) →
+  counted-after : (t : Scan) (f : Scan → Scan) →
+      ((k : ℕ) (s : Scan) → times k f (after front s) ≡ after front (times k f s)) →
       (given (t .fault) ≡ false → last-got (after front t) ≡ last-got t) →
-      cond (given (after front t .fault)) (after front t) (times (last-got (after front t)) f (after front t)) ≡ after front (cond (given (t .fault)) t (times (last-got t) f t))
+      cond (given (after front t .fault)) (after front t) (times (last-got (after front t)) f (after front t)) ≡
+      after front (cond (given (t .fault)) t (times (last-got t) f t))
   unfolding after scan
-  counted-after t f h last = by-cases (given (t .fault)) (λ y. rw y) (λ n. rw n (ap (λ (k : ℕ). times k f (after front t)) (last n) ∙ h (last-got t) t))
+  counted-after t f h last =
+      by-cases (given (t .fault)) (λ y. rw y)
+      (λ n. rw n (ap (λ (k : ℕ). times k f (after front t)) (last n) ∙ h (last-got t) t))
 
   pub blind-read : {g : Grammar} → Blind g → (s : Scan) → read-by S g (after front s) ≡ after front (read-by S g s)
   unfolding read-by
   blind-read (field-blind {w} {c} e) s =
-      field-same S w (λ v. c (after front s .got) v) (λ v. c (s .got) v) (after front s) (e (after front s .got) (s .got) (S .front w (after front s .rest)))
+      field-same S w (λ v. c (after front s .got) v)
+      (λ v. c (s .got) v) (after front s) (e (after front s .got) (s .got) (S .front w (after front s .rest)))
       ∙ field-after w (λ v. c (s .got) v) s
-  blind-read (seq-blind {g} {h} p q) s = ap (λ (z : Scan). read-by S h z) (blind-read p s) ∙ blind-read q (read-by S g s)
+  blind-read (seq-blind {g} {h} p q) s =
+      ap (λ (z : Scan). read-by S h z) (blind-read p s) ∙ blind-read q (read-by S g s)
   blind-read (counted-blind {l} {m} {w} {g} p) s =
       let c : ℕ → ℕ = λ v. count-check l m v in
       let t = read-field S w c s in

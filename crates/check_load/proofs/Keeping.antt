@@ -72,21 +72,26 @@ keeps-more {window} {i} {signals} {marks} {signals′} {marks′} k a =
     let s : signals ≤ signals′ = omega (arith, a .more-signals) in
     let m : marks ≤ marks′ = omega (arith, a .more-marks) in
     record {
-      queues-kept = past-put i (queue-part window i 0) (k .queues-kept) (a .queues-added .stored) (omega arith) (omega arith);
+      queues-kept = past-put i (queue-part window i 0) (k .queues-kept) (a .queues-added .stored)
+          (omega arith) (omega arith);
       wait-semaphores-kept =
-          past-put (most-waits * i) (wait-semaphore-part window i 0) (k .wait-semaphores-kept) (a .wait-semaphores-added .stored) (omega arith)
+          past-put (most-waits * i) (wait-semaphore-part window i 0) (k .wait-semaphores-kept)
+          (a .wait-semaphores-added .stored) (omega arith)
           (tabulated _ most-waits (most-waits * i) (most-waits * (i + 1)) (omega arith));
       wait-values-kept =
-          past-put (most-waits * i) (wait-value-part window i 0) (k .wait-values-kept) (a .wait-values-added .stored) (omega arith)
+          past-put (most-waits * i) (wait-value-part window i 0) (k .wait-values-kept)
+          (a .wait-values-added .stored) (omega arith)
           (tabulated _ most-waits (most-waits * i) (most-waits * (i + 1)) (omega arith));
       signal-semaphores-kept =
-          past-put signals (signal-semaphore-part window i 0) (k .signal-semaphores-kept) (a .signal-semaphores-added .stored) s
+          past-put signals (signal-semaphore-part window i 0) (k .signal-semaphores-kept)
+          (a .signal-semaphores-added .stored) s
           (tabulated _ _ signals signals′ (omega (arith, a .more-signals)));
       signal-values-kept =
           past-put signals (signal-value-part window i 0) (k .signal-values-kept) (a .signal-values-added .stored) s
           (tabulated _ _ signals signals′ (omega (arith, a .more-signals)));
       signal-operations-kept =
-          past-put signals (signal-operation-part window i 0) (k .signal-operations-kept) (a .signal-operations-added .stored) s
+          past-put signals (signal-operation-part window i 0) (k .signal-operations-kept)
+          (a .signal-operations-added .stored) s
           (tabulated _ _ signals signals′ (omega (arith, a .more-signals)));
       marks-kept =
           past-put marks (mark-part window i 0) (k .marks-kept) (a .marks-added .stored) m

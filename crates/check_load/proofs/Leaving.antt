@@ -11,7 +11,7 @@ use Rattle.check_columns.specs.Filling.{owner-numbers}
 use Rattle.stored_numbers.specs.declared.Head.{Head}
 use Rattle.stored_numbers.specs.Reading.{head-scan, unless-refused, Head-told}
 use Rattle.check_load.specs.declared.Loaded.{Loaded}
-use Rattle.check_load.specs.Loading.{Kept-past, Keeps, head-got, head-operations, Left}
+use Rattle.check_load.specs.Loading.{Kept-past, Keeps, head-got, head-operations, Load-left}
 use Rattle.check_load.proofs.Keeping.{keeps-none, keeps-past}
 
 -- what a whole plan leaves, and what a refusal after some operations leaves
@@ -29,10 +29,11 @@ keeps-refused n r bad k more s m = record {
   refused = λ _. keeps-past k more (omega arith) (omega arith);
 }
 
-module _ {bs nums nums-now : List ℕ} {h : Head} (told : Head-told bs nums h nums-now) (r : Loaded) (owner : List ℕ) where
+module _ {bs nums nums-now : List ℕ} {h : Head} (told : Head-told bs nums h nums-now) (r : Loaded)
+    (owner : List ℕ) where
   -- a refusal of the head
   pub left-refused : (h .number ≡ 0 → ⊥) → (r .number ≡ 0 → ⊥) → (cs : Columns) →
-      Left bs r nums nums-now owner owner cs cs
+      Load-left bs r nums nums-now owner owner cs cs
   unfolding head-got
   left-refused bad refused cs =
       let n = head-operations bs in
@@ -46,7 +47,7 @@ module _ {bs nums nums-now : List ℕ} {h : Head} (told : Head-told bs nums h nu
   pub left-after : h .number ≡ 0 → {owner-now : List ℕ} {cs cs′ : Columns} →
       owner-now ≡ sets owner 0 (owner-numbers nums-now (min (h .semaphores) most-semaphores)
       (min (2 + h .queues) plan-numbers)) →
-      Keeps (h .operations) r cs cs′ → Left bs r nums nums-now owner owner-now cs cs′
+      Keeps (h .operations) r cs cs′ → Load-left bs r nums nums-now owner owner-now cs cs′
   unfolding unless-refused head-got head-operations
   left-after z {cs} {cs′} e k =
       let none = zero-not-given (head-scan bs .fault) (sym (told .stopped .number-is) ∙ z) in

@@ -1,5 +1,5 @@
--- What a loaded plan is: the reader's refusal, or columns that show the plan; and what is left in what was lent. Assumes
--- nothing: these are definitions.
+-- What a loaded plan is: the reader's refusal, or columns that show the plan; and what is left in what was lent.
+-- Assumes nothing: these are definitions.
 use mathlib.Core.Path.{_≡_}
 use mathlib.Core.Bool.{cond}
 use mathlib.Core.List.{List}
@@ -64,7 +64,8 @@ head-operations bs = unless-refused (head-scan bs) (last-got (head-scan bs))
 
 -- the head's numbers, up to its refusal, are in front of what was lent for them; its owners, cut to sixteen bits, are
 -- in front of theirs, which stays beside a refusal of the head
-pub record Left (bytes : List ℕ) (r : Loaded) (head head-now owner owner-now : List ℕ) (cs cs′ : Columns) : Type 0 where
+pub record Load-left (bytes : List ℕ) (r : Loaded) (head head-now owner owner-now : List ℕ)
+    (cs cs′ : Columns) : Type 0 where
   pub head-is : head-now ≡ in-front (head-got bytes) head
   pub owner-is : owner-now ≡ cond (given (head-scan bytes .fault)) owner
       (sets owner 0 (owner-numbers head-now (min (semaphore-count (head-got bytes)) most-semaphores)

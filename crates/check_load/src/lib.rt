@@ -20,7 +20,7 @@ ghost use Rattle.plan_format.specs.Stored.{plan-in};
 ghost use Rattle.check_columns.specs.Columns.{columns, Owner-column};
 ghost use Rattle.check_columns.specs.Filling.{owner-numbers};
 ghost use Rattle.stored_numbers.specs.Reading.{Head-read};
-ghost use Rattle.check_load.specs.Loading.{Loads, Keeps, Left};
+ghost use Rattle.check_load.specs.Loading.{Loads, Keeps, Load-left};
 
 // How many queues, semaphores, buffers, operations, signals and marks a plan has; or the reader's refusal and its
 // place.
@@ -51,11 +51,16 @@ pub fn load(
     mark: &mut MarkColumn,
     mop: &mut MarkColumn,
 ) -> Loaded
-    ensures loads { λ r. ⌜ Loads (now (plan .entry)) r (now (head .exit)) (columns (now (queue .exit)) (now (wsem .exit)) (now (wval .exit)) (now (ssem .exit)) (now (sval .exit)) (now (sop .exit)) (now (mark .exit)) (now (mop .exit))) ⌝ }
+    ensures loads { λ r. ⌜ Loads (now (plan .entry)) r (now (head .exit))
+        (columns (now (queue .exit)) (now (wsem .exit)) (now (wval .exit)) (now (ssem .exit)) (now (sval .exit))
+        (now (sop .exit)) (now (mark .exit)) (now (mop .exit))) ⌝ }
     ensures owners { λ r. ⌜ (r .number ≡ 0 → Owner-column (plan-in (now (plan .entry))) (now (owner .exit))) ⌝ }
-    ensures left { λ r. ⌜ Left (now (plan .entry)) r (now (head .entry)) (now (head .exit)) (now (owner .entry)) (now (owner .exit))
-        (columns (now (queue .entry)) (now (wsem .entry)) (now (wval .entry)) (now (ssem .entry)) (now (sval .entry)) (now (sop .entry)) (now (mark .entry)) (now (mop .entry)))
-        (columns (now (queue .exit)) (now (wsem .exit)) (now (wval .exit)) (now (ssem .exit)) (now (sval .exit)) (now (sop .exit)) (now (mark .exit)) (now (mop .exit))) ⌝ }
+    ensures left { λ r. ⌜ Load-left (now (plan .entry)) r (now (head .entry)) (now (head .exit)) (now (owner .entry))
+        (now (owner .exit))
+        (columns (now (queue .entry)) (now (wsem .entry)) (now (wval .entry)) (now (ssem .entry)) (now (sval .entry))
+        (now (sop .entry)) (now (mark .entry)) (now (mop .entry)))
+        (columns (now (queue .exit)) (now (wsem .exit)) (now (wval .exit)) (now (ssem .exit)) (now (sval .exit))
+        (now (sop .exit)) (now (mark .exit)) (now (mop .exit))) ⌝ }
 {
     let h = stored_numbers::read_head(plan, head);
     if h.number != 0 {
@@ -79,7 +84,16 @@ pub fn load(
 
 // A refusal at a place.
 fn refused(number: u32, place: usize) -> Loaded
-    ensures { λ r. ⌜ r ≡ record { number = number; place = place; queues = 0; semaphores = 0; buffers = 0; operations = 0; signals = 0; marks = 0 } ⌝ }
+    ensures { λ r. ⌜ r ≡ record {
+      number = number;
+      place = place;
+      queues = 0;
+      semaphores = 0;
+      buffers = 0;
+      operations = 0;
+      signals = 0;
+      marks = 0;
+    } ⌝ }
 {
     Loaded {
         number,
@@ -95,7 +109,16 @@ fn refused(number: u32, place: usize) -> Loaded
 
 // A plan without a refusal, and what it has.
 fn whole(h: Head, operations: u16, signals: u16, marks: u16) -> Loaded
-    ensures { λ r. ⌜ r ≡ record { number = 0; place = 0; queues = h .queues; semaphores = h .semaphores; buffers = h .buffers; operations = operations; signals = signals; marks = marks } ⌝ }
+    ensures { λ r. ⌜ r ≡ record {
+      number = 0;
+      place = 0;
+      queues = h .queues;
+      semaphores = h .semaphores;
+      buffers = h .buffers;
+      operations = operations;
+      signals = signals;
+      marks = marks;
+    } ⌝ }
 {
     Loaded {
         number: 0,
@@ -125,12 +148,18 @@ fn columns(
     mop: &mut MarkColumn,
 ) -> Loaded
     requires { ⌜ Head-read (now plan) h (now head) × (h .number ≡ 0) ⌝ }
-    ensures loads { λ r. ⌜ Loads (now (plan .entry)) r (now (head .exit)) (columns (now (queue .exit)) (now (wsem .exit)) (now (wval .exit)) (now (ssem .exit)) (now (sval .exit)) (now (sop .exit)) (now (mark .exit)) (now (mop .exit))) ⌝ }
+    ensures loads { λ r. ⌜ Loads (now (plan .entry)) r (now (head .exit))
+        (columns (now (queue .exit)) (now (wsem .exit)) (now (wval .exit)) (now (ssem .exit)) (now (sval .exit))
+        (now (sop .exit)) (now (mark .exit)) (now (mop .exit))) ⌝ }
     ensures owners { λ r. ⌜ (r .number ≡ 0 → Owner-column (plan-in (now (plan .entry))) (now (owner .exit))) ⌝ }
-    ensures stored { λ _. ⌜ now (owner .exit) ≡ sets (now (owner .entry)) 0 (owner-numbers (now (head .entry)) (min (h .semaphores) most-semaphores) (min (2 + h .queues) plan-numbers)) ⌝ }
+    ensures stored { λ _. ⌜ now (owner .exit) ≡
+        sets (now (owner .entry)) 0
+        (owner-numbers (now (head .entry)) (min (h .semaphores) most-semaphores) (min (2 + h .queues) plan-numbers)) ⌝ }
     ensures keeps { λ r. ⌜ Keeps (h .operations) r
-        (columns (now (queue .entry)) (now (wsem .entry)) (now (wval .entry)) (now (ssem .entry)) (now (sval .entry)) (now (sop .entry)) (now (mark .entry)) (now (mop .entry)))
-        (columns (now (queue .exit)) (now (wsem .exit)) (now (wval .exit)) (now (ssem .exit)) (now (sval .exit)) (now (sop .exit)) (now (mark .exit)) (now (mop .exit))) ⌝ }
+        (columns (now (queue .entry)) (now (wsem .entry)) (now (wval .entry)) (now (ssem .entry)) (now (sval .entry))
+        (now (sop .entry)) (now (mark .entry)) (now (mop .entry)))
+        (columns (now (queue .exit)) (now (wsem .exit)) (now (wval .exit)) (now (ssem .exit)) (now (sval .exit))
+        (now (sop .exit)) (now (mark .exit)) (now (mop .exit))) ⌝ }
 {
     check_columns::owners(head, 2 + h.queues as usize, h.semaphores as usize, owner);
     operations(plan, h, queue, wsem, wval, ssem, sval, sop, mark, mop)
@@ -151,10 +180,14 @@ fn operations(
 ) -> Loaded
     requires { ⌜ h .operations ≤ most-operations ⌝ }
     ensures { λ r. ⌜ ((nums : List ℕ) → Head-read (now (plan .entry)) h nums → h .number ≡ 0 →
-        Loads (now (plan .entry)) r nums (columns (now (queue .exit)) (now (wsem .exit)) (now (wval .exit)) (now (ssem .exit)) (now (sval .exit)) (now (sop .exit)) (now (mark .exit)) (now (mop .exit))) × (r .number ≡ 0 → plan-in (now (plan .entry)) .owners ≡ take (h .semaphores) (drop (2 + h .queues) nums))
+        Loads (now (plan .entry)) r nums (columns (now (queue .exit)) (now (wsem .exit)) (now (wval .exit))
+        (now (ssem .exit)) (now (sval .exit)) (now (sop .exit)) (now (mark .exit)) (now (mop .exit))) ×
+        (r .number ≡ 0 → plan-in (now (plan .entry)) .owners ≡ take (h .semaphores) (drop (2 + h .queues) nums))
         × Keeps (h .operations) r
-        (columns (now (queue .entry)) (now (wsem .entry)) (now (wval .entry)) (now (ssem .entry)) (now (sval .entry)) (now (sop .entry)) (now (mark .entry)) (now (mop .entry)))
-        (columns (now (queue .exit)) (now (wsem .exit)) (now (wval .exit)) (now (ssem .exit)) (now (sval .exit)) (now (sop .exit)) (now (mark .exit)) (now (mop .exit)))) ⌝ }
+        (columns (now (queue .entry)) (now (wsem .entry)) (now (wval .entry)) (now (ssem .entry)) (now (sval .entry))
+        (now (sop .entry)) (now (mark .entry)) (now (mop .entry)))
+        (columns (now (queue .exit)) (now (wsem .exit)) (now (wval .exit)) (now (ssem .exit)) (now (sval .exit))
+        (now (sop .exit)) (now (mark .exit)) (now (mop .exit)))) ⌝ }
 {
     let many = h.operations as u16;
     let mut window = [0u64; WINDOW];

@@ -18,7 +18,8 @@ use Rattle.check_columns.specs.Columns.{Queue-column, Row-columns}
 use Rattle.check_columns.proofs.Ordered.{ordered-right}
 use Rattle.check_marks.specs.Passes.{late, early}
 
-module _ (p : Plan) (sound : Sound p) (queue rows : List ℕ) (queues-shown : Queue-column p queue) (rows-shown : Row-columns p (λ j. j < count p) rows) where
+module _ (p : Plan) (sound : Sound p) (queue rows : List ℕ) (queues-shown : Queue-column p queue)
+    (rows-shown : Row-columns p (λ j. j < count p) rows) where
   -- a use and the free of its holding
   pub late-right : (i g : ℕ) → i < count p → g < count p → late queue rows i g ≡ not (at-or-before p i g)
   unfolding late
@@ -36,7 +37,8 @@ module _ (p : Plan) (sound : Sound p) (queue rows : List ℕ) (queues-shown : Qu
   unfolding early
   early-nothing i = rw (le-ltb no-operation no-operation (omega arith))
 
-  pub early-right : (f : List ℕ) → is-full p f ≡ true → (g i : ℕ) → g < count p → i < count p → early queue rows g i ≡ not (before p g i)
+  pub early-right : (f : List ℕ) → is-full p f ≡ true → (g i : ℕ) → g < count p → i < count p →
+      early queue rows g i ≡ not (before p g i)
   unfolding early at-or-before
   early-right f full g i a b =
       rw (
@@ -44,5 +46,7 @@ module _ (p : Plan) (sound : Sound p) (queue rows : List ℕ) (queues-shown : Qu
         ordered-right p sound queue rows queues-shown rows-shown g i a b,
       )
       (by-cases (eqb g i)
-      (λ t. rw t (sym (ap (λ (b : Bool). not b) (subst (λ (z : ℕ). before p g z ≡ false) (eqb-true g i t) (not-itself p (rules-good p sound .0) f full g)))))
+      (λ t. rw t
+      (sym (ap (λ (b : Bool). not b)
+      (subst (λ (z : ℕ). before p g z ≡ false) (eqb-true g i t) (not-itself p (rules-good p sound .0) f full g)))))
       (λ n. rw n))

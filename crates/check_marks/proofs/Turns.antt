@@ -81,14 +81,16 @@ module _ {queue rows mark operation : List ℕ} {n many : ℕ} where
       b .answer ∙ rw (e, z)
 
   -- a mark is tested where it is a use, and noted
-  module _ {last : List ℕ} {lowest k m i : ℕ} (b : Backward queue rows mark operation n many last lowest k) (more : 0 < k)
+  module _ {last : List ℕ} {lowest k m i : ℕ}
+      (b : Backward queue rows mark operation n many last lowest k) (more : 0 < k)
       (m-is : m ≡ getD mark (k - 1) 0 % 512) (i-is : i ≡ getD operation (k - 1) 0 % most-operations) where
     here : shown-from mark operation (many - (k - 1)) (k - 1) ≡ mark-of m i ∷ shown-from mark operation (many - k) k
     here =
         let e : k - 1 + 1 ≡ k = omega arith in
         rw (m-is, i-is) (shown-next mark operation many (k - 1) (omega (arith, b .inside)) ∙ rw e)
 
-    pub backward-more : {g : ℕ} {t : Bool} {then : ℕ} {next : List ℕ} → g ≡ free-in last (m / 2) → t ≡ late queue rows i g → then ≡ cond (eqb (m % 2) 0 && t) i lowest →
+    pub backward-more : {g : ℕ} {t : Bool} {then : ℕ} {next : List ℕ} → g ≡ free-in last (m / 2) →
+        t ≡ late queue rows i g → then ≡ cond (eqb (m % 2) 0 && t) i lowest →
         next ≡ noted (mark-of m i) last → Backward queue rows mark operation n many next then (k - 1)
     unfolding noted noted-back first-late
     backward-more g-is t-is then-is next-is = record {
@@ -103,18 +105,21 @@ pub record Forward (queue rows mark operation : List ℕ) (n many : ℕ) (last :
   pub inside : k ≤ many
   pub low : Low last
   pub rest :
-      first-early queue rows n last (shown-from mark operation (many - k) k) ≡ first-early queue rows n none-noted (shown-from mark operation many 0)
+      first-early queue rows n last (shown-from mark operation (many - k) k) ≡
+      first-early queue rows n none-noted (shown-from mark operation many 0)
 
 module _ {queue rows mark operation : List ℕ} {n many : ℕ} where
   pub forward-none : Forward queue rows mark operation n many none-noted 0
-  forward-none = let e : many - 0 ≡ many = omega arith in record { inside = omega arith; low = low-none 512; rest = rw e }
+  forward-none = let e : many - 0 ≡ many = omega arith in
+      record { inside = omega arith; low = low-none 512; rest = rw e }
 
   pub forward-end : {last : List ℕ} {k : ℕ} → many ≤ k → Forward queue rows mark operation n many last k →
       n ≡ first-early queue rows n none-noted (shown-from mark operation many 0)
   unfolding first-early
   forward-end {k} l b = rw (shown-none mark operation many k l) at (b .rest)
 
-  module _ {last : List ℕ} {k m i g : ℕ} {t : Bool} (b : Forward queue rows mark operation n many last k) (more : k < many)
+  module _ {last : List ℕ} {k m i g : ℕ} {t : Bool} (b : Forward queue rows mark operation n many last k)
+      (more : k < many)
       (m-is : m ≡ getD mark k 0 % 512) (i-is : i ≡ getD operation k 0 % most-operations)
       (g-is : g ≡ free-in last (m / 2)) (t-is : t ≡ early queue rows g i) where
     first : shown-from mark operation (many - k) k ≡ mark-of m i ∷ shown-from mark operation (many - (k + 1)) (k + 1)
@@ -127,7 +132,8 @@ module _ {queue rows mark operation : List ℕ} {n many : ℕ} where
     unfolding first-early
     forward-early h = rw (first, passed, h) at (b .rest)
 
-    pub forward-fine : t ≡ false → {next : List ℕ} → next ≡ noted (mark-of m i) last → Forward queue rows mark operation n many next (k + 1)
+    pub forward-fine : t ≡ false → {next : List ℕ} → next ≡ noted (mark-of m i) last →
+        Forward queue rows mark operation n many next (k + 1)
     unfolding noted first-early
     forward-fine h e = record {
       inside = omega arith;

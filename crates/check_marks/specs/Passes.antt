@@ -43,7 +43,8 @@ module _ (queue rows : List ℕ) where
 
   unfoldable pub first-early : (n : ℕ) → (last : List ℕ) → List Marked → ℕ
   first-early n last [] = n
-  first-early n last (m ∷ ms) = cond (early (free-in last (m .buffer)) (m .by)) (m .by) (first-early n (noted m last) ms)
+  first-early n last (m ∷ ms) =
+      cond (early (free-in last (m .buffer)) (m .by)) (m .by) (first-early n (noted m last) ms)
 
   -- the lower of the two, by the first `many` marks of columns with 4,096 places; n where there is neither
   unfoldable pub first-broken : (n many : ℕ) → (mark operation : List ℕ) → ℕ

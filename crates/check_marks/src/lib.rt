@@ -20,7 +20,8 @@ ghost use Rattle.plan_order.specs.Holdings.{broken as broken-mark};
 ghost use Rattle.base_lists.specs.Lists.{place-or};
 ghost use Rattle.check_marks.specs.Given.{Marks-given};
 ghost use Rattle.check_columns.specs.Shown.{mark-codes, mark-of, shown-from, ordered as is-ordered};
-ghost use Rattle.check_marks.specs.Passes.{none-noted, noted, free-in, late as is-late, early as is-early, first-late, first-early, first-broken};
+ghost use Rattle.check_marks.specs.Passes.{none-noted, noted, free-in, late as is-late, early as is-early};
+ghost use Rattle.check_marks.specs.Passes.{first-late, first-early, first-broken};
 
 // The lower of what the two passes find; n where they find nothing. By the columns of a plan it is the lowest operation
 // with a broken mark.
@@ -32,8 +33,11 @@ pub fn broken(
     mop: &MarkColumn,
     rows: &Rows,
 ) -> usize
-    ensures found { λ r. ⌜ r ≡ first-broken (now (queue .entry)) (now (rows .entry)) n marks (now (mark .entry)) (now (mop .entry)) ⌝ }
-    ensures of_plans { λ r. ⌜ ((p : Plan) → Marks-given p n marks (now (queue .entry)) (now (mark .entry)) (now (mop .entry)) (now (rows .entry)) → r ≡ place-or n (broken-mark p)) ⌝ }
+    ensures found { λ r. ⌜ r ≡ first-broken (now (queue .entry)) (now (rows .entry)) n marks (now (mark .entry))
+        (now (mop .entry)) ⌝ }
+    ensures of_plans { λ r. ⌜ ((p : Plan) →
+        Marks-given p n marks (now (queue .entry)) (now (mark .entry)) (now (mop .entry)) (now (rows .entry)) →
+        r ≡ place-or n (broken-mark p)) ⌝ }
 {
     let none = n as usize;
     let many = base_numbers::min_usize(marks, MARK_PLACES);
@@ -53,7 +57,8 @@ fn uses(
     rows: &Rows,
 ) -> usize
     requires { ⌜ marks ≤ mark-places ⌝ }
-    ensures { λ r. ⌜ r ≡ first-late (now (queue .entry)) (now (rows .entry)) n (shown-from (now (mark .entry)) (now (mop .entry)) marks 0) ⌝ }
+    ensures { λ r. ⌜ r ≡ first-late (now (queue .entry)) (now (rows .entry)) n
+        (shown-from (now (mark .entry)) (now (mop .entry)) marks 0) ⌝ }
 {
     let mut last = [NO_OPERATION_STORED; MARK_CODES];
     let mut lowest = n;
@@ -79,7 +84,8 @@ fn reuses(
     rows: &Rows,
 ) -> usize
     requires { ⌜ marks ≤ mark-places ⌝ }
-    ensures { λ r. ⌜ r ≡ first-early (now (queue .entry)) (now (rows .entry)) n none-noted (shown-from (now (mark .entry)) (now (mop .entry)) marks 0) ⌝ }
+    ensures { λ r. ⌜ r ≡ first-early (now (queue .entry)) (now (rows .entry)) n none-noted
+        (shown-from (now (mark .entry)) (now (mop .entry)) marks 0) ⌝ }
 {
     let mut last = [NO_OPERATION_STORED; MARK_CODES];
     let mut k = 0;

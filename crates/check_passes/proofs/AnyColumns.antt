@@ -16,7 +16,8 @@ use Rattle.plan_format.specs.Refusal.{Refusal, refusal, none-given, given, or-e
 use Rattle.plan_format.specs.Stored.{Tells}
 use Rattle.plan_format.specs.declared.Told.{Told}
 use Rattle.plan_format.proofs.Telling.{told, tells}
-use Rattle.plan_format.proofs.Judged.{zero-not-given, other-given, not-given-zero, or-else-first, or-else-second, refusal-given}
+use Rattle.plan_format.proofs.Judged.{zero-not-given, other-given, not-given-zero, or-else-first, or-else-second}
+use Rattle.plan_format.proofs.Judged.{refusal-given}
 use Rattle.check_signals.specs.Walks.{signals-walk, lasts-walk, zeros}
 use Rattle.check_waits.specs.Waits.{waits-found, Sources}
 use Rattle.check_run.specs.Run.{Bounded}
@@ -24,59 +25,70 @@ use Rattle.check_run.proofs.Bounds.{run-past}
 use Rattle.check_stuck.specs.Zeros.{first-zero}
 use Rattle.check_marks.specs.Passes.{first-broken}
 use Rattle.check_passes.specs.Answering.{rules-by, Sources-by, order-by, Run-judged, Answers-by}
-use Rattle.check_passes.specs.Leaving.{Room, Left}
+use Rattle.check_passes.specs.Leaving.{Results-room, Results-left}
 use Rattle.check_passes.proofs.Inside.{order-inside}
 
 -- ---- 6 to 8
 module _ (n signals : ℕ) (owner queue wsem wval ssem sval sop : List ℕ) where
-  pub rules-first : (m i : ℕ) → refusal m i ≡ signals-walk owner queue ssem sval sop signals 0 zeros → (m ≡ 0 → ⊥) → Tells (rules-by n signals owner queue wsem wval ssem sval sop) 0 (told m i)
+  pub rules-first : (m i : ℕ) → refusal m i ≡ signals-walk owner queue ssem sval sop signals 0 zeros → (m ≡ 0 → ⊥) →
+      Tells (rules-by n signals owner queue wsem wval ssem sval sop) 0 (told m i)
   unfolding rules-by
   rules-first m i e z = tells (or-else-first _ _ (ap given (sym e) ∙ refusal-given m i z) ∙ sym e)
 
-  pub rules-second : (m i : ℕ) {last : List ℕ} {r : Told} → refusal m i ≡ signals-walk owner queue ssem sval sop signals 0 zeros → m ≡ 0 →
-      last ≡ lasts-walk owner queue ssem sval sop signals 0 zeros → Tells (waits-found n signals wsem wval last) 0 r → Tells (rules-by n signals owner queue wsem wval ssem sval sop) 0 r
+  pub rules-second : (m i : ℕ) {last : List ℕ} {r : Told} →
+      refusal m i ≡ signals-walk owner queue ssem sval sop signals 0 zeros → m ≡ 0 →
+      last ≡ lasts-walk owner queue ssem sval sop signals 0 zeros → Tells (waits-found n signals wsem wval last) 0 r →
+      Tells (rules-by n signals owner queue wsem wval ssem sval sop) 0 r
   unfolding rules-by refusal
   rules-second m i {last} {r} e z l h =
       subst (λ (f : Refusal). Tells f 0 r)
-      (sym (or-else-second _ _ (ap (λ (x : Refusal). x .number) (sym e) ∙ z) ∙ ap (λ (x : List ℕ). waits-found n signals wsem wval x) (sym l))) h
+      (sym (or-else-second _ _ (ap (λ (x : Refusal). x .number) (sym e) ∙ z)
+      ∙ ap (λ (x : List ℕ). waits-found n signals wsem wval x) (sym l))) h
 
   pub sources-refused : (m i : ℕ) → refusal m i ≡ signals-walk owner queue ssem sval sop signals 0 zeros → (m ≡ 0 → ⊥) →
       Sources-by n signals owner queue wsem wval ssem sval sop wsem
   sources-refused m i e z = record {
     refused = λ g. refl;
-    resolved = λ f. clash (given (signals-walk owner queue ssem sval sop signals 0 zeros)) (ap given (sym e) ∙ refusal-given m i z) f;
+    resolved = λ f. clash (given (signals-walk owner queue ssem sval sop signals 0 zeros))
+        (ap given (sym e) ∙ refusal-given m i z) f;
   }
 
-  pub sources-resolved : (m i : ℕ) {source last : List ℕ} {r : Told} → refusal m i ≡ signals-walk owner queue ssem sval sop signals 0 zeros → m ≡ 0 →
+  pub sources-resolved : (m i : ℕ) {source last : List ℕ} {r : Told} →
+      refusal m i ≡ signals-walk owner queue ssem sval sop signals 0 zeros → m ≡ 0 →
       last ≡ lasts-walk owner queue ssem sval sop signals 0 zeros → Tells (waits-found n signals wsem wval last) 0 r →
-      Sources n signals (r .number) ssem sval sop wsem wval source → Sources-by n signals owner queue wsem wval ssem sval sop source
+      Sources n signals (r .number) ssem sval sop wsem wval source →
+      Sources-by n signals owner queue wsem wval ssem sval sop source
   unfolding refusal
   sources-resolved m i {source} {last} {r} e z l h left = record {
     refused = λ g. clash (given (signals-walk owner queue ssem sval sop signals 0 zeros)) g
-        (zero-not-given (signals-walk owner queue ssem sval sop signals 0 zeros) (ap (λ (x : Refusal). x .number) (sym e) ∙ z));
+        (zero-not-given (signals-walk owner queue ssem sval sop signals 0 zeros)
+        (ap (λ (x : Refusal). x .number) (sym e) ∙ z));
     resolved = λ f. subst (λ (k : ℕ). Sources n signals k ssem sval sop wsem wval source)
         (h .number ∙ ap (λ (x : List ℕ). waits-found n signals wsem wval x .number) l) left;
   }
 
 -- ---- 10 and 11
 module _ (n ran marks i : ℕ) (queue mark mop rows : List ℕ) where
-  pub order-stuck : ran < n → i ≡ first-zero n queue rows → Tells (order-by n ran marks queue mark mop rows) 0 (told 10 i)
+  pub order-stuck : ran < n → i ≡ first-zero n queue rows →
+      Tells (order-by n ran marks queue mark mop rows) 0 (told 10 i)
   unfolding order-by
   order-stuck l e = tells (rw (lt-ltb ran n l) (ap (λ (k : ℕ). refusal 10 k) (sym e)))
 
-  pub order-broken : n ≤ ran → i < n → i ≡ first-broken queue rows n marks mark mop → Tells (order-by n ran marks queue mark mop rows) 0 (told 11 i)
+  pub order-broken : n ≤ ran → i < n → i ≡ first-broken queue rows n marks mark mop →
+      Tells (order-by n ran marks queue mark mop rows) 0 (told 11 i)
   unfolding order-by
   order-broken l b e = tells (rw (le-ltb ran n l, ← e, lt-ltb i n b))
 
-  pub order-passed : n ≤ ran → n ≤ i → i ≡ first-broken queue rows n marks mark mop → Tells (order-by n ran marks queue mark mop rows) 0 (told 0 0)
+  pub order-passed : n ≤ ran → n ≤ i → i ≡ first-broken queue rows n marks mark mop →
+      Tells (order-by n ran marks queue mark mop rows) 0 (told 0 0)
   unfolding order-by none-given refusal
   order-passed l b e = tells (rw (le-ltb ran n l, ← e, le-ltb i n b))
 
 -- ---- what is left
-module _ (n ran marks : ℕ) (queue mark mop rows : List ℕ) {t t′ l l₁ l′ : List ℕ} {r : Told} (room : Room n t l)
+module _ (n ran marks : ℕ) (queue mark mop rows : List ℕ) {t t′ l l₁ l′ : List ℕ} {r : Told} (room : Results-room n t l)
     (bounded : Bounded n ran (replicate row-places 0) rows l l₁)
     (told-is : Tells (order-by n ran marks queue mark mop rows) 0 r)
-    (left : Left (r .number) n rows t t′ l₁ l′) where
+    (left : Results-left (r .number) n rows t t′ l₁ l′) where
   run-judged : Run-judged n marks queue mark mop r t t′ l l′
   run-judged = record {
     ran = ran;
@@ -89,8 +101,10 @@ module _ (n ran marks : ℕ) (queue mark mop rows : List ℕ) {t t′ l l₁ l�
         subst (λ (k : ℕ). k < n) (sym (told-is .place))
         (order-inside bounded (omega (arith, room .in-list)) marks queue mark mop (λ e. z (told-is .number ∙ e)));
     table-holds = by-cases (given (order-by n ran marks queue mark mop rows))
-        (λ g. left .refused-table (not-none g) ∙ sym (ap (λ (b : Bool). in-front (cond b (replicate (row-width * n) 0) (take (row-width * n) rows)) t) g))
-        (λ f. left .passed-table (is-none f) ∙ sym (ap (λ (b : Bool). in-front (cond b (replicate (row-width * n) 0) (take (row-width * n) rows)) t) f));
+        (λ g. left .refused-table (not-none g)
+        ∙ sym (ap (λ (b : Bool). in-front (cond b (replicate (row-width * n) 0) (take (row-width * n) rows)) t) g))
+        (λ f. left .passed-table (is-none f)
+        ∙ sym (ap (λ (b : Bool). in-front (cond b (replicate (row-width * n) 0) (take (row-width * n) rows)) t) f));
     list-holds = by-cases (given (order-by n ran marks queue mark mop rows))
         (λ g. left .refused-list (not-none g) ∙ front-alike (replicate (2 * n) 0) l₁ l (rw length-replicate past)
         ∙ sym (ap (λ (b : Bool). in-front (cond b (replicate (2 * n) 0) (take (2 * n) l₁)) l) g))
@@ -105,15 +119,19 @@ module _ (n ran marks : ℕ) (queue mark mop rows : List ℕ) {t t′ l l₁ l�
       in-list = front-taken (2 * n) l₁ l (omega (arith, bounded .long, room .in-list)) past
 
       not-none : given (order-by n ran marks queue mark mop rows) ≡ true → r .number ≡ 0 → ⊥
-      not-none g e = clash (given (order-by n ran marks queue mark mop rows)) g (zero-not-given (order-by n ran marks queue mark mop rows) (sym (told-is .number) ∙ e))
+      not-none g e =
+          clash (given (order-by n ran marks queue mark mop rows)) g
+          (zero-not-given (order-by n ran marks queue mark mop rows) (sym (told-is .number) ∙ e))
 
       is-none : given (order-by n ran marks queue mark mop rows) ≡ false → r .number ≡ 0
       is-none f = told-is .number ∙ not-given-zero (order-by n ran marks queue mark mop rows) f
 
   -- a run
-  pub answers-run : {first : Refusal} {lent : Told} → Tells first 0 lent → lent .number ≡ 0 → Answers-by first n marks queue mark mop r t t′ l l′
+  pub answers-run : {first : Refusal} {lent : Told} → Tells first 0 lent → lent .number ≡ 0 →
+      Answers-by first n marks queue mark mop r t t′ l l′
   answers-run {first} h z =
-      let none : (given first || ltb most-operations n) ≡ false = rw (zero-not-given first (sym (h .number) ∙ z)) (le-ltb most-operations n (room .few)) in
+      let none : (given first || ltb most-operations n) ≡ false =
+      rw (zero-not-given first (sym (h .number) ∙ z)) (le-ltb most-operations n (room .few)) in
       record { stopped = λ e. clash (given first || ltb most-operations n) e none; judged = λ e. run-judged }
 
 -- ---- no run
@@ -121,20 +139,25 @@ module _ {first : Refusal} {n marks : ℕ} {queue mark mop t l : List ℕ} {r : 
   pub answers-over : most-operations < n → Answers-by first n marks queue mark mop r t t l l
   answers-over b = record {
     stopped = λ e. (h, refl, refl);
-    judged = λ f. clash (given first || ltb most-operations n) (or-right (given first) (ltb most-operations n) (lt-ltb most-operations n b)) f;
+    judged = λ f. clash (given first || ltb most-operations n)
+        (or-right (given first) (ltb most-operations n) (lt-ltb most-operations n b)) f;
   }
 
   pub answers-first : (r .number ≡ 0 → ⊥) → Answers-by first n marks queue mark mop r t t l l
   answers-first z = record {
     stopped = λ e. (h, refl, refl);
-    judged = λ f. clash (given first || ltb most-operations n) (or-left (given first) (ltb most-operations n) (other-given first (λ e. z (h .number ∙ e)))) f;
+    judged = λ f. clash (given first || ltb most-operations n)
+        (or-left (given first) (ltb most-operations n) (other-given first (λ e. z (h .number ∙ e)))) f;
   }
 
 -- the first of two that is given
-pub first-then : {a : Refusal} (b : Refusal) {n marks : ℕ} {queue mark mop t t′ l l′ : List ℕ} {s r : Told} → Tells a 0 s → s .number ≡ 0 → Answers-by b n marks queue mark mop r t t′ l l′ →
+pub first-then : {a : Refusal} (b : Refusal) {n marks : ℕ} {queue mark mop t t′ l l′ : List ℕ} {s r : Told} →
+    Tells a 0 s → s .number ≡ 0 → Answers-by b n marks queue mark mop r t t′ l l′ →
     Answers-by (or-else a b) n marks queue mark mop r t t′ l l′
 first-then {a} b {n} {marks} {queue} {mark} {mop} {t} {t′} {l} {l′} {s} {r} h z x =
-    subst (λ (f : Refusal). Answers-by f n marks queue mark mop r t t′ l l′) (sym (or-else-second a b (sym (h .number) ∙ z))) x
+    subst (λ (f : Refusal). Answers-by f n marks queue mark mop r t t′ l l′)
+    (sym (or-else-second a b (sym (h .number) ∙ z))) x
 
 pub first-only : {a : Refusal} (b : Refusal) {r : Told} → Tells a 0 r → (r .number ≡ 0 → ⊥) → Tells (or-else a b) 0 r
-first-only {a} b {r} h z = subst (λ (f : Refusal). Tells f 0 r) (sym (or-else-first a b (other-given a (λ e. z (h .number ∙ e))))) h
+first-only {a} b {r} h z =
+    subst (λ (f : Refusal). Tells f 0 r) (sym (or-else-first a b (other-given a (λ e. z (h .number ∙ e))))) h

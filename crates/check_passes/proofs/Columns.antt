@@ -19,7 +19,8 @@ use Rattle.check_run.specs.Run.{Run-given, Rows-of}
 use Rattle.check_passes.specs.Given.{Check-given, Rules-given, Ruled, Order-given, Judge-given}
 
 -- ---- 6 to 8
-module _ {p : Plan} {n signals : ℕ} {owner queue wsem wval ssem sval sop : List ℕ} (g : Rules-given p n signals owner queue wsem wval ssem sval sop) where
+module _ {p : Plan} {n signals : ℕ} {owner queue wsem wval ssem sval sop : List ℕ}
+    (g : Rules-given p n signals owner queue wsem wval ssem sval sop) where
   pub signals-given : Signals-given p signals owner queue ssem sval sop
   signals-given = record {
     few-owners = g .limits .few-semaphores;
@@ -29,7 +30,8 @@ module _ {p : Plan} {n signals : ℕ} {owner queue wsem wval ssem sval sop : Lis
     signals-shown = g .signals-shown;
   }
 
-  pub waits-given : {j : Signalled} → Judged p j → j .number ≡ 0 → Waits-given p n signals ssem sval sop wsem wval (j .last)
+  pub waits-given : {j : Signalled} → Judged p j → j .number ≡ 0 →
+      Waits-given p n signals ssem sval sop wsem wval (j .last)
   waits-given j z = record {
     operations = g .many;
     few = subst (λ (k : ℕ). k ≤ most-operations) (g .many) (few-operations (g .limits));
@@ -42,8 +44,10 @@ module _ {p : Plan} {n signals : ℕ} {owner queue wsem wval ssem sval sop : Lis
   }
 
 -- ---- the whole check
-module _ {p : Plan} {n signals marks : ℕ} {owner : List ℕ} {cs : Columns} (g : Check-given p n signals marks owner cs) where
-  pub rules-given : Rules-given p n signals owner (cs .queue) (cs .wait-semaphore) (cs .wait-value) (cs .signal-semaphore) (cs .signal-value) (cs .signal-operation)
+module _ {p : Plan} {n signals marks : ℕ} {owner : List ℕ} {cs : Columns}
+    (g : Check-given p n signals marks owner cs) where
+  pub rules-given : Rules-given p n signals owner (cs .queue) (cs .wait-semaphore) (cs .wait-value)
+      (cs .signal-semaphore) (cs .signal-value) (cs .signal-operation)
   rules-given = record {
     limits = g .limits;
     many = g .many;
@@ -53,7 +57,8 @@ module _ {p : Plan} {n signals marks : ℕ} {owner : List ℕ} {cs : Columns} (g
     signals-shown = g .shown .signals-shown;
   }
 
-  pub order-given : {t : Told} {source : List ℕ} → Ruled p t source → t .number ≡ 0 → Order-given p n marks (cs .queue) source (cs .mark) (cs .mark-operation)
+  pub order-given : {t : Told} {source : List ℕ} → Ruled p t source → t .number ≡ 0 →
+      Order-given p n marks (cs .queue) source (cs .mark) (cs .mark-operation)
   order-given ruled z = record {
     limits = g .limits;
     rules = sym (ruled .told .number) ∙ z;
@@ -64,7 +69,8 @@ module _ {p : Plan} {n signals marks : ℕ} {owner : List ℕ} {cs : Columns} (g
   }
 
 -- ---- the order
-module _ {p : Plan} {n marks : ℕ} {queue source mark mop : List ℕ} (g : Order-given p n marks queue source mark mop) where
+module _ {p : Plan} {n marks : ℕ} {queue source mark mop : List ℕ}
+    (g : Order-given p n marks queue source mark mop) where
   pub order-sound : Sound p
   order-sound = limits-sound p (g .limits) (g .rules)
 
@@ -80,7 +86,8 @@ module _ {p : Plan} {n marks : ℕ} {queue source mark mop : List ℕ} (g : Orde
     sources = g .sources-shown;
   }
 
-  pub judge-given : (ran : ℕ) (rows : List ℕ) → ran ≡ length (standard p) → Rows-of p (standard p) rows → Judge-given p n ran marks queue mark mop rows
+  pub judge-given : (ran : ℕ) (rows : List ℕ) → ran ≡ length (standard p) → Rows-of p (standard p) rows →
+      Judge-given p n ran marks queue mark mop rows
   judge-given ran rows long filled = record {
     sound = order-sound;
     many = g .many;

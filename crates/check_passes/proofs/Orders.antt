@@ -21,7 +21,8 @@ use Rattle.plan_format.specs.Stored.{Tells}
 use Rattle.plan_format.specs.declared.Told.{Told}
 use Rattle.plan_format.proofs.Telling.{told, tells}
 use Rattle.plan_format.proofs.Judged.{zero-not-given, not-given-zero}
-use Rattle.plan_order.specs.Check.{room-refusal, refused-at, order-refusal, zeros, rows-and-run, Outcome, outcome, or-then, plan-outcome, table-left, list-left, left-in, Says, Plan-check-says}
+use Rattle.plan_order.specs.Check.{room-refusal, refused-at, order-refusal, zeros, rows-and-run, Outcome, outcome}
+use Rattle.plan_order.specs.Check.{or-then, plan-outcome, table-left, list-left, left-in, Says, Plan-check-says}
 use Rattle.plan_order.specs.Holdings.{broken}
 use Rattle.plan_order.specs.Rows.{rows}
 use Rattle.plan_order.specs.Runs.{standard, missing}
@@ -30,7 +31,7 @@ use Rattle.plan_order.proofs.Standard.{standard-full, missing-some, missing-non
 use Rattle.check_columns.specs.Columns.{Row-columns}
 use Rattle.check_run.specs.Run.{Rows-of, Ran}
 use Rattle.check_marks.specs.Given.{Marks-given}
-use Rattle.check_passes.specs.Leaving.{Room, Left}
+use Rattle.check_passes.specs.Leaving.{Results-room, Results-left}
 use Rattle.check_passes.specs.Given.{Judge-given}
 use Rattle.check_passes.proofs.Untouched.{room-enough}
 
@@ -45,20 +46,26 @@ module _ (p : Plan) (sound : Sound p) where
       (λ j e. let w = missing-some p known j e in
       clash (member j (standard p)) (full-has p (standard p) (standard-full p known l) j (w .0)) (w .1))
 
-  all-rows : (rows-now : List ℕ) → count p ≤ length (standard p) → Rows-of p (standard p) rows-now → Row-columns p (λ j. j < count p) rows-now
+  all-rows : (rows-now : List ℕ) → count p ≤ length (standard p) → Rows-of p (standard p) rows-now →
+      Row-columns p (λ j. j < count p) rows-now
   unfolding Row-columns
   all-rows rows-now l filled j q b c = filled .ran j q (full-has p (standard p) (standard-full p known l) j b) c
 
 -- ---- refusals 10 and 11
 found : (n i : ℕ) (o : Option ℕ) → i ≡ place-or n o → i < n → o ≡ some i
 unfolding place-or
-found n i o e l = by-option o (λ z. absurd (let h : i ≡ n = rw z at e in omega arith)) (λ j z. let h : i ≡ j = rw z at e in z ∙ ap some (sym h))
+found n i o e l =
+    by-option o (λ z. absurd (let h : i ≡ n = rw z at e in omega arith))
+    (λ j z. let h : i ≡ j = rw z at e in z ∙ ap some (sym h))
 
-nothing-found : (n i : ℕ) (o : Option ℕ) → ((j : ℕ) → o ≡ some j → j < n) → i ≡ place-or n o → n ≤ i → _≡_ {A = Option ℕ} o none
+nothing-found : (n i : ℕ) (o : Option ℕ) → ((j : ℕ) → o ≡ some j → j < n) → i ≡ place-or n o → n ≤ i →
+    _≡_ {A = Option ℕ} o none
 unfolding place-or
-nothing-found n i o small e l = by-option o (λ z. z) (λ j z. absurd (let h : i ≡ j = rw z at e in omega (arith, small j z)))
+nothing-found n i o small e l =
+    by-option o (λ z. z) (λ j z. absurd (let h : i ≡ j = rw z at e in omega (arith, small j z)))
 
-module _ {p : Plan} {n ran marks : ℕ} {queue mark mop rows-now : List ℕ} (shown : Judge-given p n ran marks queue mark mop rows-now) where
+module _ {p : Plan} {n ran marks : ℕ} {queue mark mop rows-now : List ℕ}
+    (shown : Judge-given p n ran marks queue mark mop rows-now) where
   pub stuck-told : {i : ℕ} → ran < n → i ≡ place-or n (missing p) → Tells (order-refusal p) 0 (told 10 i)
   unfolding order-refusal refused-at place-or
   stuck-told {i} l e =
@@ -94,7 +101,8 @@ module _ {p : Plan} {n ran marks : ℕ} {queue mark mop rows-now : List ℕ} (sh
   passed-told {i} l b e =
       tells (rw (none-missing p (shown .sound) (whole l), nothing-found n i (broken p) broken-small e b))
 
-passed-means : (p : Plan) → order-refusal p .number ≡ 0 → (_≡_ {A = Option ℕ} (missing p) none) × (order-refusal p ≡ none-given)
+passed-means : (p : Plan) → order-refusal p .number ≡ 0 →
+    (_≡_ {A = Option ℕ} (missing p) none) × (order-refusal p ≡ none-given)
 unfolding order-refusal refused-at refusal
 passed-means p e =
     by-option (missing p)
@@ -102,7 +110,8 @@ passed-means p e =
     (λ i m. absurd (let z : 10 ≡ 0 = rw m at e in omega arith))
 
 -- ---- what is left
-rows-taken : (p : Plan) (rows-now : List ℕ) → row-width * count p ≤ length rows-now → Row-columns p (λ j. j < count p) rows-now → take (row-width * count p) rows-now ≡ rows p
+rows-taken : (p : Plan) (rows-now : List ℕ) → row-width * count p ≤ length rows-now →
+    Row-columns p (λ j. j < count p) rows-now → take (row-width * count p) rows-now ≡ rows p
 unfolding Row-columns
 rows-taken p rows-now room shows =
     let long = length-take-le (row-width * count p) rows-now room in
@@ -118,19 +127,27 @@ rows-taken p rows-now room shows =
     ∙ sym (rows-at p (k / row-width) (k % row-width) j-inside q-inside)
     ∙ ap (λ (x : ℕ). getD (rows p) x 0) place)
 
-module _ (p : Plan) {n ran : ℕ} {rows-now : List ℕ} {r : Told} {t t′ l l₁ l′ : List ℕ} (sound : Sound p) (many : count p ≡ n) (room : Room n t l)
-    (run : Ran p n ran rows-now l l₁) (told-is : Tells (order-refusal p) 0 r) (left : Left (r .number) n rows-now t t′ l₁ l′) where
-  ordered : plan-outcome p (length t) (length l) ≡ or-then (outcome (order-refusal p) zeros) (outcome none-given rows-and-run)
+module _ (p : Plan) {n ran : ℕ} {rows-now : List ℕ} {r : Told} {t t′ l l₁ l′ : List ℕ} (sound : Sound p)
+    (many : count p ≡ n) (room : Results-room n t l)
+    (run : Ran p n ran rows-now l l₁) (told-is : Tells (order-refusal p) 0 r)
+    (left : Results-left (r .number) n rows-now t t′ l₁ l′) where
+  ordered : plan-outcome p (length t) (length l) ≡
+      or-then (outcome (order-refusal p) zeros) (outcome none-given rows-and-run)
   unfolding plan-outcome or-then outcome refusal
   ordered =
       let enough : room-refusal (count p) (length t) (length l) .number ≡ 0 =
-      ap (λ (k : ℕ). room-refusal k (length t) (length l) .number) many ∙ ap (λ (f : Refusal). f .number) (room-enough n (length t) (length l) (room .in-table) (room .in-list)) in
-      rw (zero-not-given (rules-refusal p) (sound .rules), zero-not-given (room-refusal (count p) (length t) (length l)) enough)
+      ap (λ (k : ℕ). room-refusal k (length t) (length l) .number) many
+      ∙ ap (λ (f : Refusal). f .number) (room-enough n (length t) (length l) (room .in-table) (room .in-list)) in
+      rw (
+        zero-not-given (rules-refusal p) (sound .rules),
+        zero-not-given (room-refusal (count p) (length t) (length l)) enough,
+      )
 
   refused-says : given (order-refusal p) ≡ true → Plan-check-says p r t t′ l l′
   unfolding Plan-check-says or-then outcome table-left list-left left-in
   refused-says g =
-      let z : r .number ≡ 0 → ⊥ = λ e. clash (given (order-refusal p)) g (zero-not-given (order-refusal p) (sym (told-is .number) ∙ e)) in
+      let z : r .number ≡ 0 → ⊥ = λ e.
+      clash (given (order-refusal p)) g (zero-not-given (order-refusal p) (sym (told-is .number) ∙ e)) in
       let same : plan-outcome p (length t) (length l) ≡ outcome (order-refusal p) zeros = ordered ∙ rw g in
       subst (λ (o : Outcome). Says o 0 p r t t′ l l′) (sym same)
       (record {
@@ -148,11 +165,13 @@ module _ (p : Plan) {n ran : ℕ} {rows-now : List ℕ} {r : Told} {t t′ l l�
       let some-run = missing-none p (known p sound) (passed-means p e .0) in
       let full = full-run p (standard p) (standard-full p (known p sound) some-run) .1 in
       let taken = rows-taken p rows-now (rw many (left .long z)) (all-rows p sound rows-now some-run (run .filled)) in
-      let same : plan-outcome p (length t) (length l) ≡ outcome none-given rows-and-run = ordered ∙ rw (zero-not-given (order-refusal p) e) in
+      let same : plan-outcome p (length t) (length l) ≡ outcome none-given rows-and-run =
+      ordered ∙ rw (zero-not-given (order-refusal p) e) in
       subst (λ (o : Outcome). Says o 0 p r t t′ l l′) (sym same)
       (record {
         tells = subst (λ (f : Refusal). Tells f 0 r) (passed-means p e .1) told-is;
-        table-holds = left .passed-table z ∙ ap (λ (x : List ℕ). in-front x t) (ap (λ (k : ℕ). take (row-width * k) rows-now) (sym many) ∙ taken);
+        table-holds = left .passed-table z
+            ∙ ap (λ (x : List ℕ). in-front x t) (ap (λ (k : ℕ). take (row-width * k) rows-now) (sym many) ∙ taken);
         list-holds = left .passed-list z ∙ run .whole (run .many ∙ full ∙ many);
       })
 

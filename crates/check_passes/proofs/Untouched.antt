@@ -13,7 +13,8 @@ use Rattle.plan_format.specs.declared.Told.{Told}
 use Rattle.plan_format.proofs.Judged.{zero-not-given, other-given, or-else-none}
 use Rattle.plan_format.proofs.Telling.{told, tells-as, tells-answerless}
 use Rattle.plan_format.proofs.RoomMeaning.{room-for-none}
-use Rattle.plan_order.specs.Check.{room-refusal, Outcome, untouched, outcome, or-then, plan-outcome, table-left, list-left, left-in, Says, Plan-check-says}
+use Rattle.plan_order.specs.Check.{room-refusal, Outcome, untouched, outcome, or-then, plan-outcome, table-left}
+use Rattle.plan_order.specs.Check.{list-left, left-in, Says, Plan-check-says}
 use Rattle.check_signals.specs.declared.Signalled.{Signalled}
 use Rattle.check_signals.specs.Walks.{Judged}
 use Rattle.check_waits.specs.Waits.{Resolved}
@@ -24,21 +25,26 @@ use Rattle.check_passes.specs.Given.{Ruled}
 module _ {p : Plan} {j : Signalled} (judged : Judged p j) {source : List ℕ} where
   pub six-or-seven : (j .number ≡ 0 → ⊥) → Ruled p (told (j .number) (j .place)) source
   six-or-seven z = record {
-    told = subst (λ (f : Refusal). Tells f 0 (told (j .number) (j .place))) (sym (six-seven-first p (λ e. z (judged .number ∙ e)))) (tells-as (judged .number) (judged .place));
+    told = subst (λ (f : Refusal). Tells f 0 (told (j .number) (j .place)))
+        (sym (six-seven-first p (λ e. z (judged .number ∙ e)))) (tells-as (judged .number) (judged .place));
     sources-shown = λ e. absurd (z e);
   }
 
   pub eight : {w : Told} → j .number ≡ 0 → w .answer ≡ 0 → Resolved p w source → Ruled p w source
   eight {w} z none resolved = record {
-    told = subst (λ (f : Refusal). Tells f 0 w) (sym (then-eight p (sym (judged .number) ∙ z))) (tells-answerless none (resolved .number) (resolved .place));
+    told = subst (λ (f : Refusal). Tells f 0 w) (sym (then-eight p (sym (judged .number) ∙ z)))
+        (tells-answerless none (resolved .number) (resolved .place));
     sources-shown = resolved .sources-shown;
   }
 
 -- ---- table and list untouched
 module _ (p : Plan) (r : Told) (t l : List ℕ) where
-  says-untouched : (f : Refusal) → plan-outcome p (length t) (length l) ≡ outcome f untouched → Tells f 0 r → Plan-check-says p r t t l l
+  says-untouched : (f : Refusal) → plan-outcome p (length t) (length l) ≡ outcome f untouched → Tells f 0 r →
+      Plan-check-says p r t t l l
   unfolding Plan-check-says outcome table-left list-left left-in
-  says-untouched f e h = subst (λ (o : Outcome). Says o 0 p r t t l l) (sym e) (record { tells = h; table-holds = refl; list-holds = refl })
+  says-untouched f e h =
+      subst (λ (o : Outcome). Says o 0 p r t t l l) (sym e)
+      (record { tells = h; table-holds = refl; list-holds = refl })
 
   -- 6 to 8
   pub not-ruled : Tells (rules-refusal p) 0 r → (r .number ≡ 0 → ⊥) → Plan-check-says p r t t l l
@@ -46,11 +52,13 @@ module _ (p : Plan) (r : Told) (t l : List ℕ) where
   not-ruled h z = says-untouched (rules-refusal p) (rw (other-given (rules-refusal p) (λ e. z (h .number ∙ e)))) h
 
   -- 9
-  pub no-room : (n : ℕ) → count p ≡ n → rules-refusal p .number ≡ 0 → Tells (room-refusal n (length t) (length l)) 0 r → (r .number ≡ 0 → ⊥) → Plan-check-says p r t t l l
+  pub no-room : (n : ℕ) → count p ≡ n → rules-refusal p .number ≡ 0 → Tells (room-refusal n (length t) (length l)) 0 r →
+      (r .number ≡ 0 → ⊥) → Plan-check-says p r t t l l
   unfolding plan-outcome or-then outcome
   no-room n many good h z =
       let f = room-refusal n (length t) (length l) in
-      let same : room-refusal (count p) (length t) (length l) ≡ f = ap (λ (k : ℕ). room-refusal k (length t) (length l)) many in
+      let same : room-refusal (count p) (length t) (length l) ≡ f =
+      ap (λ (k : ℕ). room-refusal k (length t) (length l)) many in
       says-untouched f (rw (zero-not-given (rules-refusal p) good, same, other-given f (λ e. z (h .number ∙ e)))) h
 
 -- ---- the room
@@ -68,7 +76,8 @@ module _ (n t l : ℕ) where
   room-enough h k = rw (le-ltb t (row-width * n) h, le-ltb l (2 * n) k)
 
 -- no refusal is enough room
-pub has-room : (n t l : ℕ) {r : Told} → Tells (room-refusal n t l) 0 r → r .number ≡ 0 → (row-width * n ≤ t) × (2 * n ≤ l)
+pub has-room : (n t l : ℕ) {r : Told} → Tells (room-refusal n t l) 0 r → r .number ≡ 0 →
+    (row-width * n ≤ t) × (2 * n ≤ l)
 unfolding room-refusal
 has-room n t l h z =
     let (a, b) = or-else-none (room-for (row-width * n) t) (room-for (2 * n) l) (sym (h .number) ∙ z) in

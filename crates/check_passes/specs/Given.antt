@@ -10,7 +10,8 @@ use Rattle.plan_format.specs.Sound.{Sound, rules-refusal}
 use Rattle.plan_format.specs.Stored.{Tells}
 use Rattle.plan_format.specs.declared.Told.{Told}
 use Rattle.plan_order.specs.Runs.{standard}
-use Rattle.check_columns.specs.Columns.{Columns, Owner-column, Queue-column, Wait-columns, Signal-columns, Mark-columns, Source-column}
+use Rattle.check_columns.specs.Columns.{Columns, Owner-column, Queue-column, Wait-columns, Signal-columns, Mark-columns}
+use Rattle.check_columns.specs.Columns.{Source-column}
 use Rattle.check_columns.specs.Shown.{Columns-of}
 use Rattle.check_run.specs.Run.{Rows-of}
 

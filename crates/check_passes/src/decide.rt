@@ -27,8 +27,12 @@ pub fn check_order(
     table: &mut [u32],
     list: &mut [u32],
 ) -> Told
-    ensures answers { λ r. ⌜ Answers-by (room-refusal n (length (now (table .entry))) (length (now (list .entry)))) n marks (now (queue .entry)) (now (mark .entry)) (now (mop .entry)) r (now (table .entry)) (now (table .exit)) (now (list .entry)) (now (list .exit)) ⌝ }
-    ensures of_plans { λ r. ⌜ ((p : Plan) → Order-given p n marks (now (queue .entry)) (now (source .entry)) (now (mark .entry)) (now (mop .entry)) →
+    ensures answers { λ r. ⌜ Answers-by
+        (room-refusal n (length (now (table .entry))) (length (now (list .entry)))) n marks (now (queue .entry))
+        (now (mark .entry)) (now (mop .entry)) r (now (table .entry)) (now (table .exit)) (now (list .entry))
+        (now (list .exit)) ⌝ }
+    ensures of_plans { λ r. ⌜ ((p : Plan) →
+        Order-given p n marks (now (queue .entry)) (now (source .entry)) (now (mark .entry)) (now (mop .entry)) →
         Plan-check-says p r (now (table .entry)) (now (table .exit)) (now (list .entry)) (now (list .exit))) ⌝ }
 {
     let lent = room(n, table.len(), list.len());
@@ -70,8 +74,11 @@ fn judge(
     mop: &MarkColumn,
     rows: &Rows,
 ) -> Told
-    ensures told { λ r. ⌜ Tells (order-by n ran marks (now (queue .entry)) (now (mark .entry)) (now (mop .entry)) (now (rows .entry))) 0 r ⌝ }
-    ensures of_plans { λ r. ⌜ ((p : Plan) → Judge-given p n ran marks (now (queue .entry)) (now (mark .entry)) (now (mop .entry)) (now (rows .entry)) → Tells (order-refusal p) 0 r) ⌝ }
+    ensures told { λ r. ⌜ Tells
+        (order-by n ran marks (now (queue .entry)) (now (mark .entry)) (now (mop .entry)) (now (rows .entry))) 0 r ⌝ }
+    ensures of_plans { λ r. ⌜ ((p : Plan) →
+        Judge-given p n ran marks (now (queue .entry)) (now (mark .entry)) (now (mop .entry)) (now (rows .entry)) →
+        Tells (order-refusal p) 0 r) ⌝ }
 {
     let many = n as usize;
     if ran < many {

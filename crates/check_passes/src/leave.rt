@@ -5,12 +5,13 @@ ghost use mathlib.Core.Path.{_≡_};
 ghost use Prim.Native.Nat.{_≤_};
 ghost use lib.ListN.{length, take, replicate};
 ghost use Rattle.base_lists.specs.Lists.{in-front};
-ghost use Rattle.check_passes.specs.Leaving.{Room, Left};
+ghost use Rattle.check_passes.specs.Leaving.{Results-room, Results-left};
 
 // Zeros over both on a refusal; else the rows in the table, the run being in the list already.
 pub fn results(number: u32, n: u16, from: &Rows, table: &mut [u32], list: &mut [u32])
-    requires { ⌜ Room n (now table) (now list) ⌝ }
-    ensures { λ _. ⌜ Left number n (now (from .entry)) (now (table .entry)) (now (table .exit)) (now (list .entry)) (now (list .exit)) ⌝ }
+    requires { ⌜ Results-room n (now table) (now list) ⌝ }
+    ensures { λ _. ⌜ Results-left number n (now (from .entry)) (now (table .entry)) (now (table .exit))
+        (now (list .entry)) (now (list .exit)) ⌝ }
 {
     let many = n as usize;
     if number == 0 {

@@ -42,14 +42,19 @@ pub fn judge_columns(
     list: &mut [u32],
 ) -> Told
     ensures answers { λ r. ⌜ Answers-by (or-else
-        (rules-by n signals (now (owner .entry)) (now (queue .entry)) (now (wait .entry)) (now (wval .entry)) (now (ssem .entry)) (now (sval .entry)) (now (sop .entry)))
+        (rules-by n signals (now (owner .entry)) (now (queue .entry)) (now (wait .entry)) (now (wval .entry))
+        (now (ssem .entry)) (now (sval .entry)) (now (sop .entry)))
         (room-refusal n (length (now (table .entry))) (length (now (list .entry)))))
-        n marks (now (queue .entry)) (now (mark .entry)) (now (mop .entry)) r (now (table .entry)) (now (table .exit)) (now (list .entry)) (now (list .exit)) ⌝ }
-    ensures sources { λ _. ⌜ Sources-by n signals (now (owner .entry)) (now (queue .entry)) (now (wait .entry)) (now (wval .entry)) (now (ssem .entry)) (now (sval .entry)) (now (sop .entry))
+        n marks (now (queue .entry)) (now (mark .entry)) (now (mop .entry)) r (now (table .entry)) (now (table .exit))
+        (now (list .entry)) (now (list .exit)) ⌝ }
+    ensures sources { λ _. ⌜ Sources-by n signals (now (owner .entry)) (now (queue .entry)) (now (wait .entry))
+        (now (wval .entry)) (now (ssem .entry)) (now (sval .entry)) (now (sop .entry))
         (now (wait .exit)) ⌝ }
     ensures of_plans { λ r. ⌜ ((p : Plan) → Check-given p n signals marks (now (owner .entry))
-        (columns (now (queue .entry)) (now (wait .entry)) (now (wval .entry)) (now (ssem .entry)) (now (sval .entry)) (now (sop .entry)) (now (mark .entry)) (now (mop .entry))) →
-        Plan-check-says p r (now (table .entry)) (now (table .exit)) (now (list .entry)) (now (list .exit)) × (rules-refusal p .number ≡ 0 → Source-column p (now (wait .exit)))) ⌝ }
+        (columns (now (queue .entry)) (now (wait .entry)) (now (wval .entry)) (now (ssem .entry)) (now (sval .entry))
+        (now (sop .entry)) (now (mark .entry)) (now (mop .entry))) →
+        Plan-check-says p r (now (table .entry)) (now (table .exit)) (now (list .entry)) (now (list .exit)) ×
+        (rules-refusal p .number ≡ 0 → Source-column p (now (wait .exit)))) ⌝ }
 {
     let ruled = rules(n, signals, owner, queue, wait, wval, ssem, sval, sop);
     if ruled.number != 0 {
@@ -70,10 +75,14 @@ fn rules(
     sval: &SignalValues,
     sop: &SignalColumn,
 ) -> Told
-    ensures told { λ r. ⌜ Tells (rules-by n signals (now (owner .entry)) (now (queue .entry)) (now (wait .entry)) (now (wval .entry)) (now (ssem .entry)) (now (sval .entry)) (now (sop .entry))) 0 r ⌝ }
-    ensures sources { λ _. ⌜ Sources-by n signals (now (owner .entry)) (now (queue .entry)) (now (wait .entry)) (now (wval .entry)) (now (ssem .entry)) (now (sval .entry)) (now (sop .entry))
+    ensures told { λ r. ⌜ Tells (rules-by n signals (now (owner .entry)) (now (queue .entry)) (now (wait .entry))
+        (now (wval .entry)) (now (ssem .entry)) (now (sval .entry)) (now (sop .entry))) 0 r ⌝ }
+    ensures sources { λ _. ⌜ Sources-by n signals (now (owner .entry)) (now (queue .entry)) (now (wait .entry))
+        (now (wval .entry)) (now (ssem .entry)) (now (sval .entry)) (now (sop .entry))
         (now (wait .exit)) ⌝ }
-    ensures of_plans { λ r. ⌜ ((p : Plan) → Rules-given p n signals (now (owner .entry)) (now (queue .entry)) (now (wait .entry)) (now (wval .entry)) (now (ssem .entry)) (now (sval .entry)) (now (sop .entry)) →
+    ensures of_plans { λ r. ⌜ ((p : Plan) →
+        Rules-given p n signals (now (owner .entry)) (now (queue .entry)) (now (wait .entry)) (now (wval .entry))
+        (now (ssem .entry)) (now (sval .entry)) (now (sop .entry)) →
         Ruled p r (now (wait .exit))) ⌝ }
 {
     let signalled = check_signals::judge(signals, owner, queue, ssem, sval, sop);

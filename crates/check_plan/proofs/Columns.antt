@@ -23,7 +23,8 @@ module _ {bs head : List ℕ} {cs : Columns} {r : Loaded} (l : Loads bs r head c
   pub loaded-read : {source : List ℕ} (n i : ℕ) →
       (scanned bs .fault .number ≡ 0 → rules-refusal (plan-in bs) .number ≡ 0 → Source-column (plan-in bs) source) →
       scanned bs .fault .number ≡ 0 →
-      Read-plan (plan-in bs) (opened-of r n i) (lent head (cs .queue) source (cs .signal-semaphore) (cs .signal-value) (cs .signal-operation) (cs .mark) (cs .mark-operation))
+      Read-plan (plan-in bs) (opened-of r n i) (lent head (cs .queue) source (cs .signal-semaphore) (cs .signal-value)
+      (cs .signal-operation) (cs .mark) (cs .mark-operation))
   loaded-read n i sources z =
       let clean = l .number ∙ z in
       record {
@@ -38,7 +39,8 @@ module _ {bs head : List ℕ} {cs : Columns} {r : Loaded} (l : Loads bs r head c
     pub loaded-clean : scanned bs .fault .number ≡ 0
     loaded-clean = sym (l .number) ∙ z
 
-    pub loaded-given : (owner : List ℕ) → Owner-column (plan-in bs) owner → Check-given (plan-in bs) (r .operations) (r .signals) (r .marks) owner cs
+    pub loaded-given : (owner : List ℕ) → Owner-column (plan-in bs) owner →
+        Check-given (plan-in bs) (r .operations) (r .signals) (r .marks) owner cs
     loaded-given owner o = record {
       limits = scanned-limits bs loaded-clean;
       many = sym (l .sizes .operations ∙ rw (zero-not-given (scanned bs .fault) loaded-clean));

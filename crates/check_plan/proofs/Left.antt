@@ -6,7 +6,7 @@ use native.Mathlib.Omega.{arith}
 use Rattle.plan_format.specs.Sizes.{most-waits}
 use Rattle.plan_order.specs.Meaning.{Past-kept}
 use Rattle.check_columns.specs.Columns.{Columns}
-use Rattle.check_load.specs.Loading.{Kept-past, Loads, Left}
+use Rattle.check_load.specs.Loading.{Kept-past, Loads, Load-left}
 use Rattle.check_load.specs.declared.Loaded.{Loaded}
 use Rattle.check_plan.specs.Counting.{opened-of}
 use Rattle.check_plan.specs.Opening.{Lent, lent, lent-columns, Lent-left}
@@ -42,7 +42,7 @@ with-sources {i} head head-now k s = record {
 }
 
 module _ {bs head head-now owner owner-now : List ℕ} {r : Loaded} {cs cs′ : Columns} (loads : Loads bs r head-now cs′)
-    (left : Left bs r head head-now owner owner-now cs cs′) (n i : ℕ) where
+    (left : Load-left bs r head head-now owner owner-now cs cs′) (n i : ℕ) where
   -- a plan that the reader refuses
   pub left-refused : (r .number ≡ 0 → ⊥) →
       Lent-left bs (opened-of r n i) (lent-by head cs (cs .wait-semaphore)) (lent-by head-now cs′ (cs′ .wait-semaphore))
@@ -53,7 +53,8 @@ module _ {bs head head-now owner owner-now : List ℕ} {r : Loaded} {cs cs′ : 
   }
 
   -- a plan that is judged
-  pub left-judged : r .number ≡ 0 → {source : List ℕ} → Past-kept (most-waits * r .operations) (cs′ .wait-semaphore) source →
+  pub left-judged : r .number ≡ 0 → {source : List ℕ} →
+      Past-kept (most-waits * r .operations) (cs′ .wait-semaphore) source →
       Lent-left bs (opened-of r n i) (lent-by head cs (cs .wait-semaphore)) (lent-by head-now cs′ source)
   left-judged z s = record {
     head-is = left .head-is;

@@ -15,7 +15,8 @@ use Rattle.plan_format.specs.Sound.{Sound, rules-refusal}
 use Rattle.plan_format.specs.Stored.{scanned, plan-in, plan-refusal}
 use Rattle.plan_format.proofs.Judged.{zero-not-given, not-given-zero, or-else-none}
 use Rattle.plan_format.proofs.Plans.{sound-in, scanned-limits}
-use Rattle.plan_order.specs.Check.{room-refusal, order-refusal, Leaves, untouched, zeros, rows-and-run, Outcome, outcome, or-then, check-outcome, left-in, table-left, Check-says}
+use Rattle.plan_order.specs.Check.{room-refusal, order-refusal, Leaves, untouched, zeros, rows-and-run, Outcome}
+use Rattle.plan_order.specs.Check.{outcome, or-then, check-outcome, left-in, table-left, Check-says}
 use Rattle.plan_order.specs.Rows.{rows}
 use Rattle.plan_order.specs.Promise.{Checked}
 use Rattle.plan_order.proofs.OutcomeMeaning.{passed-leaves}
@@ -32,7 +33,8 @@ unfolding or-then
 or-then-none a b z =
     by-cases (given (a .refusal))
     (λ g. let same : or-then a b ≡ a = rw g in
-    clash (given (a .refusal)) g (zero-not-given (a .refusal) (sym (ap (λ (o : Outcome). o .refusal .number) same) ∙ z)))
+    clash (given (a .refusal)) g
+    (zero-not-given (a .refusal) (sym (ap (λ (o : Outcome). o .refusal .number) same) ∙ z)))
     (λ f. (not-given-zero (a .refusal) f, rw f))
 
 -- a passed check refuses nothing of the plan, and nothing of its order
@@ -61,7 +63,8 @@ rows-in-front p t j q l b =
     front-at (rows p) t (row-width * j + q) 0 inside ∙ rows-at p j q l b ∙ sym (row-at p j q b)
 
 module _ {bs : List ℕ} {c : Counted} {t x l y : List ℕ} (sizes : Sizes-told bs c)
-    (checked : Checked bs (record { number = c .number; place = c .place; answer = 0 }) t x l y) (passed : c .number ≡ 0) where
+    (checked : Checked bs (record { number = c .number; place = c .place; answer = 0 }) t x l y)
+    (passed : c .number ≡ 0) where
   none-refused : check-outcome bs (length t) (length l) .refusal .number ≡ 0
   unfolding Check-says
   none-refused = sym (checked .says .tells .number) ∙ passed
@@ -79,10 +82,13 @@ module _ {bs : List ℕ} {c : Counted} {t x l y : List ℕ} (sizes : Sizes-told 
   rows-lie : x ≡ in-front (rows (plan-in bs)) t
   unfolding Check-says table-left left-in
   rows-lie =
-      checked .says .table-holds ∙ ap (λ (v : Leaves). table-left v (plan-in bs) t) (passed-leaves bs (length t) (length l) none-refused)
+      checked .says .table-holds
+      ∙ ap (λ (v : Leaves). table-left v (plan-in bs) t) (passed-leaves bs (length t) (length l) none-refused)
 
   rows-shown : Row-columns (plan-in bs) (λ j. j < count (plan-in bs)) x
-  rows-shown = subst (λ (z : List ℕ). Row-columns (plan-in bs) (λ j. j < count (plan-in bs)) z) (sym rows-lie) (rows-in-front (plan-in bs) t)
+  rows-shown =
+      subst (λ (z : List ℕ). Row-columns (plan-in bs) (λ j. j < count (plan-in bs)) z) (sym rows-lie)
+      (rows-in-front (plan-in bs) t)
 
   -- ---- the counts
   queues-are : c .queues ≡ queues (plan-in bs)
@@ -105,10 +111,16 @@ module _ {bs : List ℕ} {c : Counted} {t x l y : List ℕ} (sizes : Sizes-told 
   unfolding in-front
   rows-long =
       let all = rows (plan-in bs) in
-      omega (arith, ap length rows-lie ∙ length-append all (drop (length all) t), rows-length (plan-in bs), operations-are)
+      omega (
+        arith,
+        ap length rows-lie ∙ length-append all (drop (length all) t),
+        rows-length (plan-in bs),
+        operations-are,
+      )
 
   -- ---- the opened plan
-  pub opened-plan : {signals marks : ℕ} {lent : Lent} → Read-plan (plan-in bs) (record { counted = c; signals = signals; marks = marks }) lent →
+  pub opened-plan : {signals marks : ℕ} {lent : Lent} →
+      Read-plan (plan-in bs) (record { counted = c; signals = signals; marks = marks }) lent →
       Opened-plan (plan-in bs) (record { counted = c; signals = signals; marks = marks }) lent x
   opened-plan read-plan = record {
     limits = scanned-limits bs read;

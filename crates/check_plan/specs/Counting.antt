@@ -21,7 +21,14 @@ pub record Counts-told (bytes : List ℕ) (r : Counted) : Type 0 where
 -- what was loaded, beside a number and its place
 abbrev pub counts-of : Loaded → (number place : ℕ) → Counted
 counts-of l n i =
-    record { number = n; place = i; queues = l .queues; semaphores = l .semaphores; buffers = l .buffers; operations = l .operations }
+    record {
+      number = n;
+      place = i;
+      queues = l .queues;
+      semaphores = l .semaphores;
+      buffers = l .buffers;
+      operations = l .operations;
+    }
 
 abbrev pub opened-of : Loaded → (number place : ℕ) → Opened
 opened-of l n i = record { counted = counts-of l n i; signals = l .signals; marks = l .marks }

@@ -70,7 +70,8 @@ pub fn counts(plan: &[u8]) -> Counted
 
 // The check of a stored plan: 0, and the rows and the run in table and list; or the first refusal and its place.
 pub fn check_plan(plan: &[u8], table: &mut [u32], list: &mut [u32]) -> Told
-    ensures { λ r. ⌜ Checked (now (plan .entry)) r (now (table .entry)) (now (table .exit)) (now (list .entry)) (now (list .exit)) ⌝ }
+    ensures { λ r. ⌜ Checked (now (plan .entry)) r (now (table .entry)) (now (table .exit)) (now (list .entry))
+        (now (list .exit)) ⌝ }
 {
     let c = check_counted(plan, table, list);
     Told {
@@ -82,7 +83,8 @@ pub fn check_plan(plan: &[u8], table: &mut [u32], list: &mut [u32]) -> Told
 
 // The check with the plan's counts beside its answer.
 pub fn check_counted(plan: &[u8], table: &mut [u32], list: &mut [u32]) -> Counted
-    ensures checked { λ r. ⌜ Checked (now (plan .entry)) (record { number = r .number; place = r .place; answer = 0 }) (now (table .entry)) (now (table .exit)) (now (list .entry)) (now (list .exit)) ⌝ }
+    ensures checked { λ r. ⌜ Checked (now (plan .entry)) (record { number = r .number; place = r .place; answer = 0 })
+        (now (table .entry)) (now (table .exit)) (now (list .entry)) (now (list .exit)) ⌝ }
     ensures sizes { λ r. ⌜ Sizes-told (now (plan .entry)) r ⌝ }
 {
     let mut head = [0u64; HEAD_NUMBERS];
@@ -126,17 +128,24 @@ pub fn check_opened(
     table: &mut [u32],
     list: &mut [u32],
 ) -> Opened
-    ensures checked { λ r. ⌜ Checked (now (plan .entry)) (record { number = r .counted .number; place = r .counted .place; answer = 0 }) (now (table .entry)) (now (table .exit)) (now (list .entry)) (now (list .exit)) ⌝ }
+    ensures checked { λ r. ⌜ Checked (now (plan .entry))
+        (record { number = r .counted .number; place = r .counted .place; answer = 0 }) (now (table .entry))
+        (now (table .exit)) (now (list .entry)) (now (list .exit)) ⌝ }
     ensures sizes { λ r. ⌜ Sizes-told (now (plan .entry)) (r .counted) ⌝ }
-    ensures refused { λ r. ⌜ ((scanned (now (plan .entry)) .fault .number ≡ 0 → ⊥) → (r .signals ≡ 0) × (r .marks ≡ 0)) ⌝ }
+    ensures refused { λ r. ⌜ ((scanned (now (plan .entry)) .fault .number ≡ 0 → ⊥) →
+        (r .signals ≡ 0) × (r .marks ≡ 0)) ⌝ }
     ensures read { λ r. ⌜ (scanned (now (plan .entry)) .fault .number ≡ 0 → Read-plan (plan-in (now (plan .entry))) r
-        (lent (now (head .exit)) (now (queue .exit)) (now (source .exit)) (now (ssem .exit)) (now (sval .exit)) (now (sop .exit)) (now (mark .exit)) (now (mop .exit)))) ⌝ }
+        (lent (now (head .exit)) (now (queue .exit)) (now (source .exit)) (now (ssem .exit)) (now (sval .exit))
+        (now (sop .exit)) (now (mark .exit)) (now (mop .exit)))) ⌝ }
     ensures opened { λ r. ⌜ (r .counted .number ≡ 0 → Opened-plan (plan-in (now (plan .entry))) r
-        (lent (now (head .exit)) (now (queue .exit)) (now (source .exit)) (now (ssem .exit)) (now (sval .exit)) (now (sop .exit)) (now (mark .exit)) (now (mop .exit)))
+        (lent (now (head .exit)) (now (queue .exit)) (now (source .exit)) (now (ssem .exit)) (now (sval .exit))
+        (now (sop .exit)) (now (mark .exit)) (now (mop .exit)))
         (now (table .exit))) ⌝ }
     ensures left { λ r. ⌜ Lent-left (now (plan .entry)) r
-        (lent (now (head .entry)) (now (queue .entry)) (now (source .entry)) (now (ssem .entry)) (now (sval .entry)) (now (sop .entry)) (now (mark .entry)) (now (mop .entry)))
-        (lent (now (head .exit)) (now (queue .exit)) (now (source .exit)) (now (ssem .exit)) (now (sval .exit)) (now (sop .exit)) (now (mark .exit)) (now (mop .exit))) ⌝ }
+        (lent (now (head .entry)) (now (queue .entry)) (now (source .entry)) (now (ssem .entry)) (now (sval .entry))
+        (now (sop .entry)) (now (mark .entry)) (now (mop .entry)))
+        (lent (now (head .exit)) (now (queue .exit)) (now (source .exit)) (now (ssem .exit)) (now (sval .exit))
+        (now (sop .exit)) (now (mark .exit)) (now (mop .exit))) ⌝ }
 {
     let mut owner = [0u16; MOST_SEMAPHORES];
     let mut wval = [0u64; WAIT_PLACES];

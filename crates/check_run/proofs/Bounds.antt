@@ -16,7 +16,7 @@ use Rattle.base_lists.proofs.Tests.{by-cases, clash, and-left, and-right, or-ca
 use Rattle.base_lists.proofs.Ranks.{rank-under}
 use Rattle.plan_format.specs.Sizes.{most-queues, most-operations, no-operation, row-width}
 use Rattle.check_run.specs.Words.{has, Lowest-bit, all-queues}
-use Rattle.check_run.specs.Queues.{First, found, absent, can-go, Looked}
+use Rattle.check_run.specs.Queues.{First-from, found, absent, can-go, Heads-looked}
 use Rattle.check_run.specs.Merge.{cell}
 use Rattle.check_run.specs.Run.{Bounded}
 use Rattle.check_run.specs.State.{Tables, Prepared, slot-of, Stepped, Ahead, Bounds}
@@ -28,7 +28,7 @@ use Rattle.check_run.proofs.Watches.{go-gives}
 
 -- what is next on a queue, if anything is
 first-gives :
-    (queue : List ℕ) (q start n x : ℕ) → First queue q start n x → x < no-operation → (start ≤ x) × (x < n)
+    (queue : List ℕ) (q start n x : ℕ) → First-from queue q start n x → x < no-operation → (start ≤ x) × (x < n)
     × (getD queue x 0 ≡ q)
 first-gives queue q start n x (found _ a b e h) l = (a, b, e)
 first-gives queue q start n x (absent h) l = absurd (omega arith)
@@ -36,7 +36,7 @@ first-gives queue q start n x (absent h) l = absurd (omega arith)
 -- a queue that a look makes ready has a next operation
 looked-ready :
     (mask ready : ℕ) (head source ran waiter : List ℕ) (ready′ : ℕ) (waiter′ : List ℕ) →
-    Looked mask ready head source ran waiter ready′ waiter′ →
+    Heads-looked mask ready head source ran waiter ready′ waiter′ →
     (q : ℕ) → q < most-queues → (has ready q ≡ true → getD head q 0 < no-operation) → has ready′ q ≡ true →
     getD head q 0 < no-operation
 looked-ready mask ready head source ran waiter ready′ waiter′ looked q l old t =
@@ -86,7 +86,7 @@ module _ (queue : List ℕ) (n : ℕ) (next unit : List ℕ) (tables : Tables qu
     (source prev ran head′ prev′ ran′ rows′ : List ℕ)
     (stepped : Stepped j q source next unit head prev ran rows head′ prev′ ran′ rows′)
     (mask bit : ℕ) (bit-is : bit ≡ 2 ^ q) (waiter : List ℕ) (ready′ : ℕ) (waiter′ : List ℕ)
-    (looked : Looked mask (ready - bit) head′ source ran′ waiter ready′ waiter′) where
+    (looked : Heads-looked mask (ready - bit) head′ source ran′ waiter ready′ waiter′) where
   old : Bounded n i rows₀ rows first list
   old = bounds .bounded
 
@@ -103,12 +103,12 @@ module _ (queue : List ℕ) (n : ℕ) (next unit : List ℕ) (tables : Tables qu
   is-first : (here .start ≤ j) × (j < n) × (getD queue j 0 ≡ q)
   is-first =
       first-gives queue q (here .start) n j
-      (subst (λ (x : ℕ). First queue q (here .start) n x) is-head (here .first)) few
+      (subst (λ (x : ℕ). First-from queue q (here .start) n x) is-head (here .first)) few
 
   -- ---- the heads afterwards
-  next-first : First queue q (suc j) n (getD next j 0)
+  next-first : First-from queue q (suc j) n (getD next j 0)
   next-first =
-      subst (λ (x : ℕ). First queue x (suc j) n (getD next j 0)) (is-first .2)
+      subst (λ (x : ℕ). First-from queue x (suc j) n (getD next j 0)) (is-first .2)
       (tables .nexts j (is-first .1) (omega (arith, is-first .2)))
 
   head-same : getD head′ q 0 ≡ getD next j 0
@@ -155,7 +155,7 @@ module _ (queue : List ℕ) (n : ℕ) (next unit : List ℕ) (tables : Tables qu
   ahead-same : Ahead queue n q (i + 1) list₂ (getD head′ q 0)
   ahead-same = record {
     start = suc j;
-    first = subst (λ (x : ℕ). First queue q (suc j) n x) (sym head-same) next-first;
+    first = subst (λ (x : ℕ). First-from queue q (suc j) n x) (sym head-same) next-first;
     before = λ k l b. by-entry (λ x. getD queue x 0 ≡ q → x < suc j) k l b (λ _ _. omega arith)
         (λ u v e. omega (arith, here .before k u v e, is-first .0));
   }
@@ -165,7 +165,7 @@ module _ (queue : List ℕ) (n : ℕ) (next unit : List ℕ) (tables : Tables qu
       let a = bounds .ahead k l in
       record {
         start = a .start;
-        first = subst (λ (x : ℕ). First queue k (a .start) n x) (sym (head-other k ne)) (a .first);
+        first = subst (λ (x : ℕ). First-from queue k (a .start) n x) (sym (head-other k ne)) (a .first);
         before = λ m u b. by-entry (λ x. getD queue x 0 ≡ k → x < a .start) m u b
             (λ _ e. absurd (ne (sym e ∙ is-first .2))) (λ v w e. a .before m v w e);
       }

@@ -14,7 +14,7 @@ use Rattle.order.specs.Greedy.{with-next, greedy}
 use Rattle.plan_format.specs.Sizes.{no-operation}
 use Rattle.plan_format.specs.Plan.{Plan}
 use Rattle.plan_order.specs.Runs.{number-ready}
-use Rattle.check_run.specs.Run.{Listed}
+use Rattle.check_run.specs.Run.{Run-listed}
 
 -- ---- the steps that are left of a greedy run
 module _ (next : List ℕ → Option ℕ) where
@@ -31,7 +31,8 @@ module _ (next : List ℕ → Option ℕ) where
       (n i : ℕ) (r : List ℕ) (j : ℕ) (whole : List ℕ) → i < n → next r ≡ some j → greedy next (n - i) r ≡ whole →
       greedy next (n - (i + 1)) (r ++ (j ∷ [])) ≡ whole
   greedy-left n i r j whole l e h =
-      sym (ap (λ (x : ℕ). greedy next x r) (let z : n - i ≡ suc (n - (i + 1)) = omega arith in z) ∙ greedy-step (n - (i + 1)) r j e) ∙ h
+      sym (ap (λ (x : ℕ). greedy next x r) (let z : n - i ≡ suc (n - (i + 1)) = omega arith in z)
+      ∙ greedy-step (n - (i + 1)) r j e) ∙ h
 
 -- ---- the list after a step: the number ready and the operation, each where the list has the place
 module _ (n : ℕ) (list list₁ list₂ : List ℕ) (i j ready : ℕ) (inside : i < n) (few : j < no-operation)
@@ -74,7 +75,7 @@ module _ (n : ℕ) (list list₁ list₂ : List ℕ) (i j ready : ℕ) (inside :
 
 -- ---- one step more
 module _ (p : Plan) (n : ℕ) (first r list list₁ list₂ : List ℕ) (i j ready : ℕ) (room : 2 * n ≤ length first)
-    (listed : Listed p n r first list)
+    (listed : Run-listed p n r first list)
     (many : length r ≡ i) (inside : i < n) (few : j < no-operation) (small : ready < 65536)
     (counted : ready ≡ number-ready p r)
     (first-is : list₁ ≡ set list (i + n) (ready % 4294967296)) (then-is : list₂ ≡ set list₁ i (j % 4294967296)) where
@@ -84,7 +85,7 @@ module _ (p : Plan) (n : ℕ) (first r list list₁ list₂ : List ℕ) (i j rea
   other : (k : ℕ) → (k ≡ i → ⊥) → (k ≡ n + i → ⊥) → getD list₂ k 0 ≡ getD list k 0
   other = step-other n list list₁ list₂ i j ready inside few small first-is then-is
 
-  pub listed-more : Listed p n (r ++ (j ∷ [])) first list₂
+  pub listed-more : Run-listed p n (r ++ (j ∷ [])) first list₂
   listed-more = record {
     steps = λ k l. by-cases (eqb k i)
         (λ t. let e = eqb-true k i t in
@@ -104,7 +105,8 @@ module _ (p : Plan) (n : ℕ) (first r list list₁ list₂ : List ℕ) (i j rea
         (λ f. let ne = eqb-false k i f in
         let b : k < length r = omega (arith, length-more) in
         other (n + k) (λ z. absurd (omega arith)) (λ z. ne (let e : k ≡ i = omega arith in e)) ∙ listed .readies k b
-        ∙ ap (λ (x : List ℕ). number-ready p x) (sym (take-append-le k r (j ∷ []) (let h : k ≤ length r = omega arith in h))));
+        ∙ ap (λ (x : List ℕ). number-ready p x)
+        (sym (take-append-le k r (j ∷ []) (let h : k ≤ length r = omega arith in h))));
     past = step-past n list list₁ list₂ i j ready inside few small first-is then-is (2 * n) (omega arith)
         ∙ listed .past;
     long = step-long n list list₁ list₂ i j ready inside few small first-is then-is ∙ listed .long;

@@ -14,7 +14,7 @@ use borrow.Author.Tests.{ltb-true, ltb-false, le-ltb, lt-ltb, eqb-true, eqb-fals
 use Rattle.base_lists.proofs.Tests.{by-cases, clash, and-both, or-cases, or-left, or-right, either}
 use Rattle.plan_format.specs.Sizes.{no-operation}
 use Rattle.check_run.specs.Words.{has, Lowest-bit}
-use Rattle.check_run.specs.Queues.{held-by, blocker-of, can-go, Looked}
+use Rattle.check_run.specs.Queues.{held-by, blocker-of, can-go, Heads-looked}
 use Rattle.check_run.proofs.Words.{has-none, has-cut, has-unit, has-or, has-split}
 
 -- ---- what holds an operation
@@ -36,11 +36,13 @@ module _ (source ran : List ℕ) (j : ℕ) (a x : ℕ) (a-is : a ≡ getD source
   module _ (x-ran : x ≡ 0 → ⊥) (b y : ℕ) (b-is : b ≡ getD source (3 * j + 1) 0) (y-is : y ≡ getD ran b 0) where
     pub held-second : y ≡ 0 → b ≡ blocker-of source ran j
     unfolding blocker-of
-    held-second e = rw (← a-is, ← b-is) (sym (held-no ran a _ (λ z. x-ran (x-is ∙ z)) ∙ held-yes ran b _ (sym y-is ∙ e)))
+    held-second e =
+        rw (← a-is, ← b-is) (sym (held-no ran a _ (λ z. x-ran (x-is ∙ z)) ∙ held-yes ran b _ (sym y-is ∙ e)))
 
     module _ (y-ran : y ≡ 0 → ⊥) (c z : ℕ) (c-is : c ≡ getD source (3 * j + 2) 0) (z-is : z ≡ getD ran c 0) where
       passed : (last : ℕ) → held-by ran a (held-by ran b last) ≡ last
-      passed last = held-no ran a (held-by ran b last) (λ u. x-ran (x-is ∙ u)) ∙ held-no ran b last (λ u. y-ran (y-is ∙ u))
+      passed last = held-no ran a (held-by ran b last) (λ u. x-ran (x-is ∙ u))
+          ∙ held-no ran b last (λ u. y-ran (y-is ∙ u))
 
       pub held-third : z ≡ 0 → c ≡ blocker-of source ran j
       unfolding blocker-of
@@ -78,9 +80,10 @@ join-bits false false s g = refl
 
 module _ (head source ran : List ℕ) where
   -- ---- nothing looked at
-  looked-none : (ready : ℕ) (waiter : List ℕ) → Looked 0 ready head source ran waiter ready waiter
+  looked-none : (ready : ℕ) (waiter : List ℕ) → Heads-looked 0 ready head source ran waiter ready waiter
   looked-none ready waiter = record {
-    readies = λ q l. sym (ap (λ (b : Bool). has ready q || (b && can-go head source ran q)) (has-none q) ∙ or-false (has ready q));
+    readies = λ q l.
+        sym (ap (λ (b : Bool). has ready q || (b && can-go head source ran q)) (has-none q) ∙ or-false (has ready q));
     kept = λ b q l h. h;
     noted = λ q b l m u e v. clash (has 0 q) m (has-none q);
     long = refl;
@@ -90,8 +93,8 @@ module _ (head source ran : List ℕ) where
   looked-join :
       (first rest mask ready : ℕ) (waiter : List ℕ) (r : ℕ) (w : List ℕ) (ready-now : ℕ) (waiter-now : List ℕ) →
       ((q : ℕ) → q < 16 → has mask q ≡ (has first q || has rest q)) →
-      Looked first ready head source ran waiter r w → Looked rest r head source ran w ready-now waiter-now →
-      Looked mask ready head source ran waiter ready-now waiter-now
+      Heads-looked first ready head source ran waiter r w → Heads-looked rest r head source ran w ready-now waiter-now →
+      Heads-looked mask ready head source ran waiter ready-now waiter-now
   looked-join first rest mask ready waiter r w ready-now waiter-now both a b = record {
     readies = λ q l.
         b .readies q l ∙ ap (λ (x : Bool). x || (has rest q && can-go head source ran q)) (a .readies q l)
@@ -105,27 +108,30 @@ module _ (head source ran : List ℕ) where
 
   -- the lowest queue of a word, and then the others
   pub looked-lowest :
-      (m q unit ready : ℕ) (waiter : List ℕ) (r : ℕ) (w : List ℕ) (ready-now : ℕ) (waiter-now : List ℕ) → Lowest-bit m q → unit ≡ 2 ^ q →
-      Looked (2 ^ q) ready head source ran waiter r w → Looked (m - unit) r head source ran w ready-now waiter-now →
-      Looked m ready head source ran waiter ready-now waiter-now
+      (m q unit ready : ℕ) (waiter : List ℕ) (r : ℕ) (w : List ℕ) (ready-now : ℕ) (waiter-now : List ℕ) →
+      Lowest-bit m q → unit ≡ 2 ^ q →
+      Heads-looked (2 ^ q) ready head source ran waiter r w →
+      Heads-looked (m - unit) r head source ran w ready-now waiter-now →
+      Heads-looked m ready head source ran waiter ready-now waiter-now
   looked-lowest m q unit ready waiter r w ready-now waiter-now h e a b =
       looked-join (2 ^ q) (m - 2 ^ q) m ready waiter r w ready-now waiter-now (λ k l. has-split m q k (h .there)) a
-      (subst (λ (x : ℕ). Looked (m - x) r head source ran w ready-now waiter-now) e b)
+      (subst (λ (x : ℕ). Heads-looked (m - x) r head source ran w ready-now waiter-now) e b)
 
-  pub looked-end : (m ready : ℕ) (waiter : List ℕ) → m ≡ 0 → Looked m ready head source ran waiter ready waiter
+  pub looked-end : (m ready : ℕ) (waiter : List ℕ) → m ≡ 0 → Heads-looked m ready head source ran waiter ready waiter
   looked-end m ready waiter e =
-      subst (λ (x : ℕ). Looked x ready head source ran waiter ready waiter) (sym e) (looked-none ready waiter)
+      subst (λ (x : ℕ). Heads-looked x ready head source ran waiter ready waiter) (sym e) (looked-none ready waiter)
 
   -- ---- one queue
   module _ (q ready : ℕ) (waiter : List ℕ) (j : ℕ) (is-head : j ≡ getD head q 0) where
     -- a queue that cannot go adds nothing
-    not-added : ((k : ℕ) → q ≡ k → can-go head source ran k ≡ false) → (k : ℕ) → has ready k ≡ (has ready k || (has (2 ^ q) k && can-go head source ran k))
+    not-added : ((k : ℕ) → q ≡ k → can-go head source ran k ≡ false) → (k : ℕ) →
+        has ready k ≡ (has ready k || (has (2 ^ q) k && can-go head source ran k))
     not-added none-go k =
         by-cases (has (2 ^ q) k)
         (λ t. rw (none-go k (unit-only q k t), and-false (has (2 ^ q) k)) (sym (or-false (has ready k))))
         (λ f. rw f (sym (or-false (has ready k))))
 
-    pub looked-closed : no-operation ≤ j → Looked (2 ^ q) ready head source ran waiter ready waiter
+    pub looked-closed : no-operation ≤ j → Heads-looked (2 ^ q) ready head source ran waiter ready waiter
     looked-closed h = record {
       readies = λ k l. not-added (λ i t. closed t) k;
       kept = λ i k l m. m;
@@ -138,13 +144,14 @@ module _ (head source ran : List ℕ) where
             (ap (λ (x : ℕ). can-go head source ran x) (sym t)
             ∙ rw (le-ltb (getD head q 0) no-operation (rw is-head at h)))
 
-    pub looked-free :
+    pub looked-unblocked :
         j < no-operation → (b : ℕ) → b ≡ blocker-of source ran j → b ≡ no-operation → (unit : ℕ) → unit ≡ 2 ^ q →
-        Looked (2 ^ q) ready head source ran waiter (bitOr ready unit) waiter
-    looked-free h b b-is z unit u = record {
+        Heads-looked (2 ^ q) ready head source ran waiter (bitOr ready unit) waiter
+    looked-unblocked h b b-is z unit u = record {
       readies = λ k m. has-or ready unit k ∙ ap (λ (x : Bool). has ready k || x) (ap (λ (x : ℕ). has x k) u ∙ added k);
       kept = λ i k m t. t;
-      noted = λ k i m t v y w. absurd (omega (arith, e, ap (λ (x : ℕ). blocker-of source ran (getD head x 0)) (unit-only q k t)));
+      noted = λ k i m t v y w.
+          absurd (omega (arith, e, ap (λ (x : ℕ). blocker-of source ran (getD head x 0)) (unit-only q k t)));
       long = refl;
     }
       where
@@ -166,7 +173,7 @@ module _ (head source ran : List ℕ) where
     noted-at :
         length waiter ≡ no-operation + 1 → (b : ℕ) → b ≡ blocker-of source ran j → (b ≡ no-operation → ⊥) →
         (unit : ℕ) → unit ≡ 2 ^ q →
-        Looked (2 ^ q) ready head source ran waiter ready (set waiter b (bitOr (getD waiter b 0) unit % 65536))
+        Heads-looked (2 ^ q) ready head source ran waiter ready (set waiter b (bitOr (getD waiter b 0) unit % 65536))
     noted-at long b b-is ne unit u = record {
       readies = λ k m. not-added (λ i t. stays t) k;
       kept = λ i k m t. by-cases (eqb i b) (λ z. same i k m (eqb-true i b z) t)
@@ -175,7 +182,8 @@ module _ (head source ran : List ℕ) where
           let qk = unit-only q k t in
           let ib : b ≡ i = e ∙ ap (λ (x : ℕ). blocker-of source ran (getD head x 0)) qk ∙ z in
           subst (λ (x : ℕ). has (getD (set waiter b (bitOr (getD waiter b 0) unit % 65536)) x 0) k ≡ true) ib
-          (marked k m (omega (arith, ib)) (or-right (has (getD waiter b 0) k) (has unit k) (ap (λ (x : ℕ). has x k) u ∙ t)));
+          (marked k m (omega (arith, ib))
+          (or-right (has (getD waiter b 0) k) (has unit k) (ap (λ (x : ℕ). has x k) u ∙ t)));
       long = length-set waiter b (bitOr (getD waiter b 0) unit % 65536);
     }
       where
@@ -190,13 +198,16 @@ module _ (head source ran : List ℕ) where
         marked : (k : ℕ) → k < 16 → b < no-operation + 1 → (has (getD waiter b 0) k || has unit k) ≡ true →
             has (getD (set waiter b (bitOr (getD waiter b 0) unit % 65536)) b 0) k ≡ true
         marked k m v t =
-            rw (getD-set-same waiter b (bitOr (getD waiter b 0) unit % 65536) 0 (let h : b < length waiter = omega arith in h))
+            rw (getD-set-same waiter b (bitOr (getD waiter b 0) unit % 65536) 0
+            (let h : b < length waiter = omega arith in h))
             (has-cut 16 (bitOr (getD waiter b 0) unit) k m ∙ has-or (getD waiter b 0) unit k ∙ t)
 
-        same : (i k : ℕ) → k < 16 → i ≡ b → has (getD waiter i 0) k ≡ true → has (getD (set waiter b (bitOr (getD waiter b 0) unit % 65536)) i 0) k ≡ true
+        same : (i k : ℕ) → k < 16 → i ≡ b → has (getD waiter i 0) k ≡ true →
+            has (getD (set waiter b (bitOr (getD waiter b 0) unit % 65536)) i 0) k ≡ true
         same i k m z t =
             by-cases (ltb b (no-operation + 1))
-            (λ y. subst (λ (x : ℕ). has (getD (set waiter b (bitOr (getD waiter b 0) unit % 65536)) x 0) k ≡ true) (sym z)
+            (λ y. subst (λ (x : ℕ). has (getD (set waiter b (bitOr (getD waiter b 0) unit % 65536)) x 0) k ≡ true)
+            (sym z)
             (marked k m (ltb-true b (no-operation + 1) y)
             (or-left (has (getD waiter b 0) k) (has unit k) (ap (λ (x : ℕ). has (getD waiter x 0) k) (sym z) ∙ t))))
             (λ y. rw (set-out waiter b (bitOr (getD waiter b 0) unit % 65536)
@@ -206,7 +217,7 @@ module _ (head source ran : List ℕ) where
         length waiter ≡ no-operation + 1 → (b : ℕ) → b ≡ blocker-of source ran j → (b ≡ no-operation → ⊥) →
         (unit : ℕ) → unit ≡ 2 ^ q →
         (w : ℕ) → w ≡ getD waiter b 0 → (waiter-now : List ℕ) → waiter-now ≡ set waiter b (bitOr w unit % 65536) →
-        Looked (2 ^ q) ready head source ran waiter ready waiter-now
+        Heads-looked (2 ^ q) ready head source ran waiter ready waiter-now
     looked-held long b b-is ne unit u w w-is waiter-now now-is =
-        subst (λ (x : List ℕ). Looked (2 ^ q) ready head source ran waiter ready x)
+        subst (λ (x : List ℕ). Heads-looked (2 ^ q) ready head source ran waiter ready x)
         (sym (now-is ∙ ap (λ (x : ℕ). set waiter b (bitOr x unit % 65536)) w-is)) (noted-at long b b-is ne unit u)

@@ -15,7 +15,7 @@ use Rattle.base_lists.proofs.Elements.{element-at, element-place}
 use Rattle.plan_format.specs.Sizes.{no-operation}
 use Rattle.plan_format.specs.Plan.{Point, Plan, count, op}
 use Rattle.plan_order.specs.Precedence.{Resolution, at-once, on, never, resolve, rests-on}
-use Rattle.plan_order.proofs.Resolution.{Resolved, at-signal, resolve-is}
+use Rattle.plan_order.proofs.Resolution.{Resolution-case, at-signal, resolve-is}
 use Rattle.check_columns.specs.Columns.{no-point, wait-at, source-of, Source-column}
 use Rattle.check_run.specs.Queues.{held-by, blocker-of}
 use Rattle.check_run.specs.Run.{Run-given}
@@ -24,14 +24,17 @@ use Rattle.check_run.proofs.Looks.{held-yes, held-no}
 -- ---- what a place of the column shows
 pub data Rest (p : Plan) (j : ℕ) : ℕ → Type 0 where
   on-nothing : Rest p j no-operation
-  on-operation : (i : ℕ) → i < count p → (w : Point) → List·Memᴰ w (op p j .waits) → rests-on (resolve p w) i ≡ true → Rest p j i
+  on-operation : (i : ℕ) → i < count p → (w : Point) → List·Memᴰ w (op p j .waits) →
+      rests-on (resolve p w) i ≡ true → Rest p j i
 
 module _ (p : Plan) (n : ℕ) (queue source : List ℕ) (shown : Run-given p n queue source) where
-  source-rest : (j : ℕ) (w : Point) → List·Memᴰ w (op p j .waits) → (x : Resolution) → x ≡ resolve p w → Resolved p w x → Rest p j (source-of x)
+  source-rest : (j : ℕ) (w : Point) → List·Memᴰ w (op p j .waits) → (x : Resolution) → x ≡ resolve p w →
+      Resolution-case p w x → Rest p j (source-of x)
   unfolding source-of
   source-rest j w m at-once e d = on-nothing
   source-rest j w m (on x) e (at-signal _ t) =
-      on-operation (x .operation) (t .inside) w m (ap (λ (y : Resolution). rests-on y (x .operation)) (sym e) ∙ unfold rests-on in (eq-eqb (x .operation) (x .operation) refl))
+      on-operation (x .operation) (t .inside) w m (ap (λ (y : Resolution). rests-on y (x .operation)) (sym e)
+      ∙ unfold rests-on in (eq-eqb (x .operation) (x .operation) refl))
   source-rest j w m never e d = on-nothing
 
   pub source-is : (j k : ℕ) → j < count p → k < 3 → Rest p j (getD source (3 * j + k) 0)
@@ -39,18 +42,25 @@ module _ (p : Plan) (n : ℕ) (queue source : List ℕ) (shown : Run-given p n q
   source-is j k l b =
       subst (λ (x : ℕ). Rest p j x) (sym (shown .sources j k l b))
       (by-cases (ltb k (length (op p j .waits)))
-      (λ t. source-rest j (getD (op p j .waits) k no-point) (element-at no-point (op p j .waits) k (ltb-true k (length (op p j .waits)) t))
+      (λ t. source-rest j (getD (op p j .waits) k no-point)
+      (element-at no-point (op p j .waits) k (ltb-true k (length (op p j .waits)) t))
       (resolve p (getD (op p j .waits) k no-point)) refl (resolve-is p (getD (op p j .waits) k no-point)))
-      (λ f. subst (λ (x : Point). Rest p j (source-of (resolve p x))) (sym (List·getD-eq-default (op p j .waits) no-point (ltb-false k (length (op p j .waits)) f)))
+      (λ f. subst (λ (x : Point). Rest p j (source-of (resolve p x)))
+      (sym (List·getD-eq-default (op p j .waits) no-point (ltb-false k (length (op p j .waits)) f)))
       (unfold resolve source-of in on-nothing)))
 
   -- what a wait of j rests on is at one of its three places
-  pub source-has : (j : ℕ) → j < count p → (w : Point) → List·Memᴰ w (op p j .waits) → (i : ℕ) → rests-on (resolve p w) i ≡ true → (k : ℕ) × (k < 3) × (getD source (3 * j + k) 0 ≡ i)
+  pub source-has : (j : ℕ) → j < count p → (w : Point) → List·Memᴰ w (op p j .waits) → (i : ℕ) →
+      rests-on (resolve p w) i ≡ true → (k : ℕ) × (k < 3) × (getD source (3 * j + k) 0 ≡ i)
   unfolding Source-column wait-at
   source-has j l w m i t =
       let g = element-place no-point (op p j .waits) w m in
-      let few : g .0 < 3 = omega (arith, g .1, shown .few-waits j l) in
-      (g .0, few, shown .sources j (g .0) l few ∙ ap (λ (x : Point). source-of (resolve p x)) (g .2) ∙ rests-source (resolve p w) t)
+      let few : g .0 < 3 = omega (arith, g .1, shown .few-waits j l) in (
+        g .0,
+        few,
+        shown .sources j (g .0) l few ∙ ap (λ (x : Point). source-of (resolve p x)) (g .2)
+            ∙ rests-source (resolve p w) t,
+      )
     where
       rests-source : (x : Resolution) → rests-on x i ≡ true → source-of x ≡ i
       rests-source at-once e = absurd (false≢true (unfold rests-on in e))
@@ -74,7 +84,10 @@ three P a b c (suc (suc (suc k))) l = absurd (omega arith)
 module _ (ran : List ℕ) (a b : ℕ) where
   held-none : (getD ran no-operation 0 ≡ 0 → ⊥) → held-by ran a b ≡ no-operation → (getD ran a 0 ≡ 0 → ⊥)
       × (b ≡ no-operation)
-  held-none stays e = let ran-it : getD ran a 0 ≡ 0 → ⊥ = λ z. stays (ap (λ (x : ℕ). getD ran x 0) (sym (sym (held-yes ran a b z) ∙ e)) ∙ z) in (ran-it, sym (held-no ran a b ran-it) ∙ e)
+  held-none stays e =
+      let ran-it : getD ran a 0 ≡ 0 → ⊥ =
+      λ z. stays (ap (λ (x : ℕ). getD ran x 0) (sym (sym (held-yes ran a b z) ∙ e)) ∙ z) in
+      (ran-it, sym (held-no ran a b ran-it) ∙ e)
 
   held-where : (x : ℕ) → held-by ran a b ≡ x → ((a ≡ x) × (getD ran x 0 ≡ 0)) ⊎ (b ≡ x)
   held-where x e =
@@ -91,19 +104,21 @@ module _ (source ran : List ℕ) (j : ℕ) where
       blocker-of source ran j ≡ no-operation
   unfolding blocker-of
   blocker-none h =
-      rw first-place (held-no ran (getD source (3 * j + 0) 0) _ (h 0 (omega arith)) ∙ held-no ran (getD source (3 * j + 1) 0) _ (h 1 (omega arith))
+      rw first-place (held-no ran (getD source (3 * j + 0) 0) _ (h 0 (omega arith))
+      ∙ held-no ran (getD source (3 * j + 1) 0) _ (h 1 (omega arith))
       ∙ held-no ran (getD source (3 * j + 2) 0) no-operation (h 2 (omega arith)))
 
-  pub blocker-free : (getD ran no-operation 0 ≡ 0 → ⊥) → blocker-of source ran j ≡ no-operation → (k : ℕ) → k < 3 →
+  pub no-blocker-gives : (getD ran no-operation 0 ≡ 0 → ⊥) → blocker-of source ran j ≡ no-operation → (k : ℕ) → k < 3 →
       getD ran (getD source (3 * j + k) 0) 0 ≡ 0 → ⊥
   unfolding blocker-of
-  blocker-free stays e =
+  no-blocker-gives stays e =
       let a = held-none ran (getD source (3 * j) 0)
       (held-by ran (getD source (3 * j + 1) 0) (held-by ran (getD source (3 * j + 2) 0) no-operation)) stays e in
       let b = held-none ran (getD source (3 * j + 1) 0) (held-by ran (getD source (3 * j + 2) 0) no-operation) stays
       (a .1) in
       let c = held-none ran (getD source (3 * j + 2) 0) no-operation stays (b .1) in
-      three (λ k. getD ran (getD source (3 * j + k) 0) 0 ≡ 0 → ⊥) (subst (λ (x : ℕ). getD ran x 0 ≡ 0 → ⊥) first-place (a .0)) (b .0) (c .0)
+      three (λ k. getD ran (getD source (3 * j + k) 0) 0 ≡ 0 → ⊥)
+      (subst (λ (x : ℕ). getD ran x 0 ≡ 0 → ⊥) first-place (a .0)) (b .0) (c .0)
 
   pub blocker-where : (x : ℕ) → blocker-of source ran j ≡ x → (x ≡ no-operation → ⊥) → (k : ℕ) × (k < 3)
       × (getD source (3 * j + k) 0 ≡ x) × (getD ran x 0 ≡ 0)

@@ -40,7 +40,8 @@ lowest-up m q e h = record { there = unfold has in (h .there); lower = lower }
     lower zero l = unfold has in (ne-eqb (m % 2) 1 (λ z. omega arith))
     lower (suc i) l = unfold has in (h .lower i (le-of-suc-le-suc l))
 
-pub trailing-lowest : (w k m : ℕ) → k ≤ w → 0 < m → m < 2 ^ k → (trailingZeros w m < k) × Lowest-bit m (trailingZeros w m)
+pub trailing-lowest : (w k m : ℕ) → k ≤ w → 0 < m → m < 2 ^ k →
+    (trailingZeros w m < k) × Lowest-bit m (trailingZeros w m)
 unfolding trailingZeros
 trailing-lowest zero zero m a b c = absurd (omega arith)
 trailing-lowest zero (suc k) m a b c = absurd (not-suc-le-zero a)
@@ -82,9 +83,11 @@ pub has-unit : (q k : ℕ) → has (2 ^ q) k ≡ eqb q k
 unfolding has
 has-unit zero zero = refl
 has-unit zero (suc k) = has-none k ∙ sym (ne-eqb 0 (suc k) (λ z. omega arith))
-has-unit (suc q) zero = ne-eqb (2 ^ suc q % 2) 1 (λ z. omega (arith, pow-suc 2 q)) ∙ sym (ne-eqb (suc q) 0 (λ z. omega arith))
+has-unit (suc q) zero = ne-eqb (2 ^ suc q % 2) 1 (λ z. omega (arith, pow-suc 2 q))
+    ∙ sym (ne-eqb (suc q) 0 (λ z. omega arith))
 has-unit (suc q) (suc k) =
-    ap (λ (x : ℕ). has x k) (let e : 2 ^ suc q / 2 ≡ 2 ^ q = omega (arith, pow-suc 2 q) in e) ∙ has-unit q k ∙ sym (eqb-suc q k)
+    ap (λ (x : ℕ). has x k) (let e : 2 ^ suc q / 2 ≡ 2 ^ q = omega (arith, pow-suc 2 q) in e) ∙ has-unit q k
+    ∙ sym (eqb-suc q k)
 
 pub has-or : (a b q : ℕ) → has (bitOr a b) q ≡ (has a q || has b q)
 unfolding has
@@ -110,12 +113,15 @@ pub has-minus : (m q k : ℕ) → has m q ≡ true → has (m - 2 ^ q) k ≡ (no
 unfolding has
 has-minus m zero zero h = ne-eqb ((m - 1) % 2) 1 (λ z. omega (arith, eqb-true (m % 2) 1 h))
 has-minus m zero (suc k) h =
-    rw (ne-eqb 0 (suc k) (λ z. omega arith)) (ap (λ (x : ℕ). has x k) (let e : (m - 1) / 2 ≡ m / 2 = omega (arith, eqb-true (m % 2) 1 h) in e))
+    rw (ne-eqb 0 (suc k) (λ z. omega arith))
+    (ap (λ (x : ℕ). has x k) (let e : (m - 1) / 2 ≡ m / 2 = omega (arith, eqb-true (m % 2) 1 h) in e))
 has-minus m (suc q) zero h =
     rw (ne-eqb (suc q) 0 (λ z. omega arith))
-    (ap (λ (x : ℕ). eqb x 1) (let e : (m - 2 ^ suc q) % 2 ≡ m % 2 = omega (arith, pow-suc 2 q, has-le (m / 2) q h) in e))
+    (ap (λ (x : ℕ). eqb x 1)
+    (let e : (m - 2 ^ suc q) % 2 ≡ m % 2 = omega (arith, pow-suc 2 q, has-le (m / 2) q h) in e))
 has-minus m (suc q) (suc k) h =
-    rw (eqb-suc q k) (ap (λ (x : ℕ). has x k) (let e : (m - 2 ^ suc q) / 2 ≡ m / 2 - 2 ^ q = omega (arith, pow-suc 2 q, has-le (m / 2) q h) in e)
+    rw (eqb-suc q k) (ap (λ (x : ℕ). has x k)
+    (let e : (m - 2 ^ suc q) / 2 ≡ m / 2 - 2 ^ q = omega (arith, pow-suc 2 q, has-le (m / 2) q h) in e)
     ∙ has-minus (m / 2) q k h)
 
 pub has-split : (m q k : ℕ) → has m q ≡ true → has m k ≡ (has (2 ^ q) k || has (m - 2 ^ q) k)
@@ -130,4 +136,5 @@ unfolding has
 has-all zero k l = absurd (not-suc-le-zero l)
 has-all (suc m) zero l = eq-eqb ((2 ^ suc m - 1) % 2) 1 (omega (arith, pow-suc 2 m, pow-pos m))
 has-all (suc m) (suc k) l =
-    ap (λ (x : ℕ). has x k) (let e : (2 ^ suc m - 1) / 2 ≡ 2 ^ m - 1 = omega (arith, pow-suc 2 m, pow-pos m) in e) ∙ has-all m k (le-of-suc-le-suc l)
+    ap (λ (x : ℕ). has x k) (let e : (2 ^ suc m - 1) / 2 ≡ 2 ^ m - 1 = omega (arith, pow-suc 2 m, pow-pos m) in e)
+    ∙ has-all m k (le-of-suc-le-suc l)

@@ -29,10 +29,11 @@ pub record Cleared (rows : List ℕ) : Type 0 where
 -- the rows of the operations that have run; every other row of the 1,026 is zero
 pub record Rows-of (p : Plan) (run rows : List ℕ) : Type 0 where
   pub ran : Row-columns p (λ j. member j run ≡ true) rows
-  pub others : (j q : ℕ) → j < most-operations + 2 → member j run ≡ false → q < row-width → getD rows (row-width * j + q) 0 ≡ 0
+  pub others : (j q : ℕ) → j < most-operations + 2 → member j run ≡ false → q < row-width →
+      getD rows (row-width * j + q) 0 ≡ 0
 
 -- the run in the front of the list, the number ready before each step from place n on, and nothing past 2 n
-pub record Listed (p : Plan) (n : ℕ) (run list list-now : List ℕ) : Type 0 where
+pub record Run-listed (p : Plan) (n : ℕ) (run list list-now : List ℕ) : Type 0 where
   pub steps : (k : ℕ) → k < length run → getD list-now k 0 ≡ getD run k 0
   pub readies : (k : ℕ) → k < length run → getD list-now (n + k) 0 ≡ number-ready p (take k run)
   pub past : drop (2 * n) list-now ≡ drop (2 * n) list
@@ -61,6 +62,6 @@ pub record Bounded (n answer : ℕ) (rows rows-now list list-now : List ℕ) : T
 -- the whole pass
 pub record Ran (p : Plan) (n answer : ℕ) (rows list list-now : List ℕ) : Type 0 where
   pub many : answer ≡ length (standard p)
-  pub listed : Listed p n (standard p) list list-now
+  pub listed : Run-listed p n (standard p) list list-now
   pub whole : answer ≡ n → list-now ≡ in-front (run-list p) list
   pub filled : Rows-of p (standard p) rows

@@ -36,8 +36,10 @@ pub fn run(
     rows: &mut Rows,
     list: &mut [u32],
 ) -> usize
-    ensures bounds { λ r. ⌜ Bounded n r (now (rows .entry)) (now (rows .exit)) (now (list .entry)) (now (list .exit)) ⌝ }
-    ensures of_plans { λ r. ⌜ ((p : Plan) → Run-given p n (now (queue .entry)) (now (source .entry)) → Cleared (now (rows .entry)) → 2 * n ≤ length (now (list .entry)) →
+    ensures bounds { λ r. ⌜ Bounded n r (now (rows .entry)) (now (rows .exit)) (now (list .entry))
+        (now (list .exit)) ⌝ }
+    ensures of_plans { λ r. ⌜ ((p : Plan) → Run-given p n (now (queue .entry)) (now (source .entry)) →
+        Cleared (now (rows .entry)) → 2 * n ≤ length (now (list .entry)) →
         Ran p n r (now (rows .exit)) (now (list .entry)) (now (list .exit))) ⌝ }
 {
     let many = n as usize;

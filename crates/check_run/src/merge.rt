@@ -18,7 +18,8 @@ fn sum(a: u16, b: u16) -> u16
 // The larger of two rows in a column.
 fn higher(rows: &Rows, a: usize, b: usize, k: usize) -> u16
     requires { ⌜ (a ≤ no-operation) × (b ≤ no-operation) × (k < row-width) ⌝ }
-    ensures { λ r. ⌜ r ≡ max (getD (now (rows .entry)) (row-width * a + k) 0) (getD (now (rows .entry)) (row-width * b + k) 0) ⌝ }
+    ensures { λ r. ⌜ r ≡ max (getD (now (rows .entry)) (row-width * a + k) 0)
+        (getD (now (rows .entry)) (row-width * b + k) 0) ⌝ }
 {
     base_numbers::max_u16(rows[ROW_WIDTH * a + k], rows[ROW_WIDTH * b + k])
 }
@@ -34,7 +35,9 @@ pub fn merge(
     d: usize,
 ) -> [u16; ROW_WIDTH]
     requires { ⌜ (q < row-width) × (a ≤ no-operation) × (b ≤ no-operation) × (c ≤ no-operation) × (d ≤ no-operation) ⌝ }
-    ensures { λ r. ⌜ ((k : ℕ) → k < row-width → getD r k 0 ≡ (largest (now (rows .entry)) a b c d k + getD (now (unit .entry)) (row-width - q + k) 0) % 65536) ⌝ }
+    ensures { λ r. ⌜ ((k : ℕ) → k < row-width →
+        getD r k 0 ≡
+        (largest (now (rows .entry)) a b c d k + getD (now (unit .entry)) (row-width - q + k) 0) % 65536) ⌝ }
 {
     let mut row = [0u16; ROW_WIDTH];
     let from = ROW_WIDTH - q;

@@ -10,11 +10,12 @@ ghost use Prim.Native.Nat.{_<_, _≤_, _^_};
 ghost use lib.ListN.{length, replicate};
 ghost use Rattle.plan_format.specs.Sizes.{most-queues, most-operations, no-operation};
 ghost use Rattle.check_run.specs.Words.{Lowest-bit};
-ghost use Rattle.check_run.specs.Queues.{Chained, blocker-of, Looked};
+ghost use Rattle.check_run.specs.Queues.{Chained, blocker-of, Heads-looked};
 
 // For each operation the next of its queue; the first of each queue in `head`.
 pub fn chain(n: usize, queue: &QueueColumn, head: &mut [u16; MOST_QUEUES], next: &mut QueueColumn)
-    requires { ⌜ (n ≤ most-operations) × (now head ≡ replicate most-queues no-operation) × (length (now next) ≡ most-operations) ⌝ }
+    requires { ⌜ (n ≤ most-operations) × (now head ≡ replicate most-queues no-operation) ×
+        (length (now next) ≡ most-operations) ⌝ }
     ensures { λ _. ⌜ Chained (now (queue .entry)) 0 n (now (head .exit)) (now (next .exit)) ⌝ }
 {
     let mut i = n;
@@ -65,7 +66,9 @@ fn look(
     waiter: &mut [u16; SLOTS],
 ) -> u32
     requires { ⌜ (q < most-queues) × (ready < 65536) ⌝ }
-    ensures { λ r. ⌜ (r < 65536) × Looked (2 ^ q) ready (now (head .entry)) (now (source .entry)) (now (ran .entry)) (now (waiter .entry)) r (now (waiter .exit)) ⌝ }
+    ensures { λ r. ⌜ (r < 65536) ×
+        Heads-looked (2 ^ q) ready (now (head .entry)) (now (source .entry)) (now (ran .entry)) (now (waiter .entry)) r
+        (now (waiter .exit)) ⌝ }
 {
     let j = base_slices::get16(head, q);
     if NO_OPERATION <= j {
@@ -90,7 +93,9 @@ pub fn wake(
     waiter: &mut [u16; SLOTS],
 ) -> u32
     requires { ⌜ (mask < 65536) × (ready < 65536) ⌝ }
-    ensures { λ r. ⌜ (r < 65536) × Looked mask ready (now (head .entry)) (now (source .entry)) (now (ran .entry)) (now (waiter .entry)) r (now (waiter .exit)) ⌝ }
+    ensures { λ r. ⌜ (r < 65536) ×
+        Heads-looked mask ready (now (head .entry)) (now (source .entry)) (now (ran .entry)) (now (waiter .entry)) r
+        (now (waiter .exit)) ⌝ }
 {
     let mut left = mask;
     let mut r = ready;

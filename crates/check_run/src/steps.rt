@@ -39,8 +39,10 @@ fn fill(
     rows: &mut Rows,
 )
     requires { ⌜ (j ≤ no-operation) × (q < most-queues) ⌝ }
-    ensures { λ _. ⌜ Merged (now (rows .entry)) (now (unit .entry)) j q (slot-of (getD (now (prev .entry)) q 0)) (slot-of (getD (now (source .entry)) (most-waits * j) 0))
-        (slot-of (getD (now (source .entry)) (most-waits * j + 1) 0)) (slot-of (getD (now (source .entry)) (most-waits * j + 2) 0)) (now (rows .exit)) ⌝ }
+    ensures { λ _. ⌜ Merged (now (rows .entry)) (now (unit .entry)) j q (slot-of (getD (now (prev .entry)) q 0))
+        (slot-of (getD (now (source .entry)) (most-waits * j) 0))
+        (slot-of (getD (now (source .entry)) (most-waits * j + 1) 0))
+        (slot-of (getD (now (source .entry)) (most-waits * j + 2) 0)) (now (rows .exit)) ⌝ }
 {
     let last = slot(prev, q);
     let a = slot(source, MOST_WAITS * j);
@@ -63,7 +65,8 @@ fn step(
     rows: &mut Rows,
 )
     requires { ⌜ (j ≤ no-operation) × (q < most-queues) ⌝ }
-    ensures { λ _. ⌜ Stepped j q (now (source .entry)) (now (next .entry)) (now (unit .entry)) (now (head .entry)) (now (prev .entry)) (now (ran .entry))
+    ensures { λ _. ⌜ Stepped j q (now (source .entry)) (now (next .entry)) (now (unit .entry)) (now (head .entry))
+        (now (prev .entry)) (now (ran .entry))
         (now (rows .entry)) (now (head .exit)) (now (prev .exit)) (now (ran .exit)) (now (rows .exit)) ⌝ }
 {
     fill(j, q, source, prev, unit, rows);
@@ -90,13 +93,17 @@ pub fn turn(
 ) -> u32
     requires { ⌜ (0 < ready) × (ready < 65536) × (i < n) × (n ≤ most-operations) ⌝ }
     ensures small { λ r. ⌜ r < 65536 ⌝ }
-    ensures bounds { λ r. ⌜ ((queue first-rows first : List ℕ) → Tables queue n (now (next .entry)) (now (unit .entry)) →
+    ensures bounds { λ r. ⌜ ((queue first-rows first : List ℕ) →
+        Tables queue n (now (next .entry)) (now (unit .entry)) →
         Bounds queue n i (now (head .entry)) ready first-rows (now (rows .entry)) first (now (list .entry)) →
         Bounds queue n (i + 1) (now (head .exit)) r first-rows (now (rows .exit)) first (now (list .exit))) ⌝ }
-    ensures of_plans { λ r. ⌜ ((p : Plan) (queue first : List ℕ) → Run-given p n queue (now (source .entry)) → Tables queue n (now (next .entry)) (now (unit .entry)) →
+    ensures of_plans { λ r. ⌜ ((p : Plan) (queue first : List ℕ) → Run-given p n queue (now (source .entry)) →
+        Tables queue n (now (next .entry)) (now (unit .entry)) →
         2 * n ≤ length first →
-        Going p n i (now (source .entry)) (now (head .entry)) (now (prev .entry)) (now (ran .entry)) (now (waiter .entry)) ready (now (rows .entry)) first (now (list .entry)) →
-        Going p n (i + 1) (now (source .entry)) (now (head .exit)) (now (prev .exit)) (now (ran .exit)) (now (waiter .exit)) r (now (rows .exit)) first (now (list .exit))) ⌝ }
+        Going p n i (now (source .entry)) (now (head .entry)) (now (prev .entry)) (now (ran .entry))
+        (now (waiter .entry)) ready (now (rows .entry)) first (now (list .entry)) →
+        Going p n (i + 1) (now (source .entry)) (now (head .exit)) (now (prev .exit)) (now (ran .exit))
+        (now (waiter .exit)) r (now (rows .exit)) first (now (list .exit))) ⌝ }
 {
     let q = queues::lowest(ready);
     let j = slot(head, q);
@@ -120,10 +127,14 @@ pub fn all(
     list: &mut [u32],
 ) -> usize
     requires { ⌜ (ready < 65536) × (n ≤ most-operations) ⌝ }
-    ensures bounds { λ r. ⌜ ((queue : List ℕ) → Prepared queue n (now (source .entry)) (now (head .entry)) (now (next .entry)) (now (ran .entry)) (now (waiter .entry)) ready →
+    ensures bounds { λ r. ⌜ ((queue : List ℕ) →
+        Prepared queue n (now (source .entry)) (now (head .entry)) (now (next .entry)) (now (ran .entry))
+        (now (waiter .entry)) ready →
         Bounded n r (now (rows .entry)) (now (rows .exit)) (now (list .entry)) (now (list .exit))) ⌝ }
-    ensures of_plans { λ r. ⌜ ((p : Plan) (queue : List ℕ) → Run-given p n queue (now (source .entry)) → Cleared (now (rows .entry)) → 2 * n ≤ length (now (list .entry)) →
-        Prepared queue n (now (source .entry)) (now (head .entry)) (now (next .entry)) (now (ran .entry)) (now (waiter .entry)) ready →
+    ensures of_plans { λ r. ⌜ ((p : Plan) (queue : List ℕ) → Run-given p n queue (now (source .entry)) →
+        Cleared (now (rows .entry)) → 2 * n ≤ length (now (list .entry)) →
+        Prepared queue n (now (source .entry)) (now (head .entry)) (now (next .entry)) (now (ran .entry))
+        (now (waiter .entry)) ready →
         Ran p n r (now (rows .exit)) (now (list .entry)) (now (list .exit))) ⌝ }
 {
     let mut prev = [NO_OPERATION_STORED; MOST_QUEUES];

@@ -21,7 +21,8 @@ unfoldable pub flat : Plan → (last : List ℕ) → List Signal → Refusal
 flat p t [] = none-given
 flat p t (x ∷ xs) =
     cond (owns p (op p (x .operation) .queue) (x .semaphore))
-    (cond (leb (x .value) (getD t (x .semaphore) 0)) (refusal 7 (x .operation)) (flat p (set t (x .semaphore) (x .value)) xs))
+    (cond (leb (x .value) (getD t (x .semaphore) 0)) (refusal 7 (x .operation))
+    (flat p (set t (x .semaphore) (x .value)) xs))
     (refusal 6 (x .operation))
 
 -- the table after some signals
@@ -35,11 +36,11 @@ after-append t [] ys = refl
 after-append t (x ∷ xs) ys = after-append (set t (x .semaphore) (x .value)) xs ys
 
 -- the table holds f of each semaphore
-pub record Holds (p : Plan) (t : List ℕ) (f : ℕ → ℕ) : Type 0 where
+pub record Table-holds (p : Plan) (t : List ℕ) (f : ℕ → ℕ) : Type 0 where
   pub room : length (p .owners) ≤ length t
   pub values : (s : ℕ) → s < length (p .owners) → getD t s 0 ≡ f s
 
-holds-same : {p : Plan} {t : List ℕ} (f g : ℕ → ℕ) → ((s : ℕ) → f s ≡ g s) → Holds p t f → Holds p t g
+holds-same : {p : Plan} {t : List ℕ} (f g : ℕ → ℕ) → ((s : ℕ) → f s ≡ g s) → Table-holds p t f → Table-holds p t g
 holds-same f g e h = record { room = h .room; values = λ s l. h .values s l ∙ e s }
 
 -- semaphores that a list names are in the plan
@@ -51,22 +52,31 @@ module _ (p : Plan) (bs : List Operation) where
   abbrev so-far : List Point → ℕ → ℕ
   so-far own s = max (highest s bs) (highest-in s own)
 
-  holds-set : (t : List ℕ) (own : List Point) (x : Point) → Holds p t (so-far own) → x .semaphore < length (p .owners) → leb (x .value) (so-far own (x .semaphore)) ≡ false →
-      Holds p (set t (x .semaphore) (x .value)) (so-far (x ∷ own))
+  holds-set : (t : List ℕ) (own : List Point) (x : Point) → Table-holds p t (so-far own) →
+      x .semaphore < length (p .owners) → leb (x .value) (so-far own (x .semaphore)) ≡ false →
+      Table-holds p (set t (x .semaphore) (x .value)) (so-far (x ∷ own))
   unfolding highest-in
   holds-set t own x h inside high = record {
     room = rw length-set (h .room);
     values = λ s l. by-cases (eqb (x .semaphore) s)
         (λ e. let same = eqb-true (x .semaphore) s e in
-        rw e (subst (λ (z : ℕ). getD (set t (x .semaphore) (x .value)) z 0 ≡ max (highest z bs) (max (x .value) (highest-in z own))) same
-        (getD-set-same t (x .semaphore) (x .value) 0 (omega (arith, h .room)) ∙ omega (arith, leb-false (x .value) (so-far own (x .semaphore)) high))))
-        (λ e. rw e (getD-set-other t (x .semaphore) s (x .value) 0 (λ z. eqb-false (x .semaphore) s e (sym z)) ∙ h .values s l ∙ omega arith));
+        rw e
+        (subst
+        (λ (z : ℕ). getD (set t (x .semaphore) (x .value)) z 0 ≡ max (highest z bs) (max (x .value) (highest-in z own)))
+        same
+        (getD-set-same t (x .semaphore) (x .value) 0 (omega (arith, h .room))
+        ∙ omega (arith, leb-false (x .value) (so-far own (x .semaphore)) high))))
+        (λ e. rw e (getD-set-other t (x .semaphore) s (x .value) 0 (λ z. eqb-false (x .semaphore) s e (sym z))
+        ∙ h .values s l ∙ omega arith));
   }
 
   module _ (i q : ℕ) (on : op p i .queue ≡ q) where
     -- one operation's signals, then the rest
-    of-flat : (k : ℕ) (t : List ℕ) (own xs : List Point) (rest : List Signal) → Holds p t (so-far own) → Named p xs →
-        flat p t (signals-of i k xs ++ rest) ≡ cond (eqb (signals-number p q bs own xs) 0) (flat p (after t (signals-of i k xs)) rest) (refusal (signals-number p q bs own xs) i)
+    of-flat : (k : ℕ) (t : List ℕ) (own xs : List Point) (rest : List Signal) →
+        Table-holds p t (so-far own) → Named p xs →
+        flat p t (signals-of i k xs ++ rest) ≡
+        cond (eqb (signals-number p q bs own xs) 0) (flat p (after t (signals-of i k xs)) rest)
+        (refusal (signals-number p q bs own xs) i)
     unfolding flat after signals-of signals-number
     of-flat k t own [] rest h ok = refl
     of-flat k t own (x ∷ xs) rest h ok =
@@ -75,11 +85,13 @@ module _ (p : Plan) (bs : List Operation) where
         (λ a. by-cases (leb (x .value) (so-far own (x .semaphore)))
         (λ b. rw (on, a, h .values (x .semaphore) inside, b))
         (λ b. rw (on, a, h .values (x .semaphore) inside, b)
-        (of-flat (suc k) (set t (x .semaphore) (x .value)) (x ∷ own) xs rest (holds-set t own x h inside b) (λ j l. ok (suc j) (omega arith)))))
+        (of-flat (suc k) (set t (x .semaphore) (x .value)) (x ∷ own) xs rest (holds-set t own x h inside b)
+        (λ j l. ok (suc j) (omega arith)))))
         (λ a. rw (on, a))
 
-    of-holds : (k : ℕ) (t : List ℕ) (own xs : List Point) → Holds p t (so-far own) → Named p xs → signals-number p q bs own xs ≡ 0 →
-        Holds p (after t (signals-of i k xs)) (λ s. max (so-far own s) (highest-in s xs))
+    of-holds : (k : ℕ) (t : List ℕ) (own xs : List Point) → Table-holds p t (so-far own) → Named p xs →
+        signals-number p q bs own xs ≡ 0 →
+        Table-holds p (after t (signals-of i k xs)) (λ s. max (so-far own s) (highest-in s xs))
     unfolding after signals-of signals-number highest-in
     of-holds k t own [] h ok z = holds-same (so-far own) (λ s. max (so-far own s) 0) (λ s. omega arith) h
     of-holds k t own (x ∷ xs) h ok z =
@@ -87,11 +99,14 @@ module _ (p : Plan) (bs : List Operation) where
         by-cases (owns p q (x .semaphore))
         (λ a. by-cases (leb (x .value) (so-far own (x .semaphore)))
         (λ b. absurd (let y : 7 ≡ 0 = rw (a, b) at z in omega arith))
-        (λ b. holds-same (λ s. max (so-far (x ∷ own) s) (highest-in s xs)) (λ s. max (so-far own s) (highest-in s (x ∷ xs))) (λ s. omega arith)
-        (of-holds (suc k) (set t (x .semaphore) (x .value)) (x ∷ own) xs (holds-set t own x h inside b) (λ j l. ok (suc j) (omega arith)) (rw (a, b) at z))))
+        (λ b. holds-same (λ s. max (so-far (x ∷ own) s) (highest-in s xs))
+        (λ s. max (so-far own s) (highest-in s (x ∷ xs))) (λ s. omega arith)
+        (of-holds (suc k) (set t (x .semaphore) (x .value)) (x ∷ own) xs (holds-set t own x h inside b)
+        (λ j l. ok (suc j) (omega arith)) (rw (a, b) at z))))
         (λ a. absurd (let y : 6 ≡ 0 = rw a at z in omega arith))
 
-highest-snoc : (s : ℕ) (bs : List Operation) (o : Operation) → highest s (bs ++ (o ∷ [])) ≡ max (highest s bs) (highest-in s (o .signals))
+highest-snoc : (s : ℕ) (bs : List Operation) (o : Operation) →
+    highest s (bs ++ (o ∷ [])) ≡ max (highest s bs) (highest-in s (o .signals))
 unfolding highest
 highest-snoc s [] o = omega arith
 highest-snoc s (b ∷ bs) o = omega (arith, highest-snoc s bs o)
@@ -103,27 +118,33 @@ pub record Tail (p : Plan) (i : ℕ) (os : List Operation) : Type 0 where
 
 tail-more : {p : Plan} {i : ℕ} {o : Operation} {os : List Operation} → Tail p i (o ∷ os) → Tail p (suc i) os
 tail-more {p} {i} {o} {os} h = record {
-  queues-there = λ k l. subst (λ (n : ℕ). op p n .queue ≡ getD os k empty-operation .queue) (let e : i + suc k ≡ suc i + k = omega arith in e) (h .queues-there (suc k) (omega arith));
+  queues-there = λ k l. subst (λ (n : ℕ). op p n .queue ≡ getD os k empty-operation .queue)
+      (let e : i + suc k ≡ suc i + k = omega arith in e) (h .queues-there (suc k) (omega arith));
   named = λ k l. h .named (suc k) (omega arith);
 }
 
 tail-first : {p : Plan} {i : ℕ} {o : Operation} {os : List Operation} → Tail p i (o ∷ os) → op p i .queue ≡ o .queue
-tail-first {p} {i} {o} h = subst (λ (n : ℕ). op p n .queue ≡ o .queue) (let e : i + 0 ≡ i = omega arith in e) (h .queues-there 0 (omega arith))
+tail-first {p} {i} {o} h =
+    subst (λ (n : ℕ). op p n .queue ≡ o .queue) (let e : i + 0 ≡ i = omega arith in e) (h .queues-there 0 (omega arith))
 
 module _ (p : Plan) where
-  started : {t : List ℕ} (bs : List Operation) → Holds p t (λ s. highest s bs) → Holds p t (so-far p bs [])
+  started : {t : List ℕ} (bs : List Operation) → Table-holds p t (λ s. highest s bs) → Table-holds p t (so-far p bs [])
   unfolding highest-in
   started bs h = holds-same (λ s. highest s bs) (so-far p bs []) (λ s. omega arith) h
 
   -- the table after one more operation that is given neither 6 nor 7
-  stepped : (i : ℕ) (t : List ℕ) (bs : List Operation) (o : Operation) → op p i .queue ≡ o .queue → Named p (o .signals) → Holds p t (λ s. highest s bs) →
-      signals-number p (o .queue) bs [] (o .signals) ≡ 0 → Holds p (after t (signals-of i 0 (o .signals))) (λ s. highest s (bs ++ (o ∷ [])))
+  stepped : (i : ℕ) (t : List ℕ) (bs : List Operation) (o : Operation) → op p i .queue ≡ o .queue →
+      Named p (o .signals) → Table-holds p t (λ s. highest s bs) →
+      signals-number p (o .queue) bs [] (o .signals) ≡ 0 →
+      Table-holds p (after t (signals-of i 0 (o .signals))) (λ s. highest s (bs ++ (o ∷ [])))
   unfolding highest-in
   stepped i t bs o on ok h z =
-      holds-same (λ s. max (so-far p bs [] s) (highest-in s (o .signals))) (λ s. highest s (bs ++ (o ∷ []))) (λ s. omega (arith, highest-snoc s bs o))
+      holds-same (λ s. max (so-far p bs [] s) (highest-in s (o .signals))) (λ s. highest s (bs ++ (o ∷ [])))
+      (λ s. omega (arith, highest-snoc s bs o))
       (of-holds p bs i (o .queue) on 0 t [] (o .signals) (started bs h) ok z)
 
-  pub refusal-flat : (i : ℕ) (t : List ℕ) (bs os : List Operation) → Holds p t (λ s. highest s bs) → Tail p i os → signals-refusal i p bs os ≡ flat p t (signals-from i os)
+  pub refusal-flat : (i : ℕ) (t : List ℕ) (bs os : List Operation) → Table-holds p t (λ s. highest s bs) → Tail p i os →
+      signals-refusal i p bs os ≡ flat p t (signals-from i os)
   unfolding signals-refusal signals-from flat
   refusal-flat i t bs [] h ok = refl
   refusal-flat i t bs (o ∷ os) h ok =
@@ -136,8 +157,9 @@ module _ (p : Plan) where
       (λ e. rw (of-flat p bs i (o .queue) on 0 t [] (o .signals) (signals-from (suc i) os) (started bs h) names, e))
 
   -- where none is given the table ends with the highest of all
-  pub refusal-holds : (i : ℕ) (t : List ℕ) (bs os : List Operation) → Holds p t (λ s. highest s bs) → Tail p i os → signals-refusal i p bs os .number ≡ 0 →
-      Holds p (after t (signals-from i os)) (λ s. max (highest s bs) (highest s os))
+  pub refusal-holds : (i : ℕ) (t : List ℕ) (bs os : List Operation) → Table-holds p t (λ s. highest s bs) →
+      Tail p i os → signals-refusal i p bs os .number ≡ 0 →
+      Table-holds p (after t (signals-from i os)) (λ s. max (highest s bs) (highest s os))
   unfolding signals-refusal signals-from after highest refusal
   refusal-holds i t bs [] h ok z = holds-same (λ s. highest s bs) (λ s. max (highest s bs) 0) (λ s. omega arith) h
   refusal-holds i t bs (o ∷ os) h ok z =
@@ -146,8 +168,11 @@ module _ (p : Plan) where
       let n = signals-number p (o .queue) bs [] (o .signals) in
       by-cases (eqb n 0)
       (λ e. rw (after-append t (signals-of i 0 (o .signals)) (signals-from (suc i) os))
-      (holds-same (λ s. max (highest s (bs ++ (o ∷ []))) (highest s os)) (λ s. max (highest s bs) (max (highest-in s (o .signals)) (highest s os))) (λ s. omega (arith, highest-snoc s bs o))
-      (refusal-holds (suc i) (after t (signals-of i 0 (o .signals))) (bs ++ (o ∷ [])) os (stepped i t bs o on names h (eqb-true n 0 e)) (tail-more ok) (rw e at z))))
+      (holds-same (λ s. max (highest s (bs ++ (o ∷ []))) (highest s os))
+      (λ s. max (highest s bs) (max (highest-in s (o .signals)) (highest s os)))
+      (λ s. omega (arith, highest-snoc s bs o))
+      (refusal-holds (suc i) (after t (signals-of i 0 (o .signals))) (bs ++ (o ∷ [])) os
+      (stepped i t bs o on names h (eqb-true n 0 e)) (tail-more ok) (rw e at z))))
       (λ e. absurd (eqb-false n 0 e (rw e at z)))
 
 -- ---- what a plan's signals name
@@ -155,18 +180,22 @@ pub record Inside (p : Plan) (y : Signal) : Type 0 where
   pub semaphore : y .semaphore < length (p .owners)
   pub operation : y .operation < count p
 
-of-inside : (p : Plan) (i k : ℕ) (xs : List Point) → i < count p → Named p xs → (y : Signal) → List·Memᴰ y (signals-of i k xs) → Inside p y
+of-inside : (p : Plan) (i k : ℕ) (xs : List Point) → i < count p → Named p xs → (y : Signal) →
+    List·Memᴰ y (signals-of i k xs) → Inside p y
 unfolding signals-of
 of-inside p i k [] l ok y m = absurd (List·Memᴰ·not-nil m)
 of-inside p i k (x ∷ xs) l ok y m =
     either (List·Memᴰ·cases-cons m)
     (λ e. record {
-      semaphore = subst (λ (n : ℕ). n < length (p .owners)) (sym (ap (λ (z : Signal). z .semaphore) e)) (ok 0 (omega arith));
+      semaphore = subst (λ (n : ℕ). n < length (p .owners)) (sym (ap (λ (z : Signal). z .semaphore) e))
+          (ok 0 (omega arith));
       operation = subst (λ (n : ℕ). n < count p) (sym (ap (λ (z : Signal). z .operation) e)) l;
     })
     (λ t. of-inside p i (suc k) xs l (λ j b. ok (suc j) (omega arith)) y t)
 
-from-inside : (p : Plan) (i : ℕ) (os : List Operation) → i + length os ≤ count p → ((k : ℕ) → k < length os → Named p (getD os k empty-operation .signals)) → (y : Signal) → List·Memᴰ y (signals-from i os) → Inside p y
+from-inside : (p : Plan) (i : ℕ) (os : List Operation) → i + length os ≤ count p →
+    ((k : ℕ) → k < length os → Named p (getD os k empty-operation .signals)) → (y : Signal) →
+    List·Memᴰ y (signals-from i os) → Inside p y
 unfolding signals-from
 from-inside p i [] l ok y m = absurd (List·Memᴰ·not-nil m)
 from-inside p i (o ∷ os) l ok y m =
@@ -180,7 +209,7 @@ module _ (p : Plan) (few : length (p .owners) ≤ 64) (in-range : (i : ℕ) → 
   unfolding op count
   tail = record { queues-there = λ k l. let e : 0 + k ≡ k = omega arith in rw e; named = λ k l. in-range k l .signals }
 
-  start : Holds p zeros (λ s. highest s [])
+  start : Table-holds p zeros (λ s. highest s [])
   unfolding highest
   start = record { room = omega (arith, few); values = λ s l. getD-replicate 64 s 0 0 (omega (arith, few)) }
 
@@ -188,7 +217,8 @@ module _ (p : Plan) (few : length (p .owners) ≤ 64) (in-range : (i : ℕ) → 
   unfolding plan-signals
   plan-flat = refusal-flat p 0 zeros [] (p .operations) start tail
 
-  pub plan-holds : signals-refusal 0 p [] (p .operations) .number ≡ 0 → Holds p (after zeros (plan-signals p)) (λ s. highest s (p .operations))
+  pub plan-holds : signals-refusal 0 p [] (p .operations) .number ≡ 0 →
+      Table-holds p (after zeros (plan-signals p)) (λ s. highest s (p .operations))
   unfolding plan-signals highest
   plan-holds z =
       holds-same (λ s. max 0 (highest s (p .operations))) (λ s. highest s (p .operations)) (λ s. omega arith)

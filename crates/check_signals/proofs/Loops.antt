@@ -9,12 +9,14 @@ use Rattle.plan_format.specs.Refusal.{Refusal, refusal, none-given}
 use Rattle.check_signals.specs.Walks.{signals-walk, lasts-walk}
 
 -- from k on, with this table, the walk finds and leaves what the whole does
-pub record Signals-left (owner queue ssem sval sop : List ℕ) (m : ℕ) (first : List ℕ) (k : ℕ) (last : List ℕ) : Type 0 where
+pub record Signals-left (owner queue ssem sval sop : List ℕ) (m : ℕ) (first : List ℕ) (k : ℕ)
+    (last : List ℕ) : Type 0 where
   pub found : signals-walk owner queue ssem sval sop (m - k) k last ≡ signals-walk owner queue ssem sval sop m 0 first
   pub table : lasts-walk owner queue ssem sval sop (m - k) k last ≡ lasts-walk owner queue ssem sval sop m 0 first
 
 -- the walk finds this refusal, and leaves this table
-pub record Stops (owner queue ssem sval sop : List ℕ) (m : ℕ) (first : List ℕ) (r : Refusal) (last : List ℕ) : Type 0 where
+pub record Stops (owner queue ssem sval sop : List ℕ) (m : ℕ) (first : List ℕ) (r : Refusal)
+    (last : List ℕ) : Type 0 where
   pub found : r ≡ signals-walk owner queue ssem sval sop m 0 first
   pub table : last ≡ lasts-walk owner queue ssem sval sop m 0 first
 
@@ -22,18 +24,21 @@ module _ {owner queue ssem sval sop : List ℕ} {m : ℕ} {first : List ℕ} whe
   pub signals-none : Signals-left owner queue ssem sval sop m first 0 first
   signals-none = let e : m - 0 ≡ m = omega arith in record { found = rw e; table = rw e }
 
-  module _ {k x i v : ℕ} {last : List ℕ} (left : Signals-left owner queue ssem sval sop m first k last) (inside : k < m) (ex : x ≡ getD ssem k 0) (ei : i ≡ getD sop k 0) (ev : v ≡ getD sval k 0) where
+  module _ {k x i v : ℕ} {last : List ℕ} (left : Signals-left owner queue ssem sval sop m first k last) (inside : k < m)
+      (ex : x ≡ getD ssem k 0) (ei : i ≡ getD sop k 0) (ev : v ≡ getD sval k 0) where
     one : m - k ≡ suc (m - suc k)
     one = omega arith
 
-    pub signals-six : {o q : ℕ} → o ≡ getD owner x 0 → q ≡ getD queue i 0 → (o ≡ q → ⊥) → Stops owner queue ssem sval sop m first (refusal 6 i) last
+    pub signals-six : {o q : ℕ} → o ≡ getD owner x 0 → q ≡ getD queue i 0 → (o ≡ q → ⊥) →
+        Stops owner queue ssem sval sop m first (refusal 6 i) last
     unfolding signals-walk lasts-walk
     signals-six {o} {q} eo eq h = record {
       found = sym (rw (one, ← ex, ← ei, ← eo, ← eq, ne-eqb o q h)) ∙ left .found;
       table = sym (rw (one, ← ex, ← ei, ← eo, ← eq, ne-eqb o q h)) ∙ left .table;
     }
 
-    module _ {o q l : ℕ} (eo : o ≡ getD owner x 0) (eq : q ≡ getD queue i 0) (owned : o ≡ q) (el : l ≡ getD last x 0) where
+    module _ {o q l : ℕ} (eo : o ≡ getD owner x 0) (eq : q ≡ getD queue i 0) (owned : o ≡ q)
+        (el : l ≡ getD last x 0) where
       pub signals-seven : v ≤ l → Stops owner queue ssem sval sop m first (refusal 7 i) last
       unfolding signals-walk lasts-walk
       signals-seven h = record {
@@ -41,13 +46,16 @@ module _ {owner queue ssem sval sop : List ℕ} {m : ℕ} {first : List ℕ} whe
         table = sym (rw (one, ← ex, ← ei, ← ev, ← eo, ← eq, eq-eqb o q owned, ← el, le-leb v l h)) ∙ left .table;
       }
 
-      pub signals-more : l < v → {new : List ℕ} → new ≡ set last x v → Signals-left owner queue ssem sval sop m first (k + 1) new
+      pub signals-more : l < v → {new : List ℕ} → new ≡ set last x v →
+          Signals-left owner queue ssem sval sop m first (k + 1) new
       unfolding signals-walk lasts-walk
       signals-more h et =
           let here : k + 1 ≡ suc k = omega arith in
           record {
-            found = rw (here, et) (sym (rw (one, ← ex, ← ei, ← ev, ← eo, ← eq, eq-eqb o q owned, ← el, lt-leb v l h)) ∙ left .found);
-            table = rw (here, et) (sym (rw (one, ← ex, ← ei, ← ev, ← eo, ← eq, eq-eqb o q owned, ← el, lt-leb v l h)) ∙ left .table);
+            found = rw (here, et)
+                (sym (rw (one, ← ex, ← ei, ← ev, ← eo, ← eq, eq-eqb o q owned, ← el, lt-leb v l h)) ∙ left .found);
+            table = rw (here, et)
+                (sym (rw (one, ← ex, ← ei, ← ev, ← eo, ← eq, eq-eqb o q owned, ← el, lt-leb v l h)) ∙ left .table);
           }
 
   module _ {k : ℕ} {last : List ℕ} (left : Signals-left owner queue ssem sval sop m first k last) (out : m ≤ k) where

@@ -46,7 +46,8 @@ module _ (owner queue ssem sval sop : List ℕ) where
   lasts-walk zero k last = last
   lasts-walk (suc left) k last =
       cond (eqb (getD owner (getD ssem k 0) 0) (getD queue (getD sop k 0) 0))
-      (cond (leb (getD sval k 0) (getD last (getD ssem k 0) 0)) last (lasts-walk left (suc k) (set last (getD ssem k 0) (getD sval k 0))))
+      (cond (leb (getD sval k 0) (getD last (getD ssem k 0) 0)) last
+      (lasts-walk left (suc k) (set last (getD ssem k 0) (getD sval k 0))))
       last
 
 -- nothing is signalled on any of the 64 semaphores

@@ -27,9 +27,15 @@ pub fn judge(
     sval: &SignalValues,
     sop: &SignalColumn,
 ) -> Signalled
-    ensures told { λ r. ⌜ refusal (r .number) (r .place) ≡ signals-walk (now (owner .entry)) (now (queue .entry)) (now (ssem .entry)) (now (sval .entry)) (now (sop .entry)) signals 0 zeros ⌝ }
-    ensures lasts { λ r. ⌜ r .last ≡ lasts-walk (now (owner .entry)) (now (queue .entry)) (now (ssem .entry)) (now (sval .entry)) (now (sop .entry)) signals 0 zeros ⌝ }
-    ensures of_plans { λ r. ⌜ ((p : Plan) → Signals-given p signals (now (owner .entry)) (now (queue .entry)) (now (ssem .entry)) (now (sval .entry)) (now (sop .entry)) → Judged p r) ⌝ }
+    ensures told { λ r. ⌜ refusal (r .number) (r .place) ≡
+        signals-walk (now (owner .entry)) (now (queue .entry)) (now (ssem .entry)) (now (sval .entry))
+        (now (sop .entry)) signals 0 zeros ⌝ }
+    ensures lasts { λ r. ⌜ r .last ≡
+        lasts-walk (now (owner .entry)) (now (queue .entry)) (now (ssem .entry)) (now (sval .entry))
+        (now (sop .entry)) signals 0 zeros ⌝ }
+    ensures of_plans { λ r. ⌜ ((p : Plan) →
+        Signals-given p signals (now (owner .entry)) (now (queue .entry)) (now (ssem .entry)) (now (sval .entry))
+        (now (sop .entry)) → Judged p r) ⌝ }
 {
     let mut last = [0u64; MOST_SEMAPHORES];
     let mut k = 0;

@@ -15,7 +15,8 @@ ghost use Rattle.check_stuck.specs.Zeros.{first-zero};
 // is the lowest that did not run.
 pub fn stuck(n: u16, queue: &QueueColumn, rows: &Rows) -> usize
     ensures found { λ r. ⌜ r ≡ first-zero n (now (queue .entry)) (now (rows .entry)) ⌝ }
-    ensures of_plans { λ r. ⌜ ((p : Plan) → Sound p → count p ≡ n → Queue-column p (now (queue .entry)) → Rows-of p (standard p) (now (rows .entry)) →
+    ensures of_plans { λ r. ⌜ ((p : Plan) → Sound p → count p ≡ n → Queue-column p (now (queue .entry)) →
+        Rows-of p (standard p) (now (rows .entry)) →
         r ≡ place-or n (missing p)) ⌝ }
 {
     let many = n as usize;

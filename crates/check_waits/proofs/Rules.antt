@@ -6,11 +6,14 @@ use Rattle.plan_format.specs.Sound.{signals-refusal, waits-refusal, rules-refus
 use Rattle.plan_format.proofs.Judged.{other-given, or-else-first, or-else-second}
 
 module _ (p : Plan) where
-  pub six-seven-first : (signals-refusal 0 p [] (p .operations) .number ≡ 0 → ⊥) → rules-refusal p ≡ signals-refusal 0 p [] (p .operations)
+  pub six-seven-first : (signals-refusal 0 p [] (p .operations) .number ≡ 0 → ⊥) →
+      rules-refusal p ≡ signals-refusal 0 p [] (p .operations)
   unfolding rules-refusal
   six-seven-first h =
-      let f = signals-refusal 0 p [] (p .operations) in or-else-first f (waits-refusal 0 p (p .operations)) (other-given f h)
+      let f = signals-refusal 0 p [] (p .operations) in
+      or-else-first f (waits-refusal 0 p (p .operations)) (other-given f h)
 
-  pub then-eight : signals-refusal 0 p [] (p .operations) .number ≡ 0 → rules-refusal p ≡ waits-refusal 0 p (p .operations)
+  pub then-eight : signals-refusal 0 p [] (p .operations) .number ≡ 0 →
+      rules-refusal p ≡ waits-refusal 0 p (p .operations)
   unfolding rules-refusal
   then-eight z = or-else-second (signals-refusal 0 p [] (p .operations)) (waits-refusal 0 p (p .operations)) z

@@ -18,16 +18,20 @@ use Rattle.cundvrest_c.specs.Sent.{Sent-says, sent-of}
 
 module _ (bytes : List ℕ) (j capacity : ℕ) (r : Sent) (table table-now list list-now told frontier : List ℕ) where
   pub sent-answered : Sent-says r told frontier → Frontier-right bytes j capacity r table table-now list list-now →
-      Frontier-right bytes j capacity (sent-of told frontier) table table-now list list-now × Sent-says (sent-of told frontier) told frontier
+      Frontier-right bytes j capacity (sent-of told frontier) table table-now list list-now ×
+      Sent-says (sent-of told frontier) told frontier
   unfolding sent-of
   sent-answered says right-of =
-      let e = same in
-      (subst (λ (k : Sent). Frontier-right bytes j capacity k table table-now list list-now) e right-of, subst (λ (k : Sent). Sent-says k told frontier) e says)
+      let e = same in (
+        subst (λ (k : Sent). Frontier-right bytes j capacity k table table-now list list-now) e right-of,
+        subst (λ (k : Sent). Sent-says k told frontier) e says,
+      )
     where
       whole : well-formed (r .frontier) ≡ true
       whole =
           by-cases (eqb (r .number) 0) (λ t. right-of .means (eqb-true (r .number) 0 t) .formed)
-          (λ n. ap well-formed (right-of .number .refused (eqb-false (r .number) 0 n)) ∙ well-formed-pack [] false tt (omega arith))
+          (λ n. ap well-formed (right-of .number .refused (eqb-false (r .number) 0 n))
+          ∙ well-formed-pack [] false tt (omega arith))
 
       same : r ≡ sent-of told frontier
       same = λ i. record {

@@ -9,4 +9,5 @@ Sent-says r told frontier = Handed (r .number) (r .place) (r .frontier) told fro
 
 -- what a caller reads there
 unfoldable pub sent-of : (told frontier : List ℕ) → Sent
-sent-of told frontier = record { number = told-of told .number; place = told-of told .place; frontier = frontier-of frontier }
+sent-of told frontier =
+    record { number = told-of told .number; place = told-of told .place; frontier = frontier-of frontier }

@@ -5,18 +5,21 @@ ghost use mathlib.Core.Bool.{true, _||_};
 ghost use Rattle.plan_format.specs.Meaning.{Read-means, Write-means};
 ghost use Rattle.plan_format.specs.Stored.{Read-says, Write-says};
 ghost use Rattle.plan_order.specs.Promise.{Checked};
-ghost use Rattle.ask_reuse.specs.Reuse.{Asked};
+ghost use Rattle.ask_reuse.specs.Reuse.{Reuse-asked};
 ghost use Rattle.ask_frontier.specs.SentMeaning.{Frontier-right};
 ghost use Rattle.frontier.specs.Frontiers.{capable, merge, raise, dominance};
 ghost use Rattle.frontier.specs.Meaning.{Merge-right, Raise-right, Dominance-means};
-ghost use Rattle.c_lent.specs.Lent.{told-of, frontier-of, oversized, Merge-says, merged-of, Oversized-refused, dominance-told, dominance-of};
+ghost use Rattle.c_lent.specs.Lent.{told-of, frontier-of, oversized, Merge-says, merged-of, Oversized-refused};
+ghost use Rattle.c_lent.specs.Lent.{dominance-told, dominance-of};
 ghost use Rattle.cundvrest_c.specs.Sent.{Sent-says, sent-of};
 
 // The numbers of a stored plan in front of the room; the answer is how many there are.
 #[no_mangle]
 pub extern "C" fn cundvrest_read(plan: &[u8], room: &mut [u64], told: &mut [u64; 3])
-    ensures says { λ _. ⌜ Read-says (now (plan .entry)) (told-of (now (told .exit))) (now (room .entry)) (now (room .exit)) ⌝ }
-    ensures means { λ _. ⌜ Read-means (now (plan .entry)) (told-of (now (told .exit))) (now (room .entry)) (now (room .exit)) ⌝ }
+    ensures says { λ _.
+        ⌜ Read-says (now (plan .entry)) (told-of (now (told .exit))) (now (room .entry)) (now (room .exit)) ⌝ }
+    ensures means { λ _.
+        ⌜ Read-means (now (plan .entry)) (told-of (now (told .exit))) (now (room .entry)) (now (room .exit)) ⌝ }
 {
     c_lent::tell(stored_read::read_plan(plan, room), told);
 }
@@ -24,8 +27,10 @@ pub extern "C" fn cundvrest_read(plan: &[u8], room: &mut [u64], told: &mut [u64;
 // The bytes of a list of numbers in front of the room; the answer is how many there are.
 #[no_mangle]
 pub extern "C" fn cundvrest_write(numbers: &[u64], room: &mut [u8], told: &mut [u64; 3])
-    ensures says { λ _. ⌜ Write-says (now (numbers .entry)) (told-of (now (told .exit))) (now (room .entry)) (now (room .exit)) ⌝ }
-    ensures means { λ _. ⌜ Write-means (now (numbers .entry)) (told-of (now (told .exit))) (now (room .entry)) (now (room .exit)) ⌝ }
+    ensures says { λ _.
+        ⌜ Write-says (now (numbers .entry)) (told-of (now (told .exit))) (now (room .entry)) (now (room .exit)) ⌝ }
+    ensures means { λ _.
+        ⌜ Write-means (now (numbers .entry)) (told-of (now (told .exit))) (now (room .entry)) (now (room .exit)) ⌝ }
 {
     c_lent::tell(stored_write::write_plan(numbers, room), told);
 }
@@ -38,7 +43,8 @@ pub extern "C" fn cundvrest_check(
     list: &mut [u32],
     told: &mut [u64; 3],
 )
-    ensures { λ _. ⌜ Checked (now (plan .entry)) (told-of (now (told .exit))) (now (table .entry)) (now (table .exit)) (now (list .entry)) (now (list .exit)) ⌝ }
+    ensures { λ _. ⌜ Checked (now (plan .entry)) (told-of (now (told .exit))) (now (table .entry)) (now (table .exit))
+        (now (list .entry)) (now (list .exit)) ⌝ }
 {
     c_lent::tell(check_plan::check_plan(plan, table, list), told);
 }
@@ -53,7 +59,8 @@ pub extern "C" fn cundvrest_reuse(
     list: &mut [u32],
     told: &mut [u64; 3],
 )
-    ensures { λ _. ⌜ Asked (now (plan .entry)) queue buffer (told-of (now (told .exit))) (now (table .entry)) (now (table .exit)) (now (list .entry)) (now (list .exit)) ⌝ }
+    ensures { λ _. ⌜ Reuse-asked (now (plan .entry)) queue buffer (told-of (now (told .exit))) (now (table .entry))
+        (now (table .exit)) (now (list .entry)) (now (list .exit)) ⌝ }
 {
     c_lent::tell(
         ask_reuse::reuse_question(plan, queue, buffer, table, list),
@@ -72,8 +79,11 @@ pub extern "C" fn cundvrest_frontier(
     frontier: &mut [u64; c_lent::NUMBERS],
     told: &mut [u64; 3],
 )
-    ensures right { λ _. ⌜ Frontier-right (now (plan .entry)) operation capacity (sent-of (now (told .exit)) (now (frontier .exit))) (now (table .entry)) (now (table .exit)) (now (list .entry)) (now (list .exit)) ⌝ }
-    ensures says { λ _. ⌜ Sent-says (sent-of (now (told .exit)) (now (frontier .exit))) (now (told .exit)) (now (frontier .exit)) ⌝ }
+    ensures right { λ _. ⌜ Frontier-right (now (plan .entry)) operation capacity
+        (sent-of (now (told .exit)) (now (frontier .exit))) (now (table .entry)) (now (table .exit)) (now (list .entry))
+        (now (list .exit)) ⌝ }
+    ensures says { λ _. ⌜ Sent-says (sent-of (now (told .exit)) (now (frontier .exit))) (now (told .exit))
+        (now (frontier .exit)) ⌝ }
 {
     let r = ask_frontier::frontier_of(plan, operation, capacity, table, list);
     c_lent::hand(r.number, r.place, r.frontier, frontier, told);
@@ -88,8 +98,11 @@ pub extern "C" fn cundvrest_merge(
     merged: &mut [u64; c_lent::NUMBERS],
     told: &mut [u64; 3],
 )
-    ensures says { λ _. ⌜ Merge-says (merge (frontier-of (now (left .entry))) (frontier-of (now (right .entry))) capacity) (now (told .exit)) (now (merged .exit)) ⌝ }
-    ensures right { λ _. ⌜ Merge-right (frontier-of (now (left .entry))) (frontier-of (now (right .entry))) capacity (merged-of (now (told .exit)) (now (merged .exit))) ⌝ }
+    ensures says { λ _. ⌜ Merge-says
+        (merge (frontier-of (now (left .entry))) (frontier-of (now (right .entry))) capacity) (now (told .exit))
+        (now (merged .exit)) ⌝ }
+    ensures right { λ _. ⌜ Merge-right (frontier-of (now (left .entry))) (frontier-of (now (right .entry))) capacity
+        (merged-of (now (told .exit)) (now (merged .exit))) ⌝ }
     ensures oversized_sides { λ _. ⌜ Oversized-refused (oversized (now (left .entry)) || oversized (now (right .entry)))
         (capable capacity) (now (told .exit)) ⌝ }
 {
@@ -107,9 +120,12 @@ pub extern "C" fn cundvrest_raise(
     raised: &mut [u64; c_lent::NUMBERS],
     told: &mut [u64; 3],
 )
-    ensures says { λ _. ⌜ Merge-says (raise (frontier-of (now (old .entry))) axis epoch capacity) (now (told .exit)) (now (raised .exit)) ⌝ }
-    ensures right { λ _. ⌜ Raise-right (frontier-of (now (old .entry))) axis epoch capacity (merged-of (now (told .exit)) (now (raised .exit))) ⌝ }
-    ensures oversized_side { λ _. ⌜ Oversized-refused (oversized (now (old .entry))) (capable capacity) (now (told .exit)) ⌝ }
+    ensures says { λ _. ⌜ Merge-says (raise (frontier-of (now (old .entry))) axis epoch capacity) (now (told .exit))
+        (now (raised .exit)) ⌝ }
+    ensures right { λ _. ⌜ Raise-right (frontier-of (now (old .entry))) axis epoch capacity
+        (merged-of (now (told .exit)) (now (raised .exit))) ⌝ }
+    ensures oversized_side { λ _. ⌜ Oversized-refused (oversized (now (old .entry))) (capable capacity)
+        (now (told .exit)) ⌝ }
 {
     let r = c_lent::frontier(old).raise(axis, epoch, capacity);
     c_lent::hand(r.number, 0, r.frontier, raised, told);
@@ -122,9 +138,12 @@ pub extern "C" fn cundvrest_dominates(
     right: &[u64; c_lent::NUMBERS],
     told: &mut [u64; 3],
 )
-    ensures says { λ _. ⌜ told-of (now (told .exit)) ≡ dominance-told (dominance (frontier-of (now (left .entry))) (frontier-of (now (right .entry)))) ⌝ }
-    ensures means { λ _. ⌜ Dominance-means (frontier-of (now (left .entry))) (frontier-of (now (right .entry))) (dominance-of (told-of (now (told .exit)))) ⌝ }
-    ensures oversized_sides { λ _. ⌜ Oversized-refused (oversized (now (left .entry)) || oversized (now (right .entry))) true (now (told .exit)) ⌝ }
+    ensures says { λ _. ⌜ told-of (now (told .exit)) ≡
+        dominance-told (dominance (frontier-of (now (left .entry))) (frontier-of (now (right .entry)))) ⌝ }
+    ensures means { λ _. ⌜ Dominance-means (frontier-of (now (left .entry))) (frontier-of (now (right .entry)))
+        (dominance-of (told-of (now (told .exit)))) ⌝ }
+    ensures oversized_sides { λ _. ⌜ Oversized-refused
+        (oversized (now (left .entry)) || oversized (now (right .entry))) true (now (told .exit)) ⌝ }
 {
     let r = c_lent::frontier(left).dominates(c_lent::frontier(right));
     c_lent::tell(c_lent::dominance(r), told);

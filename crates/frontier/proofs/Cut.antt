@@ -51,16 +51,21 @@ sorted-keep f b (x ∷ xs) s =
 pub find-below : (b a : ℕ) (xs : List Entry) → Sorted b xs → a < b → find a xs ≡ Absent
 unfolding find
 find-below b a [] s h = refl
-find-below b a (x ∷ xs) s h = rw (ne-eqb (x .axis) a (λ q. omega arith)) (find-below (suc (x .axis)) a xs (s .2) (omega arith))
+find-below b a (x ∷ xs) s h =
+    rw (ne-eqb (x .axis) a (λ q. omega arith)) (find-below (suc (x .axis)) a xs (s .2) (omega arith))
 
-pub find-keep : (f : Entry → Bool) (b a : ℕ) (xs : List Entry) → Sorted b xs → find a (filter f xs) ≡ listed-if f a (find a xs)
+pub find-keep : (f : Entry → Bool) (b a : ℕ) (xs : List Entry) → Sorted b xs →
+    find a (filter f xs) ≡ listed-if f a (find a xs)
 unfolding find filter listed-if
 find-keep f b a [] s = refl
 find-keep f b a (x ∷ xs) s =
     by-cases (eqb (x .axis) a)
     (λ t. let e : record { axis = a; epoch = x .epoch } ≡ x = same-entry (sym (eqb-true (x .axis) a t)) refl in
-    rw (t, e) (by-cases (f x) (λ k. rw (k, t)) (λ k. rw k (find-below (suc (x .axis)) a (filter f xs) (sorted-keep f (suc (x .axis)) xs (s .2)) (omega (arith, eqb-true (x .axis) a t))))))
-    (λ t. rw t (by-cases (f x) (λ k. rw (k, t) (find-keep f (suc (x .axis)) a xs (s .2))) (λ k. rw k (find-keep f (suc (x .axis)) a xs (s .2)))))
+    rw (t, e) (by-cases (f x) (λ k. rw (k, t))
+    (λ k. rw k (find-below (suc (x .axis)) a (filter f xs) (sorted-keep f (suc (x .axis)) xs (s .2))
+    (omega (arith, eqb-true (x .axis) a t))))))
+    (λ t. rw t (by-cases (f x) (λ k. rw (k, t) (find-keep f (suc (x .axis)) a xs (s .2)))
+    (λ k. rw k (find-keep f (suc (x .axis)) a xs (s .2)))))
 
 epoch-if : (f : Entry → Bool) (a : ℕ) (l : Lookup) → epoch-of (listed-if f a l) ≤ epoch-of l
 unfolding epoch-of listed-if
@@ -77,16 +82,20 @@ unfolding exceeding
 exceeding-lt x [] i = absurd i
 exceeding-lt x (y ∷ ys) i =
     either i (λ e. rw (← e, exceeds-not-itself x) (omega (arith, exceeding-le x ys)))
-    (λ j. by-cases (exceeds y x) (λ t. rw t (omega (arith, exceeding-lt x ys j))) (λ t. rw t (omega (arith, exceeding-lt x ys j))))
+    (λ j. by-cases (exceeds y x) (λ t. rw t (omega (arith, exceeding-lt x ys j)))
+    (λ t. rw t (omega (arith, exceeding-lt x ys j))))
   where
     exceeding-le : (x : Entry) (xs : List Entry) → exceeding x xs ≤ length xs
     exceeding-le x [] = zero-le
-    exceeding-le x (y ∷ ys) = by-cases (exceeds y x) (λ t. rw t (omega (arith, exceeding-le x ys))) (λ t. rw t (omega (arith, exceeding-le x ys)))
+    exceeding-le x (y ∷ ys) =
+        by-cases (exceeds y x) (λ t. rw t (omega (arith, exceeding-le x ys)))
+        (λ t. rw t (omega (arith, exceeding-le x ys)))
 
 exceeding-keep : (f : Entry → Bool) (m : Entry) (xs : List Entry) → exceeding m (filter f xs) ≤ exceeding m xs
 unfolding filter exceeding
 exceeding-keep f m [] = zero-le
-exceeding-keep f m (x ∷ xs) = by-cases (f x) (λ t. rw t (omega (arith, exceeding-keep f m xs))) (λ t. rw t (omega (arith, exceeding-keep f m xs)))
+exceeding-keep f m (x ∷ xs) =
+    by-cases (f x) (λ t. rw t (omega (arith, exceeding-keep f m xs))) (λ t. rw t (omega (arith, exceeding-keep f m xs)))
 
 -- the least entry: it exceeds none, so all others exceed it
 record Least (m : Entry) (xs : List Entry) : Type 0 where
@@ -94,7 +103,8 @@ record Least (m : Entry) (xs : List Entry) : Type 0 where
   under : (y : Entry) → In y xs → exceeds m y ≡ false
 
 least : (x : Entry) (xs : List Entry) → (m : Entry) × Least m (x ∷ xs)
-least x [] = (x, record { inside = inl refl; under = λ y i. either i (λ e. rw e (exceeds-not-itself x)) (λ j. absurd j) })
+least x [] =
+    (x, record { inside = inl refl; under = λ y i. either i (λ e. rw e (exceeds-not-itself x)) (λ j. absurd j) })
 least x (y ∷ ys) =
     let w = least y ys in
     by-cases (exceeds (w .0) x)
@@ -108,14 +118,16 @@ least x (y ∷ ys) =
     ))
     (λ t. (w .0, record { inside = inr (w .1 .inside); under = λ z i. either i (λ e. rw e t) (λ j. w .1 .under z j) }))
 
-all-exceed : (m : Entry) (b : ℕ) (xs : List Entry) → Sorted b xs → m .axis < b → ((y : Entry) → In y xs → exceeds m y ≡ false) → length xs ≤ exceeding m xs
+all-exceed : (m : Entry) (b : ℕ) (xs : List Entry) → Sorted b xs → m .axis < b →
+    ((y : Entry) → In y xs → exceeds m y ≡ false) → length xs ≤ exceeding m xs
 unfolding exceeding
 all-exceed m b [] s l h = zero-le
 all-exceed m b (x ∷ xs) s l h =
     rw (exceeds-or m x (λ q. omega arith) (h x (inl refl)))
     (omega (arith, all-exceed m (suc (x .axis)) xs (s .2) (omega arith) (λ y i. h y (inr i))))
 
-pub least-count : (m : Entry) (b : ℕ) (xs : List Entry) → Sorted b xs → In m xs → ((y : Entry) → In y xs → exceeds m y ≡ false) → length xs ≤ suc (exceeding m xs)
+pub least-count : (m : Entry) (b : ℕ) (xs : List Entry) → Sorted b xs → In m xs →
+    ((y : Entry) → In y xs → exceeds m y ≡ false) → length xs ≤ suc (exceeding m xs)
 unfolding exceeding
 least-count m b [] s i h = absurd i
 least-count m b (x ∷ xs) s i h =
@@ -158,4 +170,5 @@ module _ (c b : ℕ) (xs : List Entry) (s : Sorted b xs) where
 -- nothing is cut where the capacity holds it
 pub cut-whole : (c : ℕ) (xs : List Entry) → length xs ≤ c → cut c xs ≡ xs
 unfolding cut
-cut-whole c xs h = keep-all (λ x. ltb (exceeding x xs) c) xs (λ x i. lt-ltb (exceeding x xs) c (omega (arith, exceeding-lt x xs i)))
+cut-whole c xs h =
+    keep-all (λ x. ltb (exceeding x xs) c) xs (λ x i. lt-ltb (exceeding x xs) c (omega (arith, exceeding-lt x xs i)))

@@ -7,7 +7,8 @@ use Prim.Native.Nat.{_≤_, _<_}
 use native.Mathlib.Omega.{arith}
 use lib.Dec.{ltb, eqb}
 use borrow.Author.Tests.{ltb-true, ltb-false, eqb-true, eqb-false, lt-ltb, le-ltb, eq-eqb, ne-eqb}
-use Rattle.base_lists.proofs.Tests.{by-cases, clash, is-false, either, or-cases, or-left, or-right, and-left, and-right, and-both}
+use Rattle.base_lists.proofs.Tests.{by-cases, clash, is-false, either, or-cases, or-left, or-right, and-left, and-right}
+use Rattle.base_lists.proofs.Tests.{and-both}
 use Rattle.frontier.specs.Entries.{Entry, exceeds}
 use Rattle.frontier.proofs.Sorted.{same-entry}
 
@@ -18,7 +19,10 @@ above : (y x : Entry) → exceeds y x ≡ true → Above y x
 unfolding exceeds
 above y x e =
     either (or-cases (ltb (x .epoch) (y .epoch)) _ e) (λ l. inl (ltb-true (x .epoch) (y .epoch) l))
-    (λ p. inr (eqb-true (x .epoch) (y .epoch) (and-left (eqb (x .epoch) (y .epoch)) _ p), ltb-true (x .axis) (y .axis) (and-right (eqb (x .epoch) (y .epoch)) _ p)))
+    (λ p. inr (
+      eqb-true (x .epoch) (y .epoch) (and-left (eqb (x .epoch) (y .epoch)) _ p),
+      ltb-true (x .axis) (y .axis) (and-right (eqb (x .epoch) (y .epoch)) _ p),
+    ))
 
 by-epoch : (y x : Entry) → x .epoch < y .epoch → exceeds y x ≡ true
 unfolding exceeds
@@ -48,7 +52,8 @@ pub exceeds-or : (y x : Entry) → (x .axis ≡ y .axis → ⊥) → exceeds y x
 exceeds-or y x n e =
     by-cases (ltb (y .epoch) (x .epoch)) (λ l. by-epoch x y (ltb-true _ _ l))
     (λ l. by-cases (ltb (x .epoch) (y .epoch)) (λ m. clash (exceeds y x) (by-epoch y x (ltb-true _ _ m)) e)
-    (λ m. let q : x .epoch ≡ y .epoch = omega (arith, ltb-false (y .epoch) (x .epoch) l, ltb-false (x .epoch) (y .epoch) m) in
+    (λ m.
+    let q : x .epoch ≡ y .epoch = omega (arith, ltb-false (y .epoch) (x .epoch) l, ltb-false (x .epoch) (y .epoch) m) in
     by-cases (ltb (x .axis) (y .axis)) (λ a. clash (exceeds y x) (by-axis y x q (ltb-true _ _ a)) e)
     (λ a. by-axis x y (sym q) (omega (arith, ltb-false (x .axis) (y .axis) a)))))
 
@@ -58,7 +63,8 @@ exceeds-past m y x e n =
     by-cases (ltb (y .epoch) (m .epoch)) (λ l. clash (exceeds m y) (by-epoch m y (ltb-true _ _ l)) n)
     (λ l. let p = ltb-false (y .epoch) (m .epoch) l in
     by-cases (ltb (m .epoch) (y .epoch))
-    (λ k. let k′ = ltb-true (m .epoch) (y .epoch) k in either (above m x e) (λ a. by-epoch y x (omega arith)) (λ a. by-epoch y x (omega arith)))
+    (λ k. let k′ = ltb-true (m .epoch) (y .epoch) k in
+    either (above m x e) (λ a. by-epoch y x (omega arith)) (λ a. by-epoch y x (omega arith)))
     (λ k. let q : y .epoch ≡ m .epoch = omega (arith, ltb-false (m .epoch) (y .epoch) k) in
     by-cases (ltb (y .axis) (m .axis)) (λ a. clash (exceeds m y) (by-axis m y q (ltb-true _ _ a)) n)
     (λ a. let a′ = ltb-false (y .axis) (m .axis) a in

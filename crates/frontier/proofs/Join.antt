@@ -14,8 +14,10 @@ use Rattle.frontier.specs.declared.Lookup.the-variants.{Listed, Absent}
 use Rattle.frontier.specs.Entries.{Entry, most-entries, most-of-two, rising-from, find, union, cut}
 use Rattle.frontier.specs.Frontiers.{slot, slots, all-zero, pack, joined}
 use Rattle.frontier.specs.Walks.{rest, floor, leads}
-use Rattle.frontier.proofs.Sorted.{Sorted, sorted, rising, sorted-union, lower, union-commutes, union-left, union-both}
-use Rattle.frontier.proofs.Slots.{rest-all, rest-more, rest-none, sorted-rest, slots-put, slots-length, zero-past, zero-first, slots-first}
+use Rattle.frontier.proofs.Sorted.{Sorted, sorted, rising, sorted-union, lower, union-commutes, union-left}
+use Rattle.frontier.proofs.Sorted.{union-both}
+use Rattle.frontier.proofs.Slots.{rest-all, rest-more, rest-none, sorted-rest, slots-put, slots-length}
+use Rattle.frontier.proofs.Slots.{zero-past, zero-first, slots-first}
 use Rattle.frontier.proofs.Cut.{find-below}
 use Rattle.frontier.proofs.Lookups.{absent-listed, same-epoch}
 use Rattle.frontier.proofs.Pack.{repack, all-zero-replicate}
@@ -31,7 +33,8 @@ module _ (xa xe : List ℕ) (xn i : ℕ) where
   unfolding leads
   leads-alone ya ye yn j h l = rw (rest-more xa xe xn i h, rest-none ya ye yn j l)
 
-  pub leads-both : (ya ye : List ℕ) (yn j : ℕ) → i < xn → j < yn → leb (getD xa i 0) (getD ya j 0) ≡ leads (rest xa xe xn i) (rest ya ye yn j)
+  pub leads-both : (ya ye : List ℕ) (yn j : ℕ) → i < xn → j < yn →
+      leb (getD xa i 0) (getD ya j 0) ≡ leads (rest xa xe xn i) (rest ya ye yn j)
   unfolding leads slot
   leads-both ya ye yn j h l = rw (rest-more xa xe xn i h, rest-more ya ye yn j l)
 
@@ -79,7 +82,8 @@ listed-first b e x xs y ys s l q =
     ∙ sym (rw t at q)))
 
 -- TWO FRONTIERS: x from slot i on and y from slot j on
-module _ (xa xe ya ye : List ℕ) (xn yn i j : ℕ) (rx : rising-from 0 (slots xa xe xn 0) ≡ true) (ry : rising-from 0 (slots ya ye yn 0) ≡ true) where
+module _ (xa xe ya ye : List ℕ) (xn yn i j : ℕ) (rx : rising-from 0 (slots xa xe xn 0) ≡ true)
+    (ry : rising-from 0 (slots ya ye yn 0) ≡ true) where
   right-from : j ≤ yn → Sorted (floor ya j) (rest ya ye yn j)
   right-from h = sorted-rest ya ye yn j h (sorted 0 (slots ya ye yn 0) ry)
 
@@ -97,7 +101,8 @@ module _ (xa xe ya ye : List ℕ) (xn yn i j : ℕ) (rx : rising-from 0 (slots x
   next-absent h l m e =
       rw (rest-more xa xe xn i h)
       (union-left (slot xa xe i) (rest xa xe xn (i + 1)) (rest ya ye yn j) (left-at h .2)
-      (absent-below (floor ya j) (slot xa xe i) (rest xa xe xn (i + 1)) (rest ya ye yn j) (right-from l) (rw (rest-more xa xe xn i h) at m) e))
+      (absent-below (floor ya j) (slot xa xe i) (rest xa xe xn (i + 1)) (rest ya ye yn j) (right-from l)
+      (rw (rest-more xa xe xn i h) at m) e))
 
   pub next-listed : (e m : ℕ) → m ≡ max (getD xe i 0) e → i < xn → j < yn →
       leads (rest xa xe xn i) (rest ya ye yn j) ≡ true → Listed e ≡ find (getD xa i 0) (rest ya ye yn j) →
@@ -113,19 +118,23 @@ module _ (xa xe ya ye : List ℕ) (xn yn i j : ℕ) (rx : rising-from 0 (slots x
       (right-at l .1) (left-at h .2)
       (lower (suc (getD ya j 0)) (suc (getD xa i 0)) (rest ya ye yn (j + 1)) (omega (arith, f .0)) (right-at l .2)))
 
-  pub right-leads : (t : Bool) → i + j < xn + yn → i ≤ xn → j ≤ yn → t ≡ leads (rest xa xe xn i) (rest ya ye yn j) → t ≡ false → leads (rest ya ye yn j) (rest xa xe xn i) ≡ true
+  pub right-leads : (t : Bool) → i + j < xn + yn → i ≤ xn → j ≤ yn → t ≡ leads (rest xa xe xn i) (rest ya ye yn j) →
+      t ≡ false → leads (rest ya ye yn j) (rest xa xe xn i) ≡ true
   right-leads t h l r q e =
       leads-other (rest xa xe xn i) (rest ya ye yn j)
       (omega (arith, slots-length xa xe (xn - i) i, slots-length ya ye (yn - j) j)) (sym q ∙ e)
 
-  rests-commute : (p q : ℕ) → p ≤ xn → q ≤ yn → union (rest xa xe xn p) (rest ya ye yn q) ≡ union (rest ya ye yn q) (rest xa xe xn p)
+  rests-commute : (p q : ℕ) → p ≤ xn → q ≤ yn →
+      union (rest xa xe xn p) (rest ya ye yn q) ≡ union (rest ya ye yn q) (rest xa xe xn p)
   rests-commute p q h l =
       union-commutes 0 (rest xa xe xn p) (rest ya ye yn q)
       (lower (floor xa p) 0 (rest xa xe xn p) zero-le (sorted-rest xa xe xn p h (sorted 0 (slots xa xe xn 0) rx)))
       (lower (floor ya q) 0 (rest ya ye yn q) zero-le (sorted-rest ya ye yn q l (sorted 0 (slots ya ye yn 0) ry)))
 
   -- a step with the sides turned
-  pub next-turned : (x : Entry) (p q : ℕ) → i ≤ xn → j ≤ yn → p ≤ xn → q ≤ yn → union (rest ya ye yn j) (rest xa xe xn i) ≡ x ∷ union (rest ya ye yn q) (rest xa xe xn p) → union (rest xa xe xn i) (rest ya ye yn j) ≡ x ∷ union (rest xa xe xn p) (rest ya ye yn q)
+  pub next-turned : (x : Entry) (p q : ℕ) → i ≤ xn → j ≤ yn → p ≤ xn → q ≤ yn →
+      union (rest ya ye yn j) (rest xa xe xn i) ≡ x ∷ union (rest ya ye yn q) (rest xa xe xn p) →
+      union (rest xa xe xn i) (rest ya ye yn j) ≡ x ∷ union (rest xa xe xn p) (rest ya ye yn q)
   next-turned x p q h l r m e = rests-commute i j h l ∙ e ∙ ap (λ zs. x ∷ zs) (sym (rests-commute p q r m))
 
 -- what is written so far, and the union of what is left, are the whole union
@@ -137,7 +146,8 @@ pub record Join (xa xe ya ye axes epochs : List ℕ) (xn yn n i j : ℕ) : Type 
   pub epochs-long : length epochs ≡ most-of-two
   pub zero-axes : all-zero (drop n axes) ≡ true
   pub zero-epochs : all-zero (drop n epochs) ≡ true
-  pub whole : slots axes epochs n 0 ++ union (rest xa xe xn i) (rest ya ye yn j) ≡ union (slots xa xe xn 0) (slots ya ye yn 0)
+  pub whole : slots axes epochs n 0 ++ union (rest xa xe xn i) (rest ya ye yn j) ≡
+      union (slots xa xe xn 0) (slots ya ye yn 0)
 
 module _ (xa xe ya ye axes epochs : List ℕ) (xn yn : ℕ) where
   pub join-none : axes ≡ replicate most-of-two 0 → epochs ≡ replicate most-of-two 0 →
@@ -172,11 +182,15 @@ module _ (xa xe ya ye axes epochs : List ℕ) (xn yn : ℕ) where
     ) (w .whole);
   }
 
-  pub join-end : (n i j : ℕ) → Join xa xe ya ye axes epochs xn yn n i j → xn + yn ≤ i + j → slots axes epochs n 0 ≡ union (slots xa xe xn 0) (slots ya ye yn 0)
+  pub join-end : (n i j : ℕ) → Join xa xe ya ye axes epochs xn yn n i j → xn + yn ≤ i + j →
+      slots axes epochs n 0 ≡ union (slots xa xe xn 0) (slots ya ye yn 0)
   unfolding union
   join-end n i j w h =
       sym (append-nil (slots axes epochs n 0))
-      ∙ (rw (rest-none xa xe xn i (omega (arith, w .left-in, w .right-in)), rest-none ya ye yn j (omega (arith, w .left-in, w .right-in))) at (w .whole))
+      ∙ (rw (
+        rest-none xa xe xn i (omega (arith, w .left-in, w .right-in)),
+        rest-none ya ye yn j (omega (arith, w .left-in, w .right-in)),
+      ) at (w .whole))
 
   -- the whole union, as eviction takes it
   pub join-fits : (n i j : ℕ) → Join xa xe ya ye axes epochs xn yn n i j → xn + yn ≤ i + j →
@@ -186,10 +200,12 @@ module _ (xa xe ya ye axes epochs : List ℕ) (xn yn : ℕ) where
     omega (arith, w .few, w .left-in, w .right-in, w .axes-long),
     omega (arith, w .few, w .left-in, w .right-in, w .epochs-long),
     rw (join-end n i j w h) (rising 0 (union (slots xa xe xn 0) (slots ya ye yn 0))
-        (sorted-union 0 (slots xa xe xn 0) (slots ya ye yn 0) (sorted 0 (slots xa xe xn 0) rx) (sorted 0 (slots ya ye yn 0) ry))),
+        (sorted-union 0 (slots xa xe xn 0) (slots ya ye yn 0) (sorted 0 (slots xa xe xn 0) rx)
+        (sorted 0 (slots ya ye yn 0) ry))),
   )
 
-  pub join-packed : (n i j c : ℕ) (t : Bool) → Join xa xe ya ye axes epochs xn yn n i j → xn + yn ≤ i + j → c < n → pack (cut c (slots axes epochs n 0)) true ≡ joined (slots xa xe xn 0) (slots ya ye yn 0) t c
+  pub join-packed : (n i j c : ℕ) (t : Bool) → Join xa xe ya ye axes epochs xn yn n i j → xn + yn ≤ i + j → c < n →
+      pack (cut c (slots axes epochs n 0)) true ≡ joined (slots xa xe xn 0) (slots ya ye yn 0) t c
   unfolding joined
   join-packed n i j c t w h l = rw (← join-end n i j w h, slots-length axes epochs n 0, lt-ltb c n l, or-true t)
 
@@ -204,4 +220,5 @@ module _ (xa xe ya ye axes epochs : List ℕ) (xn yn : ℕ) where
       (length-take-le most-entries epochs (omega (arith, w .epochs-long)))
       (zero-first most-entries n axes (w .zero-axes)) (zero-first most-entries n epochs (w .zero-epochs))
       ∙ ap (λ l. pack l t) u
-      ∙ sym (joined-whole (slots xa xe xn 0) (slots ya ye yn 0) t c (omega (arith, ap length (join-end n i j w h), slots-length axes epochs n 0))))
+      ∙ sym (joined-whole (slots xa xe xn 0) (slots ya ye yn 0) t c
+      (omega (arith, ap length (join-end n i j w h), slots-length axes epochs n 0))))

@@ -115,7 +115,8 @@ module _ (xs es : List ℕ) (n from axis at : ℕ) (c : Came xs es n from axis a
 under-none : (b a : ℕ) (xs : List Entry) → Sorted b xs → a < b → epochs-under a xs ≡ []
 unfolding epochs-under
 under-none b a [] s h = refl
-under-none b a (x ∷ xs) s h = rw (ne-eqb (x .axis) a (λ q. omega arith)) (under-none (suc (x .axis)) a xs (s .2) (omega arith))
+under-none b a (x ∷ xs) s h =
+    rw (ne-eqb (x .axis) a (λ q. omega arith)) (under-none (suc (x .axis)) a xs (s .2) (omega arith))
 
 found-exactly : (b a : ℕ) (xs : List Entry) → Sorted b xs → values-of (find a xs) ≡ epochs-under a xs
 unfolding values-of find epochs-under

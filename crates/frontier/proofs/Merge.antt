@@ -13,7 +13,8 @@ use Rattle.base_lists.proofs.Tests.{by-cases}
 use Rattle.frontier.specs.declared.Frontier.{Frontier}
 use Rattle.frontier.specs.declared.Merged.{Merged}
 use Rattle.frontier.specs.Entries.{Entry, most-entries, rising-from, union, cut}
-use Rattle.frontier.specs.Frontiers.{entries, well-formed, pack, refusal, handed, joined, merge-number, merge, one-entry}
+use Rattle.frontier.specs.Frontiers.{entries, well-formed, pack, refusal, handed, joined, merge-number, merge}
+use Rattle.frontier.specs.Frontiers.{one-entry}
 use Rattle.frontier.specs.Walks.{left-number}
 use Rattle.frontier.proofs.Sorted.{Sorted, sorted-union, union-commutes, union-idempotent}
 use Rattle.frontier.proofs.Cut.{sorted-cut, cut-length, cut-whole}
@@ -52,7 +53,8 @@ module _ (f g : Frontier) (c : ℕ) where
   unfolding merge merge-number left-number
   refused-first n e h =
       by-cases (leb 1 c && leb c most-entries)
-      (λ t. by-cases (well-formed f) (λ p. absurd (h (rw (t, p) at e))) (λ p. let q : n ≡ 14 = rw (t, p) at e in rw (q, t, p)))
+      (λ t. by-cases (well-formed f) (λ p. absurd (h (rw (t, p) at e)))
+      (λ p. let q : n ≡ 14 = rw (t, p) at e in rw (q, t, p)))
       (λ t. let q : n ≡ 15 = rw t at e in rw (q, t))
 
   -- what 0 for the left side tells
@@ -111,14 +113,16 @@ module _ (f g : Frontier) (c : ℕ) where
   number-right = by-cases (eqb (merge-number f g c) 0) (λ t. rw t (sym (eqb-true (merge-number f g c) 0 t))) (λ t. rw t)
 
   pub frontier-right : Accepted → merge f g c .frontier ≡ joined (entries f) (entries g) (f .tainted || g .tainted) c
-  frontier-right a = ap (λ (m : Merged). m .frontier) (sym (accepted (a .at-least-one) (a .at-most-sixteen) (a .left) (a .right)))
+  frontier-right a =
+      ap (λ (m : Merged). m .frontier) (sym (accepted (a .at-least-one) (a .at-most-sixteen) (a .left) (a .right)))
 
 -- WELL-FORMED
 pub joined-formed : (xs ys : List Entry) (t : Bool) (c : ℕ) → Sorted 0 xs → Sorted 0 ys → c ≤ most-entries →
     well-formed (joined xs ys t c) ≡ true
 unfolding joined
 joined-formed xs ys t c s u h =
-    well-formed-pack (cut c (union xs ys)) (t || ltb c (length (union xs ys))) (sorted-cut c 0 (union xs ys) (sorted-union 0 xs ys s u))
+    well-formed-pack (cut c (union xs ys)) (t || ltb c (length (union xs ys)))
+    (sorted-cut c 0 (union xs ys) (sorted-union 0 xs ys s u))
     (omega (arith, cut-length c 0 (union xs ys) (sorted-union 0 xs ys s u)))
 
 pub merge-formed : (f g : Frontier) (c : ℕ) → well-formed (merge f g c .frontier) ≡ true
@@ -126,7 +130,8 @@ unfolding merge refusal
 merge-formed f g c =
     by-cases (eqb (merge-number f g c) 0)
     (λ t. let a = accepted-by f g c (eqb-true (merge-number f g c) 0 t) in
-    rw t (joined-formed (entries f) (entries g) (f .tainted || g .tainted) c (sorted-entries f (a .left)) (sorted-entries g (a .right)) (a .at-most-sixteen)))
+    rw t (joined-formed (entries f) (entries g) (f .tainted || g .tainted) c (sorted-entries f (a .left))
+    (sorted-entries g (a .right)) (a .at-most-sixteen)))
     (λ t. rw t (well-formed-pack [] false tt zero-le))
 
 -- COMMUTATIVE
@@ -147,7 +152,12 @@ unfolding merge joined
 merge-commutes f g c =
     by-cases (eqb (merge-number f g c) 0)
     (λ t. let a = accepted-by f g c (eqb-true (merge-number f g c) 0 t) in
-    rw (← number-commutes f g c, t, union-commutes 0 (entries f) (entries g) (sorted-entries f (a .left)) (sorted-entries g (a .right)), or-commutes (f .tainted) (g .tainted)))
+    rw (
+      ← number-commutes f g c,
+      t,
+      union-commutes 0 (entries f) (entries g) (sorted-entries f (a .left)) (sorted-entries g (a .right)),
+      or-commutes (f .tainted) (g .tainted),
+    ))
     (λ t. rw (← number-commutes f g c, t))
 
 -- IDEMPOTENT, where the capacity holds it
@@ -159,14 +169,21 @@ pub entries-length : (f : Frontier) → length (entries f) ≡ f .len
 unfolding entries
 entries-length f = slots-length (f .axes) (f .epochs) (f .len) 0
 
-pub joined-idempotent : (f : Frontier) (c : ℕ) → well-formed f ≡ true → f .len ≤ c → joined (entries f) (entries f) (f .tainted || f .tainted) c ≡ f
+pub joined-idempotent : (f : Frontier) (c : ℕ) → well-formed f ≡ true → f .len ≤ c →
+    joined (entries f) (entries f) (f .tainted || f .tainted) c ≡ f
 unfolding joined
 joined-idempotent f c w h =
     let n : length (entries f) ≤ c = omega (arith, entries-length f) in
-    rw (union-idempotent 0 (entries f) (sorted-entries f w), cut-whole c (entries f) n, le-ltb c (length (entries f)) n, or-same (f .tainted))
+    rw (
+      union-idempotent 0 (entries f) (sorted-entries f w),
+      cut-whole c (entries f) n,
+      le-ltb c (length (entries f)) n,
+      or-same (f .tainted),
+    )
     (sym (pack-entries f w))
 
 -- WITHOUT A CUT
-pub joined-whole : (xs ys : List Entry) (t : Bool) (c : ℕ) → length (union xs ys) ≤ c → joined xs ys t c ≡ pack (union xs ys) t
+pub joined-whole : (xs ys : List Entry) (t : Bool) (c : ℕ) → length (union xs ys) ≤ c →
+    joined xs ys t c ≡ pack (union xs ys) t
 unfolding joined
 joined-whole xs ys t c h = rw (cut-whole c (union xs ys) h, le-ltb c (length (union xs ys)) h, or-false t)

@@ -7,7 +7,8 @@ use Prim.Native.Nat.{ℕ, zero, suc, _-_, _≤_, _<_}
 use native.Mathlib.Nat.{le-of-suc-le-suc, not-suc-le-zero}
 use native.Mathlib.Omega.{arith}
 use lib.Dec.{leb, eqb}
-use lib.ListN.{length, getD, take, drop, replicate, length-append, length-replicate, length-map, length-drop, take-append-drop}
+use lib.ListN.{length, getD, take, drop, replicate, length-append, length-replicate, length-map, length-drop}
+use lib.ListN.{take-append-drop}
 use lib.Seq.{drop-at}
 use borrow.Author.Tests.{leb-true, le-leb, eqb-true, eq-eqb}
 use Rattle.base_lists.specs.Lists.{tabulate-from}
@@ -19,7 +20,8 @@ use Rattle.frontier.proofs.Sorted.{Sorted, sorted, rising}
 use Rattle.frontier.proofs.Slots.{tabulate-shift, slots-length}
 
 -- ROWS
-tabulate-map : (f : Entry → ℕ) (n i : ℕ) (g : ℕ → Entry) → map f (tabulate-from n i g) ≡ tabulate-from n i (λ k. f (g k))
+tabulate-map : (f : Entry → ℕ) (n i : ℕ) (g : ℕ → Entry) →
+    map f (tabulate-from n i g) ≡ tabulate-from n i (λ k. f (g k))
 unfolding tabulate-from
 tabulate-map f zero i g = refl
 tabulate-map f (suc n) i g = ap {B = List ℕ} (λ l. f (g i) ∷ l) (tabulate-map f n (suc i) g)
@@ -29,13 +31,15 @@ unfolding tabulate-from
 tabulate-row zero row h = refl
 tabulate-row (suc n) [] h = absurd (not-suc-le-zero h)
 tabulate-row (suc n) (x ∷ row) h =
-    ap {B = List ℕ} (λ l. x ∷ l) (tabulate-shift n 0 (λ k. getD (x ∷ row) k 0) ∙ tabulate-row n row (le-of-suc-le-suc h))
+    ap {B = List ℕ}
+    (λ l. x ∷ l) (tabulate-shift n 0 (λ k. getD (x ∷ row) k 0) ∙ tabulate-row n row (le-of-suc-le-suc h))
 
 zeros : (row : List ℕ) → all-zero row ≡ true → row ≡ replicate (length row) 0
 unfolding all-zero
 zeros [] e = refl
 zeros (x ∷ row) e =
-    ap₂ {C = List ℕ} (λ y l. y ∷ l) (eqb-true x 0 (and-left (eqb x 0) (all-zero row) e)) (zeros row (and-right (eqb x 0) (all-zero row) e))
+    ap₂ {C = List ℕ} (λ y l. y ∷ l) (eqb-true x 0 (and-left (eqb x 0) (all-zero row) e))
+    (zeros row (and-right (eqb x 0) (all-zero row) e))
 
 pub all-zero-replicate : (n : ℕ) → all-zero (replicate n 0) ≡ true
 unfolding all-zero
@@ -45,7 +49,8 @@ all-zero-replicate (suc n) = all-zero-replicate n
 row-split : (n : ℕ) (row : List ℕ) → length row ≡ most-entries → all-zero (drop n row) ≡ true →
     row ≡ take n row ++ replicate (most-entries - n) 0
 row-split n row l z =
-    sym (take-append-drop n row) ∙ ap (λ t. take n row ++ t) (zeros (drop n row) z ∙ ap (λ k. replicate k 0) (length-drop n row ∙ ap (λ k. k - n) l))
+    sym (take-append-drop n row)
+    ∙ ap (λ t. take n row ++ t) (zeros (drop n row) z ∙ ap (λ k. replicate k 0) (length-drop n row ∙ ap (λ k. k - n) l))
 
 -- sixteen slots, zero past the length, are packed entries
 pub repack : (axes epochs : List ℕ) (n : ℕ) (t : Bool) → n ≤ most-entries → length axes ≡ most-entries →
@@ -109,18 +114,21 @@ pub pack-entries : (f : Frontier) → well-formed f ≡ true → f ≡ pack (ent
 unfolding entries
 pack-entries f e =
     let w = formed f e in
-    repack (f .axes) (f .epochs) (f .len) (f .tainted) (w .short) (w .sixteen-axes) (w .sixteen-epochs) (w .zero-axes) (w .zero-epochs)
+    repack (f .axes) (f .epochs) (f .len) (f .tainted) (w .short) (w .sixteen-axes) (w .sixteen-epochs) (w .zero-axes)
+    (w .zero-epochs)
 
 pub sorted-entries : (f : Frontier) → well-formed f ≡ true → Sorted 0 (entries f)
 sorted-entries f e = sorted 0 (entries f) (formed f e .rises)
 
 -- PACKED LISTS
-unpacked : (xs : List Entry) (ps qs : List ℕ) → slots (map (λ e. e .axis) xs ++ ps) (map (λ e. e .epoch) xs ++ qs) (length xs) 0 ≡ xs
+unpacked : (xs : List Entry) (ps qs : List ℕ) →
+    slots (map (λ e. e .axis) xs ++ ps) (map (λ e. e .epoch) xs ++ qs) (length xs) 0 ≡ xs
 unfolding slots slot tabulate-from
 unpacked [] ps qs = refl
 unpacked (x ∷ xs) ps qs =
     ap {B = List Entry} (λ l. x ∷ l)
-    (tabulate-shift (length xs) 0 (slot (map (λ e. e .axis) (x ∷ xs) ++ ps) (map (λ e. e .epoch) (x ∷ xs) ++ qs)) ∙ unpacked xs ps qs)
+    (tabulate-shift (length xs) 0 (slot (map (λ e. e .axis) (x ∷ xs) ++ ps) (map (λ e. e .epoch) (x ∷ xs) ++ qs))
+    ∙ unpacked xs ps qs)
 
 pub entries-pack : (xs : List Entry) (t : Bool) → entries (pack xs t) ≡ xs
 unfolding entries pack
@@ -162,7 +170,9 @@ pub judged : (f : Frontier) (r : Bool) → f .len ≤ most-entries → length (f
 unfolding entries
 judged f r l a b s z e =
     by-cases (all-zero (drop (f .len) (f .epochs)))
-    (λ t. e ∙ t ∙ sym (well f (record { short = l; rises = s; sixteen-axes = a; sixteen-epochs = b; zero-axes = z; zero-epochs = t })))
+    (λ t. e ∙ t
+    ∙ sym
+    (well f (record { short = l; rises = s; sixteen-axes = a; sixteen-epochs = b; zero-axes = z; zero-epochs = t })))
     (λ t. e ∙ t ∙ sym (is-false (well-formed f) (λ u. clash _ (formed f u .zero-epochs) t)))
 
 -- two frontiers that the walks take

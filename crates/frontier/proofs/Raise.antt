@@ -22,7 +22,8 @@ use Rattle.frontier.specs.Walks.{rest, Found-from, left-number}
 use Rattle.frontier.proofs.Sorted.{Sorted, rising, same-entry, put-same, put-past, union-commutes, union-none}
 use Rattle.frontier.proofs.Slots.{tabulate-same, slots-length, rest-all, rest-more}
 use Rattle.frontier.proofs.Pack.{Formed, formed, repack, entries-pack, sorted-entries}
-use Rattle.frontier.proofs.Merge.{Left-accepted, left-accepted, refused-first, merged, formed-one, sorted-one, joined-whole}
+use Rattle.frontier.proofs.Merge.{Left-accepted, left-accepted, refused-first, merged, formed-one, sorted-one}
+use Rattle.frontier.proofs.Merge.{joined-whole}
 
 -- ONE ENTRY as slots: none for epoch 0, else the first
 module _ (a e : ℕ) (axes epochs : List ℕ) where

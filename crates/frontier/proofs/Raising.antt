@@ -26,7 +26,8 @@ unfolding put
 put-length x [] = le-refl 1
 put-length x (y ∷ ys) =
     by-cases (ltb (x .axis) (y .axis)) (λ l. rw l (le-refl (suc (suc (length ys)))))
-    (λ l. by-cases (eqb (x .axis) (y .axis)) (λ m. rw (l, m) (omega arith)) (λ m. rw (l, m) (omega (arith, put-length x ys))))
+    (λ l. by-cases (eqb (x .axis) (y .axis)) (λ m. rw (l, m) (omega arith))
+    (λ m. rw (l, m) (omega (arith, put-length x ys))))
 
 pub union-length : (xs ys : List Entry) → length (union xs ys) ≤ length xs + length ys
 unfolding union
@@ -41,7 +42,8 @@ merge-packed xs ys s t c p q l m h k =
     sym (accepted (pack xs s) (pack ys t) c h k (well-formed-pack xs s p l) (well-formed-pack ys t q m))
     ∙ ap (λ (f : Frontier). record { number = 0; frontier = f }) same
   where
-    same : joined (entries (pack xs s)) (entries (pack ys t)) (pack xs s .tainted || pack ys t .tainted) c ≡ joined xs ys (s || t) c
+    same : joined (entries (pack xs s)) (entries (pack ys t)) (pack xs s .tainted || pack ys t .tainted) c ≡
+        joined xs ys (s || t) c
     same = rw (entries-pack xs s, entries-pack ys t, tainted-pack xs s, tainted-pack ys t)
 
 -- one axis raised, at a capacity that holds one more: nothing is cut
@@ -49,9 +51,11 @@ pub raise-whole : (ys : List Entry) (t : Bool) (a e c : ℕ) → Sorted 0 ys →
     raise (pack ys t) a e c ≡ record { number = 0; frontier = pack (union ys (one-entry a e)) t }
 unfolding raise
 raise-whole ys t a e c s h k =
-    merge-packed ys (one-entry a e) t false c s (sorted-one a e) (omega arith) (omega (arith, short-one a e)) (omega arith) k
+    merge-packed ys (one-entry a e) t false c s (sorted-one a e) (omega arith) (omega (arith, short-one a e))
+    (omega arith) k
     ∙ ap (λ (f : Frontier). record { number = 0; frontier = f })
-    (joined-whole ys (one-entry a e) (t || false) c (omega (arith, union-length ys (one-entry a e), short-one a e)) ∙ ap (pack (union ys (one-entry a e))) (or-false t))
+    (joined-whole ys (one-entry a e) (t || false) c (omega (arith, union-length ys (one-entry a e), short-one a e))
+    ∙ ap (pack (union ys (one-entry a e))) (or-false t))
 
 -- raises one after the other, at capacity sixteen
 unfoldable pub raises : List Entry → Frontier → Frontier
@@ -61,13 +65,19 @@ raises (x ∷ xs) f = raises xs (raise f (x .axis) (x .epoch) most-entries .fron
 pub sorted-gathered : (xs : List Entry) → Sorted 0 (gathered xs)
 unfolding gathered
 sorted-gathered [] = tt
-sorted-gathered (x ∷ xs) = sorted-union 0 (one-entry (x .axis) (x .epoch)) (gathered xs) (sorted-one (x .axis) (x .epoch)) (sorted-gathered xs)
+sorted-gathered (x ∷ xs) =
+    sorted-union 0 (one-entry (x .axis) (x .epoch)) (gathered xs) (sorted-one (x .axis) (x .epoch)) (sorted-gathered xs)
 
 pub gathered-length : (xs : List Entry) → length (gathered xs) ≤ length xs
 unfolding gathered
 gathered-length [] = zero-le
 gathered-length (x ∷ xs) =
-    omega (arith, union-length (one-entry (x .axis) (x .epoch)) (gathered xs), short-one (x .axis) (x .epoch), gathered-length xs)
+    omega (
+      arith,
+      union-length (one-entry (x .axis) (x .epoch)) (gathered xs),
+      short-one (x .axis) (x .epoch),
+      gathered-length xs,
+    )
 
 -- raises of at most sixteen entries gather their union
 pub raises-gather : (xs ys : List Entry) (t : Bool) → Sorted 0 ys → length ys + length xs ≤ most-entries →
@@ -77,9 +87,11 @@ raises-gather [] ys t s h = ap (λ l. pack l t) (sym (union-none 0 ys s))
 raises-gather (x ∷ xs) ys t s h =
     ap (λ (f : Frontier). raises xs f) (ap (λ (m : Rattle.frontier.specs.declared.Merged.Merged). m .frontier)
     (raise-whole ys t (x .axis) (x .epoch) most-entries s (omega arith) (le-refl most-entries)))
-    ∙ raises-gather xs (union ys (one-entry (x .axis) (x .epoch))) t (sorted-union 0 ys (one-entry (x .axis) (x .epoch)) s (sorted-one (x .axis) (x .epoch)))
+    ∙ raises-gather xs (union ys (one-entry (x .axis) (x .epoch))) t
+    (sorted-union 0 ys (one-entry (x .axis) (x .epoch)) s (sorted-one (x .axis) (x .epoch)))
     (omega (arith, union-length ys (one-entry (x .axis) (x .epoch)), short-one (x .axis) (x .epoch)))
-    ∙ ap (λ l. pack l t) (union-associates 0 ys (one-entry (x .axis) (x .epoch)) (gathered xs) s (sorted-one (x .axis) (x .epoch)) (sorted-gathered xs))
+    ∙ ap (λ l. pack l t) (union-associates 0 ys (one-entry (x .axis) (x .epoch)) (gathered xs) s
+    (sorted-one (x .axis) (x .epoch)) (sorted-gathered xs))
 
 pub raises-from-empty : (xs : List Entry) → length xs ≤ most-entries →
     raises xs (pack [] false) ≡ pack (gathered xs) false

@@ -28,7 +28,8 @@ module _ (X : List Entry) (ya ye : List ℕ) (yn j : ℕ) (l : j < yn) where
   unfolding reached met slot
   reached-short k e h = rw (rest-more ya ye yn j l, e, lt-leb (getD ye j 0) k h)
 
-  reached-more : (k : ℕ) → find (getD ya j 0) X ≡ Listed k → getD ye j 0 ≤ k → reached X (rest ya ye yn j) ≡ reached X (rest ya ye yn (j + 1))
+  reached-more : (k : ℕ) → find (getD ya j 0) X ≡ Listed k → getD ye j 0 ≤ k →
+      reached X (rest ya ye yn j) ≡ reached X (rest ya ye yn (j + 1))
   unfolding reached met slot
   reached-more k e h = rw (rest-more ya ye yn j l, e, le-leb (getD ye j 0) k h)
 
@@ -81,6 +82,7 @@ module _ (xa xe ya ye : List ℕ) (xn yn i j : ℕ) (rx : rising-from 0 (slots x
       past : slot xa xe (r .at) ≡ record { axis = getD ya j 0; epoch = e } → floor xa (suc (r .at)) ≤ floor ya (suc j)
       past s = unfold floor slot in (omega (arith, ap (λ (x : Entry). x .axis) s))
 
-pub reach-end : (xa xe ya ye : List ℕ) (xn yn i j : ℕ) → Reach xa xe ya ye xn yn i j → yn ≤ j → true ≡ reached (slots xa xe xn 0) (slots ya ye yn 0)
+pub reach-end : (xa xe ya ye : List ℕ) (xn yn i j : ℕ) → Reach xa xe ya ye xn yn i j → yn ≤ j →
+    true ≡ reached (slots xa xe xn 0) (slots ya ye yn 0)
 unfolding reached
 reach-end xa xe ya ye xn yn i j w h = sym (ap (reached (slots xa xe xn 0)) (rest-none ya ye yn j h)) ∙ w .same

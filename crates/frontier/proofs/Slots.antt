@@ -19,11 +19,13 @@ use Rattle.frontier.proofs.Sorted.{Sorted, same-entry}
 
 -- TABLES
 module _ {A : Type 0} where
-  pub tabulate-same : (n i : ℕ) (f g : ℕ → A) → ((k : ℕ) → i ≤ k → k < i + n → f k ≡ g k) → tabulate-from n i f ≡ tabulate-from n i g
+  pub tabulate-same : (n i : ℕ) (f g : ℕ → A) → ((k : ℕ) → i ≤ k → k < i + n → f k ≡ g k) →
+      tabulate-from n i f ≡ tabulate-from n i g
   unfolding tabulate-from
   tabulate-same zero i f g h = refl
   tabulate-same (suc n) i f g h =
-      ap₂ {C = List A} (λ a xs. a ∷ xs) (h i (le-refl i) (omega arith)) (tabulate-same n (suc i) f g (λ k l m. h k (omega arith) (omega arith)))
+      ap₂ {C = List A} (λ a xs. a ∷ xs) (h i (le-refl i) (omega arith))
+      (tabulate-same n (suc i) f g (λ k l m. h k (omega arith) (omega arith)))
 
   pub tabulate-shift : (n i : ℕ) (f : ℕ → A) → tabulate-from n (suc i) f ≡ tabulate-from n i (λ k. f (suc k))
   unfolding tabulate-from
@@ -58,23 +60,28 @@ module _ (xs es : List ℕ) where
   unfolding floor slot
   sorted-rest n zero h s = rw (rest-all n) s
   sorted-rest n (suc i) h s =
-      let t : Sorted (floor xs i) (slot xs es i ∷ rest xs es n (i + 1)) = rw (rest-more n i h) at (sorted-rest n i (omega arith) s) in
+      let t : Sorted (floor xs i) (slot xs es i ∷ rest xs es n (i + 1)) =
+      rw (rest-more n i h) at (sorted-rest n i (omega arith) s) in
       rw (add-one i) at (t .2)
 
 -- one slot more is written
-pub slots-put : (xs es : List ℕ) (n a e : ℕ) → n < length xs → n < length es → slots (set xs n a) (set es n e) (n + 1) 0 ≡ slots xs es n 0 ++ (record { axis = a; epoch = e } ∷ [])
+pub slots-put : (xs es : List ℕ) (n a e : ℕ) → n < length xs → n < length es →
+    slots (set xs n a) (set es n e) (n + 1) 0 ≡ slots xs es n 0 ++ (record { axis = a; epoch = e } ∷ [])
 unfolding slots slot
 slots-put xs es n a e p q =
     rw (add-one n) (tabulate-last (slot (set xs n a) (set es n e)) n 0 ∙
     ap₂ {C = List Entry} (λ zs z. zs ++ (z ∷ []))
-    (tabulate-same n 0 (slot (set xs n a) (set es n e)) (slot xs es) (λ k l m. same-entry (getD-set-other xs n k a 0 (λ q. omega arith)) (getD-set-other es n k e 0 (λ q. omega arith))))
-    (same-entry (ap (λ k. getD (set xs n a) k 0) (zero-plus n) ∙ getD-set-same xs n a 0 p) (ap (λ k. getD (set es n e) k 0) (zero-plus n) ∙ getD-set-same es n e 0 q)))
+    (tabulate-same n 0 (slot (set xs n a) (set es n e)) (slot xs es)
+    (λ k l m. same-entry (getD-set-other xs n k a 0 (λ q. omega arith)) (getD-set-other es n k e 0 (λ q. omega arith))))
+    (same-entry (ap (λ k. getD (set xs n a) k 0) (zero-plus n) ∙ getD-set-same xs n a 0 p)
+    (ap (λ k. getD (set es n e) k 0) (zero-plus n) ∙ getD-set-same es n e 0 q)))
   where
     zero-plus : (n : ℕ) → 0 + n ≡ n
     zero-plus n = omega arith
 
 -- and what lies past it stays zero
-pub zero-past : (row : List ℕ) (n v : ℕ) → n < length row → all-zero (drop n row) ≡ true → all-zero (drop (n + 1) (set row n v)) ≡ true
+pub zero-past : (row : List ℕ) (n v : ℕ) → n < length row → all-zero (drop n row) ≡ true →
+    all-zero (drop (n + 1) (set row n v)) ≡ true
 unfolding all-zero
 zero-past row n v h z =
     rw (add-one n, drop-set-lt (suc n) row n v (omega arith))
@@ -86,7 +93,8 @@ unfolding all-zero
 zero-take zero row z = refl
 zero-take (suc m) [] z = refl
 zero-take (suc m) (x ∷ row) z =
-    and-both (eqb x 0) (all-zero (take m row)) (and-left (eqb x 0) (all-zero row) z) (zero-take m row (and-right (eqb x 0) (all-zero row) z))
+    and-both (eqb x 0) (all-zero (take m row)) (and-left (eqb x 0) (all-zero row) z)
+    (zero-take m row (and-right (eqb x 0) (all-zero row) z))
 
 pub zero-first : (m n : ℕ) (row : List ℕ) → all-zero (drop n row) ≡ true → all-zero (drop n (take m row)) ≡ true
 unfolding all-zero
@@ -98,13 +106,15 @@ zero-first (suc m) (suc n) (x ∷ row) z = zero-first m n row z
 pub slots-first : (xs es : List ℕ) (m n : ℕ) → n ≤ m → slots (take m xs) (take m es) n 0 ≡ slots xs es n 0
 unfolding slots slot
 slots-first xs es m n h =
-    tabulate-same n 0 (slot (take m xs) (take m es)) (slot xs es) (λ k l p. same-entry (getD-take m xs k 0 (omega arith)) (getD-take m es k 0 (omega arith)))
+    tabulate-same n 0 (slot (take m xs) (take m es)) (slot xs es)
+    (λ k l p. same-entry (getD-take m xs k 0 (omega arith)) (getD-take m es k 0 (omega arith)))
 
 -- one slot more is copied
 pub take-copied : (to from : List ℕ) (i : ℕ) → length to ≡ most-entries → length from ≡ most-of-two → i < most-entries →
     take i to ≡ take i from → take (i + 1) (set to i (getD from i 0)) ≡ take (i + 1) from
 take-copied to from i p q h e =
-    rw (add-one i) (take-suc-set to i (getD from i 0) (omega arith) ∙ ap (λ l. l ++ (getD from i 0 ∷ [])) e ∙ sym (take-suc from i 0 (omega arith)))
+    rw (add-one i) (take-suc-set to i (getD from i 0) (omega arith) ∙ ap (λ l. l ++ (getD from i 0 ∷ [])) e
+    ∙ sym (take-suc from i 0 (omega arith)))
 
 pub first-copied : (to from : List ℕ) (i : ℕ) → i ≤ most-entries → most-entries ≤ i → length to ≡ most-entries →
     take i to ≡ take i from → to ≡ take most-entries from

@@ -25,7 +25,8 @@ pub placed-first : (xs es : List ℕ) (i : ℕ) → i ≡ 0 → (getD es i 0 ≡
 unfolding placed floor
 placed-first xs es i e n = rw (lt-ltb 0 (getD es i 0) (omega arith), e) (rw (le-leb 0 (getD xs 0 0) zero-le))
 
-pub placed-next : (xs es : List ℕ) (i : ℕ) → (i ≡ 0 → ⊥) → (getD es i 0 ≡ 0 → ⊥) → ltb (getD xs (i - 1) 0) (getD xs i 0) ≡ placed xs es i
+pub placed-next : (xs es : List ℕ) (i : ℕ) → (i ≡ 0 → ⊥) → (getD es i 0 ≡ 0 → ⊥) →
+    ltb (getD xs (i - 1) 0) (getD xs i 0) ≡ placed xs es i
 unfolding placed floor
 placed-next xs es zero p n = absurd (p refl)
 placed-next xs es (suc i) p n = rw (lt-ltb 0 (getD es (suc i) 0) (omega arith), and-true, back i)
@@ -33,20 +34,27 @@ placed-next xs es (suc i) p n = rw (lt-ltb 0 (getD es (suc i) 0) (omega arith), 
     back : (i : ℕ) → suc i - 1 ≡ i
     back i = omega arith
 
-pub rising-start : (xs es : List ℕ) (n : ℕ) → rising-from (floor xs 0) (rest xs es n 0) ≡ rising-from 0 (slots xs es n 0)
+pub rising-start : (xs es : List ℕ) (n : ℕ) →
+    rising-from (floor xs 0) (rest xs es n 0) ≡ rising-from 0 (slots xs es n 0)
 unfolding floor
 rising-start xs es n = ap (rising-from 0) (rest-all xs es n)
 
-pub rising-more : (xs es : List ℕ) (n i : ℕ) → i < n → placed xs es i ≡ true → rising-from (floor xs i) (rest xs es n i) ≡ rising-from (floor xs (i + 1)) (rest xs es n (i + 1))
+pub rising-more : (xs es : List ℕ) (n i : ℕ) → i < n → placed xs es i ≡ true →
+    rising-from (floor xs i) (rest xs es n i) ≡ rising-from (floor xs (i + 1)) (rest xs es n (i + 1))
 unfolding placed rising-from slot
 rising-more xs es n i h p =
-    rw (rest-more xs es n i h, and-left (leb (floor xs i) (getD xs i 0)) _ p, and-right (leb (floor xs i) (getD xs i 0)) _ p)
+    rw (
+      rest-more xs es n i h,
+      and-left (leb (floor xs i) (getD xs i 0)) _ p,
+      and-right (leb (floor xs i) (getD xs i 0)) _ p,
+    )
     (ap (λ k. rising-from k (rest xs es n (i + 1))) (next i))
   where
     next : (i : ℕ) → suc (getD xs i 0) ≡ floor xs (i + 1)
     next i = rw (add-one i) (unfold floor in refl)
 
-pub rising-stop : (xs es : List ℕ) (n i : ℕ) → i < n → placed xs es i ≡ false → rising-from (floor xs i) (rest xs es n i) ≡ false
+pub rising-stop : (xs es : List ℕ) (n i : ℕ) → i < n → placed xs es i ≡ false →
+    rising-from (floor xs i) (rest xs es n i) ≡ false
 unfolding placed rising-from slot
 rising-stop xs es n i h p =
     rw (rest-more xs es n i h)
@@ -58,7 +66,8 @@ pub rising-end : (xs es : List ℕ) (n i b : ℕ) → n ≤ i → rising-from b 
 unfolding rising-from
 rising-end xs es n i b h = rw (rest-none xs es n i h)
 
-pub zero-more : (row : List ℕ) (i : ℕ) → i < length row → getD row i 0 ≡ 0 → all-zero (drop i row) ≡ all-zero (drop (i + 1) row)
+pub zero-more : (row : List ℕ) (i : ℕ) → i < length row → getD row i 0 ≡ 0 →
+    all-zero (drop i row) ≡ all-zero (drop (i + 1) row)
 unfolding all-zero
 zero-more row i h e = rw (add-one i, drop-cons row i 0 h, e)
 

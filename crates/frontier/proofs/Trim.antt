@@ -42,7 +42,8 @@ module _ (f : Entry → Bool) (axes epochs kept at : List ℕ) (len : ℕ) where
     whole = ap (filter f) (rest-all axes epochs len);
   })
 
-  pub trim-skip : (n i : ℕ) → Trim f axes epochs kept at len n i → i < len → f (slot axes epochs i) ≡ false → Trim f axes epochs kept at len n (i + 1)
+  pub trim-skip : (n i : ℕ) → Trim f axes epochs kept at len n i → i < len → f (slot axes epochs i) ≡ false →
+      Trim f axes epochs kept at len n (i + 1)
   unfolding filter
   trim-skip n i w h e = record {
     sixteen-axes = w .sixteen-axes;
@@ -52,13 +53,16 @@ module _ (f : Entry → Bool) (axes epochs kept at : List ℕ) (len : ℕ) where
     whole = rw (rest-more axes epochs len i h, e) at (w .whole);
   }
 
-  kept-next : (n i : ℕ) → Trim f axes epochs kept at len n i → i < len → f (slot axes epochs i) ≡ true → slots kept at n 0 ++ (slot axes epochs i ∷ filter f (rest axes epochs len (i + 1))) ≡ filter f (slots axes epochs len 0)
+  kept-next : (n i : ℕ) → Trim f axes epochs kept at len n i → i < len → f (slot axes epochs i) ≡ true →
+      slots kept at n 0 ++ (slot axes epochs i ∷ filter f (rest axes epochs len (i + 1))) ≡
+      filter f (slots axes epochs len 0)
   unfolding filter
   kept-next n i w h e = rw (rest-more axes epochs len i h, e) at (w .whole)
 
   pub trim-room : (n i : ℕ) → Trim f axes epochs kept at len n i → i < len → f (slot axes epochs i) ≡ true →
       length (filter f (slots axes epochs len 0)) ≤ most-entries → n < most-entries
-  trim-room n i w h e l = omega (arith, rw (length-append, slots-length kept at n 0) at (ap length (kept-next n i w h e)))
+  trim-room n i w h e l =
+      omega (arith, rw (length-append, slots-length kept at n 0) at (ap length (kept-next n i w h e)))
 
   pub trim-more : (n i : ℕ) → Trim f axes epochs kept at len n i → i < len → f (slot axes epochs i) ≡ true →
       n < most-entries → Trim f axes epochs (set kept n (getD axes i 0)) (set at n (getD epochs i 0)) len (n + 1)
@@ -69,7 +73,11 @@ module _ (f : Entry → Bool) (axes epochs kept at : List ℕ) (len : ℕ) where
     sixteen-epochs = length-set at n (getD epochs i 0) ∙ w .sixteen-epochs;
     zero-axes = zero-past kept n (getD axes i 0) (omega (arith, w .sixteen-axes)) (w .zero-axes);
     zero-epochs = zero-past at n (getD epochs i 0) (omega (arith, w .sixteen-epochs)) (w .zero-epochs);
-    whole = rw (slots-put kept at n (getD axes i 0) (getD epochs i 0) (omega (arith, w .sixteen-axes)) (omega (arith, w .sixteen-epochs)), append-assoc) (kept-next n i w h e);
+    whole = rw (
+      slots-put kept at n (getD axes i 0) (getD epochs i 0) (omega (arith, w .sixteen-axes))
+          (omega (arith, w .sixteen-epochs)),
+      append-assoc,
+    ) (kept-next n i w h e);
   }
 
   pub trim-end : (n i : ℕ) (t : Bool) → Trim f axes epochs kept at len n i → len ≤ i →
@@ -77,8 +85,10 @@ module _ (f : Entry → Bool) (axes epochs kept at : List ℕ) (len : ℕ) where
       record { axes = kept; epochs = at; len = n; tainted = t } ≡ pack (filter f (slots axes epochs len 0)) t
   unfolding filter
   trim-end n i t w h l =
-      let e : slots kept at n 0 ≡ filter f (slots axes epochs len 0) = sym (append-nil (slots kept at n 0)) ∙ (rw (rest-none axes epochs len i h) at (w .whole)) in
-      repack kept at n t (omega (arith, slots-length kept at n 0, ap length e)) (w .sixteen-axes) (w .sixteen-epochs) (w .zero-axes) (w .zero-epochs)
+      let e : slots kept at n 0 ≡ filter f (slots axes epochs len 0) =
+      sym (append-nil (slots kept at n 0)) ∙ (rw (rest-none axes epochs len i h) at (w .whole)) in
+      repack kept at n t (omega (arith, slots-length kept at n 0, ap length e)) (w .sixteen-axes) (w .sixteen-epochs)
+      (w .zero-axes) (w .zero-epochs)
       ∙ ap (λ l. pack l t) e
 
 -- HOW MANY EXCEED: those counted, and those of the rest
@@ -86,21 +96,26 @@ module _ (xs es : List ℕ) (n : ℕ) (b : Entry) where
   pub count-none : 0 + exceeding b (rest xs es n 0) ≡ exceeding b (slots xs es n 0)
   count-none = omega (arith, ap (exceeding b) (rest-all xs es n))
 
-  pub count-more : (m i : ℕ) → i < n → exceeds (slot xs es i) b ≡ true → m + exceeding b (rest xs es n i) ≡ exceeding b (slots xs es n 0) → m + 1 + exceeding b (rest xs es n (i + 1)) ≡ exceeding b (slots xs es n 0)
+  pub count-more : (m i : ℕ) → i < n → exceeds (slot xs es i) b ≡ true →
+      m + exceeding b (rest xs es n i) ≡ exceeding b (slots xs es n 0) →
+      m + 1 + exceeding b (rest xs es n (i + 1)) ≡ exceeding b (slots xs es n 0)
   unfolding exceeding
   count-more m i h e w = let w′ = rw (rest-more xs es n i h, e) at w in omega arith
 
-  pub count-skip : (m i : ℕ) → i < n → exceeds (slot xs es i) b ≡ false → m + exceeding b (rest xs es n i) ≡ exceeding b (slots xs es n 0) → m + exceeding b (rest xs es n (i + 1)) ≡ exceeding b (slots xs es n 0)
+  pub count-skip : (m i : ℕ) → i < n → exceeds (slot xs es i) b ≡ false →
+      m + exceeding b (rest xs es n i) ≡ exceeding b (slots xs es n 0) →
+      m + exceeding b (rest xs es n (i + 1)) ≡ exceeding b (slots xs es n 0)
   unfolding exceeding
   count-skip m i h e w = let w′ = rw (rest-more xs es n i h, e) at w in omega arith
 
-  pub count-end : (m i : ℕ) → n ≤ i → m + exceeding b (rest xs es n i) ≡ exceeding b (slots xs es n 0) → m ≡ exceeding b (slots xs es n 0)
+  pub count-end : (m i : ℕ) → n ≤ i → m + exceeding b (rest xs es n i) ≡ exceeding b (slots xs es n 0) →
+      m ≡ exceeding b (slots xs es n 0)
   unfolding exceeding
   count-end m i h w = let w′ = rw (rest-none xs es n i h) at w in omega arith
 
 -- THE BOUND: no fewer than the capacity exceed the greatest that is lost, fewer the least that is kept, and fewer each
 -- slot before i that is above the lost one
-pub record Bounded (lost kept : Entry) (xs es : List ℕ) (n c i : ℕ) : Type 0 where
+pub record Cut-bound (lost kept : Entry) (xs es : List ℕ) (n c i : ℕ) : Type 0 where
   pub many : c ≤ exceeding lost (slots xs es n 0)
   pub few : exceeding kept (slots xs es n 0) < c
   pub seen : (k : ℕ) → k < i → exceeds (slot xs es k) lost ≡ true → exceeding (slot xs es k) (slots xs es n 0) < c
@@ -108,7 +123,8 @@ pub record Bounded (lost kept : Entry) (xs es : List ℕ) (n c i : ℕ) : Type 0
 in-table : (y : Entry) (n i : ℕ) (f : ℕ → Entry) → In y (tabulate-from n i f) → (k : ℕ) × (k < i + n) × (y ≡ f k)
 unfolding tabulate-from
 in-table y zero i f m = absurd m
-in-table y (suc n) i f m = either m (λ e. (i, omega arith, e)) (λ j. let w = in-table y n (suc i) f j in (w .0, omega (arith, w .1), w .2))
+in-table y (suc n) i f m =
+    either m (λ e. (i, omega arith, e)) (λ j. let w = in-table y n (suc i) f j in (w .0, omega (arith, w .1), w .2))
 
 table-in : (n i k : ℕ) (f : ℕ → Entry) → i ≤ k → k < i + n → In (f k) (tabulate-from n i f)
 unfolding tabulate-from
@@ -137,7 +153,8 @@ module _ (xs es : List ℕ) where
     under = λ k h. rw (let z : k ≡ 0 = omega arith in z) (exceeds-not-itself (slot xs es 0));
   }
 
-  pub least-more : (best next : Entry) (i : ℕ) → Least-before best xs es i → next ≡ cond (exceeds best (slot xs es i)) (slot xs es i) best → Least-before next xs es (i + 1)
+  pub least-more : (best next : Entry) (i : ℕ) → Least-before best xs es i →
+      next ≡ cond (exceeds best (slot xs es i)) (slot xs es i) best → Least-before next xs es (i + 1)
   least-more best next i w e =
       by-cases (exceeds best (slot xs es i))
       (λ t. let q : next ≡ slot xs es i = rw t at e in
@@ -145,17 +162,21 @@ module _ (xs es : List ℕ) where
         found = (i, omega arith, refl);
         under = λ k h. by-cases (eqb k i) (λ u. rw (eqb-true k i u) (exceeds-not-itself (slot xs es i)))
             (λ u. is-false (exceeds (slot xs es i) (slot xs es k)) (λ v.
-            clash (exceeds best (slot xs es k)) (exceeds-chain best (slot xs es i) (slot xs es k) t v) (w .under k (omega (arith, eqb-false k i u)))));
+            clash (exceeds best (slot xs es k)) (exceeds-chain best (slot xs es i) (slot xs es k) t v)
+            (w .under k (omega (arith, eqb-false k i u)))));
       }))
       (λ t. let q : next ≡ best = rw t at e in
       rw q (record {
         found = (w .found .0, omega (arith, w .found .1), w .found .2);
-        under = λ k h. by-cases (eqb k i) (λ u. rw (eqb-true k i u) t) (λ u. w .under k (omega (arith, eqb-false k i u)));
+        under = λ k h. by-cases (eqb k i) (λ u. rw (eqb-true k i u) t)
+            (λ u. w .under k (omega (arith, eqb-false k i u)));
       }))
 
-  pub least-end : (best : Entry) (i n : ℕ) → Least-before best xs es i → i ≤ n → n ≤ i → rising-from 0 (slots xs es n 0) ≡ true → exceeding best (slots xs es n 0) + 1 ≡ n
+  pub least-end : (best : Entry) (i n : ℕ) → Least-before best xs es i → i ≤ n → n ≤ i →
+      rising-from 0 (slots xs es n 0) ≡ true → exceeding best (slots xs es n 0) + 1 ≡ n
   least-end best i n w h l r =
-      let j : In best (slots xs es n 0) = rw (w .found .2) (slots-in xs es n (w .found .0) (omega (arith, w .found .1))) in
+      let j : In best (slots xs es n 0) =
+      rw (w .found .2) (slots-in xs es n (w .found .0) (omega (arith, w .found .1))) in
       omega (
         arith,
         slots-length xs es n 0,
@@ -165,10 +186,16 @@ module _ (xs es : List ℕ) where
       )
 
 module _ (xs es : List ℕ) (n c : ℕ) where
-  pub bounded-none : (top : Entry) → rising-from 0 (slots xs es n 0) ≡ true → c < n → 1 ≤ c → ((k : ℕ) → getD xs k 0 ≤ top .axis) → ((k : ℕ) → getD es k 0 ≤ top .epoch) → Bounded (record { axis = 0; epoch = 0 }) top xs es n c 0
+  pub bounded-none : (top : Entry) → rising-from 0 (slots xs es n 0) ≡ true → c < n → 1 ≤ c →
+      ((k : ℕ) → getD xs k 0 ≤ top .axis) → ((k : ℕ) → getD es k 0 ≤ top .epoch) →
+      Cut-bound (record { axis = 0; epoch = 0 }) top xs es n c 0
   bounded-none top r h l p q = record {
     many = omega (arith, bound-start 0 (slots xs es n 0) (sorted 0 (slots xs es n 0) r), slots-length xs es n 0);
-    few = omega (arith, exceeding-none top (slots xs es n 0) (λ y j. let w = in-slots xs es n y j in rw (w .2) (low (w .0))));
+    few =
+        omega (
+          arith,
+          exceeding-none top (slots xs es n 0) (λ y j. let w = in-slots xs es n y j in rw (w .2) (low (w .0))),
+        );
     seen = λ k m. absurd (omega arith);
   }
     where
@@ -176,32 +203,41 @@ module _ (xs es : List ℕ) (n c : ℕ) where
       low k = exceeds-not-top (slot xs es k) top (unfold slot in (p k)) (unfold slot in (q k))
 
   -- one slot more is seen
-  seen-more : (lost : Entry) (i : ℕ) → ((k : ℕ) → k < i → exceeds (slot xs es k) lost ≡ true → exceeding (slot xs es k) (slots xs es n 0) < c) → (exceeds (slot xs es i) lost ≡ true → exceeding (slot xs es i) (slots xs es n 0) < c) → (k : ℕ) → k < i + 1 → exceeds (slot xs es k) lost ≡ true → exceeding (slot xs es k) (slots xs es n 0) < c
+  seen-more : (lost : Entry) (i : ℕ) →
+      ((k : ℕ) → k < i → exceeds (slot xs es k) lost ≡ true → exceeding (slot xs es k) (slots xs es n 0) < c) →
+      (exceeds (slot xs es i) lost ≡ true → exceeding (slot xs es i) (slots xs es n 0) < c) → (k : ℕ) → k < i + 1 →
+      exceeds (slot xs es k) lost ≡ true → exceeding (slot xs es k) (slots xs es n 0) < c
   seen-more lost i s h k l =
       by-cases (eqb k i) (λ t. rw (eqb-true k i t) h) (λ t. s k (omega (arith, eqb-false k i t)))
 
-  pub bounded-lost : (lost kept : Entry) (i : ℕ) → Bounded lost kept xs es n c i → exceeds (slot xs es i) lost ≡ false → Bounded lost kept xs es n c (i + 1)
+  pub bounded-lost : (lost kept : Entry) (i : ℕ) → Cut-bound lost kept xs es n c i →
+      exceeds (slot xs es i) lost ≡ false → Cut-bound lost kept xs es n c (i + 1)
   bounded-lost lost kept i w e = record {
     many = w .many;
     few = w .few;
     seen = seen-more lost i (w .seen) (λ t. clash (exceeds (slot xs es i) lost) t e);
   }
 
-  pub bounded-kept : (lost kept : Entry) (i : ℕ) → Bounded lost kept xs es n c i → exceeds kept (slot xs es i) ≡ false → Bounded lost kept xs es n c (i + 1)
+  pub bounded-kept : (lost kept : Entry) (i : ℕ) → Cut-bound lost kept xs es n c i →
+      exceeds kept (slot xs es i) ≡ false → Cut-bound lost kept xs es n c (i + 1)
   bounded-kept lost kept i w e = record {
     many = w .many;
     few = w .few;
-    seen = seen-more lost i (w .seen) (λ t. omega (arith, w .few, exceeding-over (slot xs es i) kept (slots xs es n 0) e));
+    seen = seen-more lost i (w .seen)
+        (λ t. omega (arith, w .few, exceeding-over (slot xs es i) kept (slots xs es n 0) e));
   }
 
-  pub bounded-low : (lost kept : Entry) (i m : ℕ) → Bounded lost kept xs es n c i → m ≡ exceeding (slot xs es i) (slots xs es n 0) → m < c → Bounded lost (slot xs es i) xs es n c (i + 1)
+  pub bounded-low : (lost kept : Entry) (i m : ℕ) → Cut-bound lost kept xs es n c i →
+      m ≡ exceeding (slot xs es i) (slots xs es n 0) → m < c → Cut-bound lost (slot xs es i) xs es n c (i + 1)
   bounded-low lost kept i m w e h = record {
     many = w .many;
     few = omega arith;
     seen = seen-more lost i (w .seen) (λ t. omega arith);
   }
 
-  pub bounded-high : (lost kept : Entry) (i m : ℕ) → Bounded lost kept xs es n c i → exceeds (slot xs es i) lost ≡ true → m ≡ exceeding (slot xs es i) (slots xs es n 0) → c ≤ m → Bounded (slot xs es i) kept xs es n c (i + 1)
+  pub bounded-high : (lost kept : Entry) (i m : ℕ) → Cut-bound lost kept xs es n c i →
+      exceeds (slot xs es i) lost ≡ true → m ≡ exceeding (slot xs es i) (slots xs es n 0) → c ≤ m →
+      Cut-bound (slot xs es i) kept xs es n c (i + 1)
   bounded-high lost kept i m w u e h = record {
     many = omega arith;
     few = w .few;
@@ -209,12 +245,15 @@ module _ (xs es : List ℕ) (n c : ℕ) where
         (λ t. clash (exceeds (slot xs es i) (slot xs es i)) t (exceeds-not-itself (slot xs es i)));
   }
 
-  pub bounded-end : (lost kept : Entry) (i : ℕ) → Bounded lost kept xs es n c i → n ≤ i → cut c (slots xs es n 0) ≡ filter (λ x. exceeds x lost) (slots xs es n 0)
+  pub bounded-end : (lost kept : Entry) (i : ℕ) → Cut-bound lost kept xs es n c i → n ≤ i →
+      cut c (slots xs es n 0) ≡ filter (λ x. exceeds x lost) (slots xs es n 0)
   bounded-end lost kept i w h =
-      cut-at lost c (slots xs es n 0) (w .many) (λ x j. let k = in-slots xs es n x j in rw (k .2) (w .seen (k .0) (omega (arith, k .1))))
+      cut-at lost c (slots xs es n 0) (w .many)
+      (λ x j. let k = in-slots xs es n x j in rw (k .2) (w .seen (k .0) (omega (arith, k .1))))
 
   -- where one is cut, the least is the bound
-  pub bounded-one : (b : Entry) → exceeding b (slots xs es n 0) + 1 ≡ n → n - 1 ≡ c → cut c (slots xs es n 0) ≡ filter (λ x. exceeds x b) (slots xs es n 0)
+  pub bounded-one : (b : Entry) → exceeding b (slots xs es n 0) + 1 ≡ n → n - 1 ≡ c →
+      cut c (slots xs es n 0) ≡ filter (λ x. exceeds x b) (slots xs es n 0)
   bounded-one b e h = cut-by-bound b c (slots xs es n 0) (omega arith)
 
 -- THE CUT of slots: what exceeds the bound fits, and is what the cut keeps

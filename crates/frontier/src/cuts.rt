@@ -66,7 +66,8 @@ fn lesser(best: Entry, entry: Entry) -> Entry
 
 // The least entry: all others exceed it.
 fn least<'a>(axes: &'a [u64], epochs: &'a [u64], len: usize) -> Entry
-    requires { ⌜ (len ≤ length (now axes)) × (len ≤ length (now epochs)) × (rising-from 0 (slots (now axes) (now epochs) len 0) ≡ true) ⌝ }
+    requires { ⌜ (len ≤ length (now axes)) × (len ≤ length (now epochs)) ×
+        (rising-from 0 (slots (now axes) (now epochs) len 0) ≡ true) ⌝ }
     requires { ⌜ 0 < len ⌝ }
     ensures { λ r. ⌜ exceeding r (slots (now (axes .entry)) (now (epochs .entry)) len 0) + 1 ≡ len ⌝ }
 {
@@ -84,12 +85,14 @@ fn least<'a>(axes: &'a [u64], epochs: &'a [u64], len: usize) -> Entry
     best
 }
 
-// The bound that the entries kept at a capacity exceed: the greatest that is cut. If more than one is, it is counted how many exceed each
-// entry between the greatest known to be cut and the least known to be kept.
+// The bound that the entries kept at a capacity exceed: the greatest that is cut. If more than one is, it is counted
+// how many exceed each entry between the greatest known to be cut and the least known to be kept.
 pub fn bound_of<'a>(axes: &'a [u64], epochs: &'a [u64], len: usize, capacity: usize) -> Entry
-    requires { ⌜ (len ≤ length (now axes)) × (len ≤ length (now epochs)) × (rising-from 0 (slots (now axes) (now epochs) len 0) ≡ true) ⌝ }
+    requires { ⌜ (len ≤ length (now axes)) × (len ≤ length (now epochs)) ×
+        (rising-from 0 (slots (now axes) (now epochs) len 0) ≡ true) ⌝ }
     requires { ⌜ (1 ≤ capacity) × (capacity < len) ⌝ }
-    ensures { λ r. ⌜ cut capacity (slots (now (axes .entry)) (now (epochs .entry)) len 0) ≡ filter (λ x. exceeds x r) (slots (now (axes .entry)) (now (epochs .entry)) len 0) ⌝ }
+    ensures { λ r. ⌜ cut capacity (slots (now (axes .entry)) (now (epochs .entry)) len 0) ≡
+        filter (λ x. exceeds x r) (slots (now (axes .entry)) (now (epochs .entry)) len 0) ⌝ }
 {
     if len - 1 == capacity {
         return least(axes, epochs, len);

@@ -76,8 +76,10 @@ fn reaches<'a>(
     yn: usize,
 ) -> bool
     requires { ⌜ (xn ≤ most-entries) × (yn ≤ most-entries) ⌝ }
-    requires { ⌜ (rising-from 0 (slots (now xa) (now xe) xn 0) ≡ true) × (rising-from 0 (slots (now ya) (now ye) yn 0) ≡ true) ⌝ }
-    ensures { λ r. ⌜ r ≡ reached (slots (now (xa .entry)) (now (xe .entry)) xn 0) (slots (now (ya .entry)) (now (ye .entry)) yn 0) ⌝ }
+    requires { ⌜ (rising-from 0 (slots (now xa) (now xe) xn 0) ≡ true) ×
+        (rising-from 0 (slots (now ya) (now ye) yn 0) ≡ true) ⌝ }
+    ensures { λ r. ⌜ r ≡ reached (slots (now (xa .entry)) (now (xe .entry)) xn 0)
+        (slots (now (ya .entry)) (now (ye .entry)) yn 0) ⌝ }
 {
     let mut i: usize = 0;
     let mut j: usize = 0;

@@ -29,7 +29,8 @@ pub struct Step {
 // The next axis of the union of x from slot i and y from slot j is x's: y has none, or none that is smaller.
 fn leads_at<'a>(xa: &'a Slots, xn: usize, i: usize, ya: &'a Slots, yn: usize, j: usize) -> bool
     requires { ⌜ (xn ≤ most-entries) × (yn ≤ most-entries) ⌝ }
-    ensures { λ r. ⌜ ((xe ye : List ℕ) → r ≡ leads (rest (now (xa .entry)) xe xn i) (rest (now (ya .entry)) ye yn j)) ⌝ }
+    ensures { λ r. ⌜ ((xe ye : List ℕ) →
+        r ≡ leads (rest (now (xa .entry)) xe xn i) (rest (now (ya .entry)) ye yn j)) ⌝ }
 {
     if xn <= i {
         return false;
@@ -52,10 +53,15 @@ fn leading<'a>(
     j: usize,
 ) -> Step
     requires { ⌜ (xn ≤ most-entries) × (yn ≤ most-entries) × (i < xn) × (j ≤ yn) ⌝ }
-    requires { ⌜ (rising-from 0 (slots (now xa) (now xe) xn 0) ≡ true) × (rising-from 0 (slots (now ya) (now ye) yn 0) ≡ true) ⌝ }
+    requires { ⌜ (rising-from 0 (slots (now xa) (now xe) xn 0) ≡ true) ×
+        (rising-from 0 (slots (now ya) (now ye) yn 0) ≡ true) ⌝ }
     requires { ⌜ leads (rest (now xa) (now xe) xn i) (rest (now ya) (now ye) yn j) ≡ true ⌝ }
     ensures bounds { λ s. ⌜ (s .left ≤ xn) × (s .right ≤ yn) × (i + j < s .left + s .right) ⌝ }
-    ensures union_goes_on { λ s. ⌜ union (rest (now (xa .entry)) (now (xe .entry)) xn i) (rest (now (ya .entry)) (now (ye .entry)) yn j) ≡ record { axis = s .axis; epoch = s .epoch } ∷ union (rest (now (xa .entry)) (now (xe .entry)) xn (s .left)) (rest (now (ya .entry)) (now (ye .entry)) yn (s .right)) ⌝ }
+    ensures union_goes_on { λ s. ⌜ union (rest (now (xa .entry)) (now (xe .entry)) xn i)
+        (rest (now (ya .entry)) (now (ye .entry)) yn j) ≡
+        record { axis = s .axis; epoch = s .epoch }
+        ∷ union (rest (now (xa .entry)) (now (xe .entry)) xn (s .left))
+        (rest (now (ya .entry)) (now (ye .entry)) yn (s .right)) ⌝ }
 {
     let axis = xa[i];
     let epoch = xe[i];
@@ -77,7 +83,8 @@ fn leading<'a>(
     }
 }
 
-// The next entry of the union of x from slot i and y from slot j: the smaller axis, with the larger epoch where both list it.
+// The next entry of the union of x from slot i and y from slot j: the smaller axis, with the larger epoch where both
+// list it.
 fn next<'a>(
     xa: &'a Slots,
     xe: &'a Slots,
@@ -89,9 +96,14 @@ fn next<'a>(
     j: usize,
 ) -> Step
     requires { ⌜ (xn ≤ most-entries) × (yn ≤ most-entries) × (i ≤ xn) × (j ≤ yn) × (i + j < xn + yn) ⌝ }
-    requires { ⌜ (rising-from 0 (slots (now xa) (now xe) xn 0) ≡ true) × (rising-from 0 (slots (now ya) (now ye) yn 0) ≡ true) ⌝ }
+    requires { ⌜ (rising-from 0 (slots (now xa) (now xe) xn 0) ≡ true) ×
+        (rising-from 0 (slots (now ya) (now ye) yn 0) ≡ true) ⌝ }
     ensures bounds { λ s. ⌜ (s .left ≤ xn) × (s .right ≤ yn) × (i + j < s .left + s .right) ⌝ }
-    ensures union_goes_on { λ s. ⌜ union (rest (now (xa .entry)) (now (xe .entry)) xn i) (rest (now (ya .entry)) (now (ye .entry)) yn j) ≡ record { axis = s .axis; epoch = s .epoch } ∷ union (rest (now (xa .entry)) (now (xe .entry)) xn (s .left)) (rest (now (ya .entry)) (now (ye .entry)) yn (s .right)) ⌝ }
+    ensures union_goes_on { λ s. ⌜ union (rest (now (xa .entry)) (now (xe .entry)) xn i)
+        (rest (now (ya .entry)) (now (ye .entry)) yn j) ≡
+        record { axis = s .axis; epoch = s .epoch }
+        ∷ union (rest (now (xa .entry)) (now (xe .entry)) xn (s .left))
+        (rest (now (ya .entry)) (now (ye .entry)) yn (s .right)) ⌝ }
 {
     if leads_at(xa, xn, i, ya, yn, j) {
         return leading(xa, xe, xn, i, ya, ye, yn, j);
@@ -117,7 +129,8 @@ pub fn join<'a>(
     tainted: bool,
 ) -> Merged
     requires { ⌜ (xn ≤ most-entries) × (yn ≤ most-entries) ⌝ }
-    requires { ⌜ (rising-from 0 (slots (now xa) (now xe) xn 0) ≡ true) × (rising-from 0 (slots (now ya) (now ye) yn 0) ≡ true) ⌝ }
+    requires { ⌜ (rising-from 0 (slots (now xa) (now xe) xn 0) ≡ true) ×
+        (rising-from 0 (slots (now ya) (now ye) yn 0) ≡ true) ⌝ }
     requires { ⌜ (1 ≤ capacity) × (capacity ≤ most-entries) ⌝ }
     ensures { λ r. ⌜ r ≡ handed (joined (slots (now (xa .entry)) (now (xe .entry)) xn 0)
         (slots (now (ya .entry)) (now (ye .entry)) yn 0) tainted capacity) ⌝ }

@@ -17,5 +17,6 @@ mach = LL.val T.the-type T′.the-laws
 pub number-fits : (r : Merged) (vs : List Val) → Is N.the-row r vs → r .number < 2 ^ 32
 number-fits r vs is = LL.owed N.the-type N′.the-laws r vs is .1 .0 .1
 
-pub frontier-is : (r : Merged) (vs : List Val) → Is N.the-row r vs → Is T.the-row (r .frontier) (mach (r .frontier) ∷ [])
+pub frontier-is : (r : Merged) (vs : List Val) → Is N.the-row r vs →
+    Is T.the-row (r .frontier) (mach (r .frontier) ∷ [])
 frontier-is r vs is = LL.owed N.the-type N′.the-laws r vs is .0

@@ -22,9 +22,11 @@ lengths-differ (x ∷ xs) (y ∷ ys) n =
     by-cases (leb y x) (λ t. rw t (lengths-differ xs ys (λ e. n (rw e)))) (λ t. rw t)
 
 module _ (xs ys : List ℕ) (same : length xs ≡ length ys) (i : ℕ) where
-  pub row-more : i < length xs → getD ys i 0 ≤ getD xs i 0 → row-reaches (drop i xs) (drop i ys) ≡ row-reaches (drop (i + 1) xs) (drop (i + 1) ys)
+  pub row-more : i < length xs → getD ys i 0 ≤ getD xs i 0 →
+      row-reaches (drop i xs) (drop i ys) ≡ row-reaches (drop (i + 1) xs) (drop (i + 1) ys)
   unfolding row-reaches
-  row-more h l = rw (add-one i, drop-cons xs i 0 h, drop-cons ys i 0 (omega arith), le-leb (getD ys i 0) (getD xs i 0) l)
+  row-more h l =
+      rw (add-one i, drop-cons xs i 0 h, drop-cons ys i 0 (omega arith), le-leb (getD ys i 0) (getD xs i 0) l)
 
   pub row-stop : i < length xs → getD xs i 0 < getD ys i 0 → row-reaches (drop i xs) (drop i ys) ≡ false
   unfolding row-reaches
@@ -39,7 +41,8 @@ module _ (xs ys : List ℕ) (same : length xs ≡ length ys) (i : ℕ) where
 
 -- THE THREE ANSWERS
 module _ (first second : RefT (List ℕ)) where
-  pub first-reaches : row-reaches (first .now) (second .now) ≡ true → As-it-lies first second first × (first .now ≡ reaching-row (first .now) (second .now))
+  pub first-reaches : row-reaches (first .now) (second .now) ≡ true →
+      As-it-lies first second first × (first .now ≡ reaching-row (first .now) (second .now))
   unfolding reaching-row
   first-reaches e = (
     record {
@@ -50,7 +53,8 @@ module _ (first second : RefT (List ℕ)) where
     rw e,
   )
 
-  pub second-reaches : row-reaches (first .now) (second .now) ≡ false → row-reaches (second .now) (first .now) ≡ true → As-it-lies first second second × (second .now ≡ reaching-row (first .now) (second .now))
+  pub second-reaches : row-reaches (first .now) (second .now) ≡ false → row-reaches (second .now) (first .now) ≡ true →
+      As-it-lies first second second × (second .now ≡ reaching-row (first .now) (second .now))
   unfolding reaching-row
   second-reaches e f = (
     record {
@@ -61,7 +65,9 @@ module _ (first second : RefT (List ℕ)) where
     rw (e, f),
   )
 
-  pub none-reaches : (r : RefT (List ℕ)) → r .ptr ≡ first .ptr → r .now ≡ [] → row-reaches (first .now) (second .now) ≡ false → row-reaches (second .now) (first .now) ≡ false → As-it-lies first second r × (r .now ≡ reaching-row (first .now) (second .now))
+  pub none-reaches : (r : RefT (List ℕ)) → r .ptr ≡ first .ptr → r .now ≡ [] →
+      row-reaches (first .now) (second .now) ≡ false → row-reaches (second .now) (first .now) ≡ false →
+      As-it-lies first second r × (r .now ≡ reaching-row (first .now) (second .now))
   unfolding reaching-row
   none-reaches r p n e f = (
     record {

@@ -9,7 +9,8 @@ use lib.Dec.{eqb}
 use lib.ListN.{length}
 use borrow.Author.Tests.{eqb-true, eqb-false, not-true}
 use Rattle.base_lists.specs.Lists.{member}
-use Rattle.base_lists.proofs.Tests.{by-cases, clash, is-true, and-left, and-right, and-both, or-cases, or-left, or-right, not-of-false, either}
+use Rattle.base_lists.proofs.Tests.{by-cases, clash, is-true, and-left, and-right, and-both, or-cases, or-left}
+use Rattle.base_lists.proofs.Tests.{or-right, not-of-false, either}
 use Rattle.base_lists.proofs.Members.{member-nil, member-here, member-there, member-cons}
 use Rattle.base_lists.proofs.Tallies.{find-below}
 use Rattle.base_lists.proofs.Distinct.{Sized, sized-nil, sized-cons, sized-all}
@@ -53,7 +54,8 @@ module _ (d : ℕ → ℕ → Bool) where
     unfolding round
     round-good zero i xs g = g
     round-good (suc k) i xs g =
-        by-cases (fresh d j xs i) (λ t. rw t (round-good k (suc i) (i ∷ xs) (add-good xs i g t))) (λ f. rw f (round-good k (suc i) xs g))
+        by-cases (fresh d j xs i) (λ t. rw t (round-good k (suc i) (i ∷ xs) (add-good xs i g t)))
+        (λ f. rw f (round-good k (suc i) xs g))
 
     rounds-good : (fuel n : ℕ) (xs : List ℕ) → Good xs → Good (rounds fuel n d j xs)
     unfolding rounds
@@ -71,25 +73,31 @@ module _ (d : ℕ → ℕ → Bool) where
     round-sized n (suc k) i xs l s =
         by-cases (fresh d j xs i)
         (λ t. rw t (round-sized n k (suc i) (i ∷ xs) (omega arith)
-        (sized-cons n i xs (omega arith) (not-true (member i xs) (and-left (not (member i xs)) (any-of d i (j ∷ xs)) t)) s)))
+        (sized-cons n i xs (omega arith)
+        (not-true (member i xs) (and-left (not (member i xs)) (any-of d i (j ∷ xs)) t)) s)))
         (λ f. rw f (round-sized n k (suc i) xs (omega arith) s))
 
     round-longer : (left i : ℕ) (xs : List ℕ) → length xs ≤ length (round left i d j xs)
     unfolding round
     round-longer zero i xs = le-refl (length xs)
     round-longer (suc k) i xs =
-        by-cases (fresh d j xs i) (λ t. rw t (omega (arith, round-longer k (suc i) (i ∷ xs)))) (λ f. rw f (round-longer k (suc i) xs))
+        by-cases (fresh d j xs i) (λ t. rw t (omega (arith, round-longer k (suc i) (i ∷ xs))))
+        (λ f. rw f (round-longer k (suc i) xs))
 
-    round-grows : (left i : ℕ) (xs : List ℕ) (k : ℕ) → i ≤ k → k < left + i → fresh d j xs k ≡ true → length xs < length (round left i d j xs)
+    round-grows : (left i : ℕ) (xs : List ℕ) (k : ℕ) → i ≤ k → k < left + i → fresh d j xs k ≡ true →
+        length xs < length (round left i d j xs)
     unfolding round
     round-grows zero i xs k a b t = absurd (omega arith)
     round-grows (suc left) i xs k a b t =
         by-cases (fresh d j xs i) (λ u. rw u (omega (arith, round-longer left (suc i) (i ∷ xs))))
         (λ f. rw f (round-grows left (suc i) xs k
-        (by-cases (eqb i k) (λ q. clash (fresh d j xs k) t (subst (λ (z : ℕ). fresh d j xs z ≡ false) (eqb-true i k q) f)) (λ q. omega (arith, eqb-false i k q)))
+        (by-cases (eqb i k)
+        (λ q. clash (fresh d j xs k) t (subst (λ (z : ℕ). fresh d j xs z ≡ false) (eqb-true i k q) f))
+        (λ q. omega (arith, eqb-false i k q)))
         (omega arith) t))
 
-    round-stays : (left i : ℕ) (xs : List ℕ) → ((k : ℕ) → k < left + i → fresh d j xs k ≡ false) → round left i d j xs ≡ xs
+    round-stays : (left i : ℕ) (xs : List ℕ) → ((k : ℕ) → k < left + i → fresh d j xs k ≡ false) →
+        round left i d j xs ≡ xs
     unfolding round
     round-stays zero i xs h = refl
     round-stays (suc k) i xs h = rw (h i (omega arith)) (round-stays k (suc i) xs (λ m l. h m (omega arith)))
@@ -100,7 +108,8 @@ module _ (d : ℕ → ℕ → Bool) where
     rounds-stay (suc k) n xs e = rw e (rounds-stay k n xs e)
 
     -- nothing is fresh after n rounds
-    rounds-end : (fuel n : ℕ) (xs : List ℕ) → Sized n xs → n ≤ fuel + length xs → (i : ℕ) → i < n → fresh d j (rounds fuel n d j xs) i ≡ false
+    rounds-end : (fuel n : ℕ) (xs : List ℕ) → Sized n xs → n ≤ fuel + length xs → (i : ℕ) → i < n →
+        fresh d j (rounds fuel n d j xs) i ≡ false
     unfolding rounds fresh
     rounds-end zero n xs s l i b = rw (sized-all n xs s (omega arith) i b)
     rounds-end (suc k) n xs s l i b =
@@ -111,11 +120,14 @@ module _ (d : ℕ → ℕ → Bool) where
         rw (same, rounds-stay k n xs same) (h i b))
 
     module _ (n : ℕ) (below : (i k : ℕ) → d i k ≡ true → i < n) where
-      closed-down : (i k : ℕ) → d i k ≡ true → member k (j ∷ rounds n n d j []) ≡ true → member i (rounds n n d j []) ≡ true
+      closed-down : (i k : ℕ) → d i k ≡ true → member k (j ∷ rounds n n d j []) ≡ true →
+          member i (rounds n n d j []) ≡ true
       unfolding fresh
       closed-down i k e m =
           let xs = rounds n n d j [] in
-          is-true (member i xs) (λ f. clash (fresh d j xs i) (and-both (not (member i xs)) (any-of d i (j ∷ xs)) (not-of-false (member i xs) f) (any-has i k (j ∷ xs) m e))
+          is-true (member i xs)
+          (λ f. clash (fresh d j xs i) (and-both (not (member i xs)) (any-of d i (j ∷ xs))
+          (not-of-false (member i xs) f) (any-has i k (j ∷ xs) m e))
           (rounds-end n n [] (sized-nil n) (omega arith) i (below i k e)))
 
       chain-in : (i k : ℕ) → Chain d i k → member k (j ∷ rounds n n d j []) ≡ true → member i (rounds n n d j []) ≡ true

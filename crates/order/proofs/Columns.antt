@@ -7,7 +7,8 @@ use native.Mathlib.Omega.{arith}
 use lib.Dec.{ltb, eqb}
 use borrow.Author.Tests.{ltb-true, ltb-false, eqb-true, eqb-false, not-true}
 use Rattle.base_lists.specs.Lists.{tally}
-use Rattle.base_lists.proofs.Tests.{by-cases, clash, is-true, is-false, and-left, and-right, and-both, not-of-false, either}
+use Rattle.base_lists.proofs.Tests.{by-cases, clash, is-true, is-false, and-left, and-right, and-both, not-of-false}
+use Rattle.base_lists.proofs.Tests.{either}
 use Rattle.base_lists.proofs.Tallies.{find-below, tally-mono, tally-same, tally-further, tally-ends}
 
 -- ---- of two initial parts of what passes a test, one has the other
@@ -16,15 +17,21 @@ Initial n on f = (i k : ℕ) → i < k → k < n → on i ≡ true → on k ≡ 
 
 module _ (n : ℕ) (on : ℕ → Bool) where
   inside : (f g : ℕ → Bool) → ((i : ℕ) → i < n → on i ≡ true → g i ≡ true → f i ≡ true) →
-      (tally n (λ i. on i && (f i || g i)) ≡ tally n (λ i. on i && f i)) × (tally n (λ i. on i && g i) ≤ tally n (λ i. on i && f i))
+      (tally n (λ i. on i && (f i || g i)) ≡ tally n (λ i. on i && f i)) ×
+      (tally n (λ i. on i && g i) ≤ tally n (λ i. on i && f i))
   inside f g h = (
     tally-same n (λ i. on i && (f i || g i)) (λ i. on i && f i) (λ i l. by-cases (on i)
-        (λ t. rw t (by-cases (f i) (λ a. rw a) (λ a. rw a (is-false (g i) (λ b. clash (f i) (h i l t b) a))))) (λ t. rw t)),
-    tally-mono n (λ i. on i && g i) (λ i. on i && f i) (λ i l e. and-both (on i) (f i) (and-left (on i) (g i) e) (h i l (and-left (on i) (g i) e) (and-right (on i) (g i) e))),
+        (λ t. rw t (by-cases (f i) (λ a. rw a) (λ a. rw a (is-false (g i) (λ b. clash (f i) (h i l t b) a)))))
+        (λ t. rw t)),
+    tally-mono n (λ i. on i && g i) (λ i. on i && f i)
+        (λ i l e. and-both (on i) (f i) (and-left (on i) (g i) e)
+        (h i l (and-left (on i) (g i) e) (and-right (on i) (g i) e))),
   )
 
   swap : (f g : ℕ → Bool) → tally n (λ i. on i && (f i || g i)) ≡ tally n (λ i. on i && (g i || f i))
-  swap f g = tally-same n (λ i. on i && (f i || g i)) (λ i. on i && (g i || f i)) (λ i l. ap (λ (b : Bool). on i && b) (mathlib.Core.Bool.or-comm (f i) (g i)))
+  swap f g =
+      tally-same n (λ i. on i && (f i || g i)) (λ i. on i && (g i || f i))
+      (λ i l. ap (λ (b : Bool). on i && b) (mathlib.Core.Bool.or-comm (f i) (g i)))
 
   pub union-max : (f g : ℕ → Bool) → Initial n on f → Initial n on g →
       tally n (λ i. on i && (f i || g i)) ≡ max (tally n (λ i. on i && f i)) (tally n (λ i. on i && g i))
@@ -43,11 +50,13 @@ module _ (n : ℕ) (on : ℕ → Bool) where
       omega (arith, swap f g, c .0, c .1))
 
 -- ---- a size tells what is in the part
-module _ (n : ℕ) (on : ℕ → Bool) (f : ℕ → Bool) (initial : Initial n on f) (i : ℕ) (inside : i < n) (here : on i ≡ true) where
+module _ (n : ℕ) (on : ℕ → Bool) (f : ℕ → Bool) (initial : Initial n on f) (i : ℕ) (inside : i < n)
+    (here : on i ≡ true) where
   pub initial-reaches : f i ≡ true → tally (suc i) on ≤ tally n (λ k. on k && f k)
   initial-reaches t =
       le-trans (tally-mono (suc i) on (λ k. on k && f k) (λ k l o. and-both (on k) (f k) o
-      (by-cases (eqb k i) (λ q. subst (λ (z : ℕ). f z ≡ true) (sym (eqb-true k i q)) t) (λ q. initial k i (omega (arith, eqb-false k i q)) inside o here t))))
+      (by-cases (eqb k i) (λ q. subst (λ (z : ℕ). f z ≡ true) (sym (eqb-true k i q)) t)
+      (λ q. initial k i (omega (arith, eqb-false k i q)) inside o here t))))
       (tally-further (suc i) n (λ k. on k && f k) inside)
 
   pub reaches-initial : tally (suc i) on ≤ tally n (λ k. on k && f k) → f i ≡ true
@@ -55,7 +64,8 @@ module _ (n : ℕ) (on : ℕ → Bool) (f : ℕ → Bool) (initial : Initial n o
       is-true (f i) (λ e. absurd (
       let ends = tally-ends i n (λ k. on k && f k) (λ k a l. is-false (on k && f k) (λ t. clash (f i)
       (by-cases (eqb k i) (λ q. subst (λ (z : ℕ). f z ≡ true) (eqb-true k i q) (and-right (on k) (f k) t))
-      (λ q. initial i k (omega (arith, eqb-false k i q)) l here (and-left (on k) (f k) t) (and-right (on k) (f k) t))) e)) in
+      (λ q. initial i k (omega (arith, eqb-false k i q)) l here (and-left (on k) (f k) t) (and-right (on k) (f k) t)))
+      e)) in
       let fewer = tally-mono i (λ k. on k && f k) on (λ k l t. and-left (on k) (f k) t) in
       let one : tally (suc i) on ≡ 1 + tally i on = unfold tally in (rw here) in
       omega arith))

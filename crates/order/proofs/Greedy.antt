@@ -31,11 +31,13 @@ module _ (n : ℕ) (enabled : List ℕ → ℕ → Bool) (next : List ℕ → Op
   ends-from zero r h l = (
     h,
     λ j. is-false (can n enabled r j) (λ c.
-        clash (member j r) (full-all n enabled r h (omega arith) j (can-below n enabled r j c)) (can-fresh n enabled r j c)),
+        clash (member j r) (full-all n enabled r h (omega arith) j (can-below n enabled r j c))
+        (can-fresh n enabled r j c)),
   )
   ends-from (suc k) r h l =
       by-option (next r) (λ e. rw (e, stays k r e) (h, stops r e))
-      (λ j e. rw e (ends-from k (r ++ (j ∷ [])) (runs-snoc n enabled r j h (picks r j e)) (rw length-append (omega arith))))
+      (λ j e.
+      rw e (ends-from k (r ++ (j ∷ [])) (runs-snoc n enabled r j h (picks r j e)) (rw length-append (omega arith))))
 
   pub greedy-runs : runs n enabled [] (greedy next n []) ≡ true
   unfolding Ends
@@ -52,7 +54,8 @@ module _ (next : List ℕ → Option ℕ) where
   greedy-extends zero r = ([], sym (append-nil r))
   greedy-extends (suc k) r =
       by-option (next r) (λ e. rw e (greedy-extends k r))
-      (λ j e. rw e (let w = greedy-extends k (r ++ (j ∷ [])) in ((j ∷ []) ++ w .0, w .1 ∙ append-assoc r (j ∷ []) (w .0))))
+      (λ j e.
+      rw e (let w = greedy-extends k (r ++ (j ∷ [])) in ((j ∷ []) ++ w .0, w .1 ∙ append-assoc r (j ∷ []) (w .0))))
 
   greedy-steps-from : (k : ℕ) (r : List ℕ) (m : ℕ) → length r ≤ m → m < length (greedy next k r) →
       next (take m (greedy next k r)) ≡ some (getD (greedy next k r) m 0)
@@ -69,5 +72,6 @@ module _ (next : List ℕ → Option ℕ) where
       rw (whole, take-at r (j ∷ w .0) m (sym q), getD-at r j (w .0) 0 m (sym q)) e)
       (λ f. greedy-steps-from k (r ++ (j ∷ [])) m (rw length-append (omega (arith, eqb-false m (length r) f))) b′)))
 
-  pub greedy-steps : (n m : ℕ) → m < length (greedy next n []) → next (take m (greedy next n [])) ≡ some (getD (greedy next n []) m 0)
+  pub greedy-steps : (n m : ℕ) → m < length (greedy next n []) →
+      next (take m (greedy next n [])) ≡ some (getD (greedy next n []) m 0)
   greedy-steps n m l = greedy-steps-from n [] m zero-le l

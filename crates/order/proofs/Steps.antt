@@ -25,15 +25,21 @@ unfolding step-of
 step-in [] ys a j m = member-nil j m
 step-in (x ∷ xs) ys a j m =
     by-cases (eqb x j) (λ t. rw t (omega arith))
-    (λ f. rw f (either (member-cons j x xs m) (λ q. absurd (eqb-false x j f q)) (λ m′. omega (arith, step-in xs ys (suc a) j m′))))
+    (λ f. rw f (either (member-cons j x xs m) (λ q. absurd (eqb-false x j f q))
+    (λ m′. omega (arith, step-in xs ys (suc a) j m′))))
 
 pub step-past : (xs ys : List ℕ) (a j : ℕ) → member j xs ≡ false → a + length xs ≤ step-of a (xs ++ ys) j
 unfolding step-of
 step-past [] ys a j m = omega (arith, step-least ys a j)
 step-past (x ∷ xs) ys a j m =
     by-cases (eqb x j)
-    (λ t. clash (member j (x ∷ xs)) (subst (λ (z : ℕ). member j (z ∷ xs) ≡ true) (sym (eqb-true x j t)) (member-here j xs)) m)
-    (λ f. rw f (omega (arith, step-past xs ys (suc a) j (is-false (member j xs) (λ u. clash (member j (x ∷ xs)) (member-there j x xs u) m)))))
+    (λ t. clash (member j (x ∷ xs))
+    (subst (λ (z : ℕ). member j (z ∷ xs) ≡ true) (sym (eqb-true x j t)) (member-here j xs)) m)
+    (λ f. rw f (omega (
+      arith,
+      step-past xs ys (suc a) j (is-false (member j xs) (λ u. clash (member j (x ∷ xs)) (member-there j x xs u) m)),
+    )))
 
-pub step-order : (xs ys : List ℕ) (i j : ℕ) → member i xs ≡ true → member j xs ≡ false → step-of 0 (xs ++ ys) i < step-of 0 (xs ++ ys) j
+pub step-order : (xs ys : List ℕ) (i j : ℕ) → member i xs ≡ true → member j xs ≡ false →
+    step-of 0 (xs ++ ys) i < step-of 0 (xs ++ ys) j
 step-order xs ys i j a b = omega (arith, step-in xs ys 0 i a, step-past xs ys 0 j b)

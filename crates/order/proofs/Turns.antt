@@ -14,24 +14,29 @@ use Rattle.order.specs.Runs.{can, runs, step-of}
 use Rattle.order.proofs.Runs.{runs-head, runs-tail, runs-cons, runs-nil}
 
 module _ (n : ℕ) (enabled : List ℕ → ℕ → Bool) where
-  turns-from : (r js : List ℕ) → runs n enabled r js ≡ true → (k : ℕ) → k < length js → can n enabled (r ++ take k js) (getD js k 0) ≡ true
+  turns-from : (r js : List ℕ) → runs n enabled r js ≡ true → (k : ℕ) → k < length js →
+      can n enabled (r ++ take k js) (getD js k 0) ≡ true
   turns-from r [] h k l = absurd (not-suc-le-zero l)
   turns-from r (j ∷ js) h zero l = rw append-nil (runs-head n enabled r j js h)
   turns-from r (j ∷ js) h (suc k) l =
       subst (λ (z : List ℕ). can n enabled z (getD js k 0) ≡ true) (append-assoc r (j ∷ []) (take k js))
       (turns-from (r ++ (j ∷ [])) js (runs-tail n enabled r j js h) k (le-of-suc-le-suc l))
 
-  from-turns : (r js : List ℕ) → ((k : ℕ) → k < length js → can n enabled (r ++ take k js) (getD js k 0) ≡ true) → runs n enabled r js ≡ true
+  from-turns : (r js : List ℕ) → ((k : ℕ) → k < length js → can n enabled (r ++ take k js) (getD js k 0) ≡ true) →
+      runs n enabled r js ≡ true
   from-turns r [] h = runs-nil n enabled r
   from-turns r (j ∷ js) h =
       runs-cons n enabled r j js (rw append-nil at (h 0 (omega arith)))
       (from-turns (r ++ (j ∷ [])) js (λ k l.
-      subst (λ (z : List ℕ). can n enabled z (getD js k 0) ≡ true) (sym (append-assoc r (j ∷ []) (take k js))) (h (suc k) (omega arith))))
+      subst (λ (z : List ℕ). can n enabled z (getD js k 0) ≡ true) (sym (append-assoc r (j ∷ []) (take k js)))
+      (h (suc k) (omega arith))))
 
-  pub run-turns : (r : List ℕ) → runs n enabled [] r ≡ true → (k : ℕ) → k < length r → can n enabled (take k r) (getD r k 0) ≡ true
+  pub run-turns : (r : List ℕ) → runs n enabled [] r ≡ true → (k : ℕ) → k < length r →
+      can n enabled (take k r) (getD r k 0) ≡ true
   run-turns r h = turns-from [] r h
 
-  pub turns-run : (r : List ℕ) → ((k : ℕ) → k < length r → can n enabled (take k r) (getD r k 0) ≡ true) → runs n enabled [] r ≡ true
+  pub turns-run : (r : List ℕ) → ((k : ℕ) → k < length r → can n enabled (take k r) (getD r k 0) ≡ true) →
+      runs n enabled [] r ≡ true
   turns-run r h = from-turns [] r h
 
   -- the last of a run may come next after the others
@@ -41,7 +46,8 @@ module _ (n : ℕ) (enabled : List ℕ → ℕ → Bool) where
       rw (take-at r (j ∷ []) (length r) refl, getD-at r j [] 0 (length r) refl) at t
 
   -- the front of a run is a run
-  pub run-take : (r : List ℕ) → runs n enabled [] r ≡ true → (k : ℕ) → k ≤ length r → runs n enabled [] (take k r) ≡ true
+  pub run-take : (r : List ℕ) → runs n enabled [] r ≡ true → (k : ℕ) → k ≤ length r →
+      runs n enabled [] (take k r) ≡ true
   run-take r h k b =
       turns-run (take k r) (λ m l.
       let a : m < k = omega (arith, length-take-le k r b) in

@@ -7,7 +7,8 @@ use native.Mathlib.Omega.{arith}
 use lib.ListN.{length, length-append}
 use lib.Seq.{drop-at}
 use Rattle.plan_format.specs.Refusal.{Refusal, given}
-use Rattle.plan_format.specs.Grammar.{Check, Grammar, Source, Scan, scan, read-field, last-got, times, count-check, read-by}
+use Rattle.plan_format.specs.Grammar.{Check, Grammar, Source, Scan, scan, read-field, last-got, times}
+use Rattle.plan_format.specs.Grammar.{count-check, read-by}
 use Rattle.plan_format.proofs.Judged.{zero-not-given}
 use Rattle.plan_format.proofs.Parses.{Takes, _⊆_, Spelt, Nothing, Then, Holds, Parses, then-first, parsed-give}
 use Rattle.plan_format.proofs.Fields.{Lawful, field-reads}
@@ -15,7 +16,8 @@ use Rattle.plan_format.proofs.Reading.{last-is, places}
 
 counted-goes : (f : Scan → Scan) (t : Scan) (k : ℕ) → t .fault .number ≡ 0 → last-got t ≡ k →
     cond (given (t .fault)) t (times (last-got t) f t) ≡ times k f t
-counted-goes f t k e l = ap (λ b. cond b t (times (last-got t) f t)) (zero-not-given (t .fault) e) ∙ ap (λ n. times n f t) l
+counted-goes f t k e l = ap (λ b. cond b t (times (last-got t) f t)) (zero-not-given (t .fault) e)
+    ∙ ap (λ n. times n f t) l
 
 module _ (S : Source) (D : Spelt) (L : Lawful S D) where
   abbrev Accepts : (f : Scan → Scan) → Takes
@@ -27,16 +29,20 @@ module _ (S : Source) (D : Spelt) (L : Lawful S D) where
   accepts-none got vs ds p = rw (p .numbers-are, p .bytes-are)
       (λ more at r e. rw (L .view-nil, append-nil) (ap (λ n. scan more n got r) (omega arith)))
 
-  view-split : (vs vs′ ds ds′ more : List ℕ) → L .view (vs ++ vs′) (ds ++ ds′) ++ more ≡ L .view vs ds ++ (L .view vs′ ds′ ++ more)
-  view-split vs vs′ ds ds′ more = ap (λ z. z ++ more) (L .view-append vs vs′ ds ds′) ∙ append-assoc (L .view vs ds) (L .view vs′ ds′) more
+  view-split : (vs vs′ ds ds′ more : List ℕ) →
+      L .view (vs ++ vs′) (ds ++ ds′) ++ more ≡ L .view vs ds ++ (L .view vs′ ds′ ++ more)
+  view-split vs vs′ ds ds′ more =
+      ap (λ z. z ++ more) (L .view-append vs vs′ ds ds′) ∙ append-assoc (L .view vs ds) (L .view vs′ ds′) more
 
   accepts-then : (f g : Scan → Scan) → Then (Accepts f) (Accepts g) ⊆ Accepts (λ s. g (f s))
   accepts-then f g got vs ds p = rw (p .numbers-are, p .bytes-are) (λ more at r e.
       let x = L .view (p .vs₁) (p .ds₁) in
       let y = L .view (p .vs₂) (p .ds₂) in
-      ap (λ z. g (f (scan z at got r))) (view-split (p .vs₁) (p .vs₂) (p .ds₁) (p .ds₂) more) ∙ ap g (p .first (y ++ more) at r e)
+      ap (λ z. g (f (scan z at got r))) (view-split (p .vs₁) (p .vs₂) (p .ds₁) (p .ds₂) more)
+      ∙ ap g (p .first (y ++ more) at r e)
       ∙ p .second more (at + length x) r e
-      ∙ ap₂ (λ n z. scan more n z r) (places S D L at (p .vs₁) (p .vs₂) (p .ds₁) (p .ds₂)) (append-assoc got (p .vs₁) (p .vs₂)))
+      ∙ ap₂ (λ n z. scan more n z r) (places S D L at (p .vs₁) (p .vs₂) (p .ds₁) (p .ds₂))
+      (append-assoc got (p .vs₁) (p .vs₂)))
 
   accepts-field : (w : ℕ) (c : ℕ → ℕ) (v : ℕ) → Holds D w (λ _ x. c x) v ⊆ Accepts (λ s. read-field S w c s)
   unfolding scan
@@ -63,23 +69,26 @@ module _ (S : Source) (D : Spelt) (L : Lawful S D) where
       let h : Scan → Scan = λ s. read-field S w c s in
       let x = L .view (p .vs₁) (p .ds₁) in
       let y = L .view (p .vs₂) (p .ds₂) in
-      let both = then-first (Holds D w (λ _ v. c v) k) (Accepts h) (Accepts (λ s. times k f s)) (accepts-field w c k) got vs ds p in
+      let both = then-first (Holds D w (λ _ v. c v) k) (Accepts h) (Accepts (λ s. times k f s))
+      (accepts-field w c k) got vs ds p in
       let s = scan (L .view vs ds ++ more) at got r in
       let is : h s ≡ scan (y ++ more) (at + length x) (got ++ (k ∷ [])) r =
       ap (λ z. h (scan (z ++ more) at got r)) (ap₂ (L .view) (p .numbers-are) (p .bytes-are))
       ∙ ap (λ z. h (scan z at got r)) (view-split (p .vs₁) (p .vs₂) (p .ds₁) (p .ds₂) more)
       ∙ accepts-field w c k got (p .vs₁) (p .ds₁) (p .first) (y ++ more) at r e
       ∙ ap (λ z. scan (y ++ more) (at + length x) (got ++ z) r) (p .first .numbers-are) in
-      counted-goes f (h s) k (ap (λ z. z .fault .number) is ∙ e) (ap last-got is ∙ last-is (y ++ more) got (at + length x) k r)
+      counted-goes f (h s) k (ap (λ z. z .fault .number) is ∙ e)
+      (ap last-got is ∙ last-is (y ++ more) got (at + length x) k r)
       ∙ accepts-then h (λ z. times k f z) got vs ds both more at r e
 
   pub accepts : (g : Grammar) → Parses D g ⊆ Accepts (λ s. read-by S g s)
   unfolding read-by times
-  accepts = parsed-give D (λ g. Accepts (λ s. read-by S g s)) (λ g k. Accepts (λ s. times k (λ u. read-by S g u) s)) (record {
-    of-field = accepts-checked;
-    of-seq = λ g h. accepts-then (λ s. read-by S g s) (λ s. read-by S h s);
-    of-counted = λ l m w g k. accepts-counted w (λ v. count-check l m v) k (λ u. read-by S g u);
-    of-nothing = accepts-none;
-    of-none = λ g. accepts-none;
-    of-more = λ g k. accepts-then (λ s. read-by S g s) (λ s. times k (λ u. read-by S g u) s);
-  })
+  accepts =
+      parsed-give D (λ g. Accepts (λ s. read-by S g s)) (λ g k. Accepts (λ s. times k (λ u. read-by S g u) s)) (record {
+        of-field = accepts-checked;
+        of-seq = λ g h. accepts-then (λ s. read-by S g s) (λ s. read-by S h s);
+        of-counted = λ l m w g k. accepts-counted w (λ v. count-check l m v) k (λ u. read-by S g u);
+        of-nothing = accepts-none;
+        of-none = λ g. accepts-none;
+        of-more = λ g k. accepts-then (λ s. read-by S g s) (λ s. times k (λ u. read-by S g u) s);
+      })

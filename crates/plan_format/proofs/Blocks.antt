@@ -37,17 +37,17 @@ pub record Block (q s b : ℕ) (xs : List ℕ) : Type 0 where
   pub numbers-are : xs ≡ queue ∷ (waits ∷ (ws ++ (signals ∷ (ss ++ (marks ∷ ms)))))
 
 -- the counts that the numbers read so far begin with
-pub record Counts (q s b : ℕ) (got : List ℕ) : Type 0 where
+pub record Counts-given (q s b : ℕ) (got : List ℕ) : Type 0 where
   pub queues : queue-count got ≡ q
   pub semaphores : semaphore-count got ≡ s
   pub buffers : buffer-count got ≡ b
 
 -- they stay whatever is read after
 abbrev pub Kept : (q s b : ℕ) → List ℕ → Type 0
-Kept q s b got = (more : List ℕ) → Counts q s b (got ++ more)
+Kept q s b got = (more : List ℕ) → Counts-given q s b (got ++ more)
 
 module _ (q s b : ℕ) where
-  pub kept-now : (got : List ℕ) → Kept q s b got → Counts q s b got
+  pub kept-now : (got : List ℕ) → Kept q s b got → Counts-given q s b got
   kept-now got k = rw append-nil at (k [])
 
   pub kept-more : (got vs : List ℕ) → Kept q s b got → Kept q s b (got ++ vs)
@@ -86,12 +86,15 @@ module _ (D : Spelt) where
 
     are-points : (k : ℕ) (got vs ds : List ℕ) → Kept q s b got → Many (Parses D (point F)) k got vs ds → Points s k vs
     unfolding point
-    are-points = many-pairs D (Kept q s b) (kept-more q s b) (λ v. v < s) (λ _. Unit {0}) (F .semaphore-width) 8 a-semaphore any-number is-semaphore
+    are-points =
+        many-pairs D (Kept q s b) (kept-more q s b) (λ v. v < s)
+        (λ _. Unit {0}) (F .semaphore-width) 8 a-semaphore any-number is-semaphore
         (λ _ _ _ _. tt)
 
     are-marks : (k : ℕ) (got vs ds : List ℕ) → Kept q s b got → Many (Parses D mark) k got vs ds → Marks b k vs
     unfolding mark
-    are-marks = many-pairs D (Kept q s b) (kept-more q s b) (λ v. v < b) (λ v. v < 2) 2 1 a-buffer a-kind is-buffer is-kind
+    are-marks =
+        many-pairs D (Kept q s b) (kept-more q s b) (λ v. v < b) (λ v. v < 2) 2 1 a-buffer a-kind is-buffer is-kind
 
     pub operation-block : (got vs ds : List ℕ) → Kept q s b got → Parses D (operation F) got vs ds → Block q s b vs
     unfolding operation

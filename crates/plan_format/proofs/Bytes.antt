@@ -29,7 +29,8 @@ value-digits (suc w) v more h =
 pub digits-bytes : (w v : ℕ) → all-bytes (digits w v) ≡ true
 unfolding all-bytes all digits
 digits-bytes zero v = refl
-digits-bytes (suc w) v = and-both (ltb (v % 256) 256) (all (λ b. ltb b 256) (digits w (v / 256))) (lt-ltb (v % 256) 256 (omega arith))
+digits-bytes (suc w) v =
+    and-both (ltb (v % 256) 256) (all (λ b. ltb b 256) (digits w (v / 256))) (lt-ltb (v % 256) 256 (omega arith))
     (digits-bytes w (v / 256))
 
 module _ (x : ℕ) (xs : List ℕ) (h : all-bytes (x ∷ xs) ≡ true) where
@@ -62,7 +63,8 @@ value-below (suc w) (x ∷ xs) h =
     let i = value-below w xs (bytes-tail x xs h) in
     omega (arith, pow-suc 256 w)
 
-pub digits-value : (w : ℕ) (xs : List ℕ) → all-bytes xs ≡ true → w ≤ length xs → digits w (value (take w xs)) ≡ take w xs
+pub digits-value : (w : ℕ) (xs : List ℕ) → all-bytes xs ≡ true → w ≤ length xs →
+    digits w (value (take w xs)) ≡ take w xs
 unfolding value digits
 digits-value zero xs h n = refl
 digits-value (suc w) [] h n = absurd (not-suc-le-zero n)

@@ -13,7 +13,8 @@ use Rattle.base_lists.specs.Lists.{member}
 use Rattle.base_lists.proofs.Tests.{by-cases, either, or-cases, or-left, or-right, is-false}
 use Rattle.base_lists.proofs.Places.{member-place, place-member}
 use Rattle.plan_format.specs.Grammar.{Source, field-number, count-check}
-use Rattle.plan_format.specs.Form.{any-number, below, new-axis, a-queue, a-semaphore, a-buffer, a-kind, queue-count, semaphore-count, buffer-count}
+use Rattle.plan_format.specs.Form.{any-number, below, new-axis, a-queue, a-semaphore, a-buffer, a-kind}
+use Rattle.plan_format.specs.Form.{queue-count, semaphore-count, buffer-count}
 use Rattle.plan_format.specs.Meaning.{Given-when, Earlier-axis, Checks-mean, Field-means}
 
 -- a test that is true exactly if P holds
@@ -22,7 +23,10 @@ given-by b n P f g = record { yes = λ h. rw (f h); otherwise = λ h. rw (is-fal
 
 below-means : (limit v : ℕ) → Given-when (below limit v) 4 (limit ≤ v)
 unfolding below
-below-means l v = record { yes = λ h. rw (le-ltb v l h); otherwise = λ h. by-cases (ltb v l) (λ t. rw t) (λ f. absurd (h (ltb-false v l f))) }
+below-means l v = record {
+  yes = λ h. rw (le-ltb v l h);
+  otherwise = λ h. by-cases (ltb v l) (λ t. rw t) (λ f. absurd (h (ltb-false v l f)));
+}
 
 count-means : (l m v : ℕ) → Given-when (count-check l m v) 2 ((v < l) ⊎ (m < v))
 unfolding count-check

@@ -28,7 +28,8 @@ count-limited most v =
     (λ f. rw (le-ltb v 0 zero-le, f, lt-ltb v (most + 1) (omega (arith, ltb-false most v f))))
 
 -- the number after a front of the numbers read
-pub number-at : (nums : List ℕ) (k i : ℕ) (front : List ℕ) (v : ℕ) (rest : List ℕ) → take k nums ≡ front ++ (v ∷ rest) → length front ≡ i → getD nums i 0 ≡ v
+pub number-at : (nums : List ℕ) (k i : ℕ) (front : List ℕ) (v : ℕ) (rest : List ℕ) → take k nums ≡ front ++ (v ∷ rest) →
+    length front ≡ i → getD nums i 0 ≡ v
 number-at nums k i front v rest e l =
     sym (getD-take k nums i 0 (omega (arith, length-take k nums, ap length e, length-append front (v ∷ rest))))
     ∙ at-seam (take k nums) front rest v i e l
@@ -63,7 +64,9 @@ module _ (F : Form) where
   operations-alike k = counted-alike (operation-alike k)
 
 -- the counts that three sections begin with
-pub counts-of : {got₁ got₂ got₃ : List ℕ} {q m b : ℕ} (axes owners sizes : List ℕ) → got₁ ≡ q ∷ axes → got₂ ≡ got₁ ++ (m ∷ owners) → got₃ ≡ got₂ ++ (b ∷ sizes) → length axes ≡ q → length owners ≡ m → length sizes ≡ b → Kept q m b got₃
+pub counts-of : {got₁ got₂ got₃ : List ℕ} {q m b : ℕ} (axes owners sizes : List ℕ) → got₁ ≡ q ∷ axes →
+    got₂ ≡ got₁ ++ (m ∷ owners) → got₃ ≡ got₂ ++ (b ∷ sizes) → length axes ≡ q → length owners ≡ m → length sizes ≡ b →
+    Kept q m b got₃
 counts-of {got₁} {q = q} {m} {b} axes owners sizes e₁ e₂ e₃ lq lm lb =
     subst (Kept q m b) (sym (e₃ ∙ ap (λ (l : List ℕ). l ++ (b ∷ sizes)) e₂))
     (header-kept q m b axes owners sizes lq lm lb got₁ (m ∷ owners) (b ∷ sizes) e₁ refl refl)

@@ -21,17 +21,20 @@ pub record Pairs (P Q : ℕ → Type 0) (k : ℕ) (vs : List ℕ) : Type 0 where
   pub firsts : (i : ℕ) → i < k → P (getD vs (2 * i) 0)
   pub seconds : (i : ℕ) → i < k → Q (getD vs (2 * i + 1) 0)
 
-row-cons : (c : Check) (got : List ℕ) (k v : ℕ) (vs : List ℕ) → c got v ≡ 0 → Row c (got ++ (v ∷ [])) k vs → Row c got (suc k) (v ∷ vs)
+row-cons : (c : Check) (got : List ℕ) (k v : ℕ) (vs : List ℕ) → c got v ≡ 0 → Row c (got ++ (v ∷ [])) k vs →
+    Row c got (suc k) (v ∷ vs)
 row-cons c got k v vs e r = record { long = ap suc (r .long); pass = pass }
   where
     pass : (i : ℕ) → i < suc k → c (got ++ take i (v ∷ vs)) (getD (v ∷ vs) i 0) ≡ 0
     pass zero l = rw append-nil e
-    pass (suc i) l = ap (λ z. c z (getD vs i 0)) (sym (append-assoc got (v ∷ []) (take i vs))) ∙ r .pass i (le-of-suc-le-suc l)
+    pass (suc i) l = ap (λ z. c z (getD vs i 0)) (sym (append-assoc got (v ∷ []) (take i vs)))
+        ∙ r .pass i (le-of-suc-le-suc l)
 
 pub row-head : (c : Check) (got : List ℕ) (k v : ℕ) (vs : List ℕ) → Row c got (suc k) (v ∷ vs) → c got v ≡ 0
 row-head c got k v vs r = rw append-nil at (r .pass 0 (omega arith))
 
-pub row-tail : (c : Check) (got : List ℕ) (k v : ℕ) (vs : List ℕ) → Row c got (suc k) (v ∷ vs) → Row c (got ++ (v ∷ [])) k vs
+pub row-tail : (c : Check) (got : List ℕ) (k v : ℕ) (vs : List ℕ) → Row c got (suc k) (v ∷ vs) →
+    Row c (got ++ (v ∷ [])) k vs
 row-tail c got k v vs r = record {
   long = omega (arith, r .long);
   pass = λ i l. ap (λ z. c z (getD vs i 0)) (append-assoc got (v ∷ []) (take i vs)) ∙ r .pass (suc i) (omega arith);
@@ -47,7 +50,8 @@ pairs-cons P Q k a b vs p q r = record { long = omega (arith, r .long); firsts =
 
     seconds : (i : ℕ) → i < suc k → Q (getD (a ∷ b ∷ vs) (2 * i + 1) 0)
     seconds zero l = q
-    seconds (suc i) l = subst (λ z. Q (getD (a ∷ b ∷ vs) z 0)) (let e : suc (suc (2 * i + 1)) ≡ 2 * suc i + 1 = omega arith in e)
+    seconds (suc i) l =
+        subst (λ z. Q (getD (a ∷ b ∷ vs) z 0)) (let e : suc (suc (2 * i + 1)) ≡ 2 * suc i + 1 = omega arith in e)
         (r .seconds i (le-of-suc-le-suc l))
 
 -- a count within its limits, and as many entries
@@ -76,7 +80,8 @@ module _ (D : Spelt) where
       }
 
   pub many-fields : (w : ℕ) (c : Check) (k : ℕ) (got vs ds : List ℕ) → Many (Field D w c) k got vs ds → Row c got k vs
-  many-fields w c zero got vs ds p = record { long = ap length (p .numbers-are); pass = λ i l. absurd (not-suc-le-zero l) }
+  many-fields w c zero got vs ds p =
+      record { long = ap length (p .numbers-are); pass = λ i l. absurd (not-suc-le-zero l) }
   many-fields w c (suc k) got vs ds p =
       let f = p .first .holds in
       rw (p .numbers-are, f .numbers-are)
@@ -85,11 +90,18 @@ module _ (D : Spelt) where
       (subst (λ z. Many (Field D w c) k (got ++ z) (p .vs₂) (p .ds₂)) (f .numbers-are) (p .second))))
 
   -- a check says P or Q wherever G holds of the numbers read before, and G stays
-  module _ (G : List ℕ → Type 0) (stays : (got vs : List ℕ) → G got → G (got ++ vs)) (P Q : ℕ → Type 0) (w₁ w₂ : ℕ) (c₁ c₂ : Check)
-      (is-P : (got : List ℕ) (v : ℕ) → G got → c₁ got v ≡ 0 → P v) (is-Q : (got : List ℕ) (v : ℕ) → G got → c₂ got v ≡ 0 → Q v) where
-    pub many-pairs : (k : ℕ) (got vs ds : List ℕ) → G got → Many (Then (Field D w₁ c₁) (Field D w₂ c₂)) k got vs ds → Pairs P Q k vs
+  module _ (G : List ℕ → Type 0) (stays : (got vs : List ℕ) → G got → G (got ++ vs)) (P Q : ℕ → Type 0) (w₁ w₂ : ℕ)
+      (c₁ c₂ : Check)
+      (is-P : (got : List ℕ) (v : ℕ) → G got → c₁ got v ≡ 0 → P v)
+      (is-Q : (got : List ℕ) (v : ℕ) → G got → c₂ got v ≡ 0 → Q v) where
+    pub many-pairs : (k : ℕ) (got vs ds : List ℕ) → G got →
+        Many (Then (Field D w₁ c₁) (Field D w₂ c₂)) k got vs ds → Pairs P Q k vs
     many-pairs zero got vs ds g p =
-        record { long = ap length (p .numbers-are); firsts = λ i l. absurd (not-suc-le-zero l); seconds = λ i l. absurd (not-suc-le-zero l) }
+        record {
+          long = ap length (p .numbers-are);
+          firsts = λ i l. absurd (not-suc-le-zero l);
+          seconds = λ i l. absurd (not-suc-le-zero l);
+        }
     many-pairs (suc k) got vs ds g p =
         let x = p .first .first in
         let y = p .first .second in

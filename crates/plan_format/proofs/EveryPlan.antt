@@ -25,11 +25,16 @@ use Rattle.plan_format.proofs.Sections.{sections-kept}
 use Rattle.plan_format.proofs.PlanNumbers.{ones}
 
 -- ---- one field, one thing after another, entries, and entries after their count
-field-of : (w : ℕ) (c : Check) (got : List ℕ) (v : ℕ) → v < 256 ^ w → c got v ≡ 0 → Field Exact w c got (v ∷ []) (digits w v)
+field-of : (w : ℕ) (c : Check) (got : List ℕ) (v : ℕ) → v < 256 ^ w → c got v ≡ 0 →
+    Field Exact w c got (v ∷ []) (digits w v)
 field-of w c got v l e =
-    record { number = v; holds = record { passes = e; spelt = record { fits = l; bytes-are = refl }; numbers-are = refl } }
+    record {
+      number = v;
+      holds = record { passes = e; spelt = record { fits = l; bytes-are = refl }; numbers-are = refl };
+    }
 
-then-of : {P Q : Takes} (got vs vs′ ds ds′ : List ℕ) → P got vs ds → Q (got ++ vs) vs′ ds′ → Then P Q got (vs ++ vs′) (ds ++ ds′)
+then-of : {P Q : Takes} (got vs vs′ ds ds′ : List ℕ) → P got vs ds → Q (got ++ vs) vs′ ds′ →
+    Then P Q got (vs ++ vs′) (ds ++ ds′)
 then-of got vs vs′ ds ds′ p q =
     record { vs₁ = vs; vs₂ = vs′; ds₁ = ds; ds₂ = ds′; first = p; second = q; numbers-are = refl; bytes-are = refl }
 
@@ -39,8 +44,10 @@ record Counts-to (l m w k : ℕ) : Type 0 where
   most : k ≤ m
   fits : k < 256 ^ w
 
-counted-of : {A : Type 0} {l m w : ℕ} (P : Takes) (f g : A → List ℕ) (got : List ℕ) (xs : List A) → Counts-to l m w (length xs) →
-    Many P (length xs) (got ++ (length xs ∷ [])) (flatMap f xs) (flatMap g xs) → Counted Exact l m w P got (counted-numbers f xs) (counted-bytes w g xs)
+counted-of : {A : Type 0} {l m w : ℕ} (P : Takes) (f g : A → List ℕ) (got : List ℕ) (xs : List A) →
+    Counts-to l m w (length xs) →
+    Many P (length xs) (got ++ (length xs ∷ [])) (flatMap f xs) (flatMap g xs) →
+    Counted Exact l m w P got (counted-numbers f xs) (counted-bytes w g xs)
 unfolding counted-numbers counted-bytes
 counted-of {l = l} {m = m} {w = w} P f g got xs c many =
     let k = length xs in
@@ -63,17 +70,20 @@ counted-of {l = l} {m = m} {w = w} P f g got xs c many =
     }
 
 -- entries that parse wherever G holds of the numbers read before, and G stays
-module _ {A : Type 0} (G : List ℕ → Type 0) (stays : (got vs : List ℕ) → G got → G (got ++ vs)) (W : A → Type 0) (P : Takes) (f g : A → List ℕ)
+module _ {A : Type 0} (G : List ℕ → Type 0) (stays : (got vs : List ℕ) → G got → G (got ++ vs)) (W : A → Type 0)
+    (P : Takes) (f g : A → List ℕ)
     (entry : (got : List ℕ) (x : A) → G got → W x → P got (f x) (g x)) where
   many-of : (xs : List A) (got : List ℕ) → G got → Each W xs → Many P (length xs) got (flatMap f xs) (flatMap g xs)
   unfolding flatMap
   many-of [] got k e = record { numbers-are = refl; bytes-are = refl }
   many-of (x ∷ xs) got k e =
-      then-of got (f x) (flatMap f xs) (g x) (flatMap g xs) (entry got x k (e .0)) (many-of xs (got ++ f x) (stays got (f x) k) (e .1))
+      then-of got (f x) (flatMap f xs) (g x) (flatMap g xs) (entry got x k (e .0))
+      (many-of xs (got ++ f x) (stays got (f x) k) (e .1))
 
   list-of : {l m w : ℕ} (xs : List A) (got : List ℕ) → G got → Counts-to l m w (length xs) → Each W xs →
       Counted Exact l m w P got (counted-numbers f xs) (counted-bytes w g xs)
-  list-of xs got k c e = counted-of P f g got xs c (many-of xs (got ++ (length xs ∷ [])) (stays got (length xs ∷ []) k) e)
+  list-of xs got k c e =
+      counted-of P f g got xs c (many-of xs (got ++ (length xs ∷ [])) (stays got (length xs ∷ []) k) e)
 
 -- ---- operations
 module _ (q s b : ℕ) (lq : q ≤ most-queues) (ls : s ≤ most-semaphores) (lb : b ≤ most-buffers) where
@@ -86,17 +96,20 @@ module _ (q s b : ℕ) (lq : q ≤ most-queues) (ls : s ≤ most-semaphores) (lb
       (passes-below (semaphore-count got) (x .semaphore) s (kept-now q s b got k .semaphores) (e .semaphore)))
       (field-of 8 any-number (got ++ (x .semaphore ∷ [])) (x .value) (e .value) refl)
 
-  mark-of : (got : List ℕ) (m : Mark) → Kept q s b got → Mark-within b m → Parses Exact mark got (mark-numbers m) (mark-bytes m)
+  mark-of : (got : List ℕ) (m : Mark) → Kept q s b got → Mark-within b m →
+      Parses Exact mark got (mark-numbers m) (mark-bytes m)
   unfolding mark mark-numbers mark-bytes a-buffer a-kind
   mark-of got m k e =
       then-of got (m .buffer ∷ []) (m .kind ∷ []) (digits 2 (m .buffer)) (digits 1 (m .kind))
       (field-of 2 a-buffer got (m .buffer) (omega (arith, e .buffer, lb))
       (passes-below (buffer-count got) (m .buffer) b (kept-now q s b got k .buffers) (e .buffer)))
-      (field-of 1 a-kind (got ++ (m .buffer ∷ [])) (m .kind) (omega (arith, e .kind)) (passes-below 2 (m .kind) 2 refl (omega (arith, e .kind))))
+      (field-of 1 a-kind (got ++ (m .buffer ∷ [])) (m .kind) (omega (arith, e .kind))
+      (passes-below 2 (m .kind) 2 refl (omega (arith, e .kind))))
 
   points-of : {l m w : ℕ} (xs : List Point) (got : List ℕ) → Kept q s b got → Counts-to l m w (length xs) →
       Each (Point-within In-bytes s) xs →
-      Counted Exact l m w (Parses Exact (point first-form)) got (counted-numbers point-numbers xs) (counted-bytes w point-bytes xs)
+      Counted Exact l m w (Parses Exact (point first-form)) got (counted-numbers point-numbers xs)
+      (counted-bytes w point-bytes xs)
   points-of = list-of (Kept q s b) (kept-more q s b) (Point-within In-bytes s) (Parses Exact (point first-form))
       point-numbers point-bytes point-of
 
@@ -120,11 +133,14 @@ module _ (q s b : ℕ) (lq : q ≤ most-queues) (ls : s ≤ most-semaphores) (lb
       (passes-below (queue-count got) (o .queue) q (kept-now q s b got k .queues) (e .queue)))
       (then-of got₁ ws (ss ++ ms) ws′ (ss′ ++ ms′)
       (points-of (o .waits) got₁ k₁
-      (record { least = omega arith; most = omega (arith, e .few-waits); fits = omega (arith, e .few-waits) }) (e .waits))
+      (record { least = omega arith; most = omega (arith, e .few-waits); fits = omega (arith, e .few-waits) })
+      (e .waits))
       (then-of got₂ ss ms ss′ ms′
       (points-of (o .signals) got₂ k₂
-      (record { least = omega arith; most = omega (arith, e .few-signals); fits = omega (arith, e .few-signals) }) (e .signals))
-      (list-of (Kept q s b) (kept-more q s b) (Mark-within b) (Parses Exact mark) mark-numbers mark-bytes mark-of (o .marks) (got₂ ++ ss) k₃
+      (record { least = omega arith; most = omega (arith, e .few-signals); fits = omega (arith, e .few-signals) })
+      (e .signals))
+      (list-of (Kept q s b) (kept-more q s b) (Mark-within b) (Parses Exact mark) mark-numbers mark-bytes mark-of
+      (o .marks) (got₂ ++ ss) k₃
       (record { least = omega arith; most = omega (arith, e .few-marks); fits = omega (arith, e .few-marks) })
       (e .marks))))
 
@@ -158,7 +174,8 @@ queues-stay q got vs k more = rw append-assoc (k (vs ++ more))
 owner-of : (q : ℕ) → q ≤ most-queues → (got : List ℕ) (v : ℕ) → Queues q got → v < q →
     Field Exact 1 a-queue got (one-number v) (digits 1 v)
 unfolding a-queue one-number
-owner-of q l got v k h = field-of 1 a-queue got v (omega (arith, l, h)) (passes-below (queue-count got) v q (rw append-nil at (k [])) h)
+owner-of q l got v k h =
+    field-of 1 a-queue got v (omega (arith, l, h)) (passes-below (queue-count got) v q (rw append-nil at (k [])) h)
 
 size-of : (got : List ℕ) (v : ℕ) → Unit {0} → v < 2 ^ 32 → Field Exact 4 any-number got (one-number v) (digits 4 v)
 unfolding any-number one-number
@@ -187,16 +204,22 @@ plan-parses p e =
     (record { least = omega arith; most = omega (arith, e .few-queues); fits = omega (arith, e .few-queues) })
     (row-of 8 new-axis (q ∷ []) (p .axes) (axes-row (p .axes) (e .axes-distinct)) (e .axes)))
     (then-of v₁ v₂ (v₃ ++ v₄) d₂ (d₃ ++ d₄)
-    (list-of (Queues q) (queues-stay q) (λ v. v < q) (Field Exact 1 a-queue) one-number (digits 1) (owner-of q (e .few-queues)) (p .owners) v₁
-    (heads p) (record { least = omega arith; most = omega (arith, e .few-semaphores); fits = omega (arith, e .few-semaphores) }) (e .owners))
+    (list-of (Queues q) (queues-stay q)
+    (λ v. v < q) (Field Exact 1 a-queue) one-number (digits 1) (owner-of q (e .few-queues)) (p .owners) v₁
+    (heads p)
+    (record { least = omega arith; most = omega (arith, e .few-semaphores); fits = omega (arith, e .few-semaphores) })
+    (e .owners))
     (then-of (v₁ ++ v₂) v₃ v₄ d₃ d₄
-    (list-of (λ _. Unit {0}) (λ _ _ _. tt) (λ v. v < 2 ^ 32) (Field Exact 4 any-number) one-number (digits 4) size-of (p .sizes) (v₁ ++ v₂) tt
-    (record { least = omega arith; most = omega (arith, e .few-buffers); fits = omega (arith, e .few-buffers) }) (e .sizes))
+    (list-of (λ _. Unit {0}) (λ _ _ _. tt)
+    (λ v. v < 2 ^ 32) (Field Exact 4 any-number) one-number (digits 4) size-of (p .sizes) (v₁ ++ v₂) tt
+    (record { least = omega arith; most = omega (arith, e .few-buffers); fits = omega (arith, e .few-buffers) })
+    (e .sizes))
     (counted-of O operation-numbers operation-bytes got₃ (p .operations)
     (record { least = omega arith; most = omega (arith, e .few-operations); fits = omega (arith, e .few-operations) })
     (many-of (Kept q s b) (kept-more q s b) (Operation-within In-bytes q s b) O operation-numbers operation-bytes
     (operation-of q s b (e .few-queues) (e .few-semaphores) (e .few-buffers)) (p .operations) (got₃ ++ (n ∷ []))
-    (sections-kept q s b (p .axes) (p .owners) (p .sizes) refl refl refl v₁ v₂ v₃ n (section (p .axes)) (section (p .owners)) (section (p .sizes)))
+    (sections-kept q s b (p .axes) (p .owners) (p .sizes) refl refl refl v₁ v₂ v₃ n (section (p .axes))
+    (section (p .owners)) (section (p .sizes)))
     (e .operations)))))
   where
     section : (xs : List ℕ) → counted-numbers one-number xs ≡ length xs ∷ xs

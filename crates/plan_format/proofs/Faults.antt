@@ -36,9 +36,11 @@ module _ (S : Source) where
   read-stays nothing s e = refl
 
 -- what leaves a fault as it is and ends without one began without one
-pub began : (f : Scan → Scan) (s : Scan) → (given (s .fault) ≡ true → f s ≡ s) → f s .fault .number ≡ 0 → s .fault .number ≡ 0
+pub began : (f : Scan → Scan) (s : Scan) → (given (s .fault) ≡ true → f s ≡ s) → f s .fault .number ≡ 0 →
+    s .fault .number ≡ 0
 began f s h e =
-    by-cases (given (s .fault)) (λ t. clash (given (s .fault)) t (zero-not-given (s .fault) (ap (λ z. z .fault .number) (sym (h t)) ∙ e)))
+    by-cases (given (s .fault))
+    (λ t. clash (given (s .fault)) t (zero-not-given (s .fault) (ap (λ z. z .fault .number) (sym (h t)) ∙ e)))
     (λ n. not-given-zero (s .fault) n)
 
 module _ (S : Source) where
@@ -48,8 +50,10 @@ module _ (S : Source) where
   pub read-began : (g : Grammar) (s : Scan) → read-by S g s .fault .number ≡ 0 → s .fault .number ≡ 0
   read-began g s e = began (λ t. read-by S g t) s (read-stays S g s) e
 
-  pub times-began : (k : ℕ) (g : Grammar) (s : Scan) → times k (λ t. read-by S g t) s .fault .number ≡ 0 → s .fault .number ≡ 0
-  times-began k g s e = began (λ t. times k (λ u. read-by S g u) t) s (λ t. times-stays k (λ u. read-by S g u) s (read-stays S g s t)) e
+  pub times-began : (k : ℕ) (g : Grammar) (s : Scan) → times k (λ t. read-by S g t) s .fault .number ≡ 0 →
+      s .fault .number ≡ 0
+  times-began k g s e =
+      began (λ t. times k (λ u. read-by S g u) t) s (λ t. times-stays k (λ u. read-by S g u) s (read-stays S g s t)) e
 
 pub ended-began : (s : Scan) → ended s .fault .number ≡ 0 → s .fault .number ≡ 0
 ended-began s e = began ended s (ended-stays s) e

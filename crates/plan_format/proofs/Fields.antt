@@ -33,7 +33,8 @@ pub record Lawful (S : Source) (D : Spelt) : Type 1 where
   pub taken : (w : ℕ) (xs : List ℕ) → Clean xs → S .wide w ≤ length xs → S .fits w (S .front w xs) ≡ true →
       (ds : List ℕ) × D w (S .front w xs) ds × (take (S .wide w) xs ≡ view (S .front w xs ∷ []) ds)
 
-judged-zero : (short fits : Bool) (n : ℕ) → cond short 1 (cond (eqb n 0) (cond fits 0 4) n) ≡ 0 → (short ≡ false) × (n ≡ 0) × (fits ≡ true)
+judged-zero : (short fits : Bool) (n : ℕ) → cond short 1 (cond (eqb n 0) (cond fits 0 4) n) ≡ 0 →
+    (short ≡ false) × (n ≡ 0) × (fits ≡ true)
 judged-zero true fits n e = absurd (omega arith)
 judged-zero false fits n e =
     by-cases (eqb n 0) (λ t. (refl, eqb-true n 0 t, is-true fits (λ f. let z : 4 ≡ 0 = rw (t, f) at e in omega arith)))
@@ -45,17 +46,21 @@ module _ (S : Source) (w : ℕ) (c : ℕ → ℕ) where
     pub long : S .wide w ≤ length (s .rest)
     pub passes : c (S .front w (s .rest)) ≡ 0
     pub fits : S .fits w (S .front w (s .rest)) ≡ true
-    pub result : t ≡ scan (drop (S .wide w) (s .rest)) (s .place + S .wide w) (s .got ++ (S .front w (s .rest) ∷ [])) (s .fault)
+    pub result : t ≡ scan (drop (S .wide w) (s .rest)) (s .place + S .wide w)
+        (s .got ++ (S .front w (s .rest) ∷ [])) (s .fault)
 
-  field-zero : (r : List ℕ) → S .wide w ≤ length r → c (S .front w r) ≡ 0 → S .fits w (S .front w r) ≡ true → field-number S w c r ≡ 0
+  field-zero : (r : List ℕ) → S .wide w ≤ length r → c (S .front w r) ≡ 0 → S .fits w (S .front w r) ≡ true →
+      field-number S w c r ≡ 0
   unfolding field-number
   field-zero r l p f = rw (le-ltb (length r) (S .wide w) l, eq-eqb (c (S .front w r)) 0 p, f)
 
   pub field-reads : (s : Scan) → s .fault .number ≡ 0 → S .wide w ≤ length (s .rest) → c (S .front w (s .rest)) ≡ 0 →
       S .fits w (S .front w (s .rest)) ≡ true →
-      read-field S w c s ≡ scan (drop (S .wide w) (s .rest)) (s .place + S .wide w) (s .got ++ (S .front w (s .rest) ∷ [])) (s .fault)
+      read-field S w c s ≡ scan (drop (S .wide w) (s .rest)) (s .place + S .wide w)
+      (s .got ++ (S .front w (s .rest) ∷ [])) (s .fault)
   unfolding read-field
-  field-reads s e l p f = rw (zero-not-given (s .fault) e, eq-eqb (field-number S w c (s .rest)) 0 (field-zero (s .rest) l p f))
+  field-reads s e l p f =
+      rw (zero-not-given (s .fault) e, eq-eqb (field-number S w c (s .rest)) 0 (field-zero (s .rest) l p f))
 
   field-number-zero : (s : Scan) → read-field S w c s .fault .number ≡ 0 → field-number S w c (s .rest) ≡ 0
   unfolding read-field refused refusal scan
@@ -79,7 +84,8 @@ module _ (l m v : ℕ) where
   unfolding count-check
   count-limits e =
       by-cases (ltb v l) (λ t. absurd (let z : 2 ≡ 0 = rw t at e in omega arith)) (λ f.
-      by-cases (ltb m v) (λ t. absurd (let z : 2 ≡ 0 = rw (f, t) at e in omega arith)) (λ g. (ltb-false v l f, ltb-false m v g)))
+      by-cases (ltb m v) (λ t. absurd (let z : 2 ≡ 0 = rw (f, t) at e in omega arith))
+      (λ g. (ltb-false v l f, ltb-false m v g)))
 
   pub count-passes : l ≤ v → v ≤ m → count-check l m v ≡ 0
   unfolding count-check

@@ -23,11 +23,13 @@ byte-left : ended (scan (9 ∷ []) 6 [] none-given) ≡ scan (9 ∷ []) 6 [] (re
 unfolding ended scan refused given none-given
 byte-left = refl
 
-pub ended-none : (rest : List ℕ) (at : ℕ) (got : List ℕ) → length rest ≡ 0 → ended (scan rest at got none-given) ≡ scan rest at got none-given
+pub ended-none : (rest : List ℕ) (at : ℕ) (got : List ℕ) → length rest ≡ 0 →
+    ended (scan rest at got none-given) ≡ scan rest at got none-given
 unfolding ended scan given none-given
 ended-none rest at got e = rw (eq-eqb (length rest) 0 e)
 
-pub ended-more : (rest : List ℕ) (at : ℕ) (got : List ℕ) → (length rest ≡ 0 → ⊥) → ended (scan rest at got none-given) ≡ scan rest at got (refusal 3 at)
+pub ended-more : (rest : List ℕ) (at : ℕ) (got : List ℕ) → (length rest ≡ 0 → ⊥) →
+    ended (scan rest at got none-given) ≡ scan rest at got (refusal 3 at)
 unfolding ended scan given none-given refused
 ended-more rest at got z = rw (ne-eqb (length rest) 0 z)
 
@@ -48,10 +50,12 @@ fills-past f new r o x w k l = ap (λ (y : List ℕ). getD y k 0) (w .1) ∙ pas
     past false = front-past new o k 0 l
 
 -- the refusal of a reading and of the room
-filled : {f g : Refusal} (new : List ℕ) {r : Told} (room : List ℕ) {now-room : List ℕ} → f ≡ g → Tells g (length new) r → now-room ≡ cond (given g) room (in-front new room) → Fills f new r room now-room
+filled : {f g : Refusal} (new : List ℕ) {r : Told} (room : List ℕ) {now-room : List ℕ} → f ≡ g →
+    Tells g (length new) r → now-room ≡ cond (given g) room (in-front new room) → Fills f new r room now-room
 unfolding Fills
 filled new {r} room {now-room} e t x =
-    subst (λ (h : Refusal). Tells h (length new) r × (now-room ≡ cond (given h) room (in-front new room))) (sym e) (t, x)
+    subst (λ (h : Refusal). Tells h (length new) r × (now-room ≡ cond (given h) room (in-front new room))) (sym e)
+    (t, x)
 
 module _ (f : Refusal) (got : List ℕ) {told : Told} (t : Tells f (length got) told) (room : List ℕ) where
   clean : told .number ≡ 0 → given f ≡ false
@@ -66,13 +70,18 @@ module _ (f : Refusal) (got : List ℕ) {told : Told} (t : Tells f (length got) 
       let g = other-given f (λ e. z (t .number ∙ e)) in
       filled {g = f} got room (rw g) t (rw g)
 
-  pub no-room : told .number ≡ 0 → length room < told .answer → Fills (or-else f (room-for (length got) (length room))) got (record { number = 9; place = told .answer; answer = 0 }) room room
+  pub no-room : told .number ≡ 0 → length room < told .answer →
+      Fills (or-else f (room-for (length got) (length room))) got
+      (record { number = 9; place = told .answer; answer = 0 }) room room
   unfolding or-else room-for refusal given
   no-room z h =
-      filled {g = refusal 9 (length got)} got room (rw (clean z, lt-ltb (length room) (length got) (omega (arith, answer-long z))))
+      filled {g = refusal 9 (length got)} got room
+      (rw (clean z, lt-ltb (length room) (length got) (omega (arith, answer-long z))))
       (record { number = refl; place = answer-long z; answer-is = refl }) refl
 
-  pub stored : {now-room : List ℕ} → told .number ≡ 0 → told .answer ≤ length room → now-room ≡ in-front got room → Fills (or-else f (room-for (length got) (length room))) got (record { number = 0; place = 0; answer = told .answer }) room now-room
+  pub stored : {now-room : List ℕ} → told .number ≡ 0 → told .answer ≤ length room → now-room ≡ in-front got room →
+      Fills (or-else f (room-for (length got) (length room))) got
+      (record { number = 0; place = 0; answer = told .answer }) room now-room
   unfolding or-else room-for none-given given
   stored z h e =
       filled {g = none-given} got room (rw (clean z, le-ltb (length room) (length got) (omega (arith, answer-long z))))

@@ -59,7 +59,8 @@ module _ (s v : ℕ) where
   over-in [] z h = z
   over-in (x ∷ xs) z h =
       let t = over-in xs z (λ l a. h (suc l) (omega arith)) in
-      by-cases (eqb (x .semaphore) s) (λ q. rw q (omega (arith, h 0 (omega arith) (eqb-true (x .semaphore) s q)))) (λ q. rw q (omega arith))
+      by-cases (eqb (x .semaphore) s) (λ q. rw q (omega (arith, h 0 (omega arith) (eqb-true (x .semaphore) s q))))
+      (λ q. rw q (omega arith))
 
   pub in-over : (xs : List Point) → highest-in s xs < v → (0 < v) × Over xs
   unfolding highest-in
@@ -67,9 +68,11 @@ module _ (s v : ℕ) where
   in-over (x ∷ xs) h =
       let t = in-over xs (omega arith) in (t .0, λ l. at-place l (t .1))
     where
-      at-place : (l : ℕ) → Over xs → l < length (x ∷ xs) → getD (x ∷ xs) l (record { semaphore = 0; value = 0 }) .semaphore ≡ s →
+      at-place : (l : ℕ) → Over xs → l < length (x ∷ xs) →
+          getD (x ∷ xs) l (record { semaphore = 0; value = 0 }) .semaphore ≡ s →
           getD (x ∷ xs) l (record { semaphore = 0; value = 0 }) .value < v
-      at-place zero o a e = let h′ : max (x .value) (highest-in s xs) < v = rw (eq-eqb (x .semaphore) s e) at h in omega arith
+      at-place zero o a e = let h′ : max (x .value) (highest-in s xs) < v = rw (eq-eqb (x .semaphore) s e) at h in
+          omega arith
       at-place (suc l) o a e = o l (le-of-suc-le-suc a) e
 
   pub over-highest : (os : List Operation) → 0 < v → Over-all os → highest s os < v
@@ -89,27 +92,33 @@ module _ (s v : ℕ) where
 
   -- in the first so many
   pub over-taken : (xs : List Point) (k : ℕ) → Over (take k xs) → (l : ℕ) → l < k → l < length xs →
-      getD xs l (record { semaphore = 0; value = 0 }) .semaphore ≡ s → getD xs l (record { semaphore = 0; value = 0 }) .value < v
+      getD xs l (record { semaphore = 0; value = 0 }) .semaphore ≡ s →
+      getD xs l (record { semaphore = 0; value = 0 }) .value < v
   over-taken [] k o l a b = absurd (not-suc-le-zero b)
   over-taken (x ∷ xs) zero o l a b = absurd (not-suc-le-zero a)
   over-taken (x ∷ xs) (suc k) o zero a b = o 0 (omega arith)
-  over-taken (x ∷ xs) (suc k) o (suc l) a b = over-taken xs k (λ m c. o (suc m) (omega arith)) l (le-of-suc-le-suc a) (le-of-suc-le-suc b)
+  over-taken (x ∷ xs) (suc k) o (suc l) a b =
+      over-taken xs k (λ m c. o (suc m) (omega arith)) l (le-of-suc-le-suc a) (le-of-suc-le-suc b)
 
   pub taken-over : (xs : List Point) (k : ℕ) → ((l : ℕ) → l < k → l < length xs →
-      getD xs l (record { semaphore = 0; value = 0 }) .semaphore ≡ s → getD xs l (record { semaphore = 0; value = 0 }) .value < v) → Over (take k xs)
+      getD xs l (record { semaphore = 0; value = 0 }) .semaphore ≡ s →
+      getD xs l (record { semaphore = 0; value = 0 }) .value < v) → Over (take k xs)
   taken-over [] zero h l a = absurd (not-suc-le-zero a)
   taken-over [] (suc k) h l a = absurd (not-suc-le-zero a)
   taken-over (x ∷ xs) zero h l a = absurd (not-suc-le-zero a)
   taken-over (x ∷ xs) (suc k) h zero a = h 0 (omega arith) (omega arith)
-  taken-over (x ∷ xs) (suc k) h (suc l) a = taken-over xs k (λ m c d. h (suc m) (omega arith) (omega arith)) l (le-of-suc-le-suc a)
+  taken-over (x ∷ xs) (suc k) h (suc l) a =
+      taken-over xs k (λ m c d. h (suc m) (omega arith) (omega arith)) l (le-of-suc-le-suc a)
 
-  pub all-taken : (os : List Operation) (i : ℕ) → Over-all (take i os) → (j : ℕ) → j < i → Over (getD os j empty-operation .signals)
+  pub all-taken : (os : List Operation) (i : ℕ) → Over-all (take i os) → (j : ℕ) → j < i →
+      Over (getD os j empty-operation .signals)
   all-taken [] i o j a = λ l b. absurd (not-suc-le-zero b)
   all-taken (q ∷ os) zero o j a = absurd (not-suc-le-zero a)
   all-taken (q ∷ os) (suc i) o zero a = o 0
   all-taken (q ∷ os) (suc i) o (suc j) a = all-taken os i (λ m. o (suc m)) j (le-of-suc-le-suc a)
 
-  pub taken-all : (os : List Operation) (i : ℕ) → ((j : ℕ) → j < i → Over (getD os j empty-operation .signals)) → Over-all (take i os)
+  pub taken-all : (os : List Operation) (i : ℕ) → ((j : ℕ) → j < i → Over (getD os j empty-operation .signals)) →
+      Over-all (take i os)
   taken-all [] zero h j = λ l b. absurd (not-suc-le-zero b)
   taken-all [] (suc i) h j = λ l b. absurd (not-suc-le-zero b)
   taken-all (q ∷ os) zero h j = λ l b. absurd (not-suc-le-zero b)
@@ -122,7 +131,8 @@ unfolding highest-in
 highest-snoc s [] x = refl
 highest-snoc s (y ∷ ys) x = let t = highest-snoc s ys x in omega arith
 
-pub highest-more : (s : ℕ) (xs own : List Point) (k : ℕ) (x : Point) → k < length xs → getD xs k (record { semaphore = 0; value = 0 }) ≡ x →
+pub highest-more : (s : ℕ) (xs own : List Point) (k : ℕ) (x : Point) → k < length xs →
+    getD xs k (record { semaphore = 0; value = 0 }) ≡ x →
     highest-in s own ≡ highest-in s (take k xs) → highest-in s (x ∷ own) ≡ highest-in s (take (suc k) xs)
 unfolding highest-in
 highest-more s xs own k x inside here e =

@@ -17,7 +17,9 @@ unfolding given
 other-given f h = rw (ne-eqb (f .number) 0 h)
 
 pub not-given-zero : (f : Refusal) → given f ≡ false → f .number ≡ 0
-not-given-zero f e = by-cases (eqb (f .number) 0) (λ t. eqb-true (f .number) 0 t) (λ n. absurd (never e (other-given f (eqb-false (f .number) 0 n))))
+not-given-zero f e =
+    by-cases (eqb (f .number) 0) (λ t. eqb-true (f .number) 0 t)
+    (λ n. absurd (never e (other-given f (eqb-false (f .number) 0 n))))
   where
     never : given f ≡ false → given f ≡ true → ⊥
     never a b = let z : _≡_ {A = ℕ} 0 1 = cc in omega arith

@@ -18,7 +18,8 @@ use Rattle.plan_format.specs.Form.{plan-grammar}
 use Rattle.plan_format.specs.Stored.{listed, spelled}
 use Rattle.plan_format.proofs.Parses.{Takes, Exact, Then, Field, Counted, Parses}
 use Rattle.plan_format.proofs.Entries.{Row}
-use Rattle.plan_format.proofs.Making.{Spells-in, a-field, after, a-list, repeated, repeated-long, entries, row-entries}
+use Rattle.plan_format.proofs.Making.{Spells-in, a-field, after, a-list, repeated, repeated-long, entries}
+use Rattle.plan_format.proofs.Making.{row-entries}
 use Rattle.plan_format.proofs.Blocks.{Kept, kept-now, kept-more, passes-below}
 use Rattle.plan_format.proofs.Sections.{sections-kept}
 use Rattle.plan_format.proofs.RoundTrip.{spelled-parsed, numbers-whole}
@@ -55,7 +56,10 @@ all-below-at (suc n) f e i l =
 
 axes-row : Row new-axis (16 ∷ []) 16 axes
 unfolding axes tabulate-from all-below new-axis member
-axes-row = record { long = refl; pass = λ i l. eqb-true _ 0 (all-below-at 16 (λ k. eqb (new-axis (16 ∷ take k axes) (getD axes k 0)) 0) refl i l) }
+axes-row = record {
+  long = refl;
+  pass = λ i l. eqb-true _ 0 (all-below-at 16 (λ k. eqb (new-axis (16 ∷ take k axes) (getD axes k 0)) 0) refl i l);
+}
 
 axes-small : (i : ℕ) → i < 16 → getD axes i 0 < 256 ^ 8
 unfolding axes tabulate-from all-below
@@ -68,23 +72,27 @@ point-entry : (got : List ℕ) → K got → Spells-in (Parses Exact (point firs
 unfolding point first-form pair a-semaphore any-number
 point-entry got k =
     after (Field Exact 1 a-semaphore) (Field Exact 8 any-number) 1 8 got (0 ∷ []) (0 ∷ [])
-    (a-field 1 a-semaphore got 0 (lit< tt) (passes-below (semaphore-count got) 0 64 (kept-now 16 64 256 got k .semaphores) (lit< tt)))
+    (a-field 1 a-semaphore got 0 (lit< tt)
+    (passes-below (semaphore-count got) 0 64 (kept-now 16 64 256 got k .semaphores) (lit< tt)))
     (a-field 8 any-number (got ++ (0 ∷ [])) 0 (lit< tt) refl)
 
 mark-entry : (got : List ℕ) → K got → Spells-in (Parses Exact mark) 3 got pair
 unfolding mark pair a-buffer a-kind below
 mark-entry got k =
     after (Field Exact 2 a-buffer) (Field Exact 1 a-kind) 2 1 got (0 ∷ []) (0 ∷ [])
-    (a-field 2 a-buffer got 0 (lit< tt) (passes-below (buffer-count got) 0 256 (kept-now 16 64 256 got k .buffers) (lit< tt)))
+    (a-field 2 a-buffer got 0 (lit< tt)
+    (passes-below (buffer-count got) 0 256 (kept-now 16 64 256 got k .buffers) (lit< tt)))
     (a-field 1 a-kind (got ++ (0 ∷ [])) 0 (lit< tt) refl)
 
 -- k points or marks after their count
-pairs-list : (g : Grammar) (n m : ℕ) → ((got : List ℕ) → K got → Spells-in (Parses Exact g) n got pair) → m < 256 ^ 1 → (got : List ℕ) → K got →
+pairs-list : (g : Grammar) (n m : ℕ) → ((got : List ℕ) → K got → Spells-in (Parses Exact g) n got pair) → m < 256 ^ 1 →
+    (got : List ℕ) → K got →
     Spells-in (Parses Exact (counted 0 m 1 g)) (1 + m * n) got (filled m)
 unfolding filled
 pairs-list g n m entry l got k =
     a-list 0 m 1 (Parses Exact g) (m * n) m got (repeated m pair) (omega arith) (omega arith) l
-    (entries K (kept-more 16 64 256) (Parses Exact g) n pair entry m (got ++ (m ∷ [])) (kept-more 16 64 256 got (m ∷ []) k))
+    (entries K (kept-more 16 64 256) (Parses Exact g) n pair entry m (got ++ (m ∷ []))
+    (kept-more 16 64 256 got (m ∷ []) k))
 
 operation-entry : (got : List ℕ) → K got → Spells-in (Parses Exact (operation first-form)) 61 got largest-operation
 unfolding operation first-form largest-operation a-queue
@@ -97,7 +105,8 @@ operation-entry got k =
     let k₁ = kept-more 16 64 256 got (0 ∷ []) k in
     let k₂ = kept-more 16 64 256 got₁ (filled 3) k₁ in
     after (Field Exact 1 a-queue) (Then P (Then Q R)) 1 60 got (0 ∷ []) (filled 3 ++ (filled 2 ++ filled 4))
-    (a-field 1 a-queue got 0 (lit< tt) (passes-below (queue-count got) 0 16 (kept-now 16 64 256 got k .queues) (lit< tt)))
+    (a-field 1 a-queue got 0 (lit< tt)
+    (passes-below (queue-count got) 0 16 (kept-now 16 64 256 got k .queues) (lit< tt)))
     (after P (Then Q R) 28 32 got₁ (filled 3) (filled 2 ++ filled 4)
     (pairs-list (point first-form) 9 3 point-entry (lit< tt) got₁ k₁)
     (after Q R 19 13 got₂ (filled 2) (filled 4) (pairs-list (point first-form) 9 2 point-entry (lit< tt) got₂ k₂)
@@ -110,7 +119,8 @@ Sixteen got = (more : List ℕ) → queue-count (got ++ more) ≡ 16
 
 owner-entry : (got : List ℕ) → Sixteen got → Spells-in (Field Exact 1 a-queue) 1 got (0 ∷ [])
 unfolding a-queue
-owner-entry got k = a-field 1 a-queue got 0 (lit< tt) (passes-below (queue-count got) 0 16 (rw append-nil at (k [])) (lit< tt))
+owner-entry got k =
+    a-field 1 a-queue got 0 (lit< tt) (passes-below (queue-count got) 0 16 (rw append-nil at (k [])) (lit< tt))
 
 axes-spell : Spells-in (Counted Exact 0 16 1 (Field Exact 8 new-axis)) 129 [] (16 ∷ axes)
 axes-spell = a-list 0 16 1 (Field Exact 8 new-axis) 128 16 [] axes (lit≤ tt) (lit≤ tt) (lit< tt)
@@ -120,21 +130,26 @@ owners-spell : Spells-in (Counted Exact 0 64 1 (Field Exact 1 a-queue)) 65 (16 �
 unfolding owners queue-count
 owners-spell =
     a-list 0 64 1 (Field Exact 1 a-queue) 64 64 (16 ∷ axes) owners (lit≤ tt) (lit≤ tt) (lit< tt)
-    (entries Sixteen (λ got vs k more. rw append-assoc (k (vs ++ more))) (Field Exact 1 a-queue) 1 (0 ∷ []) owner-entry 64 ((16 ∷ axes) ++ (64 ∷ []))
+    (entries Sixteen (λ got vs k more. rw append-assoc (k (vs ++ more))) (Field Exact 1 a-queue) 1
+    (0 ∷ []) owner-entry 64 ((16 ∷ axes) ++ (64 ∷ []))
     (λ more. refl))
 
 sizes-spell : (got : List ℕ) → Spells-in (Counted Exact 0 256 2 (Field Exact 4 any-number)) 1026 got (256 ∷ sizes)
 unfolding sizes any-number
 sizes-spell got =
     a-list 0 256 2 (Field Exact 4 any-number) 1024 256 got sizes (lit≤ tt) (lit≤ tt) (lit< tt)
-    (entries (λ _. Unit {0}) (λ _ _ _. tt) (Field Exact 4 any-number) 4 (0 ∷ []) (λ g _. a-field 4 any-number g 0 (lit< tt) refl) 256
+    (entries (λ _. Unit {0}) (λ _ _ _. tt) (Field Exact 4 any-number) 4 (0 ∷ [])
+    (λ g _. a-field 4 any-number g 0 (lit< tt) refl) 256
     (got ++ (256 ∷ [])) tt)
 
 operations-spell : (got : List ℕ) → K (got ++ (1024 ∷ [])) →
-    Spells-in (Counted Exact 0 1024 2 (Parses Exact (operation first-form))) 62466 got (1024 ∷ repeated 1024 largest-operation)
+    Spells-in (Counted Exact 0 1024 2 (Parses Exact (operation first-form))) 62466 got
+    (1024 ∷ repeated 1024 largest-operation)
 operations-spell got k =
-    a-list 0 1024 2 (Parses Exact (operation first-form)) 62464 1024 got (repeated 1024 largest-operation) (lit≤ tt) (lit≤ tt) (lit< tt)
-    (entries K (kept-more 16 64 256) (Parses Exact (operation first-form)) 61 largest-operation operation-entry 1024 (got ++ (1024 ∷ [])) k)
+    a-list 0 1024 2 (Parses Exact (operation first-form)) 62464 1024 got (repeated 1024 largest-operation) (lit≤ tt)
+    (lit≤ tt) (lit< tt)
+    (entries K (kept-more 16 64 256) (Parses Exact (operation first-form)) 61 largest-operation operation-entry 1024
+    (got ++ (1024 ∷ [])) k)
 
 owners-long : length owners ≡ 64
 unfolding owners
@@ -161,17 +176,21 @@ plan-spells =
     after A (Then B (Then C E)) 129 63557 [] (16 ∷ axes) ((64 ∷ owners) ++ third) axes-spell
     (after B (Then C E) 65 63492 (16 ∷ axes) (64 ∷ owners) third owners-spell
     (after C E 1026 62466 got (256 ∷ sizes) fourth (sizes-spell got) (operations-spell (got ++ (256 ∷ sizes))
-    (sections-kept 16 64 256 axes owners sizes refl owners-long sizes-long (16 ∷ axes) (64 ∷ owners) (256 ∷ sizes) 1024 refl refl refl))))
+    (sections-kept 16 64 256 axes owners sizes refl owners-long sizes-long (16 ∷ axes) (64 ∷ owners)
+    (256 ∷ sizes) 1024 refl refl refl))))
 
 pub largest-long : length largest ≡ 22868
 unfolding largest axes tabulate-from
 largest-long =
-    simp length-append (omega (arith, owners-long, sizes-long, repeated-long 1024 largest-operation ∙ ap (λ n. 1024 * n) operation-long))
+    simp length-append
+    (omega (arith, owners-long, sizes-long, repeated-long 1024 largest-operation ∙ ap (λ n. 1024 * n) operation-long))
 
 pub largest-listed : listed largest ≡ scan [] 22868 largest none-given
 unfolding listed
-largest-listed = numbers-whole first-form largest (plan-spells .ds) (plan-spells .parsed) ∙ ap (λ n. scan [] n largest none-given) largest-long
+largest-listed = numbers-whole first-form largest (plan-spells .ds) (plan-spells .parsed)
+    ∙ ap (λ n. scan [] n largest none-given) largest-long
 
 pub largest-spelled : length (spelled largest) ≡ 63686
 unfolding spelled first-form
-largest-spelled = ap length (spelled-parsed first-form largest (plan-spells .ds) (plan-spells .parsed)) ∙ plan-spells .long
+largest-spelled = ap length (spelled-parsed first-form largest (plan-spells .ds) (plan-spells .parsed))
+    ∙ plan-spells .long

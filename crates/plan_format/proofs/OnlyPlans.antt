@@ -55,7 +55,8 @@ record Listed {A : Type 0} (W : A → Type 0) (f : A → List ℕ) (m : ℕ) (vs
   each : Each W list
   numbers-are : vs ≡ counted-numbers f list
 
-module _ {A : Type 0} (G : List ℕ → Type 0) (stays : (got vs : List ℕ) → G got → G (got ++ vs)) (W : A → Type 0) (P : Takes) (f : A → List ℕ)
+module _ {A : Type 0} (G : List ℕ → Type 0) (stays : (got vs : List ℕ) → G got → G (got ++ vs)) (W : A → Type 0)
+    (P : Takes) (f : A → List ℕ)
     (entry : (got vs ds : List ℕ) → G got → P got vs ds → (x : A) × W x × (vs ≡ f x)) where
   many-are : (k : ℕ) (got vs ds : List ℕ) → G got → Many P k got vs ds → Entries W f k vs
   unfolding flatMap
@@ -74,7 +75,8 @@ module _ {A : Type 0} (G : List ℕ → Type 0) (stays : (got vs : List ℕ) →
   unfolding counted-numbers
   list-is D l m w got vs ds g p =
       let c = listing D l m w P got vs ds p in
-      let r = many-are (c .count) (got ++ (c .count ∷ [])) (c .entries) (c .spelling) (stays got (c .count ∷ []) g) (c .many) in
+      let r = many-are (c .count) (got ++ (c .count ∷ [])) (c .entries) (c .spelling)
+      (stays got (c .count ∷ []) g) (c .many) in
       record {
         list = r .list;
         few = omega (arith, r .long, c .most);

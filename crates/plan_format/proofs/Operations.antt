@@ -5,7 +5,8 @@ use Prim.Native.Nat.{ℕ, zero, suc, _+_, _*_}
 use native.Mathlib.Omega.{arith}
 use lib.ListN.{length, getD, drop, length-append}
 use lib.Seq.{drop-at}
-use Rattle.plan_format.specs.Plan.{Operation, points-in, marks-in, heading, operation-in, operation-long, operations-in}
+use Rattle.plan_format.specs.Plan.{Operation, points-in, marks-in, heading, operation-in, operation-long}
+use Rattle.plan_format.specs.Plan.{operations-in}
 use Rattle.plan_format.proofs.Pairs.{points-front, marks-front}
 use Rattle.plan_format.proofs.Seams.{at-seam, after-seam}
 use Rattle.plan_format.proofs.Blocks.{Block}
@@ -48,7 +49,8 @@ module _ (q w s m : ℕ) (ws ss ms : List ℕ) (lw : length ws ≡ 2 * w) (ls : 
   unfolding operation-long heading block
   long-is = rw (at-w, at-s, at-m) (simp length-append (omega arith))
 
-  pub operation-is : operation-in whole ≡ record { queue = q; waits = points-in w ws; signals = points-in s ss; marks = marks-in m ms }
+  pub operation-is : operation-in whole ≡
+      record { queue = q; waits = points-in w ws; signals = points-in s ss; marks = marks-in m ms }
   unfolding operation-in heading
   operation-is =
       rw (
@@ -121,7 +123,8 @@ module _ (q s b : ℕ) where
 
   pub operations-cons : (n : ℕ) (xs : List ℕ) (k : Blocks (suc n) xs) →
       operations-in (suc n) xs ≡ operation-of (k .block) (k .first) ∷ operations-in n (k .rest)
-  operations-cons n xs k = ap (λ z. operations-in (suc n) z) (k .numbers-are) ∙ block-then n (k .block) (k .rest) (k .first)
+  operations-cons n xs k = ap (λ z. operations-in (suc n) z) (k .numbers-are)
+      ∙ block-then n (k .block) (k .rest) (k .first)
 
   -- what follows the blocks changes no operation
   pub operations-front : (n : ℕ) (xs rest : List ℕ) → Blocks n xs → operations-in n (xs ++ rest) ≡ operations-in n xs

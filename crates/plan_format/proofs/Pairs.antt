@@ -25,9 +25,11 @@ pairs-at f d zero xs i l = absurd (not-suc-le-zero l)
 pairs-at f d (suc k) xs zero l = refl
 pairs-at f d (suc k) xs (suc i) l =
     pairs-at f d k (drop 2 xs) i (le-of-suc-le-suc l)
-    ∙ ap₂ f (getD-drop 2 xs (2 * i) 0 ∙ ap (λ n. getD xs n 0) (omega arith)) (getD-drop 2 xs (2 * i + 1) 0 ∙ ap (λ n. getD xs n 0) (omega arith))
+    ∙ ap₂ f (getD-drop 2 xs (2 * i) 0 ∙ ap (λ n. getD xs n 0) (omega arith))
+    (getD-drop 2 xs (2 * i + 1) 0 ∙ ap (λ n. getD xs n 0) (omega arith))
 
-pairs-front : {A : Type 0} (f : ℕ → ℕ → A) (k : ℕ) (xs ys : List ℕ) → length xs ≡ 2 * k → pairs-in f k (xs ++ ys) ≡ pairs-in f k xs
+pairs-front : {A : Type 0} (f : ℕ → ℕ → A) (k : ℕ) (xs ys : List ℕ) → length xs ≡ 2 * k →
+    pairs-in f k (xs ++ ys) ≡ pairs-in f k xs
 unfolding pairs-in
 pairs-front f zero xs ys l = refl
 pairs-front f (suc k) [] ys l = absurd (omega arith)
@@ -43,7 +45,8 @@ a-mark b k = record { buffer = b; kind = k }
 points-pairs : (k : ℕ) (xs : List ℕ) → points-in k xs ≡ pairs-in a-point k xs
 unfolding points-in pairs-in a-point
 points-pairs zero xs = refl
-points-pairs (suc k) xs = ap (λ z. record { semaphore = getD xs 0 0; value = getD xs 1 0 } ∷ z) (points-pairs k (drop 2 xs))
+points-pairs (suc k) xs =
+    ap (λ z. record { semaphore = getD xs 0 0; value = getD xs 1 0 } ∷ z) (points-pairs k (drop 2 xs))
 
 marks-pairs : (k : ℕ) (xs : List ℕ) → marks-in k xs ≡ pairs-in a-mark k xs
 unfolding marks-in pairs-in a-mark

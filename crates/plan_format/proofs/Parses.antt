@@ -69,7 +69,8 @@ module _ (D : Spelt) where
 pub record Inductive (D : Spelt) (R : Grammar → Takes) (M : Grammar → (k : ℕ) → Takes) : Type 0 where
   pub of-field : (w : ℕ) (c : Check) (v : ℕ) → Holds D w c v ⊆ R (field w c)
   pub of-seq : (g h : Grammar) → Then (R g) (R h) ⊆ R (seq g h)
-  pub of-counted : (l m w : ℕ) (g : Grammar) (k : ℕ) → Then (Holds D w (λ _ v. count-check l m v) k) (M g k) ⊆ R (counted l m w g)
+  pub of-counted : (l m w : ℕ) (g : Grammar) (k : ℕ) →
+      Then (Holds D w (λ _ v. count-check l m v) k) (M g k) ⊆ R (counted l m w g)
   pub of-nothing : Nothing ⊆ R nothing
   pub of-none : (g : Grammar) → Nothing ⊆ M g 0
   pub of-more : (g : Grammar) (k : ℕ) → Then (R g) (M g k) ⊆ M g (suc k)

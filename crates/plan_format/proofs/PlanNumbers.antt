@@ -7,12 +7,14 @@ use lib.ListN.{length, length-append}
 use lib.Seq.{drop-at}
 use Rattle.plan_format.specs.Plan.{Point, Mark, Operation, Plan, points-in, marks-in, operation-in}
 use Rattle.plan_format.specs.Plan.{operation-long, operations-in, plan-of}
-use Rattle.plan_format.specs.Limits.{counted-numbers, one-number, point-numbers, mark-numbers, operation-numbers, numbers-of}
+use Rattle.plan_format.specs.Limits.{counted-numbers, one-number, point-numbers, mark-numbers, operation-numbers}
+use Rattle.plan_format.specs.Limits.{numbers-of}
 use Rattle.plan_format.proofs.Operations.{block, whole, long-is, operation-is}
 use Rattle.plan_format.proofs.Sections as sections
 
 -- ---- points and marks
-pairs-long : {A : Type 0} (f : A → List ℕ) → ((x : A) → length (f x) ≡ 2) → (xs : List A) → length (flatMap f xs) ≡ 2 * length xs
+pairs-long : {A : Type 0} (f : A → List ℕ) → ((x : A) → length (f x) ≡ 2) → (xs : List A) →
+    length (flatMap f xs) ≡ 2 * length xs
 unfolding flatMap
 pairs-long f h [] = refl
 pairs-long f h (x ∷ xs) = length-append (f x) (flatMap f xs) ∙ omega (arith, h x, pairs-long f h xs)

@@ -24,7 +24,8 @@ use Rattle.plan_format.proofs.Positions.{in-range}
 module _ (F : Form) (bs : List ℕ) (e : scanned-by bytes F bs .fault .number ≡ 0) where
   pub bytes-sections : Sections F (scanned-by bytes F bs .got)
   unfolding loose-bytes
-  bytes-sections = let w = whole-of bytes Loose loose-bytes F bs tt e in sections Loose F (scanned-by bytes F bs .got) (w .ds) (w .parsed)
+  bytes-sections = let w = whole-of bytes Loose loose-bytes F bs tt e in
+      sections Loose F (scanned-by bytes F bs .got) (w .ds) (w .parsed)
 
   -- also where an element is no byte
   pub bytes-limits : F .semaphores-most ≤ most-semaphores → Limits (plan-of (scanned-by bytes F bs .got))

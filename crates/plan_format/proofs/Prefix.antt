@@ -13,14 +13,17 @@ use borrow.Author.Tests.{le-ltb, leb-true, leb-false, ne-eqb}
 use Rattle.base_lists.proofs.Tests.{by-cases}
 use Rattle.plan_format.specs.Sizes.{plan-bytes, plan-numbers}
 use Rattle.plan_format.specs.Refusal.{Refusal, none-given, given}
-use Rattle.plan_format.specs.Grammar.{Check, Grammar, field, seq, counted, nothing, Source, bytes, numbers, Scan, scan, refused, field-number, read-field, last-got, times, count-check, read-by, ended, value}
+use Rattle.plan_format.specs.Grammar.{Check, Grammar, field, seq, counted, nothing, Source, bytes, numbers, Scan}
+use Rattle.plan_format.specs.Grammar.{scan, refused, field-number, read-field, last-got, times, count-check}
+use Rattle.plan_format.specs.Grammar.{read-by, ended, value}
 use Rattle.plan_format.specs.Form.{Form, first-form, plan-grammar, scanned-by}
 use Rattle.plan_format.specs.Plan.{plan-of}
 use Rattle.plan_format.specs.Stored.{scanned, listed, plan-in, plan-refusal}
 use Rattle.plan_format.proofs.Judged.{not-given-zero}
 use Rattle.plan_format.proofs.Fields.{field-done, count-limits}
 use Rattle.plan_format.proofs.Reading.{last-is}
-use Rattle.plan_format.proofs.Sizes.{Most, bytes-most, numbers-most, longest-plan, most-plan-numbers, listed-sizes}
+use Rattle.plan_format.proofs.Sizes.{Most, bytes-most, numbers-most, longest-plan, most-plan-numbers}
+use Rattle.plan_format.proofs.Sizes.{listed-sizes}
 
 -- two readings with the same fault and the same numbers
 pub record Reads-alike (s t : Scan) : Type 0 where
@@ -32,38 +35,43 @@ unfoldable pub longer : List ℕ → Scan → Scan
 longer b s = scan (s .rest ++ b) (s .place) (s .got) (s .fault)
 
 -- a step that takes n places at most, and looks no further
-pub record Within (n : ℕ) (f : Scan → Scan) : Type 0 where
+pub record Reads-at-most (n : ℕ) (f : Scan → Scan) : Type 0 where
   pub left : (s : Scan) → length (s .rest) ≤ length (f s .rest) + n
   pub same : (b : List ℕ) (s : Scan) → n ≤ length (s .rest) → f (longer b s) ≡ longer b (f s)
 
-within-none : Within 0 (λ s. s)
+within-none : Reads-at-most 0 (λ s. s)
 within-none = record { left = λ s. omega arith; same = λ b s l. refl }
 
-within-then : (n m : ℕ) (f g : Scan → Scan) → Within n f → Within m g → Within (n + m) (λ s. g (f s))
+within-then : (n m : ℕ) (f g : Scan → Scan) → Reads-at-most n f → Reads-at-most m g →
+    Reads-at-most (n + m) (λ s. g (f s))
 within-then n m f g F G = record {
   left = λ s. omega (arith, F .left s, G .left (f s));
   same = λ b s l. ap g (F .same b s (omega arith)) ∙ G .same b (f s) (omega (arith, F .left s));
 }
 
-within-times : (n : ℕ) (f : Scan → Scan) → Within n f → (k : ℕ) → Within (k * n) (λ s. times k f s)
+within-times : (n : ℕ) (f : Scan → Scan) → Reads-at-most n f → (k : ℕ) → Reads-at-most (k * n) (λ s. times k f s)
 unfolding times
-within-times n f F zero = subst (λ z. Within z (λ s. s)) (let e : 0 ≡ 0 * n = omega arith in e) within-none
+within-times n f F zero = subst (λ z. Reads-at-most z (λ s. s)) (let e : 0 ≡ 0 * n = omega arith in e) within-none
 within-times n f F (suc k) =
-    subst (λ z. Within z (λ s. times k f (f s))) (let e : n + k * n ≡ suc k * n = omega (arith, suc-mul k n) in e)
+    subst (λ z. Reads-at-most z (λ s. times k f (f s)))
+    (let e : n + k * n ≡ suc k * n = omega (arith, suc-mul k n) in e)
     (within-then n (k * n) f (λ s. times k f s) F (within-times n f F k))
 
 -- ---- as many steps as the number just got says
 times-last : (Scan → Scan) → Scan → Scan
 times-last f t = cond (given (t .fault)) t (times (last-got t) f t)
 
-last-same : (k : ℕ) (f : Scan → Scan) → Within k f → (b : List ℕ) (t : Scan) → (t .fault .number ≡ 0 → last-got t * k ≤ length (t .rest)) →
+last-same : (k : ℕ) (f : Scan → Scan) → Reads-at-most k f → (b : List ℕ) (t : Scan) →
+    (t .fault .number ≡ 0 → last-got t * k ≤ length (t .rest)) →
     times-last f (longer b t) ≡ longer b (times-last f t)
 unfolding times-last longer scan last-got
 last-same k f F b t h =
-    by-cases (given (t .fault)) (λ y. rw y) (λ n. rw n (within-times k f F (last-got t) .same b t (h (not-given-zero (t .fault) n))))
+    by-cases (given (t .fault)) (λ y. rw y)
+    (λ n. rw n (within-times k f F (last-got t) .same b t (h (not-given-zero (t .fault) n))))
 
-within-counted : (n m k : ℕ) (h f : Scan → Scan) → Within n h → Within k f → ((s : Scan) → h s .fault .number ≡ 0 → last-got (h s) ≤ m) →
-    Within (n + m * k) (λ s. times-last f (h s))
+within-counted : (n m k : ℕ) (h f : Scan → Scan) → Reads-at-most n h → Reads-at-most k f →
+    ((s : Scan) → h s .fault .number ≡ 0 → last-got (h s) ≤ m) →
+    Reads-at-most (n + m * k) (λ s. times-last f (h s))
 unfolding times-last
 within-counted n m k h f H F limit = record {
   left = λ s. by-cases (given (h s .fault)) (λ y. rw y (omega (arith, H .left s))) (λ z. rw z (omega (
@@ -88,7 +96,8 @@ module _ (S : Source) (front-is : Fronted S) (T : Most (S .wide)) where
       by-cases (eqb (field-number S w c (s .rest)) 0) (λ t. rw (f, t, length-drop (S .wide w) (s .rest)) (omega arith))
       (λ g. rw (f, g) (omega arith)))
 
-  number-same : (w : ℕ) (c : ℕ → ℕ) (a b : List ℕ) → S .wide w ≤ length a → field-number S w c (a ++ b) ≡ field-number S w c a
+  number-same : (w : ℕ) (c : ℕ → ℕ) (a b : List ℕ) → S .wide w ≤ length a →
+      field-number S w c (a ++ b) ≡ field-number S w c a
   unfolding field-number
   number-same w c a b l = rw (
     le-ltb (length (a ++ b)) (S .wide w) (rw length-append (omega arith)),
@@ -102,12 +111,14 @@ module _ (S : Source) (front-is : Fronted S) (T : Most (S .wide)) where
   field-same w c b s l =
       let n = number-same w c (s .rest) b l in
       by-cases (given (s .fault)) (λ t. rw t) (λ f.
-      by-cases (eqb (field-number S w c (s .rest)) 0) (λ t. rw (f, n, t, front-is w (s .rest) b l, drop-append-le (S .wide w) (s .rest) b))
+      by-cases (eqb (field-number S w c (s .rest)) 0)
+      (λ t. rw (f, n, t, front-is w (s .rest) b l, drop-append-le (S .wide w) (s .rest) b))
       (λ g. rw (f, n, g)))
 
-  within-field : (w : ℕ) (c : Check) → Within (S .wide w) (λ s. read-field S w (λ v. c (s .got) v) s)
+  within-field : (w : ℕ) (c : Check) → Reads-at-most (S .wide w) (λ s. read-field S w (λ v. c (s .got) v) s)
   unfolding longer scan
-  within-field w c = record { left = λ s. field-left w (λ v. c (s .got) v) s; same = λ b s l. field-same w (λ v. c (s .got) v) b s l }
+  within-field w c =
+      record { left = λ s. field-left w (λ v. c (s .got) v) s; same = λ b s l. field-same w (λ v. c (s .got) v) b s l }
 
   -- a count read without a fault is within its limit
   last-most : (l m w : ℕ) (s : Scan) → read-field S w (λ v. count-check l m v) s .fault .number ≡ 0 →
@@ -121,10 +132,11 @@ module _ (S : Source) (front-is : Fronted S) (T : Most (S .wide)) where
         count-limits l m v (d .passes) .1,
       )
 
-  pub within : (g : Grammar) → Within (T .most g) (λ s. read-by S g s)
+  pub within : (g : Grammar) → Reads-at-most (T .most g) (λ s. read-by S g s)
   unfolding read-by times-last
   within (field w c) = rw (T .field-is w c) (within-field w c)
-  within (seq g h) = rw (T .seq-is g h) (within-then (T .most g) (T .most h) (λ s. read-by S g s) (λ s. read-by S h s) (within g) (within h))
+  within (seq g h) = rw (T .seq-is g h)
+      (within-then (T .most g) (T .most h) (λ s. read-by S g s) (λ s. read-by S h s) (within g) (within h))
   within (counted l m w g) =
       rw (T .counted-is l m w g)
       (within-counted (S .wide w) m (T .most g) (λ s. read-field S w (λ v. count-check l m v) s) (λ s. read-by S g s)
@@ -178,12 +190,14 @@ module _ (S : Source) (front-is : Fronted S) (T : Most (S .wide)) where
 -- ---- the first form: one byte, or one number, past the greatest size
 pub first-bytes-decide : (bs : List ℕ) → Reads-alike (scanned bs) (scanned (take (plan-bytes + 1) bs))
 unfolding scanned bytes bytes-most first-form
-first-bytes-decide bs = prefix-decides bytes (λ w a b l. ap value (take-append-le w a b l)) bytes-most first-form 63687 bs
+first-bytes-decide bs =
+    prefix-decides bytes (λ w a b l. ap value (take-append-le w a b l)) bytes-most first-form 63687 bs
     (omega (arith, longest-plan))
 
 pub first-numbers-decide : (xs : List ℕ) → Reads-alike (listed xs) (listed (take (plan-numbers + 1) xs))
 unfolding listed numbers numbers-most first-form
-first-numbers-decide xs = prefix-decides numbers (λ w a b l. List·getD-append a b 0 0 l) numbers-most first-form 22869 xs
+first-numbers-decide xs =
+    prefix-decides numbers (λ w a b l. List·getD-append a b 0 0 l) numbers-most first-form 22869 xs
     (omega (arith, most-plan-numbers))
 
 -- bytes whose first are the same are the same plan, with the same refusals 1 to 8

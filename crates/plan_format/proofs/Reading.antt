@@ -8,7 +8,8 @@ use lib.ListN.{length, drop, length-append, take-append-drop}
 use lib.Seq.{drop-append-seam}
 use Rattle.base_lists.proofs.Tests.{by-cases, clash}
 use Rattle.plan_format.specs.Refusal.{Refusal, given}
-use Rattle.plan_format.specs.Grammar.{Check, Grammar, field, seq, counted, nothing, Source, Scan, scan, read-field, last-got, times, count-check, read-by}
+use Rattle.plan_format.specs.Grammar.{Check, Grammar, field, seq, counted, nothing, Source, Scan, scan}
+use Rattle.plan_format.specs.Grammar.{read-field, last-got, times, count-check, read-by}
 use Rattle.plan_format.proofs.Judged.{zero-not-given, not-given-zero}
 use Rattle.plan_format.proofs.Faults.{read-began, times-began}
 use Rattle.plan_format.proofs.Seams.{last-snoc}
@@ -16,9 +17,11 @@ use Rattle.plan_format.proofs.Parses.{Takes, Spelt, Nothing, Then, Many
 use Rattle.plan_format.proofs.Fields.{Lawful, field-done}
 
 -- a count read without a fault: the entries follow
-go-on : (t u : Scan) → cond (given (t .fault)) t u .fault .number ≡ 0 → (t .fault .number ≡ 0) × (cond (given (t .fault)) t u ≡ u)
+go-on : (t u : Scan) → cond (given (t .fault)) t u .fault .number ≡ 0 →
+    (t .fault .number ≡ 0) × (cond (given (t .fault)) t u ≡ u)
 go-on t u e =
-    by-cases (given (t .fault)) (λ y. clash (given (t .fault)) y (zero-not-given (t .fault) (subst (λ b. cond b t u .fault .number ≡ 0) y e)))
+    by-cases (given (t .fault))
+    (λ y. clash (given (t .fault)) y (zero-not-given (t .fault) (subst (λ b. cond b t u .fault .number ≡ 0) y e)))
     (λ n. (not-given-zero (t .fault) n, ap (λ b. cond b t u) n))
 
 pub last-is : (r got : List ℕ) (p v : ℕ) (f : Refusal) → last-got (scan r p (got ++ (v ∷ [])) f) ≡ v
@@ -37,7 +40,16 @@ module _ (S : Source) (D : Spelt) (L : Lawful S D) where
     pub result : t ≡ scan more (s .place + length (L .view vs ds)) (s .got ++ vs) (s .fault)
 
   took-as : (P Q : Takes) (s t : Scan) (a : Took P s t) → Q (s .got) (a .vs) (a .ds) → Took Q s t
-  took-as P Q s t a q = record { vs = a .vs; ds = a .ds; more = a .more; begun = a .begun; parsed = q; rest-is = a .rest-is; result = a .result }
+  took-as P Q s t a q =
+      record {
+        vs = a .vs;
+        ds = a .ds;
+        more = a .more;
+        begun = a .begun;
+        parsed = q;
+        rest-is = a .rest-is;
+        result = a .result;
+      }
 
   -- ---- nothing; one thing after another
   took-none : (s : Scan) → s .fault .number ≡ 0 → Took Nothing s s
@@ -52,11 +64,14 @@ module _ (S : Source) (D : Spelt) (L : Lawful S D) where
     result = ap₂ (λ p g. scan (s .rest) p g (s .fault)) (rw (L .view-nil) (omega arith)) (sym (append-nil (s .got)));
   }
 
-  pub places : (p : ℕ) (vs vs′ ds ds′ : List ℕ) → p + length (L .view vs ds) + length (L .view vs′ ds′) ≡ p + length (L .view (vs ++ vs′) (ds ++ ds′))
+  pub places : (p : ℕ) (vs vs′ ds ds′ : List ℕ) →
+      p + length (L .view vs ds) + length (L .view vs′ ds′) ≡ p + length (L .view (vs ++ vs′) (ds ++ ds′))
   places p vs vs′ ds ds′ = rw (L .view-append vs vs′ ds ds′, length-append) (omega arith)
 
-  joined : (t : Scan) (more more′ got vs vs′ ds ds′ : List ℕ) (p : ℕ) (f : Refusal) → t ≡ scan more (p + length (L .view vs ds)) (got ++ vs) f →
-      scan more′ (t .place + length (L .view vs′ ds′)) (t .got ++ vs′) (t .fault) ≡ scan more′ (p + length (L .view (vs ++ vs′) (ds ++ ds′)))
+  joined : (t : Scan) (more more′ got vs vs′ ds ds′ : List ℕ) (p : ℕ) (f : Refusal) →
+      t ≡ scan more (p + length (L .view vs ds)) (got ++ vs) f →
+      scan more′ (t .place + length (L .view vs′ ds′)) (t .got ++ vs′) (t .fault) ≡
+      scan more′ (p + length (L .view (vs ++ vs′) (ds ++ ds′)))
       (got ++ (vs ++ vs′)) f
   unfolding scan
   joined t more more′ got vs vs′ ds ds′ p f e =
@@ -87,7 +102,8 @@ module _ (S : Source) (D : Spelt) (L : Lawful S D) where
         };
         rest-is = a .rest-is ∙ ap (λ z. x ++ z) (sym rest ∙ b .rest-is) ∙ sym (append-assoc x y (b .more))
             ∙ ap (λ z. z ++ b .more) (sym (L .view-append (a .vs) (b .vs) (a .ds) (b .ds)));
-        result = b .result ∙ joined t (a .more) (b .more) (s .got) (a .vs) (b .vs) (a .ds) (b .ds) (s .place) (s .fault) (a .result);
+        result = b .result
+            ∙ joined t (a .more) (b .more) (s .got) (a .vs) (b .vs) (a .ds) (b .ds) (s .place) (s .fault) (a .result);
       }
 
   -- what is taken leaves a clean rest clean
@@ -96,7 +112,8 @@ module _ (S : Source) (D : Spelt) (L : Lawful S D) where
   took-clean P s t a c =
       let x = L .view (a .vs) (a .ds) in
       subst (L .Clean) (sym (ap (λ z. z .rest) (a .result)))
-      (subst (L .Clean) (ap (λ z. drop (length x) z) (a .rest-is) ∙ drop-append-seam x (a .more)) (L .clean-drop (length x) (s .rest) c))
+      (subst (L .Clean) (ap (λ z. drop (length x) z) (a .rest-is) ∙ drop-append-seam x (a .more))
+      (L .clean-drop (length x) (s .rest) c))
 
   -- ---- fields
   took-field : (w : ℕ) (c : ℕ → ℕ) (s : Scan) → L .Clean (s .rest) → read-field S w c s .fault .number ≡ 0 →
@@ -135,7 +152,8 @@ module _ (S : Source) (D : Spelt) (L : Lawful S D) where
   took-times g h (suc k) s c e =
       let t = read-by S g s in
       let a = h s c (times-began S k g t e) in
-      took-then (Parses D g) (Many (Parses D g) k) s t (times k (λ u. read-by S g u) t) a (took-times g h k t (took-clean (Parses D g) s t a c) e)
+      took-then (Parses D g) (Many (Parses D g) k) s t (times k (λ u. read-by S g u) t) a
+      (took-times g h k t (took-clean (Parses D g) s t a c) e)
 
   pub sound : (g : Grammar) → Sound-step (λ s. read-by S g s) (Parses D g)
   unfolding read-by

@@ -15,13 +15,15 @@ use Rattle.plan_format.specs.Grammar.{Grammar, Source, Scan, bytes, numb
 use Rattle.plan_format.specs.Form.{first-form, plan-grammar, scanned-by}
 use Rattle.plan_format.specs.Stored.{scanned, listed, plan-in, plan-refusal}
 use Rattle.plan_format.specs.Sound.{rules-refusal}
-use Rattle.plan_format.specs.Meaning.{Refuses, Cursor, Reads, Stops, start, Reading-means, Bytes-mean, Numbers-mean}
+use Rattle.plan_format.specs.Meaning.{Refuses, Cursor, Reads, Stops, start, Reading-means, Bytes-mean}
+use Rattle.plan_format.specs.Meaning.{Numbers-mean}
 use Rattle.plan_format.specs.Meaning.{Plan-refusal-means}
 use Rattle.plan_format.proofs.Judged.{refusal-given, other-given, or-else-first, or-else-second}
 use Rattle.plan_format.proofs.Faults.{ended-stays}
 use Rattle.plan_format.proofs.Numbers.{scanned-number, listed-number, plan-number}
 use Rattle.plan_format.proofs.RulesMeaning.{rules-mean}
-use Rattle.plan_format.proofs.Stopping.{at, through, reads-back, stops-back, stops-given, reads-level, stops-level}
+use Rattle.plan_format.proofs.Stopping.{at, through, reads-back, stops-back, stops-given, reads-level}
+use Rattle.plan_format.proofs.Stopping.{stops-level}
 
 -- ---- the end of a reading
 module _ (b : Cursor) where
@@ -43,7 +45,8 @@ module _ (b : Cursor) where
 
   none-at : (s : Scan) → s ≡ at b none-given → Refuses (s .fault) 0 0 × (s .got ≡ b .got)
   unfolding scan none-given
-  none-at s e = ((ap (λ (z : Scan). z .fault .number) e, ap (λ (z : Scan). z .fault .place) e), ap (λ (z : Scan). z .got) e)
+  none-at s e =
+      ((ap (λ (z : Scan). z .fault .number) e, ap (λ (z : Scan). z .fault .place) e), ap (λ (z : Scan). z .got) e)
 
 module _ (S : Source) (xs : List ℕ) where
   abbrev G : Grammar
@@ -63,7 +66,8 @@ module _ (S : Source) (xs : List ℕ) where
   more-is b r l = ap ended (reads-back S none-given none-begun G (start xs) b r) ∙ ended-more b l
 
   stop-is : (b : Cursor) (n : ℕ) → Stops S G (start xs) b n → read ≡ at b (refusal n (b .place))
-  stop-is b n t = ap ended (stops-back S none-given none-begun G (start xs) b n t) ∙ ended-stopped b n (stops-given S G (start xs) b n t)
+  stop-is b n t = ap ended (stops-back S none-given none-begun G (start xs) b n t)
+      ∙ ended-stopped b n (stops-given S G (start xs) b n t)
 
   data Read-case : Type 0 where
     whole : (b : Cursor) → Reads S G (start xs) b → length (b .rest) ≡ 0 → Read-case
@@ -78,7 +82,8 @@ module _ (S : Source) (xs : List ℕ) where
       (λ x. stop (x .0) (x .1) (x .2))
 
   abbrev Stopped : (n i : ℕ) → Type 0
-  Stopped n i = (b : Cursor) × (b .place ≡ i) × (Stops S G (start xs) b n ⊎ ((n ≡ 3) × Reads S G (start xs) b × (0 < length (b .rest))))
+  Stopped n i = (b : Cursor) × (b .place ≡ i) ×
+      (Stops S G (start xs) b n ⊎ ((n ≡ 3) × Reads S G (start xs) b × (0 < length (b .rest))))
 
   fault-stops : Read-case → (n i : ℕ) → (n ≡ 0 → ⊥) → Refuses (read .fault) n i → Stopped n i
   fault-stops (whole b r e) n i h f = absurd (h (sym (f .0) ∙ none-at b read (whole-is b r e) .0 .0))
@@ -90,9 +95,11 @@ module _ (S : Source) (xs : List ℕ) where
 
   stops-fault : (n i : ℕ) → Stopped n i → Refuses (read .fault) n i
   stops-fault n i (b, e, inl t) = let w = refuses-at b read n (b .place) (stop-is b n t) in (w .0, w .1 ∙ e)
-  stops-fault n i (b, e, inr t) = let w = refuses-at b read 3 (b .place) (more-is b (t .1) (t .2)) in (w .0 ∙ sym (t .0), w .1 ∙ e)
+  stops-fault n i (b, e, inr t) = let w = refuses-at b read 3 (b .place) (more-is b (t .1) (t .2)) in
+      (w .0 ∙ sym (t .0), w .1 ∙ e)
 
-  none-reads : Read-case → Refuses (read .fault) 0 0 → (b : Cursor) × Reads S G (start xs) b × (length (b .rest) ≡ 0) × (read .got ≡ b .got)
+  none-reads : Read-case → Refuses (read .fault) 0 0 →
+      (b : Cursor) × Reads S G (start xs) b × (length (b .rest) ≡ 0) × (read .got ≡ b .got)
   none-reads (whole b r e) f = (b, r, e, none-at b read (whole-is b r e) .1)
   none-reads (more b r l) f = absurd (omega (arith, f .0, refuses-at b read 3 (b .place) (more-is b r l) .0))
   none-reads (stop b m t) f =
@@ -100,8 +107,10 @@ module _ (S : Source) (xs : List ℕ) where
 
   place-inside : Read-case → read .fault .place ≤ length xs
   place-inside (whole b r e) = omega (arith, none-at b read (whole-is b r e) .0 .1)
-  place-inside (more b r l) = omega (arith, refuses-at b read 3 (b .place) (more-is b r l) .1, reads-level S G (start xs) b r)
-  place-inside (stop b m t) = omega (arith, refuses-at b read m (b .place) (stop-is b m t) .1, stops-level S G (start xs) b m t)
+  place-inside (more b r l) =
+      omega (arith, refuses-at b read 3 (b .place) (more-is b r l) .1, reads-level S G (start xs) b r)
+  place-inside (stop b m t) =
+      omega (arith, refuses-at b read m (b .place) (stop-is b m t) .1, stops-level S G (start xs) b m t)
 
   reading-means : None-or reading-numbers (read .fault .number) → Reading-means S xs read
   reading-means number = record {

@@ -22,10 +22,12 @@ module _ (S : Source) where
   pub read-repeat : (n : ℕ) (g : Grammar) (s : Scan) → read-by S (repeat n g) s ≡ times n (λ u. read-by S g u) s
   unfolding read-by repeat times
   read-repeat zero g s = refl
-  read-repeat (suc n) g s = ap (λ (u : Scan). read-by S g u) (read-repeat n g s) ∙ sym (times-last n (λ u. read-by S g u) s)
+  read-repeat (suc n) g s = ap (λ (u : Scan). read-by S g u) (read-repeat n g s)
+      ∙ sym (times-last n (λ u. read-by S g u) s)
 
   -- a count, and so many of a thing
-  pub read-counted : (l m w n : ℕ) (g : Grammar) (s t : Scan) → read-field S w (λ v. count-check l m v) s ≡ t → (t .fault .number ≡ 0 → last-got t ≡ n) → read-by S (counted l m w g) s ≡ read-by S (repeat n g) t
+  pub read-counted : (l m w n : ℕ) (g : Grammar) (s t : Scan) → read-field S w (λ v. count-check l m v) s ≡ t →
+      (t .fault .number ≡ 0 → last-got t ≡ n) → read-by S (counted l m w g) s ≡ read-by S (repeat n g) t
   unfolding read-by
   read-counted l m w n g s t e h =
       rw e
@@ -33,14 +35,17 @@ module _ (S : Source) where
       (λ z. rw (z, h (not-given-zero (t .fault) z)) (sym (read-repeat n g t))))
 
   -- a thing that stopped at a fault has stopped for good
-  pub repeat-stops : (g : Grammar) (s : Scan) (i n : ℕ) → given (read-by S (repeat i g) s .fault) ≡ true → i ≤ n → read-by S (repeat n g) s ≡ read-by S (repeat i g) s
+  pub repeat-stops : (g : Grammar) (s : Scan) (i n : ℕ) → given (read-by S (repeat i g) s .fault) ≡ true → i ≤ n →
+      read-by S (repeat n g) s ≡ read-by S (repeat i g) s
   unfolding read-by repeat
   repeat-stops g s i zero e h = ap (λ (k : ℕ). read-by S (repeat k g) s) (let z : 0 ≡ i = omega arith in z)
   repeat-stops g s i (suc n) e h =
       by-cases (eqb i (suc n)) (λ t. ap (λ (k : ℕ). read-by S (repeat k g) s) (sym (eqb-true i (suc n) t)))
-      (λ f. rw (repeat-stops g s i n e (omega (arith, eqb-false i (suc n) f))) (read-stays S g (read-by S (repeat i g) s) e))
+      (λ f. rw (repeat-stops g s i n e (omega (arith, eqb-false i (suc n) f)))
+      (read-stays S g (read-by S (repeat i g) s) e))
 
   -- a field's check counts only at its number
-  pub field-same : (w : ℕ) (c d : ℕ → ℕ) (s : Scan) → c (S .front w (s .rest)) ≡ d (S .front w (s .rest)) → read-field S w c s ≡ read-field S w d s
+  pub field-same : (w : ℕ) (c d : ℕ → ℕ) (s : Scan) → c (S .front w (s .rest)) ≡ d (S .front w (s .rest)) →
+      read-field S w c s ≡ read-field S w d s
   unfolding read-field field-number
   field-same w c d s e = rw e

@@ -12,7 +12,8 @@ use Rattle.base_lists.proofs.Tests.{by-cases}
 use Rattle.base_lists.proofs.Fronts.{front-length, front-at}
 use Rattle.plan_format.specs.Refusal.{Refusal, refusal, none-given, given, or-else}
 use Rattle.plan_format.specs.RefusalNumbers.{None-or, reading-numbers, room-numbers, reader-gives, writer-gives}
-use Rattle.plan_format.specs.Stored.{scanned, listed, spelled, room-for, read-refusal, write-refusal, Tells, Fills}
+use Rattle.plan_format.specs.Stored.{scanned, listed, spelled, room-for, read-refusal, write-refusal, Tells}
+use Rattle.plan_format.specs.Stored.{Fills}
 use Rattle.plan_format.specs.Stored.{Read-says, Write-says}
 use Rattle.plan_format.specs.declared.Told.{Told}
 use Rattle.plan_format.specs.Meaning.{Room-for-means, Room-after, refusal-of, Filled}
@@ -30,7 +31,8 @@ room-for-means n k = record {
 
 pub room-for-none : (needed room : ℕ) → room-for needed room .number ≡ 0 → needed ≤ room
 room-for-none n k e =
-    by-cases (ltb k n) (λ u. absurd (omega (arith, room-for-means n k .short (ltb-true k n u) .0))) (λ u. ltb-false k n u)
+    by-cases (ltb k n) (λ u. absurd (omega (arith, room-for-means n k .short (ltb-true k n u) .0)))
+    (λ u. ltb-false k n u)
 
 -- after a fault of a reading
 room-after : (a : Refusal) (needed room : ℕ) → None-or reading-numbers (a .number) →
@@ -40,8 +42,10 @@ room-after a n k number =
     let b = room-for n k in
     let m = room-for-means n k in
     let f = or-else a b in
-    let number-first : (a .number ≡ 0 → ⊥) → f .number ≡ a .number = λ h. ap (λ (g : Refusal). g .number) (or-else-first a b (other-given a h)) in
-    let number-second : a .number ≡ 0 → f .number ≡ b .number = λ z. ap (λ (g : Refusal). g .number) (or-else-second a b z) in
+    let number-first : (a .number ≡ 0 → ⊥) → f .number ≡ a .number =
+    λ h. ap (λ (g : Refusal). g .number) (or-else-first a b (other-given a h)) in
+    let number-second : a .number ≡ 0 → f .number ≡ b .number =
+    λ z. ap (λ (g : Refusal). g .number) (or-else-second a b z) in
     record {
       fault-first = λ h. or-else-first a b (other-given a h);
       then-room = λ e. let same = or-else-second a b e in record {
@@ -84,9 +88,12 @@ module _ (numbers : List ℕ) (fault : Refusal) (new : List ℕ) (r : Told) (o x
       let t = w .0 in
       let zero-of : r .number ≡ 0 → f .number ≡ 0 = λ z. sym (t .number) ∙ z in
       let none-of : r .number ≡ 0 → given f ≡ false = λ z. zero-not-given f (zero-of z) in
-      let front : r .number ≡ 0 → x ≡ in-front new o = λ z. w .1 ∙ ap (λ (b : Bool). cond b o (in-front new o)) (none-of z) in
-      let fault-none : r .number ≡ 0 → fault .number ≡ 0 = λ z. or-else-none fault (room-for (length new) (length o)) (zero-of z) .0 in
-      let fits : r .number ≡ 0 → length new ≤ length o = λ z. room-for-none (length new) (length o) (or-else-none fault (room-for (length new) (length o)) (zero-of z) .1) in
+      let front : r .number ≡ 0 → x ≡ in-front new o =
+      λ z. w .1 ∙ ap (λ (b : Bool). cond b o (in-front new o)) (none-of z) in
+      let fault-none : r .number ≡ 0 → fault .number ≡ 0 =
+      λ z. or-else-none fault (room-for (length new) (length o)) (zero-of z) .0 in
+      let fits : r .number ≡ 0 → length new ≤ length o = λ z. room-for-none (length new) (length o)
+      (or-else-none fault (room-for (length new) (length o)) (zero-of z) .1) in
       record {
         refused = λ h. w .1 ∙ ap (λ (b : Bool). cond b o (in-front new o)) (other-given f (λ z. h (t .number ∙ z)));
         length-told = λ z. t .answer-is ∙ ap (λ (b : Bool). cond b 0 (length new)) (none-of z);

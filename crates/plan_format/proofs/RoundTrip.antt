@@ -22,7 +22,8 @@ use Rattle.plan_format.proofs.Whole.{whole, whole-of}
 module _ (F : Form) where
   pub spelled-parsed : (vs ds : List ℕ) → Parses Exact (plan-grammar F) [] vs ds → spelled-by F vs ≡ F .lead ++ ds
   spelled-parsed vs ds p =
-      ap (λ z. F .lead ++ z) (ap (λ z. spell-by (plan-grammar F) (record { left = z; made = [] }) .made) (sym (append-nil vs))
+      ap (λ z. F .lead ++ z)
+      (ap (λ z. spell-by (plan-grammar F) (record { left = z; made = [] }) .made) (sym (append-nil vs))
       ∙ ap (λ z. z .made) (spells (plan-grammar F) [] vs ds p [] []))
 
   -- a plan as bytes, and as numbers
@@ -30,10 +31,12 @@ module _ (F : Form) where
       scanned-by bytes F (F .lead ++ ds) ≡ scan [] (length (F .lead ++ ds)) vs none-given
   unfolding exact-bytes bytes
   bytes-whole vs ds p =
-      whole bytes Exact exact-bytes F (F .lead ++ ds) vs ds p (drop-at (F .lead) ds (1 * length (F .lead)) (omega arith))
+      whole bytes Exact exact-bytes F (F .lead ++ ds) vs ds p
+      (drop-at (F .lead) ds (1 * length (F .lead)) (omega arith))
       ∙ ap (λ n. scan [] n vs none-given) (rw length-append (omega arith))
 
-  pub numbers-whole : (vs ds : List ℕ) → Parses Exact (plan-grammar F) [] vs ds → scanned-by numbers F vs ≡ scan [] (length vs) vs none-given
+  pub numbers-whole : (vs ds : List ℕ) → Parses Exact (plan-grammar F) [] vs ds →
+      scanned-by numbers F vs ≡ scan [] (length vs) vs none-given
   unfolding exact-numbers numbers
   numbers-whole vs ds p =
       whole numbers Exact exact-numbers F vs vs ds p (drop-at [] vs (0 * length (F .lead)) (omega arith))
@@ -49,22 +52,30 @@ module _ (F : Form) where
   unfolding exact-bytes bytes
   bytes-read bs b l e =
       let w = whole-of bytes Exact exact-bytes F bs (bytes-drop (1 * length (F .lead)) bs b) e in
-      let one : length (F .lead) ≡ 1 * length (F .lead) = omega arith in
-      (w .ds, w .parsed, sym (take-append-drop (length (F .lead)) bs) ∙ ap₂ {C = List ℕ} (λ x y. x ++ y) l (ap (λ n. drop n bs) one ∙ w .shown))
+      let one : length (F .lead) ≡ 1 * length (F .lead) = omega arith in (
+        w .ds,
+        w .parsed,
+        sym (take-append-drop (length (F .lead)) bs)
+            ∙ ap₂ {C = List ℕ} (λ x y. x ++ y) l (ap (λ n. drop n bs) one ∙ w .shown),
+      )
 
-  pub numbers-read : (xs : List ℕ) → scanned-by numbers F xs .fault .number ≡ 0 → (ds : List ℕ) × Parses Exact (plan-grammar F) [] xs ds
+  pub numbers-read : (xs : List ℕ) → scanned-by numbers F xs .fault .number ≡ 0 →
+      (ds : List ℕ) × Parses Exact (plan-grammar F) [] xs ds
   unfolding exact-numbers numbers
   numbers-read xs e =
       let w = whole-of numbers Exact exact-numbers F xs tt e in
-      let none : 0 * length (F .lead) ≡ 0 = omega arith in
-      (w .ds, subst (λ z. Parses Exact (plan-grammar F) [] z (w .ds)) (sym (w .shown) ∙ ap (λ n. drop n xs) none) (w .parsed))
+      let none : 0 * length (F .lead) ≡ 0 = omega arith in (
+        w .ds,
+        subst (λ z. Parses Exact (plan-grammar F) [] z (w .ds)) (sym (w .shown) ∙ ap (λ n. drop n xs) none) (w .parsed),
+      )
 
   -- the writer takes the numbers read as they are, and writes the bytes read
   pub record Written-back (bs : List ℕ) : Type 0 where
     pub result : let xs = scanned-by bytes F bs .got in scanned-by numbers F xs ≡ scan [] (length xs) xs none-given
     pub bytes-are : spelled-by F (scanned-by bytes F bs .got) ≡ bs
 
-  pub write-back : (bs : List ℕ) → all-bytes bs ≡ true → Led bs → scanned-by bytes F bs .fault .number ≡ 0 → Written-back bs
+  pub write-back : (bs : List ℕ) → all-bytes bs ≡ true → Led bs → scanned-by bytes F bs .fault .number ≡ 0 →
+      Written-back bs
   write-back bs b l e =
       let (ds, p, is) = bytes-read bs b l e in
       let xs = scanned-by bytes F bs .got in
@@ -81,12 +92,15 @@ module _ (F : Form) where
       let s = spelled-parsed xs ds p in
       record {
         are-bytes = ap all-bytes s ∙ bytes-append (F .lead) ds b (parsed-bytes (plan-grammar F) [] xs ds p);
-        result = ap (λ z. scanned-by bytes F z) s ∙ bytes-whole xs ds p ∙ ap (λ z. scan [] (length z) xs none-given) (sym s);
+        result = ap (λ z. scanned-by bytes F z) s ∙ bytes-whole xs ds p
+            ∙ ap (λ z. scan [] (length z) xs none-given) (sym s);
       }
 
   pub one-string-by : (bs cs : List ℕ) → all-bytes bs ≡ true → all-bytes cs ≡ true → Led bs → Led cs →
-      scanned-by bytes F bs .fault .number ≡ 0 → scanned-by bytes F cs .fault .number ≡ 0 → scanned-by bytes F bs .got ≡ scanned-by bytes F cs .got → bs ≡ cs
-  one-string-by bs cs b c l m e f g = sym (write-back bs b l e .bytes-are) ∙ ap (λ z. spelled-by F z) g ∙ write-back cs c m f .bytes-are
+      scanned-by bytes F bs .fault .number ≡ 0 → scanned-by bytes F cs .fault .number ≡ 0 →
+      scanned-by bytes F bs .got ≡ scanned-by bytes F cs .got → bs ≡ cs
+  one-string-by bs cs b c l m e f g =
+      sym (write-back bs b l e .bytes-are) ∙ ap (λ z. spelled-by F z) g ∙ write-back cs c m f .bytes-are
 
 -- ---- the first form has no lead
 module _ (bs : List ℕ) (b : all-bytes bs ≡ true) (e : scanned bs .fault .number ≡ 0) where

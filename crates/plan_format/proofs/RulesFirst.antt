@@ -15,8 +15,10 @@ use Rattle.plan_format.specs.Refusal.{Refusal, refusal, none-given}
 use Rattle.plan_format.specs.Plan.{Point, Operation, Plan, empty-operation, op}
 use Rattle.plan_format.specs.Sound.{highest-in, highest, is-queue, owns, signals-number, signals-refusal}
 use Rattle.plan_format.specs.Sound.{too-high, any-too-high, waits-refusal}
-use Rattle.plan_format.specs.Meaning.{signal-at, wait-at, Is-signal, Owned, Rising, First, Bad-owner, Not-rising, Signals-good, Too-high}
-use Rattle.plan_format.proofs.Heights.{begins, ends, owns-means, Over, over-in, in-over, over-highest, highest-over, over-taken, taken-over, all-taken, taken-all, highest-more}
+use Rattle.plan_format.specs.Meaning.{signal-at, wait-at, Is-signal, Owned, Rising, Good-before, Bad-owner}
+use Rattle.plan_format.specs.Meaning.{Not-rising, Signals-good, Too-high}
+use Rattle.plan_format.proofs.Heights.{begins, ends, owns-means, Over, over-in, in-over, over-highest}
+use Rattle.plan_format.proofs.Heights.{highest-over, over-taken, taken-over, all-taken, taken-all, highest-more}
 
 abbrev pub no-point : Point
 no-point = record { semaphore = 0; value = 0 }
@@ -43,7 +45,8 @@ module _ (p : Plan) where
   module _ (i k : ℕ) where
     abbrev height : ℕ
     height =
-        max (highest (signal-at p i k .semaphore) (take i (p .operations))) (highest-in (signal-at p i k .semaphore) (take k (op p i .signals)))
+        max (highest (signal-at p i k .semaphore) (take i (p .operations)))
+        (highest-in (signal-at p i k .semaphore) (take k (op p i .signals)))
 
     over-rises : height < signal-at p i k .value → Rising p i k
     unfolding op
@@ -56,13 +59,15 @@ module _ (p : Plan) where
       where
         rises-by : 0 < signal-at p i k .value →
             ((j : ℕ) → j < i → Over (signal-at p i k .semaphore) (signal-at p i k .value) (op p j .signals)) →
-            ((l : ℕ) → l < k → Is-signal p i l → signal-at p i l .semaphore ≡ signal-at p i k .semaphore → signal-at p i l .value < signal-at p i k .value) →
+            ((l : ℕ) → l < k → Is-signal p i l → signal-at p i l .semaphore ≡ signal-at p i k .semaphore →
+            signal-at p i l .value < signal-at p i k .value) →
             Rising p i k
         rises-by z a b = record {
           above-zero = z;
           above-earlier = λ j l g w e. either w (λ lower. a j lower l g e)
               (λ same. subst (λ (m : ℕ). signal-at p m l .value < signal-at p i k .value) (sym (same .0))
-              (b l (same .1) (subst (λ (m : ℕ). Is-signal p m l) (same .0) g) (ap (λ (m : ℕ). signal-at p m l .semaphore) (sym (same .0)) ∙ e)));
+              (b l (same .1) (subst (λ (m : ℕ). Is-signal p m l) (same .0) g)
+              (ap (λ (m : ℕ). signal-at p m l .semaphore) (sym (same .0)) ∙ e)));
         }
 
     rises-over : Rising p i k → height < signal-at p i k .value
@@ -80,21 +85,27 @@ module _ (p : Plan) where
   data Own-says (i n : ℕ) : Type 0 where
     own-good : n ≡ 0 → ((l : ℕ) → Is-signal p i l → Good i l) → Own-says i n
     own-six : n ≡ 6 → (k : ℕ) → Is-signal p i k → (Owned p i k → ⊥) → ((l : ℕ) → l < k → Good i l) → Own-says i n
-    own-seven : n ≡ 7 → (k : ℕ) → Is-signal p i k → Owned p i k → (Rising p i k → ⊥) → ((l : ℕ) → l < k → Good i l) → Own-says i n
+    own-seven : n ≡ 7 → (k : ℕ) → Is-signal p i k → Owned p i k → (Rising p i k → ⊥) →
+        ((l : ℕ) → l < k → Good i l) → Own-says i n
 
   module _ (i : ℕ) where
-    height-is : (k : ℕ) (x : Point) (own : List Point) → signal-at p i k ≡ x → highest-in (x .semaphore) own ≡ highest-in (x .semaphore) (take k (op p i .signals)) →
+    height-is : (k : ℕ) (x : Point) (own : List Point) → signal-at p i k ≡ x →
+        highest-in (x .semaphore) own ≡ highest-in (x .semaphore) (take k (op p i .signals)) →
         max (highest (x .semaphore) (take i (p .operations))) (highest-in (x .semaphore) own) ≡ height i k
     height-is k x own here e =
         ap (λ (n : ℕ). max (highest (x .semaphore) (take i (p .operations))) n) e
-        ∙ ap (λ (z : Point). max (highest (z .semaphore) (take i (p .operations))) (highest-in (z .semaphore) (take k (op p i .signals)))) (sym here)
+        ∙ ap
+        (λ (z : Point). max (highest (z .semaphore) (take i (p .operations)))
+        (highest-in (z .semaphore) (take k (op p i .signals)))) (sym here)
 
     good-more : (k : ℕ) → ((l : ℕ) → l < k → Good i l) → Good i k → (l : ℕ) → l < suc k → Good i l
     good-more k h g l a =
-        by-cases (eqb l k) (λ t. subst (λ (z : ℕ). Good i z) (sym (eqb-true l k t)) g) (λ f. h l (omega (arith, eqb-false l k f)))
+        by-cases (eqb l k) (λ t. subst (λ (z : ℕ). Good i z) (sym (eqb-true l k t)) g)
+        (λ f. h l (omega (arith, eqb-false l k f)))
 
     -- from place k on; `own` are the signals before it
-    number-says : (k : ℕ) (own xs : List Point) → drop k (op p i .signals) ≡ xs → ((s : ℕ) → highest-in s own ≡ highest-in s (take k (op p i .signals))) →
+    number-says : (k : ℕ) (own xs : List Point) → drop k (op p i .signals) ≡ xs →
+        ((s : ℕ) → highest-in s own ≡ highest-in s (take k (op p i .signals))) →
         ((l : ℕ) → l < k → Good i l) → Own-says i (signals-number p (op p i .queue) (take i (p .operations)) own xs)
     unfolding signals-number
     number-says k own [] e o good = own-good refl (λ l h. good l (omega (arith, ends (op p i .signals) k e)))
@@ -110,10 +121,13 @@ module _ (p : Plan) where
         by-cases (owns p q s)
         (λ t. let mine : Owned p i k = subst (λ (A : Type 0). A) (sym owner) (owns-means p q s .0 t) in
         by-cases (leb (x .value) high)
-        (λ u. rw (t, u) (own-seven refl k (w .inside) mine (λ r. omega (arith, rises-over i k r, leb-true (x .value) high u)) good))
-        (λ u. rw (t, u) (number-says (suc k) (x ∷ own) xs (w .on) (λ z. highest-more z (op p i .signals) own k x (w .inside) (w .here) (o z))
+        (λ u. rw (t, u)
+        (own-seven refl k (w .inside) mine (λ r. omega (arith, rises-over i k r, leb-true (x .value) high u)) good))
+        (λ u. rw (t, u) (number-says (suc k) (x ∷ own) xs (w .on)
+        (λ z. highest-more z (op p i .signals) own k x (w .inside) (w .here) (o z))
         (good-more k good (mine, over-rises i k (omega (arith, leb-false (x .value) high u)))))))
-        (λ f. rw f (own-six refl k (w .inside) (λ m. clash (owns p q s) (owns-means p q s .1 (subst (λ (A : Type 0). A) owner m)) f) good))
+        (λ f. rw f (own-six refl k (w .inside)
+        (λ m. clash (owns p q s) (owns-means p q s .1 (subst (λ (A : Type 0). A) owner m)) f) good))
 
   -- ---- all operations' signals
   pub data Signals-say (f : Refusal) : Type 0 where
@@ -121,7 +135,8 @@ module _ (p : Plan) where
     signals-six : (i k : ℕ) → f ≡ refusal 6 i → Bad-owner p i k → Signals-say f
     signals-seven : (i k : ℕ) → f ≡ refusal 7 i → Not-rising p i k → Signals-say f
 
-  first-by : (i k : ℕ) → ((j l : ℕ) → j < i → Is-signal p j l → Good j l) → ((l : ℕ) → l < k → Good i l) → First p i k
+  first-by : (i k : ℕ) → ((j l : ℕ) → j < i → Is-signal p j l → Good j l) → ((l : ℕ) → l < k → Good i l) →
+      Good-before p i k
   first-by i k lower own j l g w =
       either w (λ a. lower j l a g) (λ a. subst (λ (z : ℕ). Good z l) (sym (a .0)) (own l (a .1)))
 
@@ -131,25 +146,32 @@ module _ (p : Plan) where
   signals-step i n rest lower (own-six e k g bad own) on =
       rw e (signals-six i k refl (record { signal = g; not-owned = bad; first = first-by i k lower own }))
   signals-step i n rest lower (own-seven e k g mine low own) on =
-      rw e (signals-seven i k refl (record { signal = g; owned = mine; not-rising = low; first = first-by i k lower own }))
+      rw e (signals-seven i k refl
+      (record { signal = g; owned = mine; not-rising = low; first = first-by i k lower own }))
 
   lower-more : (i : ℕ) → ((j l : ℕ) → j < i → Is-signal p j l → Good j l) → ((l : ℕ) → Is-signal p i l → Good i l) →
       (j l : ℕ) → j < suc i → Is-signal p j l → Good j l
   lower-more i lower own j l a g =
-      by-cases (eqb j i) (λ t. let e = eqb-true j i t in subst (λ (z : ℕ). Good z l) (sym e) (own l (subst (λ (z : ℕ). Is-signal p z l) e g)))
+      by-cases (eqb j i)
+      (λ t. let e = eqb-true j i t in
+      subst (λ (z : ℕ). Good z l) (sym e) (own l (subst (λ (z : ℕ). Is-signal p z l) e g)))
       (λ f. lower j l (omega (arith, eqb-false j i f)) g)
 
-  signals-say : (i : ℕ) (os : List Operation) → drop i (p .operations) ≡ os → ((j l : ℕ) → j < i → Is-signal p j l → Good j l) →
+  signals-say : (i : ℕ) (os : List Operation) → drop i (p .operations) ≡ os →
+      ((j l : ℕ) → j < i → Is-signal p j l → Good j l) →
       Signals-say (signals-refusal i p (take i (p .operations)) os)
   unfolding signals-refusal op
-  signals-say i [] e good = signals-good refl (λ j l g. good j l (omega (arith, ends (p .operations) i e, signal-inside j l g)) g)
+  signals-say i [] e good =
+      signals-good refl (λ j l g. good j l (omega (arith, ends (p .operations) i e, signal-inside j l g)) g)
   signals-say i (o ∷ os) e good =
       let w = begins empty-operation (p .operations) i o os e in
       let before = take i (p .operations) in
       subst (λ (z : Operation). Signals-say (signals-refusal i p before (z ∷ os))) (w .here)
-      (signals-step i (signals-number p (op p i .queue) before [] (op p i .signals)) (signals-refusal (suc i) p (before ++ (op p i ∷ [])) os) good
+      (signals-step i (signals-number p (op p i .queue) before [] (op p i .signals))
+      (signals-refusal (suc i) p (before ++ (op p i ∷ [])) os) good
       (number-says i 0 [] (op p i .signals) refl (λ s. refl) (λ l a. absurd (not-suc-le-zero a)))
-      (λ own. subst (λ (z : List Operation). Signals-say (signals-refusal (suc i) p z os)) (take-suc (p .operations) i empty-operation (w .inside))
+      (λ own. subst (λ (z : List Operation). Signals-say (signals-refusal (suc i) p z os))
+      (take-suc (p .operations) i empty-operation (w .inside))
       (signals-say (suc i) os (w .on) (lower-more i good own))))
 
   -- ---- waits
@@ -166,10 +188,13 @@ module _ (p : Plan) where
   unfolding too-high op
   too-is-high i k t =
       let w = wait-at p i k in
-      and-both (ltb 0 (w .value)) (ltb (highest (w .semaphore) (p .operations)) (w .value)) (lt-ltb 0 (w .value) (t .above-zero))
-      (lt-ltb (highest (w .semaphore) (p .operations)) (w .value) (over-highest (w .semaphore) (w .value) (p .operations) (t .above-zero) (t .above-all)))
+      and-both (ltb 0 (w .value)) (ltb (highest (w .semaphore) (p .operations)) (w .value))
+      (lt-ltb 0 (w .value) (t .above-zero))
+      (lt-ltb (highest (w .semaphore) (p .operations)) (w .value)
+      (over-highest (w .semaphore) (w .value) (p .operations) (t .above-zero) (t .above-all)))
 
-  any-gives : (ws : List Point) → any-too-high p ws ≡ true → (k : ℕ) × (k < length ws) × (too-high p (getD ws k no-point) ≡ true)
+  any-gives : (ws : List Point) → any-too-high p ws ≡ true →
+      (k : ℕ) × (k < length ws) × (too-high p (getD ws k no-point) ≡ true)
   unfolding any-too-high
   any-gives [] h = absurd (false≢true h)
   any-gives (w ∷ ws) h =
@@ -193,14 +218,18 @@ module _ (p : Plan) where
       (λ f. absurd (not-suc-le-zero (subst (λ (o : Operation). k < length (o .waits))
       (List·getD-eq-default (p .operations) empty-operation (ltb-false i (length (p .operations)) f)) (t .wait))))
 
-  waits-say : (i : ℕ) (os : List Operation) → drop i (p .operations) ≡ os → ((j l : ℕ) → j < i → Too-high p j l → ⊥) → Waits-say (waits-refusal i p os)
+  waits-say : (i : ℕ) (os : List Operation) → drop i (p .operations) ≡ os → ((j l : ℕ) → j < i → Too-high p j l → ⊥) →
+      Waits-say (waits-refusal i p os)
   unfolding waits-refusal op
-  waits-say i [] e low = waits-good refl (λ j l t. low j l (omega (arith, ends (p .operations) i e, wait-inside j l t)) t)
+  waits-say i [] e low =
+      waits-good refl (λ j l t. low j l (omega (arith, ends (p .operations) i e, wait-inside j l t)) t)
   waits-say i (o ∷ os) e low =
       let w = begins empty-operation (p .operations) i o os e in
-      let same : any-too-high p (op p i .waits) ≡ any-too-high p (o .waits) = ap (λ (z : Operation). any-too-high p (z .waits)) (w .here) in
+      let same : any-too-high p (op p i .waits) ≡ any-too-high p (o .waits) =
+      ap (λ (z : Operation). any-too-high p (z .waits)) (w .here) in
       by-cases (any-too-high p (o .waits))
-      (λ t. let r = any-gives (op p i .waits) (same ∙ t) in rw t (waits-eight i (r .0) refl (high-too i (r .0) (r .1) (r .2)) low))
+      (λ t. let r = any-gives (op p i .waits) (same ∙ t) in
+      rw t (waits-eight i (r .0) refl (high-too i (r .0) (r .1) (r .2)) low))
       (λ f. rw f (waits-say (suc i) os (w .on) (λ j l a h. by-cases (eqb j i)
       (λ t. let here : Too-high p i l = subst (λ (z : ℕ). Too-high p z l) (eqb-true j i t) h in
       clash (any-too-high p (op p i .waits)) (any-by (op p i .waits) l (here .wait) (too-is-high i l here)) (same ∙ f))

@@ -13,10 +13,12 @@ use Rattle.plan_format.specs.Refusal.{Refusal, refusal, none-given, or-e
 use Rattle.plan_format.specs.RefusalNumbers.{None-or, rule-numbers}
 use Rattle.plan_format.specs.Plan.{Plan}
 use Rattle.plan_format.specs.Sound.{signals-refusal, waits-refusal, rules-refusal}
-use Rattle.plan_format.specs.Meaning.{Refuses, Is-signal, Earlier, Owned, Rising, First, Bad-owner, Not-rising, Signals-good, Too-high, Unmet-wait, Rules-mean}
+use Rattle.plan_format.specs.Meaning.{Refuses, Is-signal, Earlier, Owned, Rising, Good-before, Bad-owner}
+use Rattle.plan_format.specs.Meaning.{Not-rising, Signals-good, Too-high, Unmet-wait, Rules-mean}
 use Rattle.plan_format.proofs.Judged.{or-else-first, or-else-second, refusal-given}
 use Rattle.plan_format.proofs.RefusalNumbers.{one-is}
-use Rattle.plan_format.proofs.RulesFirst.{Signals-say, signals-good, signals-six, signals-seven, Waits-say, waits-good, waits-eight, plan-signals-say, plan-waits-say}
+use Rattle.plan_format.proofs.RulesFirst.{Signals-say, signals-good, signals-six, signals-seven, Waits-say}
+use Rattle.plan_format.proofs.RulesFirst.{waits-good, waits-eight, plan-signals-say, plan-waits-say}
 
 -- a refusal by its number and place
 refuses : (f : Refusal) (n i : ℕ) → f ≡ refusal n i → Refuses f n i
@@ -28,7 +30,7 @@ module _ (p : Plan) where
   record Wrong (i k : ℕ) : Type 0 where
     signal : Is-signal p i k
     bad : Owned p i k × Rising p i k → ⊥
-    first : First p i k
+    first : Good-before p i k
 
   owner-wrong : (i k : ℕ) → Bad-owner p i k → Wrong i k
   owner-wrong i k w = record { signal = w .signal; bad = λ g. w .not-owned (g .0); first = w .first }
@@ -82,7 +84,9 @@ module _ (p : Plan) where
 
   rules-say : Rules-say (rules-refusal p)
   unfolding rules-refusal
-  rules-say = either-say (signals-refusal 0 p [] (p .operations)) (waits-refusal 0 p (p .operations)) (plan-signals-say p) (plan-waits-say p)
+  rules-say =
+      either-say (signals-refusal 0 p [] (p .operations)) (waits-refusal 0 p (p .operations)) (plan-signals-say p)
+      (plan-waits-say p)
 
   -- ---- exactly if
   module _ (f : Refusal) where
@@ -91,15 +95,18 @@ module _ (p : Plan) where
       (λ s. (l, subst (λ (z : ℕ). Bad-owner p z l) (sym (r .1) ∙ s .1) w)),
       (λ v. (r .0, r .1 ∙ wrong-one j l i (v .0) (owner-wrong j l w) (owner-wrong i (v .0) (v .1)) .0)),
     )
-    six (say-seven j l r w) i = ((λ s. absurd (omega (arith, r .0, s .0))), (λ v. absurd (not-both i (v .0) j l (v .1) w)))
+    six (say-seven j l r w) i =
+        ((λ s. absurd (omega (arith, r .0, s .0))), (λ v. absurd (not-both i (v .0) j l (v .1) w)))
     six (say-eight j r w) i = (
       (λ s. absurd (omega (arith, r .0, s .0))),
       (λ v. absurd (v .1 .not-owned (w .signals-good i (v .0) (v .1 .signal) .0))),
     )
-    six (say-none r g low) i = ((λ s. absurd (omega (arith, r .0, s .0))), (λ v. absurd (v .1 .not-owned (g i (v .0) (v .1 .signal) .0))))
+    six (say-none r g low) i =
+        ((λ s. absurd (omega (arith, r .0, s .0))), (λ v. absurd (v .1 .not-owned (g i (v .0) (v .1 .signal) .0))))
 
     seven : Rules-say f → (i : ℕ) → Refuses f 7 i ↔ ((k : ℕ) × Not-rising p i k)
-    seven (say-six j l r w) i = ((λ s. absurd (omega (arith, r .0, s .0))), (λ v. absurd (not-both j l i (v .0) w (v .1))))
+    seven (say-six j l r w) i =
+        ((λ s. absurd (omega (arith, r .0, s .0))), (λ v. absurd (not-both j l i (v .0) w (v .1))))
     seven (say-seven j l r w) i = (
       (λ s. (l, subst (λ (z : ℕ). Not-rising p z l) (sym (r .1) ∙ s .1) w)),
       (λ v. (r .0, r .1 ∙ wrong-one j l i (v .0) (rising-wrong j l w) (rising-wrong i (v .0) (v .1)) .0)),
@@ -108,7 +115,8 @@ module _ (p : Plan) where
       (λ s. absurd (omega (arith, r .0, s .0))),
       (λ v. absurd (v .1 .not-rising (w .signals-good i (v .0) (v .1 .signal) .1))),
     )
-    seven (say-none r g low) i = ((λ s. absurd (omega (arith, r .0, s .0))), (λ v. absurd (v .1 .not-rising (g i (v .0) (v .1 .signal) .1))))
+    seven (say-none r g low) i =
+        ((λ s. absurd (omega (arith, r .0, s .0))), (λ v. absurd (v .1 .not-rising (g i (v .0) (v .1 .signal) .1))))
 
     eight : Rules-say f → (i : ℕ) → Refuses f 8 i ↔ Unmet-wait p i
     eight (say-six j l r w) i = (
@@ -119,13 +127,18 @@ module _ (p : Plan) where
       (λ s. absurd (omega (arith, r .0, s .0))),
       (λ v. absurd (w .not-rising (v .signals-good j l (w .signal) .1))),
     )
-    eight (say-eight j r w) i = ((λ s. subst (Unmet-wait p) (sym (r .1) ∙ s .1) w), (λ v. (r .0, r .1 ∙ unmet-one j i w v)))
-    eight (say-none r g low) i = ((λ s. absurd (omega (arith, r .0, s .0))), (λ v. absurd (low i (v .too-high .0) (v .too-high .1))))
+    eight (say-eight j r w) i =
+        ((λ s. subst (Unmet-wait p) (sym (r .1) ∙ s .1) w), (λ v. (r .0, r .1 ∙ unmet-one j i w v)))
+    eight (say-none r g low) i =
+        ((λ s. absurd (omega (arith, r .0, s .0))), (λ v. absurd (low i (v .too-high .0) (v .too-high .1))))
 
     none : Rules-say f → Refuses f 0 0 ↔ (Signals-good p × ((i k : ℕ) → Too-high p i k → ⊥))
-    none (say-six j l r w) = ((λ s. absurd (omega (arith, r .0, s .0))), (λ v. absurd (w .not-owned (v .0 j l (w .signal) .0))))
-    none (say-seven j l r w) = ((λ s. absurd (omega (arith, r .0, s .0))), (λ v. absurd (w .not-rising (v .0 j l (w .signal) .1))))
-    none (say-eight j r w) = ((λ s. absurd (omega (arith, r .0, s .0))), (λ v. absurd (v .1 j (w .too-high .0) (w .too-high .1))))
+    none (say-six j l r w) =
+        ((λ s. absurd (omega (arith, r .0, s .0))), (λ v. absurd (w .not-owned (v .0 j l (w .signal) .0))))
+    none (say-seven j l r w) =
+        ((λ s. absurd (omega (arith, r .0, s .0))), (λ v. absurd (w .not-rising (v .0 j l (w .signal) .1))))
+    none (say-eight j r w) =
+        ((λ s. absurd (omega (arith, r .0, s .0))), (λ v. absurd (v .1 j (w .too-high .0) (w .too-high .1))))
     none (say-none r g low) = ((λ s. (g, low)), (λ v. r))
 
     only : Rules-say f → None-or rule-numbers (f .number)
@@ -137,4 +150,10 @@ module _ (p : Plan) where
   pub rules-mean : Rules-mean p (rules-refusal p)
   rules-mean =
       let f = rules-refusal p in
-      record { six = six f rules-say; seven = seven f rules-say; eight = eight f rules-say; none = none f rules-say; only = only f rules-say }
+      record {
+        six = six f rules-say;
+        seven = seven f rules-say;
+        eight = eight f rules-say;
+        none = none f rules-say;
+        only = only f rules-say;
+      }

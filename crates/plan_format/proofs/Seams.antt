@@ -9,7 +9,8 @@ use lib.Seq.{append-snoc, getD-at, drop-at}
 pub at-seam : (xs front back : List ℕ) (y n : ℕ) → xs ≡ front ++ (y ∷ back) → length front ≡ n → getD xs n 0 ≡ y
 at-seam xs front back y n e l = ap (λ z. getD z n 0) e ∙ getD-at front y back 0 n l
 
-pub after-seam : (xs front back : List ℕ) (y n : ℕ) → xs ≡ front ++ (y ∷ back) → suc (length front) ≡ n → drop n xs ≡ back
+pub after-seam : (xs front back : List ℕ) (y n : ℕ) → xs ≡ front ++ (y ∷ back) → suc (length front) ≡ n →
+    drop n xs ≡ back
 after-seam xs front back y n e l = ap (λ z. drop n z) (e ∙ sym (append-snoc front y back))
     ∙ drop-at (front ++ (y ∷ [])) back n (rw length-append (omega arith))
 

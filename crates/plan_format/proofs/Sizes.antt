@@ -6,11 +6,13 @@ use native.Mathlib.Nat.{le-refl, suc-mul, mul-le-mul-right}
 use native.Mathlib.Omega.{arith}
 use lib.ListN.{length, length-append, length-drop}
 use Rattle.plan_format.specs.Sizes.{plan-numbers, plan-bytes}
-use Rattle.plan_format.specs.Grammar.{Check, Grammar, field, seq, counted, nothing, bytes, numbers, count-check, most-bytes, most-numbers}
+use Rattle.plan_format.specs.Grammar.{Check, Grammar, field, seq, counted, nothing, bytes, numbers, count-check}
+use Rattle.plan_format.specs.Grammar.{most-bytes, most-numbers}
 use Rattle.plan_format.specs.Form.{Form, first-form, point, mark, operation, plan-grammar, scanned-by, spelled-by}
 use Rattle.plan_format.specs.Stored.{scanned, listed, spelled}
 use Rattle.plan_format.proofs.Bytes.{length-digits}
-use Rattle.plan_format.proofs.Parses.{Takes, _⊆_, Spelt, Exact, Loose, Nothing, Then, Holds, Parses, then-first, parsed-give}
+use Rattle.plan_format.proofs.Parses.{Takes, _⊆_, Spelt, Exact, Loose, Nothing, Then, Holds, Parses, then-first}
+use Rattle.plan_format.proofs.Parses.{parsed-give}
 use Rattle.plan_format.proofs.Fields.{count-limits}
 use Rattle.plan_format.proofs.Sources.{loose-bytes}
 use Rattle.plan_format.proofs.Whole.{whole-of}
@@ -26,11 +28,24 @@ pub record Most (wide : ℕ → ℕ) : Type 0 where
 
 unfoldable pub bytes-most : Most (λ w. w)
 unfolding most-bytes
-bytes-most = record { most = most-bytes; field-is = λ w c. refl; seq-is = λ g h. refl; counted-is = λ l m w g. refl; nothing-is = refl }
+bytes-most =
+    record {
+      most = most-bytes;
+      field-is = λ w c. refl;
+      seq-is = λ g h. refl;
+      counted-is = λ l m w g. refl;
+      nothing-is = refl;
+    }
 
 unfoldable pub numbers-most : Most (λ w. 1)
 unfolding most-numbers
-numbers-most = record { most = most-numbers; field-is = λ w c. refl; seq-is = λ g h. refl; counted-is = λ l m w g. refl; nothing-is = refl }
+numbers-most = record {
+  most = most-numbers;
+  field-is = λ w c. refl;
+  seq-is = λ g h. refl;
+  counted-is = λ l m w g. refl;
+  nothing-is = refl;
+}
 
 -- the places that numbers and their bytes take
 record Measure (D : Spelt) (wide : ℕ → ℕ) : Type 0 where
@@ -73,10 +88,20 @@ module _ (D : Spelt) (wide : ℕ → ℕ) (T : Most wide) (M : Measure D wide) w
 
 -- ---- bytes and numbers
 number-measure : (D : Spelt) → Measure D (λ w. 1)
-number-measure D = record { size = λ vs ds. length vs; size-none = refl; size-append = λ vs vs′ ds ds′. length-append vs vs′; size-field = λ w v ds d. refl }
+number-measure D = record {
+  size = λ vs ds. length vs;
+  size-none = refl;
+  size-append = λ vs vs′ ds ds′. length-append vs vs′;
+  size-field = λ w v ds d. refl;
+}
 
 byte-measure : (D : Spelt) → ((w v : ℕ) (ds : List ℕ) → D w v ds → length ds ≡ w) → Measure D (λ w. w)
-byte-measure D long = record { size = λ vs ds. length ds; size-none = refl; size-append = λ vs vs′ ds ds′. length-append ds ds′; size-field = long }
+byte-measure D long = record {
+  size = λ vs ds. length ds;
+  size-none = refl;
+  size-append = λ vs vs′ ds ds′. length-append ds ds′;
+  size-field = long;
+}
 
 module _ (g : Grammar) (got vs ds : List ℕ) where
   pub parsed-numbers : (D : Spelt) → Parses D g got vs ds → length vs ≤ most-numbers g
@@ -85,7 +110,9 @@ module _ (g : Grammar) (got vs ds : List ℕ) where
 
   pub exact-long : Parses Exact g got vs ds → length ds ≤ most-bytes g
   unfolding byte-measure bytes-most
-  exact-long p = parsed-size Exact (λ w. w) bytes-most (byte-measure Exact (λ w v ds d. ap length (d .bytes-are) ∙ length-digits w v)) g got vs ds p
+  exact-long p =
+      parsed-size Exact (λ w. w) bytes-most
+      (byte-measure Exact (λ w v ds d. ap length (d .bytes-are) ∙ length-digits w v)) g got vs ds p
 
   pub loose-long : Parses Loose g got vs ds → length ds ≤ most-bytes g
   unfolding byte-measure bytes-most
@@ -106,7 +133,8 @@ module _ (F : Form) (bs : List ℕ) (e : scanned-by bytes F bs .fault .number �
 
   pub read-numbers-most : length (scanned-by bytes F bs .got) ≤ most-numbers (plan-grammar F)
   unfolding loose-bytes
-  read-numbers-most = let w = whole-of bytes Loose loose-bytes F bs tt e in parsed-numbers (plan-grammar F) [] (scanned-by bytes F bs .got)
+  read-numbers-most = let w = whole-of bytes Loose loose-bytes F bs tt e in
+      parsed-numbers (plan-grammar F) [] (scanned-by bytes F bs .got)
       (w .ds) Loose (w .parsed)
 
 module _ (F : Form) (xs : List ℕ) (e : scanned-by numbers F xs .fault .number ≡ 0) where
@@ -116,7 +144,12 @@ module _ (F : Form) (xs : List ℕ) (e : scanned-by numbers F xs .fault .number 
   pub spelled-bytes-most : length (spelled-by F xs) ≤ length (F .lead) + most-bytes (plan-grammar F)
   spelled-bytes-most =
       let (ds, p) = numbers-read F xs e in
-      omega (arith, ap length (spelled-parsed F xs ds p), length-append (F .lead) ds, exact-long (plan-grammar F) [] xs ds p)
+      omega (
+        arith,
+        ap length (spelled-parsed F xs ds p),
+        length-append (F .lead) ds,
+        exact-long (plan-grammar F) [] xs ds p,
+      )
 
 -- ---- R7, greatest sizes, of the first form
 pub longest-operation : most-bytes (operation first-form) ≡ 61

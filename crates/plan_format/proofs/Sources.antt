@@ -25,7 +25,8 @@ exact-bytes = record {
   fits-is = λ w v ds d. refl;
   Clean = λ xs. all-bytes xs ≡ true;
   clean-drop = bytes-drop;
-  taken = λ w xs c l f. (take w xs, record { fits = value-below w xs c; bytes-are = sym (digits-value w xs c l) }, refl);
+  taken = λ w xs c l f.
+      (take w xs, record { fits = value-below w xs c; bytes-are = sym (digits-value w xs c l) }, refl);
 }
 
 unfoldable pub loose-bytes : Lawful bytes Loose
@@ -58,5 +59,6 @@ exact-numbers = record {
   fits-is = λ w v ds d. lt-ltb v (256 ^ w) (d .fits);
   Clean = λ xs. Unit {0};
   clean-drop = λ n xs c. tt;
-  taken = λ w xs c l f. (digits w (getD xs 0 0), record { fits = ltb-true (getD xs 0 0) (256 ^ w) f; bytes-are = refl }, first-of xs l);
+  taken = λ w xs c l f.
+      (digits w (getD xs 0 0), record { fits = ltb-true (getD xs 0 0) (256 ^ w) f; bytes-are = refl }, first-of xs l);
 }

@@ -12,7 +12,8 @@ use Rattle.plan_format.proofs.Parses.{Takes, _⊆_, Exact, Nothing, The
 
 -- what is in front is spelled, and the rest is left
 abbrev Spells : (f : Spelling → Spelling) → Takes
-Spells f got vs ds = (more made : List ℕ) → f (record { left = vs ++ more; made = made }) ≡ record { left = more; made = made ++ ds }
+Spells f got vs ds = (more made : List ℕ) →
+    f (record { left = vs ++ more; made = made }) ≡ record { left = more; made = made ++ ds }
 
 spells-none : Nothing ⊆ Spells (λ s. s)
 spells-none got vs ds p = rw (p .numbers-are, p .bytes-are) (λ more made. rw append-nil)
@@ -20,7 +21,8 @@ spells-none got vs ds p = rw (p .numbers-are, p .bytes-are) (λ more made. rw ap
 spells-then : (f g : Spelling → Spelling) → Then (Spells f) (Spells g) ⊆ Spells (λ s. g (f s))
 spells-then f g got vs ds p =
     rw (p .numbers-are, p .bytes-are)
-    (λ more made. rw append-assoc (ap g (p .first (p .vs₂ ++ more) made) ∙ p .second more (made ++ p .ds₁) ∙ rw append-assoc))
+    (λ more made.
+    rw append-assoc (ap g (p .first (p .vs₂ ++ more) made) ∙ p .second more (made ++ p .ds₁) ∙ rw append-assoc))
 
 spells-field : (w : ℕ) (c : Check) (v : ℕ) → Holds Exact w c v ⊆ Spells (λ s. spell-field w s)
 unfolding spell-field
@@ -33,18 +35,20 @@ spells-counted w c k f got vs ds p more made =
     let front : getD (vs ++ more) 0 0 ≡ k = rw (p .numbers-are, p .first .numbers-are) in
     ap (λ n. times n f (spell-field w (record { left = vs ++ more; made = made }))) front
     ∙ spells-then (λ s. spell-field w s) (λ s. times k f s) got vs ds
-    (then-first (Holds Exact w c k) (Spells (λ s. spell-field w s)) (Spells (λ s. times k f s)) (spells-field w c k) got vs ds p) more made
+    (then-first (Holds Exact w c k) (Spells (λ s. spell-field w s)) (Spells (λ s. times k f s))
+    (spells-field w c k) got vs ds p) more made
 
 pub spells : (g : Grammar) → Parses Exact g ⊆ Spells (λ s. spell-by g s)
 unfolding spell-by times
-spells = parsed-give Exact (λ g. Spells (λ s. spell-by g s)) (λ g k. Spells (λ s. times k (λ u. spell-by g u) s)) (record {
-  of-field = spells-field;
-  of-seq = λ g h. spells-then (λ s. spell-by g s) (λ s. spell-by h s);
-  of-counted = λ l m w g k. spells-counted w (λ _ v. count-check l m v) k (λ u. spell-by g u);
-  of-nothing = spells-none;
-  of-none = λ g. spells-none;
-  of-more = λ g k. spells-then (λ s. spell-by g s) (λ s. times k (λ u. spell-by g u) s);
-})
+spells =
+    parsed-give Exact (λ g. Spells (λ s. spell-by g s)) (λ g k. Spells (λ s. times k (λ u. spell-by g u) s)) (record {
+      of-field = spells-field;
+      of-seq = λ g h. spells-then (λ s. spell-by g s) (λ s. spell-by h s);
+      of-counted = λ l m w g k. spells-counted w (λ _ v. count-check l m v) k (λ u. spell-by g u);
+      of-nothing = spells-none;
+      of-none = λ g. spells-none;
+      of-more = λ g k. spells-then (λ s. spell-by g s) (λ s. times k (λ u. spell-by g u) s);
+    })
 
 -- ---- what is spelled is bytes
 abbrev Bytes : Takes
@@ -65,7 +69,8 @@ parsed-bytes = parsed-give Exact (λ _. Bytes) (λ _ _. Bytes) (record {
   of-field = field-bytes;
   of-seq = λ g h. then-bytes;
   of-counted = λ l m w g k got vs ds p. then-bytes got vs ds
-      (then-first (Holds Exact w (λ _ v. count-check l m v) k) Bytes Bytes (field-bytes w (λ _ v. count-check l m v) k) got vs ds p);
+      (then-first (Holds Exact w (λ _ v. count-check l m v) k) Bytes Bytes
+      (field-bytes w (λ _ v. count-check l m v) k) got vs ds p);
   of-nothing = none-bytes;
   of-none = λ g. none-bytes;
   of-more = λ g k. then-bytes;

@@ -38,10 +38,12 @@ takes-plans = record {
         let xs = scanned bs .got in
         let (w, is) = listed-within xs (ap (λ (s : Scan). s .fault .number) (listed-scanned bs b e)) in
         (w, sym (spelled-scanned bs b e) ∙ ap spelled is ∙ stored-plan (plan-of xs) w .written),
-    λ h. ap (λ z. scanned z .fault .number) (h .1) ∙ ap (λ (s : Scan). s .fault .number) (stored-plan (plan-of (scanned bs .got)) (h .0) .read),
+    λ h. ap (λ z. scanned z .fault .number) (h .1)
+        ∙ ap (λ (s : Scan). s .fault .number) (stored-plan (plan-of (scanned bs .got)) (h .0) .read),
   );
   taken = λ xs. (
     listed-within xs,
-    λ h. ap (λ z. listed z .fault .number) (h .1) ∙ ap (λ (s : Scan). s .fault .number) (stored-plan (plan-of xs) (h .0) .taken),
+    λ h. ap (λ z. listed z .fault .number) (h .1)
+        ∙ ap (λ (s : Scan). s .fault .number) (stored-plan (plan-of xs) (h .0) .taken),
   );
 }

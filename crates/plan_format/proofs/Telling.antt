@@ -13,8 +13,10 @@ no-answer : (b : Bool) → _≡_ {A = ℕ} 0 (cond b 0 0)
 no-answer true = refl
 no-answer false = refl
 
-pub tells-answerless : {f : Refusal} {r : Told} → r .answer ≡ 0 → r .number ≡ f .number → r .place ≡ f .place → Tells f 0 r
-tells-answerless {f} none number place = record { number = number; place = place; answer-is = none ∙ no-answer (given f) }
+pub tells-answerless : {f : Refusal} {r : Told} → r .answer ≡ 0 → r .number ≡ f .number →
+    r .place ≡ f .place → Tells f 0 r
+tells-answerless {f} none number place =
+    record { number = number; place = place; answer-is = none ∙ no-answer (given f) }
 
 pub tells-as : {f : Refusal} {n i : ℕ} → n ≡ f .number → i ≡ f .place → Tells f 0 (told n i)
 tells-as number place = tells-answerless refl number place

@@ -31,7 +31,9 @@ ended-empty s e =
 
 pub ended-same : (s : Scan) → s .rest ≡ [] → ended s ≡ s
 unfolding ended
-ended-same s e = ap (λ b. cond b s (refused 3 s)) (or-right (given (s .fault)) (eqb (length (s .rest)) 0) (eq-eqb (length (s .rest)) 0 (ap length e)))
+ended-same s e =
+    ap (λ b. cond b s (refused 3 s))
+    (or-right (given (s .fault)) (eqb (length (s .rest)) 0) (eq-eqb (length (s .rest)) 0 (ap length e)))
 
 module _ (S : Source) (D : Spelt) (L : Lawful S D) (F : Form) (xs : List ℕ) where
   -- how far the lead reaches

@@ -26,9 +26,11 @@ Small n got vs ds = (i : ℕ) → getD vs i 0 < 256 ^ n
 
 module _ (n : ℕ) where
   small-none : Nothing ⊆ Small n
-  small-none got vs ds p = rw (p .numbers-are) (λ i. omega (arith, pow-le-pow-right {n = 256} (lit< tt) {i = 0} {j = n} zero-le))
+  small-none got vs ds p =
+      rw (p .numbers-are) (λ i. omega (arith, pow-le-pow-right {n = 256} (lit< tt) {i = 0} {j = n} zero-le))
 
-  small-append : (vs vs′ : List ℕ) → ((i : ℕ) → getD vs i 0 < 256 ^ n) → ((i : ℕ) → getD vs′ i 0 < 256 ^ n) → (i : ℕ) → getD (vs ++ vs′) i 0 < 256 ^ n
+  small-append : (vs vs′ : List ℕ) → ((i : ℕ) → getD vs i 0 < 256 ^ n) → ((i : ℕ) → getD vs′ i 0 < 256 ^ n) → (i : ℕ) →
+      getD (vs ++ vs′) i 0 < 256 ^ n
   small-append [] vs′ a b i = b i
   small-append (v ∷ vs) vs′ a b zero = a 0
   small-append (v ∷ vs) vs′ a b (suc i) = small-append vs vs′ (λ k. a (suc k)) b i
@@ -45,14 +47,16 @@ module _ (n : ℕ) where
   If A got vs ds = A → Small n got vs ds
 
   small-then : (A B C : Type 0) → (C → A) → (C → B) → Then (If A) (If B) ⊆ If C
-  small-then A B C a b got vs ds p c = rw (p .numbers-are) (small-append (p .vs₁) (p .vs₂) (p .first (a c)) (p .second (b c)))
+  small-then A B C a b got vs ds p c =
+      rw (p .numbers-are) (small-append (p .vs₁) (p .vs₂) (p .first (a c)) (p .second (b c)))
 
   small-counted : (l m w : ℕ) (g : Grammar) (k : ℕ) →
       Then (Holds Exact w (λ _ v. count-check l m v) k) (If (Narrow n g)) ⊆ If (Narrow n (counted l m w g))
   small-counted l m w g k got vs ds p =
       let c : Check = λ _ v. count-check l m v in
       small-then (w ≤ n) (Narrow n g) (Narrow n (counted l m w g)) (λ z. z .0) (λ z. z .1) got vs ds
-      (then-first (Holds Exact w c k) (If (w ≤ n)) (If (Narrow n g)) (λ got vs ds h z. small-field w c k z got vs ds h) got vs ds p)
+      (then-first (Holds Exact w c k) (If (w ≤ n)) (If (Narrow n g))
+      (λ got vs ds h z. small-field w c k z got vs ds h) got vs ds p)
 
   small : (g : Grammar) → Parses Exact g ⊆ If (Narrow n g)
   small = parsed-give Exact (λ g. If (Narrow n g)) (λ g k. If (Narrow n g)) (record {
@@ -71,11 +75,14 @@ first-narrow : Narrow 8 (plan-grammar first-form)
 unfolding plan-grammar operation point mark first-form
 first-narrow = omega arith
 
-pub scanned-small : (bs : List ℕ) → all-bytes bs ≡ true → scanned bs .fault .number ≡ 0 → (i : ℕ) → getD (scanned bs .got) i 0 < 2 ^ 64
+pub scanned-small : (bs : List ℕ) → all-bytes bs ≡ true → scanned bs .fault .number ≡ 0 → (i : ℕ) →
+    getD (scanned bs .got) i 0 < 2 ^ 64
 unfolding scanned first-form
-scanned-small bs b e = let (ds, p, is) = bytes-read first-form bs b refl e in parsed-small 8 (plan-grammar first-form) first-narrow []
+scanned-small bs b e = let (ds, p, is) = bytes-read first-form bs b refl e in
+    parsed-small 8 (plan-grammar first-form) first-narrow []
     (scanned bs .got) ds p
 
 pub listed-small : (xs : List ℕ) → listed xs .fault .number ≡ 0 → (i : ℕ) → getD xs i 0 < 2 ^ 64
 unfolding listed
-listed-small xs e = let (ds, p) = numbers-read first-form xs e in parsed-small 8 (plan-grammar first-form) first-narrow [] xs ds p
+listed-small xs e = let (ds, p) = numbers-read first-form xs e in
+    parsed-small 8 (plan-grammar first-form) first-narrow [] xs ds p

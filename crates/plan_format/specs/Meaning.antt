@@ -186,21 +186,21 @@ pub record Rising (p : Plan) (i k : ℕ) : Type 0 where
       signal-at p j l .value < signal-at p i k .value
 
 -- every earlier signal is neither 6 nor 7
-abbrev pub First : Plan → (i k : ℕ) → Type 0
-First p i k = (j l : ℕ) → Is-signal p j l → Earlier j l i k → Owned p j l × Rising p j l
+abbrev pub Good-before : Plan → (i k : ℕ) → Type 0
+Good-before p i k = (j l : ℕ) → Is-signal p j l → Earlier j l i k → Owned p j l × Rising p j l
 
 -- R43, refusal 6: the first fault is a signal on a queue that is not the owner
 pub record Bad-owner (p : Plan) (i k : ℕ) : Type 0 where
   pub signal : Is-signal p i k
   pub not-owned : Owned p i k → ⊥
-  pub first : First p i k
+  pub first : Good-before p i k
 
 -- R44, refusal 7: the first fault is a signal by the owner that does not rise
 pub record Not-rising (p : Plan) (i k : ℕ) : Type 0 where
   pub signal : Is-signal p i k
   pub owned : Owned p i k
   pub not-rising : Rising p i k → ⊥
-  pub first : First p i k
+  pub first : Good-before p i k
 
 -- no signal is 6 or 7
 abbrev pub Signals-good : Plan → Type 0
@@ -252,7 +252,8 @@ refusal-of r = refusal (r .number) (r .place)
 -- very bytes; or why not
 pub record Read-means (bytes : List ℕ) (r : Told) (room room-now : List ℕ) : Type 0 where
   pub reading : Bytes-mean bytes
-  pub refuses : Room-after reader-gives (scanned bytes .fault) (length (scanned bytes .got)) (length room) (refusal-of r)
+  pub refuses : Room-after reader-gives (scanned bytes .fault) (length (scanned bytes .got))
+      (length room) (refusal-of r)
   pub filled : Filled (scanned bytes .got) r room room-now
   pub within : r .number ≡ 0 → Within (plan-in bytes)
   pub numbers : r .number ≡ 0 → take (r .answer) room-now ≡ numbers-of (plan-in bytes)

@@ -13,7 +13,8 @@ use Rattle.base_lists.proofs.Tests.{by-cases, by-option, either}
 use Rattle.base_lists.proofs.Members.{member-left}
 use Rattle.plan_format.specs.Plan.{count, op, queues}
 use Rattle.plan_format.specs.Refusal.{Refusal, refusal, none-given}
-use Rattle.plan_format.specs.RefusalNumbers.{None-or, room-numbers, order-numbers, plan-gives, untouched-numbers, check-gives}
+use Rattle.plan_format.specs.RefusalNumbers.{None-or, room-numbers, order-numbers, plan-gives, untouched-numbers}
+use Rattle.plan_format.specs.RefusalNumbers.{check-gives}
 use Rattle.plan_format.specs.Stored.{plan-in, plan-refusal}
 use Rattle.plan_format.specs.Meaning.{Refuses}
 use Rattle.plan_format.proofs.Judged.{zero-not-given, other-given}
@@ -21,9 +22,11 @@ use Rattle.plan_format.proofs.RefusalNumbers.{one-is, not-one, apart, none-or-z
 use Rattle.plan_format.proofs.Numbers.{plan-number}
 use Rattle.plan_format.proofs.ReadingMeaning.{plan-refusal-means}
 use Rattle.plan_format.proofs.Plans.{sound-in}
-use Rattle.plan_order.specs.Check.{room-refusal, Leaves, untouched, zeros, rows-and-run, Outcome, outcome, check-outcome}
+use Rattle.plan_order.specs.Check.{room-refusal, Leaves, untouched, zeros, rows-and-run, Outcome, outcome}
+use Rattle.plan_order.specs.Check.{check-outcome}
 use Rattle.plan_order.specs.Holdings.{broken, buffer-marks}
-use Rattle.plan_order.specs.Meaning.{Gives, Unrefused, Full-means, Lowest-in-no-run, Forced, Lowest-broken, Check-means}
+use Rattle.plan_order.specs.Meaning.{Gives, Unrefused, Full-means, Lowest-in-no-run, Forced, Lowest-broken}
+use Rattle.plan_order.specs.Meaning.{Check-means}
 use Rattle.plan_order.specs.Promise.{unrefused}
 use Rattle.plan_order.specs.Runs.{missing}
 use Rattle.plan_order.proofs.Leaving.{Left-case, left-untouched, left-zeros, left-rows, left-number, leaves-by}
@@ -53,10 +56,13 @@ module _ (bs : List ℕ) (t l : ℕ) where
   pub data Check-case (o : Outcome) : Type 0 where
     plan-case : (Good → ⊥) → o ≡ outcome (plan-refusal bs) untouched → Check-case o
     room-case : Good → room .number ≡ 9 → o ≡ outcome room untouched → Check-case o
-    stuck-case : (i : ℕ) → Good → Enough → missing (plan-in bs) ≡ some i → o ≡ outcome (refusal 10 i) zeros → Check-case o
-    broken-case : (i : ℕ) → Good → Enough → _≡_ {A = Option ℕ} (missing (plan-in bs)) none → broken (plan-in bs) ≡ some i →
+    stuck-case : (i : ℕ) → Good → Enough → missing (plan-in bs) ≡ some i →
+        o ≡ outcome (refusal 10 i) zeros → Check-case o
+    broken-case : (i : ℕ) → Good → Enough → _≡_ {A = Option ℕ} (missing (plan-in bs)) none →
+        broken (plan-in bs) ≡ some i →
         o ≡ outcome (refusal 11 i) zeros → Check-case o
-    pass-case : Good → Enough → _≡_ {A = Option ℕ} (missing (plan-in bs)) none → _≡_ {A = Option ℕ} (broken (plan-in bs)) none →
+    pass-case : Good → Enough → _≡_ {A = Option ℕ} (missing (plan-in bs)) none →
+        _≡_ {A = Option ℕ} (broken (plan-in bs)) none →
         o ≡ outcome none-given rows-and-run → Check-case o
 
   pub check-case : Check-case (check-outcome bs t l)
@@ -69,7 +75,8 @@ module _ (bs : List ℕ) (t l : ℕ) where
       (λ i b. broken-case i good enough m b (broken-outcome bs t l good enough i m b)))
       (λ i m. stuck-case i good enough m (stuck-outcome bs t l good enough i m)))
       (λ nine. room-case good nine (room-refused bs t l good (other-given room (λ z. omega arith)))))
-      (λ a. let bad = eqb-false (plan-refusal bs .number) 0 a in plan-case bad (plan-refused bs t l (other-given (plan-refusal bs) bad)))
+      (λ a. let bad = eqb-false (plan-refusal bs .number) 0 a in
+      plan-case bad (plan-refused bs t l (other-given (plan-refusal bs) bad)))
 
   -- ---- R55, R56: there are no other numbers, and each leaves what its class does
   -- a refusal of the plan has no other number
@@ -132,44 +139,61 @@ module _ (bs : List ℕ) (t l : ℕ) where
   Full-run = (r : List ℕ) × Full-means (plan-in bs) r
 
   abbrev All-forced : Type 0
-  All-forced = (b k : ℕ) → b < length (plan-in bs .sizes) → k < length (buffer-marks (plan-in bs) b) → Forced (plan-in bs) b k
+  All-forced = (b k : ℕ) → b < length (plan-in bs .sizes) → k < length (buffer-marks (plan-in bs) b) →
+      Forced (plan-in bs) b k
 
   nine-why : (o : Outcome) → Check-case o → (i : ℕ) → Gives o 9 i untouched → Good × Refuses room 9 i
   unfolding refusal none-given member
   nine-why o (plan-case bad e) i g = absurd (not-plan 9 refl e (g .0 .0))
   nine-why o (room-case good nine e) i g = (good, (nine, sym (gives-of o room untouched e .0 .1) ∙ g .0 .1))
-  nine-why o (stuck-case j good enough m e) i g = absurd (omega (arith, g .0 .0, gives-of o (refusal 10 j) zeros e .0 .0))
-  nine-why o (broken-case j good enough m b e) i g = absurd (omega (arith, g .0 .0, gives-of o (refusal 11 j) zeros e .0 .0))
-  nine-why o (pass-case good enough m b e) i g = absurd (omega (arith, g .0 .0, gives-of o none-given rows-and-run e .0 .0))
+  nine-why o (stuck-case j good enough m e) i g =
+      absurd (omega (arith, g .0 .0, gives-of o (refusal 10 j) zeros e .0 .0))
+  nine-why o (broken-case j good enough m b e) i g =
+      absurd (omega (arith, g .0 .0, gives-of o (refusal 11 j) zeros e .0 .0))
+  nine-why o (pass-case good enough m b e) i g =
+      absurd (omega (arith, g .0 .0, gives-of o none-given rows-and-run e .0 .0))
 
-  ten-why : (o : Outcome) → Check-case o → (i : ℕ) → Gives o 10 i zeros → Unrefused bs t l × Lowest-in-no-run (plan-in bs) i
+  ten-why : (o : Outcome) → Check-case o → (i : ℕ) → Gives o 10 i zeros →
+      Unrefused bs t l × Lowest-in-no-run (plan-in bs) i
   unfolding refusal none-given member
   ten-why o (plan-case bad e) i g = absurd (not-plan 10 refl e (g .0 .0))
   ten-why o (room-case good nine e) i g = absurd (omega (arith, g .0 .0, gives-of o room untouched e .0 .0))
-  ten-why o (stuck-case j good enough m e) i g =
-      ((good, enough), subst (Lowest-in-no-run (plan-in bs)) (sym (gives-of o (refusal 10 j) zeros e .0 .1) ∙ g .0 .1) (missing-means (plan-in bs) (known good) j .0 m))
-  ten-why o (broken-case j good enough m b e) i g = absurd (omega (arith, g .0 .0, gives-of o (refusal 11 j) zeros e .0 .0))
-  ten-why o (pass-case good enough m b e) i g = absurd (omega (arith, g .0 .0, gives-of o none-given rows-and-run e .0 .0))
+  ten-why o (stuck-case j good enough m e) i g = (
+    (good, enough),
+    subst (Lowest-in-no-run (plan-in bs)) (sym (gives-of o (refusal 10 j) zeros e .0 .1) ∙ g .0 .1)
+        (missing-means (plan-in bs) (known good) j .0 m),
+  )
+  ten-why o (broken-case j good enough m b e) i g =
+      absurd (omega (arith, g .0 .0, gives-of o (refusal 11 j) zeros e .0 .0))
+  ten-why o (pass-case good enough m b e) i g =
+      absurd (omega (arith, g .0 .0, gives-of o none-given rows-and-run e .0 .0))
 
-  eleven-why : (o : Outcome) → Check-case o → (i : ℕ) → Gives o 11 i zeros → Unrefused bs t l × Full-run × Lowest-broken (plan-in bs) i
+  eleven-why : (o : Outcome) → Check-case o → (i : ℕ) → Gives o 11 i zeros →
+      Unrefused bs t l × Full-run × Lowest-broken (plan-in bs) i
   unfolding refusal none-given member
   eleven-why o (plan-case bad e) i g = absurd (not-plan 11 refl e (g .0 .0))
   eleven-why o (room-case good nine e) i g = absurd (omega (arith, g .0 .0, gives-of o room untouched e .0 .0))
-  eleven-why o (stuck-case j good enough m e) i g = absurd (omega (arith, g .0 .0, gives-of o (refusal 10 j) zeros e .0 .0))
+  eleven-why o (stuck-case j good enough m e) i g =
+      absurd (omega (arith, g .0 .0, gives-of o (refusal 10 j) zeros e .0 .0))
   eleven-why o (broken-case j good enough m b e) i g = (
     (good, enough),
     none-missing-means (plan-in bs) (known good) .0 m,
-    subst (Lowest-broken (plan-in bs)) (sym (gives-of o (refusal 11 j) zeros e .0 .1) ∙ g .0 .1) (broken-means (plan-in bs) j .0 b),
+    subst (Lowest-broken (plan-in bs)) (sym (gives-of o (refusal 11 j) zeros e .0 .1) ∙ g .0 .1)
+        (broken-means (plan-in bs) j .0 b),
   )
-  eleven-why o (pass-case good enough m b e) i g = absurd (omega (arith, g .0 .0, gives-of o none-given rows-and-run e .0 .0))
+  eleven-why o (pass-case good enough m b e) i g =
+      absurd (omega (arith, g .0 .0, gives-of o none-given rows-and-run e .0 .0))
 
   passed-why : (o : Outcome) → Check-case o → Gives o 0 0 rows-and-run → Unrefused bs t l × Full-run × All-forced
   unfolding refusal none-given
   passed-why o (plan-case bad e) g = absurd (bad (sym (gives-of o (plan-refusal bs) untouched e .0 .0) ∙ g .0 .0))
   passed-why o (room-case good nine e) g = absurd (omega (arith, g .0 .0, gives-of o room untouched e .0 .0))
-  passed-why o (stuck-case j good enough m e) g = absurd (omega (arith, g .0 .0, gives-of o (refusal 10 j) zeros e .0 .0))
-  passed-why o (broken-case j good enough m b e) g = absurd (omega (arith, g .0 .0, gives-of o (refusal 11 j) zeros e .0 .0))
-  passed-why o (pass-case good enough m b e) g = ((good, enough), none-missing-means (plan-in bs) (known good) .0 m, unbroken-means (plan-in bs) .0 b)
+  passed-why o (stuck-case j good enough m e) g =
+      absurd (omega (arith, g .0 .0, gives-of o (refusal 10 j) zeros e .0 .0))
+  passed-why o (broken-case j good enough m b e) g =
+      absurd (omega (arith, g .0 .0, gives-of o (refusal 11 j) zeros e .0 .0))
+  passed-why o (pass-case good enough m b e) g =
+      ((good, enough), none-missing-means (plan-in bs) (known good) .0 m, unbroken-means (plan-in bs) .0 b)
 
   pub check-means : Check-means bs t l (check-outcome bs t l)
   unfolding refusal none-given outcome all member
@@ -182,7 +206,9 @@ module _ (bs : List ℕ) (t l : ℕ) where
             (ap (λ (z : Outcome). z .refusal) e, ap (λ (z : Outcome). z .leaves) e);
         nine = λ i. (
           nine-why o check-case i,
-          (λ w. let g = gives-of o room untouched (room-refused bs t l (w .0) (other-given room (λ z. omega (arith, w .1 .0)))) in
+          (λ w.
+              let g = gives-of o room untouched
+              (room-refused bs t l (w .0) (other-given room (λ z. omega (arith, w .1 .0)))) in
               ((g .0 .0 ∙ w .1 .0, g .0 .1 ∙ w .1 .1), g .1)),
         );
         ten = λ i. (
@@ -193,12 +219,14 @@ module _ (bs : List ℕ) (t l : ℕ) where
         eleven = λ i. (
           eleven-why o check-case i,
           (λ w. gives-of o (refusal 11 i) zeros
-              (broken-outcome bs t l (w .0 .0) (w .0 .1) i (none-missing-means p (known (w .0 .0)) .1 (w .1)) (broken-means p i .1 (w .2)))),
+              (broken-outcome bs t l (w .0 .0) (w .0 .1) i (none-missing-means p (known (w .0 .0)) .1 (w .1))
+              (broken-means p i .1 (w .2)))),
         );
         passed = (
           passed-why o check-case,
           (λ w. gives-of o none-given rows-and-run
-              (passed-outcome bs t l (w .0 .0) (w .0 .1) (none-missing-means p (known (w .0 .0)) .1 (w .1)) (unbroken-means p .1 (w .2)))),
+              (passed-outcome bs t l (w .0 .0) (w .0 .1) (none-missing-means p (known (w .0 .0)) .1 (w .1))
+              (unbroken-means p .1 (w .2)))),
         );
         only = check-number;
         leaves = leaves-by [] refl o check-left-case;

@@ -20,7 +20,8 @@ use Rattle.plan_order.proofs.Demand3.{rules-good}
 use Rattle.plan_order.proofs.Precedence.{before-chain, chain-before, at-or-means, before-steps, unordered}
 use Rattle.plan_order.proofs.RowsMeaning.{rows-means}
 use Rattle.plan_order.proofs.Rows.{row-at, most, any-at-has, entry-merged, entry-tells, own-is, unused-zero}
-use Rattle.plan_order.proofs.Standard.{next-ready, next-lowest, standard-runs, standard-stuck, standard-lacks, standard-steps}
+use Rattle.plan_order.proofs.Standard.{next-ready, next-lowest, standard-runs, standard-stuck, standard-lacks}
+use Rattle.plan_order.proofs.Standard.{standard-steps}
 
 module _ (p : Plan) where
   pub demand-2 : Demand-2 p (rows p)
@@ -48,7 +49,8 @@ module _ (p : Plan) where
       ∙ entry-merged p j l ks directs (λ i e. let w = covers i e in any-at-has p ks i (w .0) (w .1) (w .2)) q
       ∙ ap₂ (λ (x y : ℕ). max x y) (own-is p q j l) (most-rows q b ks)
 
-  pub unused-columns : ((i : ℕ) → i < count p → op p i .queue < queues p) → (j q : ℕ) → q < 16 → queues p ≤ q → getD (row p j) q 0 ≡ 0
+  pub unused-columns : ((i : ℕ) → i < count p → op p i .queue < queues p) → (j q : ℕ) → q < 16 → queues p ≤ q →
+      getD (row p j) q 0 ≡ 0
   unused-columns in-range j q b l = row-at p j q b ∙ unused-zero p in-range j q l
 
   pub before-forces : Before-forces p
@@ -68,7 +70,8 @@ module _ (p : Plan) where
       let known : (j : ℕ) → j < count p → op p j .queue < queues p = λ j l. sound .in-range j l .queue in
       record {
         a-run = standard-runs p known;
-        has-all = λ r j h m. is-true (member j (standard p)) (λ n. clash (member j r) m (standard-lacks p known j n r h));
+        has-all = λ r j h m. is-true (member j (standard p))
+            (λ n. clash (member j r) m (standard-lacks p known j n r h));
         steps = standard-steps p;
         chosen = next-ready p;
         lowest = λ r j k e h. next-lowest p r j e k h;

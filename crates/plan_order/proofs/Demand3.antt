@@ -19,10 +19,12 @@ use Rattle.plan_order.specs.Check.{refused-at, order-refusal}
 use Rattle.plan_order.specs.Holdings.{marks-of, marks-buffer, Ask, asks, all-asks, broken}
 use Rattle.plan_order.specs.Promise.{Stuck-at, Broken-at, Safe, Demand-3}
 use Rattle.plan_order.specs.Runs.{enabled, ready, is-run, is-full, standard, missing}
-use Rattle.plan_order.proofs.Keeping.{Marks, asks-mark, asked-marks, all-asks-has, broken-some, broken-none, forced-met, unforced-breaks, keeps-by, keeps-no}
+use Rattle.plan_order.proofs.Keeping.{Marks, asks-mark, asked-marks, all-asks-has, broken-some, broken-none}
+use Rattle.plan_order.proofs.Keeping.{forced-met, unforced-breaks, keeps-by, keeps-no}
 use Rattle.plan_order.proofs.Raises.{run-raises}
 use Rattle.plan_order.proofs.Rows.{own}
-use Rattle.plan_order.proofs.Standard.{standard-runs, standard-lacks, goes-on, standard-full, missing-some, missing-none, full-run, full-has}
+use Rattle.plan_order.proofs.Standard.{standard-runs, standard-lacks, goes-on, standard-full, missing-some}
+use Rattle.plan_order.proofs.Standard.{missing-none, full-run, full-has}
 
 -- ---- order-refusal, taken apart
 pub data Ordered (p : Plan) : Refusal → Type 0 where
@@ -38,12 +40,14 @@ order-cases p =
     (λ i e. rw e (stuck-there i e))
 
 module _ (p : Plan) (sound : Sound p) where
-  pub rules-good : (signals-refusal 0 p [] (p .operations) .number ≡ 0) × (waits-refusal 0 p (p .operations) .number ≡ 0)
+  pub rules-good : (signals-refusal 0 p [] (p .operations) .number ≡ 0) ×
+      (waits-refusal 0 p (p .operations) .number ≡ 0)
   unfolding rules-refusal or-else given
   rules-good =
       let a = signals-refusal 0 p [] (p .operations) in
       let z = sound .rules in
-      by-cases (eqb (a .number) 0) (λ t. (eqb-true (a .number) 0 t, rw t at z)) (λ f. absurd (eqb-false (a .number) 0 f (rw f at z)))
+      by-cases (eqb (a .number) 0) (λ t. (eqb-true (a .number) 0 t, rw t at z))
+      (λ f. absurd (eqb-false (a .number) 0 f (rw f at z)))
 
   signals-good : signals-refusal 0 p [] (p .operations) .number ≡ 0
   signals-good = rules-good .0
@@ -58,9 +62,11 @@ module _ (p : Plan) (sound : Sound p) where
   mark-known : (b i : ℕ) → Marks p b i → b < length (p .sizes)
   unfolding marks-buffer marks-of
   mark-known b i m =
-      marked-known (op p i .marks) (λ k l. sound .in-range i (m .inside) .marks k l) (ltb-true 0 (length (marks-of i b (op p i .marks))) (m .marking))
+      marked-known (op p i .marks) (λ k l. sound .in-range i (m .inside) .marks k l)
+      (ltb-true 0 (length (marks-of i b (op p i .marks))) (m .marking))
     where
-      marked-known : (ms : List Mark) → ((k : ℕ) → k < length ms → getD ms k (record { buffer = 0; kind = 0 }) .buffer < length (p .sizes)) →
+      marked-known : (ms : List Mark) →
+          ((k : ℕ) → k < length ms → getD ms k (record { buffer = 0; kind = 0 }) .buffer < length (p .sizes)) →
           0 < length (marks-of i b ms) → b < length (p .sizes)
       marked-known [] h l = absurd (not-suc-le-zero l)
       marked-known (m ∷ ms) h l =
@@ -78,7 +84,8 @@ module _ (p : Plan) (sound : Sound p) where
       record {
         inside = w .0;
         in-none = out;
-        no-full = λ r. is-false (is-full p r) (λ f. clash (member i r) (full-has p r f i (w .0)) (out r (full-run p r f .0)));
+        no-full = λ r. is-false (is-full p r)
+            (λ f. clash (member i r) (full-has p r f i (w .0)) (out r (full-run p r f .0)));
         lower = λ k l. (standard p, standard-runs p queue-known, w .2 k l);
       }
 
@@ -113,7 +120,8 @@ module _ (p : Plan) (sound : Sound p) where
   )
 
   -- a run of a safe plan that is not full goes on
-  goes-further : _≡_ {A = Option ℕ} (missing p) none → (r : List ℕ) → is-run p r ≡ true → length r < count p → (j : ℕ) × (is-run p (r ++ (j ∷ [])) ≡ true)
+  goes-further : _≡_ {A = Option ℕ} (missing p) none → (r : List ℕ) → is-run p r ≡ true → length r < count p →
+      (j : ℕ) × (is-run p (r ++ (j ∷ [])) ≡ true)
   unfolding is-run ready
   goes-further n r h l =
       let w = goes-on p queue-known (missing-none p queue-known n) r h l in
@@ -136,7 +144,10 @@ module _ (p : Plan) (sound : Sound p) where
       let b = broken-at i n e in
       record {
         only = refl;
-        exactly = ((λ z. absurd (omega arith)), (λ t. absurd (true≢false (sym (t .1 (b .run) (b .buffer) (b .full)) ∙ b .breaks))));
+        exactly = (
+          (λ z. absurd (omega arith)),
+          (λ t. absurd (true≢false (sym (t .1 (b .run) (b .buffer) (b .full)) ∙ b .breaks))),
+        );
         passed-place = λ z. absurd (omega arith);
         never-stuck = λ z. absurd (omega arith);
         raises = λ r h. run-raises p signals-good r h;

@@ -19,7 +19,9 @@ use Rattle.plan_format.specs.Plan.{Mark, Operation, Plan, empty-operation, coun
 use Rattle.plan_format.specs.Sound.{signals-refusal, waits-refusal}
 use Rattle.plan_order.specs.Precedence.{before}
 use Rattle.plan_order.specs.Runs.{is-full, ahead}
-use Rattle.plan_order.specs.Holdings.{Placed, placed, marks-of, marks-from, buffer-marks, marks-buffer, is-free, freed-by, free-after, Ask, use-asks, later-asks, asks-from, asks, asked-of, met, keeps, all-asks, has-broken, broken}
+use Rattle.plan_order.specs.Holdings.{Placed, placed, marks-of, marks-from, buffer-marks, marks-buffer, is-free}
+use Rattle.plan_order.specs.Holdings.{freed-by, free-after, Ask, use-asks, later-asks, asks-from, asks, asked-of}
+use Rattle.plan_order.specs.Holdings.{met, keeps, all-asks, has-broken, broken}
 use Rattle.plan_order.proofs.Precedence.{before-steps, unordered}
 
 -- ---- a fact of every mark's operation
@@ -44,21 +46,28 @@ after-may : (P : ℕ → Type 0) (g : Option ℕ) (m : Placed) → May P g → P
 unfolding free-after
 after-may P g m a b = by-cases (is-free m) (λ t. rw t b) (λ f. rw f a)
 
-marks-each : (P : ℕ → Type 0) (i b : ℕ) (ms : List Mark) → (0 < length (marks-of i b ms) → P i) → Each P (marks-of i b ms)
+marks-each : (P : ℕ → Type 0) (i b : ℕ) (ms : List Mark) → (0 < length (marks-of i b ms) → P i) →
+    Each P (marks-of i b ms)
 unfolding marks-of placed
 marks-each P i b [] h = tt
 marks-each P i b (m ∷ ms) h =
     by-cases (eqb (m .buffer) b)
-    (λ t. let h′ : 0 < suc (length (marks-of i b ms)) → P i = rw t at h in rw t (h′ (omega arith), marks-each P i b ms (λ l. h′ (omega arith))))
+    (λ t. let h′ : 0 < suc (length (marks-of i b ms)) → P i = rw t at h in
+    rw t (h′ (omega arith), marks-each P i b ms (λ l. h′ (omega arith))))
     (λ f. rw f (marks-each P i b ms (rw f at h)))
 
-from-each : (P : ℕ → Type 0) (i b : ℕ) (os : List Operation) → ((k : ℕ) → k < length os → 0 < length (marks-of (i + k) b (getD os k empty-operation .marks)) → P (i + k)) → Each P (marks-from i b os)
+from-each : (P : ℕ → Type 0) (i b : ℕ) (os : List Operation) →
+    ((k : ℕ) → k < length os → 0 < length (marks-of (i + k) b (getD os k empty-operation .marks)) → P (i + k)) →
+    Each P (marks-from i b os)
 unfolding marks-from
 from-each P i b [] h = tt
 from-each P i b (o ∷ os) h =
     each-append P (marks-of i b (o .marks)) (marks-from (suc i) b os)
-    (marks-each P i b (o .marks) (subst (λ (z : ℕ). 0 < length (marks-of z b (o .marks)) → P z) (omega arith) (h 0 (omega arith))))
-    (from-each P (suc i) b os (λ k l. subst (λ (z : ℕ). 0 < length (marks-of z b (getD os k empty-operation .marks)) → P z) (omega arith) (h (suc k) (omega arith))))
+    (marks-each P i b (o .marks)
+    (subst (λ (z : ℕ). 0 < length (marks-of z b (o .marks)) → P z) (omega arith) (h 0 (omega arith))))
+    (from-each P (suc i) b os
+    (λ k l. subst (λ (z : ℕ). 0 < length (marks-of z b (getD os k empty-operation .marks)) → P z) (omega arith)
+    (h (suc k) (omega arith))))
 
 -- an operation of the plan that marks the buffer
 pub record Marks (p : Plan) (b i : ℕ) : Type 0 where
@@ -69,7 +78,11 @@ buffer-each : (p : Plan) (b : ℕ) → Each (Marks p b) (buffer-marks p b)
 unfolding buffer-marks marks-buffer count op
 buffer-each p b =
     from-each (Marks p b) 0 b (p .operations) (λ k l h.
-    subst (λ (z : ℕ). Marks p b z) (sym (zero-add k)) (record { inside = l; marking = lt-ltb 0 (length (marks-of k b (op p k .marks))) (subst (λ (z : ℕ). 0 < length (marks-of z b (op p k .marks))) (zero-add k) h) }))
+    subst (λ (z : ℕ). Marks p b z) (sym (zero-add k)) (record {
+      inside = l;
+      marking = lt-ltb 0 (length (marks-of k b (op p k .marks)))
+          (subst (λ (z : ℕ). 0 < length (marks-of z b (op p k .marks))) (zero-add k) h);
+    }))
 
 -- both ends of what is asked satisfy what every mark's operation does
 module _ (P : ℕ → Type 0) where
@@ -81,21 +94,25 @@ module _ (P : ℕ → Type 0) where
   use-both m none x y a e = absurd (List·Memᴰ·not-nil e)
   use-both m (some f) x y a e =
       by-cases (is-free m) (λ t. absurd (List·Memᴰ·not-nil (rw t at e)))
-      (λ n. either (List·Memᴰ·cases-cons (rw n at e)) (λ q. subst (λ (z : Ask). Both z) (sym q) (x, y)) (λ z. absurd (List·Memᴰ·not-nil z)))
+      (λ n. either (List·Memᴰ·cases-cons (rw n at e)) (λ q. subst (λ (z : Ask). Both z) (sym q) (x, y))
+      (λ z. absurd (List·Memᴰ·not-nil z)))
 
   later-both : (m : Placed) (o : Option ℕ) → P (m .by) → May P o → (a : Ask) → List·Memᴰ a (later-asks m o) → Both a
   unfolding later-asks
   later-both m none x y a e = absurd (List·Memᴰ·not-nil e)
   later-both m (some f) x y a e =
-      either (List·Memᴰ·cases-cons e) (λ q. subst (λ (z : Ask). Both z) (sym q) (y, x)) (λ z. absurd (List·Memᴰ·not-nil z))
+      either (List·Memᴰ·cases-cons e) (λ q. subst (λ (z : Ask). Both z) (sym q) (y, x))
+      (λ z. absurd (List·Memᴰ·not-nil z))
 
-  asks-both : (g : Option ℕ) (ms : List Placed) → May P g → Each P ms → (a : Ask) → List·Memᴰ a (asks-from g ms) → Both a
+  asks-both : (g : Option ℕ) (ms : List Placed) → May P g → Each P ms → (a : Ask) →
+      List·Memᴰ a (asks-from g ms) → Both a
   unfolding asks-from
   asks-both g [] x y a e = absurd (List·Memᴰ·not-nil e)
   asks-both g (m ∷ ms) x y a e =
       let u = use-asks m (freed-by (m ∷ ms)) in
       either (List·Memᴰ·append-cases (u ++ later-asks m g) e)
-      (λ t. either (List·Memᴰ·append-cases u t) (λ v. use-both m (freed-by (m ∷ ms)) (y .0) (each-freed P (m ∷ ms) y) a v) (λ v. later-both m g (y .0) x a v))
+      (λ t. either (List·Memᴰ·append-cases u t)
+      (λ v. use-both m (freed-by (m ∷ ms)) (y .0) (each-freed P (m ∷ ms) y) a v) (λ v. later-both m g (y .0) x a v))
       (λ t. asks-both (free-after g m) ms (after-may P g m x (y .0)) (y .1) a t)
 
 pub asks-mark : (p : Plan) (b : ℕ) (a : Ask) → List·Memᴰ a (asks p b) → Marks p b (a .first) × Marks p b (a .then)
@@ -110,23 +127,28 @@ asked-marks p b a e =
     by-cases (a .same-allowed) (λ t. rw t (w .0)) (λ f. rw f (w .1))
 
 -- ---- what is asked of all buffers
-pub all-asks-gives : (p : Plan) (a : Ask) → List·Memᴰ a (all-asks p) → (b : ℕ) × (b < length (p .sizes)) × List·Memᴰ a (asks p b)
+pub all-asks-gives : (p : Plan) (a : Ask) → List·Memᴰ a (all-asks p) →
+    (b : ℕ) × (b < length (p .sizes)) × List·Memᴰ a (asks p b)
 unfolding all-asks
 all-asks-gives p a e =
     let w = join-gives (λ b. asks p b) (length (p .sizes)) 0 a e in (w .0, omega (arith, w .2), w .3)
 
-pub all-asks-has : (p : Plan) (b : ℕ) (a : Ask) → b < length (p .sizes) → List·Memᴰ a (asks p b) → List·Memᴰ a (all-asks p)
+pub all-asks-has : (p : Plan) (b : ℕ) (a : Ask) → b < length (p .sizes) → List·Memᴰ a (asks p b) →
+    List·Memᴰ a (all-asks p)
 unfolding all-asks
 all-asks-has p b a l e = join-has (λ b. asks p b) (length (p .sizes)) 0 b a zero-le (omega arith) e
 
 -- ---- met by one relation, so by a larger one; not met
-pub met-more : (f g : ℕ → ℕ → Bool) (a : Ask) → (f (a .first) (a .then) ≡ true → g (a .first) (a .then) ≡ true) → met f a ≡ true → met g a ≡ true
+pub met-more : (f g : ℕ → ℕ → Bool) (a : Ask) → (f (a .first) (a .then) ≡ true → g (a .first) (a .then) ≡ true) →
+    met f a ≡ true → met g a ≡ true
 unfolding met
 met-more f g a h e =
     let same = a .same-allowed && eqb (a .first) (a .then) in
-    either (or-cases same (f (a .first) (a .then)) e) (λ t. or-left same (g (a .first) (a .then)) t) (λ t. or-right same (g (a .first) (a .then)) (h t))
+    either (or-cases same (f (a .first) (a .then)) e) (λ t. or-left same (g (a .first) (a .then)) t)
+    (λ t. or-right same (g (a .first) (a .then)) (h t))
 
-pub not-met : (f g : ℕ → ℕ → Bool) (a : Ask) → met f a ≡ false → (f (a .first) (a .then) ≡ false) × (g (a .first) (a .then) ≡ false → met g a ≡ false)
+pub not-met : (f g : ℕ → ℕ → Bool) (a : Ask) → met f a ≡ false →
+    (f (a .first) (a .then) ≡ false) × (g (a .first) (a .then) ≡ false → met g a ≡ false)
 unfolding met
 not-met f g a e =
     let same = a .same-allowed && eqb (a .first) (a .then) in
@@ -153,15 +175,26 @@ module _ (p : Plan) where
       let a = w .0 in
       let g = all-asks-gives p a (w .1) in
       by-cases (eqb (asked-of a) i)
-      (λ t. (a, record { buffer = g .0; known = g .1; among = g .2; asked = eqb-true (asked-of a) i t; unforced = rw t at (w .2) }))
+      (λ t. (
+        a,
+        record {
+          buffer = g .0;
+          known = g .1;
+          among = g .2;
+          asked = eqb-true (asked-of a) i t;
+          unforced = rw t at (w .2);
+        },
+      ))
       (λ f. absurd (true≢false (let z : true ≡ false = rw f at (w .2) in z)))
 
-  unbroken-forces : (i : ℕ) → has-broken p (all-asks p) i ≡ false → (a : Ask) → List·Memᴰ a (all-asks p) → asked-of a ≡ i → met forced a ≡ true
+  unbroken-forces : (i : ℕ) → has-broken p (all-asks p) i ≡ false → (a : Ask) → List·Memᴰ a (all-asks p) →
+      asked-of a ≡ i → met forced a ≡ true
   unfolding has-broken
   unbroken-forces i e a m q =
       let test : Ask → Bool = λ a. not (eqb (asked-of a) i) || met forced a in
       let t = all-gives test (all-asks p) (not-false (all test (all-asks p)) e) a m in
-      either (or-cases (not (eqb (asked-of a) i)) (met forced a) t) (λ n. clash (eqb (asked-of a) i) (eq-eqb (asked-of a) i q) (not-true (eqb (asked-of a) i) n)) (λ u. u)
+      either (or-cases (not (eqb (asked-of a) i)) (met forced a) t)
+      (λ n. clash (eqb (asked-of a) i) (eq-eqb (asked-of a) i q) (not-true (eqb (asked-of a) i) n)) (λ u. u)
 
   pub broken-some : (i : ℕ) → broken p ≡ some i →
       ((a : Ask) × Breaks i a) × ((a : Ask) → List·Memᴰ a (all-asks p) → asked-of a < i → met forced a ≡ true)
@@ -174,22 +207,33 @@ module _ (p : Plan) where
   unfolding broken
   broken-none e a m =
       let g = all-asks-gives p a m in
-      unbroken-forces (asked-of a) (lowest-none (count p) (λ i. has-broken p (all-asks p) i) e (asked-of a) (asked-marks p (g .0) a (g .2) .inside)) a m refl
+      unbroken-forces (asked-of a) (lowest-none (count p)
+      (λ i. has-broken p (all-asks p) i) e (asked-of a) (asked-marks p (g .0) a (g .2) .inside)) a m refl
 
   module _ (signals-good : signals-refusal 0 p [] (p .operations) .number ≡ 0) where
     -- what before forces holds in every full run
-    pub forced-met : (r : List ℕ) → is-full p r ≡ true → (a : Ask) → met forced a ≡ true → met (λ i j. ahead r i j) a ≡ true
+    pub forced-met : (r : List ℕ) → is-full p r ≡ true → (a : Ask) → met forced a ≡ true →
+        met (λ i j. ahead r i j) a ≡ true
     unfolding ahead
     forced-met r full a e =
-        met-more forced (λ i j. ahead r i j) a (λ t. lt-ltb (step-of 0 r (a .first)) (step-of 0 r (a .then)) (before-steps p signals-good r full (a .first) (a .then) t)) e
+        met-more forced (λ i j. ahead r i j) a
+        (λ t. lt-ltb (step-of 0 r (a .first)) (step-of 0 r (a .then))
+        (before-steps p signals-good r full (a .first) (a .then) t)) e
 
-    module _ (waits-good : waits-refusal 0 p (p .operations) .number ≡ 0) (std : List ℕ) (std-full : is-full p std ≡ true) where
+    module _ (waits-good : waits-refusal 0 p (p .operations) .number ≡ 0) (std : List ℕ)
+        (std-full : is-full p std ≡ true) where
       -- a full run that does not have i ahead of j, where before does not force it
-      not-ahead : (i j : ℕ) → j < count p → before p i j ≡ false → (r : List ℕ) × (is-full p r ≡ true) × (ahead r i j ≡ false)
+      not-ahead : (i j : ℕ) → j < count p → before p i j ≡ false →
+          (r : List ℕ) × (is-full p r ≡ true) × (ahead r i j ≡ false)
       unfolding ahead
       not-ahead i j b n =
           by-cases (eqb i j)
-          (λ t. (std, std-full, subst (λ (z : ℕ). ltb (step-of 0 std i) (step-of 0 std z) ≡ false) (eqb-true i j t) (le-ltb (step-of 0 std i) (step-of 0 std i) (le-refl (step-of 0 std i)))))
+          (λ t. (
+            std,
+            std-full,
+            subst (λ (z : ℕ). ltb (step-of 0 std i) (step-of 0 std z) ≡ false) (eqb-true i j t)
+                (le-ltb (step-of 0 std i) (step-of 0 std i) (le-refl (step-of 0 std i))),
+          ))
           (λ f. let w = unordered p signals-good waits-good std std-full i j b (eqb-false i j f) n in
           (w .0, w .1, le-ltb (step-of 0 (w .0) i) (step-of 0 (w .0) j) (omega (arith, w .2))))
 
@@ -202,14 +246,17 @@ module _ (p : Plan) where
           (w .0, w .1, not-met forced (λ i j. ahead (w .0) i j) a e .1 (w .2))
 
 -- ---- keeping, by what is asked
-pub keeps-gives : (p : Plan) (r : List ℕ) (b : ℕ) → keeps p r b ≡ true → (a : Ask) → List·Memᴰ a (asks p b) → met (λ i j. ahead r i j) a ≡ true
+pub keeps-gives : (p : Plan) (r : List ℕ) (b : ℕ) → keeps p r b ≡ true → (a : Ask) → List·Memᴰ a (asks p b) →
+    met (λ i j. ahead r i j) a ≡ true
 unfolding keeps
 keeps-gives p r b h a m = all-gives (λ a. met (λ i j. ahead r i j) a) (asks p b) h a m
 
-pub keeps-by : (p : Plan) (r : List ℕ) (b : ℕ) → ((a : Ask) → List·Memᴰ a (asks p b) → met (λ i j. ahead r i j) a ≡ true) → keeps p r b ≡ true
+pub keeps-by : (p : Plan) (r : List ℕ) (b : ℕ) →
+    ((a : Ask) → List·Memᴰ a (asks p b) → met (λ i j. ahead r i j) a ≡ true) → keeps p r b ≡ true
 unfolding keeps
 keeps-by p r b h = all-by (λ a. met (λ i j. ahead r i j) a) (asks p b) h
 
-pub keeps-no : (p : Plan) (r : List ℕ) (b : ℕ) (a : Ask) → List·Memᴰ a (asks p b) → met (λ i j. ahead r i j) a ≡ false → keeps p r b ≡ false
+pub keeps-no : (p : Plan) (r : List ℕ) (b : ℕ) (a : Ask) → List·Memᴰ a (asks p b) → met (λ i j. ahead r i j) a ≡ false →
+    keeps p r b ≡ false
 unfolding keeps
 keeps-no p r b a m e = all-no (λ a. met (λ i j. ahead r i j) a) (asks p b) a m e

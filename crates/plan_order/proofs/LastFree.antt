@@ -58,13 +58,15 @@ module _ (p : Plan) (b : ℕ) (forced : (k : ℕ) → k < length (buffer-marks p
   by k = mark-at (buffer-marks p b) k .by
 
   -- a mark and the free of its own holding
-  own-free : (k n : ℕ) → k ≤ n → n < length (buffer-marks p b) → No-free (buffer-marks p b) k n → Frees (buffer-marks p b) n → At p (by k) (by n)
+  own-free : (k n : ℕ) → k ≤ n → n < length (buffer-marks p b) → No-free (buffer-marks p b) k n →
+      Frees (buffer-marks p b) n → At p (by k) (by n)
   own-free k n l inside none frees =
       by-cases (eqb k n) (λ t. inl (ap by (eqb-true k n t)))
       (λ f. forced k (omega arith) .own-free n (omega (arith, eqb-false k n f)) inside none frees)
 
   -- a mark and any free from it on; no free is passed from k up to n
-  later-free : (left k n l : ℕ) → n + left ≡ l → k ≤ n → l < length (buffer-marks p b) → No-free (buffer-marks p b) k n →
+  later-free : (left k n l : ℕ) → n + left ≡ l → k ≤ n → l < length (buffer-marks p b) →
+      No-free (buffer-marks p b) k n →
       Frees (buffer-marks p b) l → At p (by k) (by l)
   later-free zero k n l e low inside none frees =
       let same : n ≡ l = omega arith in
@@ -78,7 +80,8 @@ module _ (p : Plan) (b : ℕ) (forced : (k : ℕ) → k < length (buffer-marks p
       (later-free left (suc n) (suc n) l (omega arith) (omega arith) inside (λ m a c. absurd (omega arith)) frees)))
       (λ f. later-free left k (suc n) l (omega arith) (omega arith) inside
       (λ m a c g. by-cases (eqb m n)
-      (λ s. eqb-false (mark-at (buffer-marks p b) n .kind) 1 f (subst (λ (z : ℕ). Frees (buffer-marks p b) z) (eqb-true m n s) g))
+      (λ s. eqb-false (mark-at (buffer-marks p b) n .kind) 1 f
+      (subst (λ (z : ℕ). Frees (buffer-marks p b) z) (eqb-true m n s) g))
       (λ s. none m a (omega (arith, eqb-false m n s)) g)) frees)
 
   -- a buffer whose last mark is a free: every operation with a mark on it is the one that frees, or before it
@@ -111,7 +114,8 @@ module _ (p : Plan) (b : ℕ) (forced : (k : ℕ) → k < length (buffer-marks p
         let last = some-last (buffer-marks p b) m e in
         by-cases (sees m)
         (λ s. let seen = marked-seen q m last (free-kind m t) (seen-means p q (m .by) .0 s) in
-        rw s (all-by sees (buffer-marks p b) (λ n among. seen-means p q (n .by) .1 (seen (n .by) (mark-marked p b n among)))))
+        rw s (all-by sees (buffer-marks p b)
+        (λ n among. seen-means p q (n .by) .1 (seen (n .by) (mark-marked p b n among)))))
         (λ s. rw s (all-no sees (buffer-marks p b) m (last-in p q b m last) s))
 
     -- the number is that of the five-line table

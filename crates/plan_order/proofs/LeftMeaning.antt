@@ -38,7 +38,8 @@ front-take new old k l = take-append-le k new (drop (length new) old) l
 zeros-in : (k : ℕ) (old : List ℕ) → Zeros-left k old (in-front (replicate k 0) old)
 zeros-in k old = record {
   kept = front-kept k (replicate k 0) old (length-replicate k 0);
-  zero-at = λ i l. front-at (replicate k 0) old i 0 (omega (arith, length-replicate {A = ℕ} k 0)) ∙ getD-replicate k i 0 0 l;
+  zero-at = λ i l. front-at (replicate k 0) old i 0 (omega (arith, length-replicate {A = ℕ} k 0))
+      ∙ getD-replicate k i 0 0 l;
 }
 
 module _ (p : Plan) (old : List ℕ) where
@@ -79,9 +80,11 @@ module _ (p : Plan) (old : List ℕ) where
         ∙ take-append-le k (standard p) (ready-numbers p [] (standard p)) (omega arith)
 
     whole : take (count p) (in-front (run-list p) old) ≡ standard p
-    whole = run-front (count p) (le-refl (count p)) ∙ ap (λ (z : ℕ). take z (standard p)) (sym full) ∙ take-length (standard p)
+    whole = run-front (count p) (le-refl (count p)) ∙ ap (λ (z : ℕ). take z (standard p)) (sym full)
+        ∙ take-length (standard p)
 
-    ready-here : (k : ℕ) → k < count p → getD (in-front (run-list p) old) (count p + k) 0 ≡ number-ready p (take k (in-front (run-list p) old))
+    ready-here : (k : ℕ) → k < count p →
+        getD (in-front (run-list p) old) (count p + k) 0 ≡ number-ready p (take k (in-front (run-list p) old))
     ready-here k l =
         front-at (run-list p) old (count p + k) 0 (omega (arith, list-double))
         ∙ ap (λ (z : ℕ). getD (run-list p) (z + k) 0) (sym full) ∙ list-ready p k (omega arith)
@@ -100,6 +103,8 @@ module _ (p : Plan) (old : List ℕ) where
         record {
           kept = front-kept (2 * count p) (run-list p) old list-double;
           run = standard-means p in-range (take (count p) now) .0 (sym whole);
-          full = subst (Full-means p) (sym whole) (full-means p (standard p) .0 (run-full p (standard p) (standard-runs p in-range) full));
-          ready = λ k l. number-ready-means p (take k now) (front-runs k l) (getD now (count p + k) 0) .0 (sym (ready-here k l));
+          full = subst (Full-means p) (sym whole)
+              (full-means p (standard p) .0 (run-full p (standard p) (standard-runs p in-range) full));
+          ready = λ k l. number-ready-means p (take k now) (front-runs k l) (getD now (count p + k) 0) .0
+              (sym (ready-here k l));
         }

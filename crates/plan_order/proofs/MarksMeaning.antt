@@ -2,7 +2,9 @@
 use mathlib.Core.Path.{_≡_, refl, sym, ap, ap₂, _∙_, subst, subst₂}
 use mathlib.Core.Bool.{cond}
 use mathlib.Core.Logic.{_⊎_, inl, inr, _↔_}
-use mathlib.Core.List.{List, [], _∷_, _++_, map, map-append, List·Memᴰ, List·Memᴰ·head, List·Memᴰ·tail, List·Memᴰ·not-nil, List·Memᴰ·cases-cons, List·Memᴰ·append-cases, Memᴰ·append-left, Memᴰ·append-right}
+use mathlib.Core.List.{List, [], _∷_, _++_, map, map-append, List·Memᴰ, List·Memᴰ·head, List·Memᴰ·tail}
+use mathlib.Core.List.{List·Memᴰ·not-nil, List·Memᴰ·cases-cons, List·Memᴰ·append-cases, Memᴰ·append-left}
+use mathlib.Core.List.{Memᴰ·append-right}
 use Prim.Native.Nat.{ℕ, zero, suc, _+_, _<_}
 use native.Mathlib.Nat.{not-suc-le-zero, le-of-suc-le-suc, zero-add}
 use native.Mathlib.Omega.{arith}
@@ -33,7 +35,8 @@ located-same e f g = cc
 
 located-of : (i b n : ℕ) → List Mark → List Located
 located-of i b n [] = []
-located-of i b n (m ∷ ms) = cond (eqb (m .buffer) b) (located i n (m .kind) ∷ located-of i b (suc n) ms) (located-of i b (suc n) ms)
+located-of i b n (m ∷ ms) =
+    cond (eqb (m .buffer) b) (located i n (m .kind) ∷ located-of i b (suc n) ms) (located-of i b (suc n) ms)
 
 located-from : (i b : ℕ) → List Operation → List Located
 located-from i b [] = []
@@ -46,12 +49,14 @@ forget x = placed (x .by) (x .kind)
 of-forget : (i b n : ℕ) (ms : List Mark) → map forget (located-of i b n ms) ≡ marks-of i b ms
 unfolding located-of marks-of forget located
 of-forget i b n [] = refl
-of-forget i b n (m ∷ ms) = by-cases (eqb (m .buffer) b) (λ t. rw (t, of-forget i b (suc n) ms)) (λ f. rw f (of-forget i b (suc n) ms))
+of-forget i b n (m ∷ ms) =
+    by-cases (eqb (m .buffer) b) (λ t. rw (t, of-forget i b (suc n) ms)) (λ f. rw f (of-forget i b (suc n) ms))
 
 from-forget : (i b : ℕ) (os : List Operation) → map forget (located-from i b os) ≡ marks-from i b os
 unfolding located-from marks-from
 from-forget i b [] = refl
-from-forget i b (o ∷ os) = map-append forget (located-of i b 0 (o .marks)) (located-from (suc i) b os) ∙ rw (of-forget i b 0 (o .marks), from-forget (suc i) b os)
+from-forget i b (o ∷ os) = map-append forget (located-of i b 0 (o .marks)) (located-from (suc i) b os)
+    ∙ rw (of-forget i b 0 (o .marks), from-forget (suc i) b os)
 
 -- ---- each is a mark on the buffer
 abbrev mark-in : List Mark → (n : ℕ) → Mark
@@ -62,20 +67,39 @@ record Marking (b : ℕ) (ms : List Mark) (n kind : ℕ) : Type 0 where
   on-buffer : mark-in ms n .buffer ≡ b
   same-kind : mark-in ms n .kind ≡ kind
 
-of-only : (i b n : ℕ) (ms : List Mark) (x : Located) → List·Memᴰ x (located-of i b n ms) → (x .by ≡ i) × ((k : ℕ) × (x .place ≡ n + k) × Marking b ms k (x .kind))
+of-only : (i b n : ℕ) (ms : List Mark) (x : Located) → List·Memᴰ x (located-of i b n ms) →
+    (x .by ≡ i) × ((k : ℕ) × (x .place ≡ n + k) × Marking b ms k (x .kind))
 unfolding located-of located
 of-only i b n [] x t = absurd (List·Memᴰ·not-nil t)
 of-only i b n (m ∷ ms) x t =
     by-cases (eqb (m .buffer) b)
     (λ e. either (List·Memᴰ·cases-cons (rw e at t))
-    (λ q. (ap (λ (z : Located). z .by) q, (0, ap (λ (z : Located). z .place) q ∙ omega arith, record { inside = omega arith; on-buffer = eqb-true (m .buffer) b e; same-kind = sym (ap (λ (z : Located). z .kind) q) })))
+    (λ q. (
+      ap (λ (z : Located). z .by) q,
+      (
+        0,
+        ap (λ (z : Located). z .place) q ∙ omega arith,
+        record {
+          inside = omega arith;
+          on-buffer = eqb-true (m .buffer) b e;
+          same-kind = sym (ap (λ (z : Located). z .kind) q);
+        },
+      ),
+    ))
     (λ u. there (of-only i b (suc n) ms x u)))
     (λ f. there (of-only i b (suc n) ms x (rw f at t)))
   where
-    there : (x .by ≡ i) × ((k : ℕ) × (x .place ≡ suc n + k) × Marking b ms k (x .kind)) → (x .by ≡ i) × ((k : ℕ) × (x .place ≡ n + k) × Marking b (m ∷ ms) k (x .kind))
+    there : (x .by ≡ i) × ((k : ℕ) × (x .place ≡ suc n + k) × Marking b ms k (x .kind)) →
+        (x .by ≡ i) × ((k : ℕ) × (x .place ≡ n + k) × Marking b (m ∷ ms) k (x .kind))
     there w =
-        let g = w .1 in
-        (w .0, (suc (g .0), omega (arith, g .1), record { inside = omega (arith, g .2 .inside); on-buffer = g .2 .on-buffer; same-kind = g .2 .same-kind }))
+        let g = w .1 in (
+          w .0,
+          (
+            suc (g .0),
+            omega (arith, g .1),
+            record { inside = omega (arith, g .2 .inside); on-buffer = g .2 .on-buffer; same-kind = g .2 .same-kind },
+          ),
+        )
 
 from-only : (i b : ℕ) (os : List Operation) (x : Located) → List·Memᴰ x (located-from i b os) →
     (k : ℕ) × (x .by ≡ i + k) × Marking b (getD os k empty-operation .marks) (x .place) (x .kind)
@@ -83,32 +107,43 @@ unfolding located-from
 from-only i b [] x t = absurd (List·Memᴰ·not-nil t)
 from-only i b (o ∷ os) x t =
     either (List·Memᴰ·append-cases (located-of i b 0 (o .marks)) t)
-    (λ u. let w = of-only i b 0 (o .marks) x u in
-    (0, omega (arith, w .0), subst (λ (z : ℕ). Marking b (o .marks) z (x .kind)) (let e : w .1 .0 ≡ x .place = omega (arith, w .1 .1) in e) (w .1 .2)))
+    (λ u. let w = of-only i b 0 (o .marks) x u in (
+      0,
+      omega (arith, w .0),
+      subst (λ (z : ℕ). Marking b (o .marks) z (x .kind))
+          (let e : w .1 .0 ≡ x .place = omega (arith, w .1 .1) in e) (w .1 .2),
+    ))
     (λ u. let w = from-only (suc i) b os x u in (suc (w .0), omega (arith, w .1), w .2))
 
 -- ---- every mark on the buffer is there
-of-every : (i b n k : ℕ) (ms : List Mark) → k < length ms → mark-in ms k .buffer ≡ b → List·Memᴰ (located i (n + k) (mark-in ms k .kind)) (located-of i b n ms)
+of-every : (i b n k : ℕ) (ms : List Mark) → k < length ms → mark-in ms k .buffer ≡ b →
+    List·Memᴰ (located i (n + k) (mark-in ms k .kind)) (located-of i b n ms)
 unfolding located-of
 of-every i b n k [] l e = absurd (not-suc-le-zero l)
 of-every i b n zero (m ∷ ms) l e =
-    rw (eq-eqb (m .buffer) b e) (List·Memᴰ·head (ap (λ (z : ℕ). located i z (m .kind)) (let q : n + 0 ≡ n = omega arith in q)))
+    rw (eq-eqb (m .buffer) b e)
+    (List·Memᴰ·head (ap (λ (z : ℕ). located i z (m .kind)) (let q : n + 0 ≡ n = omega arith in q)))
 of-every i b n (suc k) (m ∷ ms) l e =
     let t : List·Memᴰ (located i (n + suc k) (mark-in ms k .kind)) (located-of i b (suc n) ms) =
-    subst (λ (z : ℕ). List·Memᴰ (located i z (mark-in ms k .kind)) (located-of i b (suc n) ms)) (let q : suc n + k ≡ n + suc k = omega arith in q)
+    subst (λ (z : ℕ). List·Memᴰ (located i z (mark-in ms k .kind)) (located-of i b (suc n) ms))
+    (let q : suc n + k ≡ n + suc k = omega arith in q)
     (of-every i b (suc n) k ms (le-of-suc-le-suc l) e) in
     by-cases (eqb (m .buffer) b) (λ u. rw u (List·Memᴰ·tail t)) (λ f. rw f t)
 
-from-every : (i b j n : ℕ) (os : List Operation) → n < length (getD os j empty-operation .marks) → mark-in (getD os j empty-operation .marks) n .buffer ≡ b →
+from-every : (i b j n : ℕ) (os : List Operation) → n < length (getD os j empty-operation .marks) →
+    mark-in (getD os j empty-operation .marks) n .buffer ≡ b →
     List·Memᴰ (located (i + j) n (mark-in (getD os j empty-operation .marks) n .kind)) (located-from i b os)
 unfolding located-from
 from-every i b j n [] l e = absurd (not-suc-le-zero l)
 from-every i b zero n (o ∷ os) l e =
     Memᴰ·append-left (located-from (suc i) b os)
-    (subst₂ (λ (y z : ℕ). List·Memᴰ (located y z (mark-in (o .marks) n .kind)) (located-of i b 0 (o .marks))) (let q : i ≡ i + 0 = omega arith in q) (zero-add n) (of-every i b 0 n (o .marks) l e))
+    (subst₂ (λ (y z : ℕ). List·Memᴰ (located y z (mark-in (o .marks) n .kind)) (located-of i b 0 (o .marks)))
+    (let q : i ≡ i + 0 = omega arith in q) (zero-add n) (of-every i b 0 n (o .marks) l e))
 from-every i b (suc j) n (o ∷ os) l e =
     Memᴰ·append-right (located-of i b 0 (o .marks))
-    (subst (λ (z : ℕ). List·Memᴰ (located z n (mark-in (getD os j empty-operation .marks) n .kind)) (located-from (suc i) b os)) (let q : suc i + j ≡ i + suc j = omega arith in q) (from-every (suc i) b j n os l e))
+    (subst
+    (λ (z : ℕ). List·Memᴰ (located z n (mark-in (getD os j empty-operation .marks) n .kind))
+    (located-from (suc i) b os)) (let q : suc i + j ≡ i + suc j = omega arith in q) (from-every (suc i) b j n os l e))
 
 -- ---- R30: by operation, then by place in its list
 abbrev Earlier : (x y : Located) → Type 0
@@ -137,7 +172,8 @@ unfolding located-from
 from-rising i b [] = pairwise-nil Earlier nowhere
 from-rising i b (o ∷ os) =
     pairwise-append Earlier nowhere (located-of i b 0 (o .marks)) (located-from (suc i) b os)
-    (λ x y t u. let v = of-only i b 0 (o .marks) x t in let w = from-only (suc i) b os y u in inl (omega (arith, v .0, w .1)))
+    (λ x y t u. let v = of-only i b 0 (o .marks) x t in let w = from-only (suc i) b os y u in
+    inl (omega (arith, v .0, w .1)))
     (of-rising i b 0 (o .marks)) (from-rising (suc i) b os)
 
 -- ---- the marks on a buffer
@@ -164,23 +200,31 @@ module _ (p : Plan) (b : ℕ) where
   unfolding forget placed
   same-kind k = ap (λ (z : Placed). z .kind) (mark-forget k)
 
-  marking : (k : ℕ) → k < length (buffer-marks p b) → Marking b (op p (mark-at (buffer-marks p b) k .by) .marks) (at all-located k .place) (at all-located k .kind)
+  marking : (k : ℕ) → k < length (buffer-marks p b) →
+      Marking b (op p (mark-at (buffer-marks p b) k .by) .marks) (at all-located k .place) (at all-located k .kind)
   unfolding op
   marking k l =
       let x = at all-located k in
       let w = from-only 0 b (p .operations) x (mem-at all-located nowhere k (omega (arith, long))) in
-      subst (λ (z : ℕ). Marking b (getD (p .operations) z empty-operation .marks) (x .place) (x .kind)) (let e : w .0 ≡ mark-at (buffer-marks p b) k .by = omega (arith, w .1, same-by k) in e) (w .2)
+      subst (λ (z : ℕ). Marking b (getD (p .operations) z empty-operation .marks) (x .place) (x .kind))
+      (let e : w .0 ≡ mark-at (buffer-marks p b) k .by = omega (arith, w .1, same-by k) in e) (w .2)
 
   found : (i n : ℕ) → n < length (op p i .marks) → own-mark p i n .buffer ≡ b →
       (k : ℕ) × (k < length (buffer-marks p b)) × (mark-at (buffer-marks p b) k .by ≡ i) × (at all-located k .place ≡ n)
   unfolding op located
   found i n l e =
       let x = located (0 + i) n (own-mark p i n .kind) in
-      let w = mem-place all-located nowhere x (from-every 0 b i n (p .operations) l e) in
-      (w .0, omega (arith, w .1, long), same-by (w .0) ∙ ap (λ (z : Located). z .by) (w .2) ∙ zero-add i, ap (λ (z : Located). z .place) (w .2))
+      let w = mem-place all-located nowhere x (from-every 0 b i n (p .operations) l e) in (
+        w .0,
+        omega (arith, w .1, long),
+        same-by (w .0) ∙ ap (λ (z : Located). z .by) (w .2) ∙ zero-add i,
+        ap (λ (z : Located). z .place) (w .2),
+      )
 
   ordered : (k l : ℕ) → k < l → l < length (buffer-marks p b) →
-      (mark-at (buffer-marks p b) k .by < mark-at (buffer-marks p b) l .by) ⊎ ((mark-at (buffer-marks p b) k .by ≡ mark-at (buffer-marks p b) l .by) × (at all-located k .place < at all-located l .place))
+      (mark-at (buffer-marks p b) k .by < mark-at (buffer-marks p b) l .by) ⊎
+      ((mark-at (buffer-marks p b) k .by ≡ mark-at (buffer-marks p b) l .by) ×
+      (at all-located k .place < at all-located l .place))
   ordered k l a c =
       either (from-rising 0 b (p .operations) k l a (omega (arith, long)))
       (λ t. inl (omega (arith, same-by k, same-by l))) (λ t. inr (omega (arith, t .0, same-by k, same-by l), t .1))
@@ -199,7 +243,8 @@ module _ (p : Plan) (b : ℕ) where
   pub mark-marked : (m : Placed) → List·Memᴰ m (buffer-marks p b) → Marked p b (m .by)
   mark-marked m t =
       let w = mem-place (buffer-marks p b) (record { by = 0; kind = 0 }) m t in
-      subst (λ (z : Placed). Marked p b (z .by)) (w .2) (at all-located (w .0) .place, marking (w .0) (w .1) .inside, marking (w .0) (w .1) .on-buffer)
+      subst (λ (z : Placed). Marked p b (z .by)) (w .2)
+      (at all-located (w .0) .place, marking (w .0) (w .1) .inside, marking (w .0) (w .1) .on-buffer)
 
   pub marked-mark : (i : ℕ) → Marked p b i → (m : Placed) × List·Memᴰ m (buffer-marks p b) × (m .by ≡ i)
   marked-mark i w =
@@ -239,7 +284,8 @@ module _ (p : Plan) (b : ℕ) where
     its-marks : (k : ℕ) → k < length ms → List·Memᴰ (its k) all-located
     unfolding op its
     its-marks k l =
-        subst (λ (z : Located). List·Memᴰ z all-located) (located-same (zero-add (mark-at ms k .by)) refl (w .same-kind k l))
+        subst (λ (z : Located). List·Memᴰ z all-located)
+        (located-same (zero-add (mark-at ms k .by)) refl (w .same-kind k l))
         (from-every 0 b (mark-at ms k .by) (w .place k) (p .operations) (w .inside k l) (w .on-buffer k l))
 
     its-in : (x : Located) → List·Memᴰ x its-located → List·Memᴰ x all-located
@@ -255,15 +301,20 @@ module _ (p : Plan) (b : ℕ) where
         let m = g .2 in
         let e = w .every (g .0) (x .place) (m .inside) (m .on-buffer) in
         let k = e .0 in
-        let kinds : mark-at ms k .kind ≡ x .kind = sym (w .same-kind k (e .1)) ∙ same-own (e .2) (e .3) ∙ m .same-kind in
+        let kinds : mark-at ms k .kind ≡ x .kind =
+        sym (w .same-kind k (e .1)) ∙ same-own (e .2) (e .3) ∙ m .same-kind in
         let same : its k ≡ x = located-same (e .2 ∙ (let q : g .0 ≡ x .by = omega (arith, g .1) in q)) (e .3) kinds in
-        subst (λ (z : Located). List·Memᴰ z its-located) (its-at k (e .1) ∙ same) (mem-at its-located nowhere k (omega (arith, e .1, its-long)))
+        subst (λ (z : Located). List·Memᴰ z its-located) (its-at k (e .1) ∙ same)
+        (mem-at its-located nowhere k (omega (arith, e .1, its-long)))
       where
         same-own : {i j m n : ℕ} → i ≡ j → m ≡ n → own-mark p i m .kind ≡ own-mark p j n .kind
         same-own e q = ap₂ (λ (y z : ℕ). own-mark p y z .kind) e q
 
     only-marks : buffer-marks p b ≡ ms
-    only-marks = marks-located ∙ ap (λ (z : List Located). map forget z) (pairwise-same Earlier nowhere strict all-located its-located (from-rising 0 b (p .operations)) its-rising in-its its-in) ∙ its-forget
+    only-marks =
+        marks-located
+        ∙ ap (λ (z : List Located). map forget z) (pairwise-same Earlier nowhere strict all-located its-located
+        (from-rising 0 b (p .operations)) its-rising in-its its-in) ∙ its-forget
       where
         strict : (x y : Located) → Earlier x y → Earlier y x → ⊥
         strict x y (inl a) (inl c) = omega arith

@@ -2,7 +2,8 @@
 use mathlib.Core.Path.{_≡_, refl, sym, ap, _∙_, subst}
 use mathlib.Core.Bool.{true, false≢true}
 use mathlib.Core.Logic.{_⊎_, inl, inr, _↔_}
-use mathlib.Core.List.{List, [], _∷_, List·Memᴰ, List·Memᴰ·head, List·Memᴰ·tail, List·Memᴰ·not-nil, List·Memᴰ·cases-cons}
+use mathlib.Core.List.{List, [], _∷_, List·Memᴰ, List·Memᴰ·head, List·Memᴰ·tail, List·Memᴰ·not-nil}
+use mathlib.Core.List.{List·Memᴰ·cases-cons}
 use Prim.Native.Nat.{ℕ, _<_}
 use native.Mathlib.Nat.{lt-irrefl}
 use native.Mathlib.Omega.{arith}
@@ -18,22 +19,26 @@ use Rattle.plan_order.proofs.Resolution.{Rests, rests-gives, rests-some
 use Rattle.plan_order.proofs.Readiness.{Why, by-queue, by-wait, direct-below, direct-why, direct-by}
 
 -- ---- signals of an operation, as a test and by membership
-value-in : (s v : ℕ) (xs : List Point) → signals-value s v xs ≡ true → (x : Point) × List·Memᴰ x xs × (x .semaphore ≡ s) × (x .value ≡ v)
+value-in : (s v : ℕ) (xs : List Point) → signals-value s v xs ≡ true →
+    (x : Point) × List·Memᴰ x xs × (x .semaphore ≡ s) × (x .value ≡ v)
 unfolding signals-value
 value-in s v [] h = absurd (false≢true h)
 value-in s v (x ∷ xs) h =
     either (value-cons s v x xs h) (λ d. (x, List·Memᴰ·head refl, d .0, d .1))
     (λ t. let w = value-in s v xs t in (w .0, List·Memᴰ·tail (w .1), w .2, w .3))
 
-in-value : (s v : ℕ) (xs : List Point) (x : Point) → List·Memᴰ x xs → x .semaphore ≡ s → x .value ≡ v → signals-value s v xs ≡ true
+in-value : (s v : ℕ) (xs : List Point) (x : Point) → List·Memᴰ x xs → x .semaphore ≡ s → x .value ≡ v →
+    signals-value s v xs ≡ true
 in-value s v [] x m a b = absurd (List·Memᴰ·not-nil m)
 in-value s v (y ∷ ys) x m a b =
-    either (List·Memᴰ·cases-cons m) (λ e. value-here s v y ys (ap (λ (z : Point). z .semaphore) (sym e) ∙ a) (ap (λ (z : Point). z .value) (sym e) ∙ b))
+    either (List·Memᴰ·cases-cons m)
+    (λ e. value-here s v y ys (ap (λ (z : Point). z .semaphore) (sym e) ∙ a) (ap (λ (z : Point). z .value) (sym e) ∙ b))
     (λ t. value-there s v y ys (in-value s v ys x t a b))
 
 module _ (p : Plan) where
   pub signals-means : (i s v : ℕ) → (signals-value s v (op p i .signals) ≡ true) ↔ Signals p i s v
-  signals-means i s v = (value-in s v (op p i .signals), (λ w. in-value s v (op p i .signals) (w .0) (w .1) (w .2) (w .3)))
+  signals-means i s v =
+      (value-in s v (op p i .signals), (λ w. in-value s v (op p i .signals) (w .0) (w .1) (w .2) (w .3)))
 
   signals-inside : (i s v : ℕ) → Signals p i s v → i < count p
   unfolding op count
@@ -54,24 +59,31 @@ module _ (p : Plan) where
     value-one : (i j s v : ℕ) → Signals p i s v → Signals p j s v → i ≡ j
     value-one i j s v a b =
         by-cases (ltb i j) (λ t. absurd (never-higher i j (ltb-true i j t) a b))
-        (λ f. by-cases (ltb j i) (λ t. absurd (never-higher j i (ltb-true j i t) b a)) (λ g. omega (arith, ltb-false i j f, ltb-false j i g)))
+        (λ f. by-cases (ltb j i) (λ t. absurd (never-higher j i (ltb-true j i t) b a))
+        (λ g. omega (arith, ltb-false i j f, ltb-false j i g)))
       where
         never-higher : (i j : ℕ) → i < j → Signals p i s v → Signals p j s v → ⊥
         never-higher i j l a b =
-            lt-irrefl v (rises p signals-good i j s v v l (signals-inside j s v b) (signals-means i s v .1 a) (signals-means j s v .1 b))
+            lt-irrefl v (rises p signals-good i j s v v l (signals-inside j s v b) (signals-means i s v .1 a)
+            (signals-means j s v .1 b))
 
     resolves-one : (w : Point) (i j : ℕ) → Resolves p w i → Resolves p w j → i ≡ j
     resolves-one w i j a b =
         let x = a .least j (b .value) (b .signalled) (b .enough) in
         let y = b .least i (a .value) (a .signalled) (a .enough) in
         let e : a .value ≡ b .value = omega arith in
-        value-one i j (w .semaphore) (b .value) (subst (λ (z : ℕ). Signals p i (w .semaphore) z) e (a .signalled)) (b .signalled)
+        value-one i j (w .semaphore) (b .value)
+        (subst (λ (z : ℕ). Signals p i (w .semaphore) z) e (a .signalled)) (b .signalled)
 
     pub rests-means : (w : Point) (i : ℕ) → (rests-on (resolve p w) i ≡ true) ↔ Resolves p w i
     rests-means w i = (
       (λ e. let g = rests-gives p w i e in subst (λ (z : ℕ). Resolves p w z) (g .2) (rests-resolves w (g .0) (g .1))),
-      (λ r. let x = rests-somewhere p w (r .above-zero) i (r .value) (signals-inside i (w .semaphore) (r .value) (r .signalled)) (signals-means i (w .semaphore) (r .value) .1 (r .signalled)) (r .enough) in
-          subst (λ (z : ℕ). rests-on (resolve p w) z ≡ true) (resolves-one w (x .0 .operation) i (rests-resolves w (x .0) (x .1)) r) (x .2)),
+      (λ r.
+          let x = rests-somewhere p w (r .above-zero) i (r .value)
+          (signals-inside i (w .semaphore) (r .value) (r .signalled))
+          (signals-means i (w .semaphore) (r .value) .1 (r .signalled)) (r .enough) in
+          subst (λ (z : ℕ). rests-on (resolve p w) z ≡ true)
+          (resolves-one w (x .0 .operation) i (rests-resolves w (x .0) (x .1)) r) (x .2)),
     )
 
     -- ---- directly before
@@ -79,9 +91,11 @@ module _ (p : Plan) where
     direct-means i j = (
       (λ e. record { operations = direct-below p i j e; why = of-why (direct-why p i j e) }),
       (λ d. direct-by p i j (d .operations .0) (d .operations .1)
-          (either (d .why) (λ w. by-queue (w .0) (w .1)) (λ w. by-wait (w .0) (w .1) (rests-means (w .0) i .1 (w .2))))),
+          (either (d .why) (λ w. by-queue (w .0) (w .1))
+          (λ w. by-wait (w .0) (w .1) (rests-means (w .0) i .1 (w .2))))),
     )
       where
-        of-why : Why p i j → ((i < j) × (op p i .queue ≡ op p j .queue)) ⊎ ((w : Point) × List·Memᴰ w (op p j .waits) × Resolves p w i)
+        of-why : Why p i j → ((i < j) × (op p i .queue ≡ op p j .queue)) ⊎
+            ((w : Point) × List·Memᴰ w (op p j .waits) × Resolves p w i)
         of-why (by-queue l q) = inl (l, q)
         of-why (by-wait w m t) = inr (w, m, rests-means w i .0 t)

@@ -15,13 +15,16 @@ use Rattle.plan_format.specs.Stored.{plan-in, plan-refusal}
 use Rattle.plan_format.specs.declared.Told.{Told}
 use Rattle.plan_format.proofs.RefusalNumbers.{none-or-zero}
 use Rattle.plan_format.proofs.Plans.{sound-in}
-use Rattle.plan_order.specs.Check.{room-refusal, Leaves, untouched, zeros, rows-and-run, Outcome, check-outcome, table-left, list-left, Says, Check-says}
+use Rattle.plan_order.specs.Check.{room-refusal, Leaves, untouched, zeros, rows-and-run, Outcome, check-outcome}
+use Rattle.plan_order.specs.Check.{table-left, list-left, Says, Check-says}
 use Rattle.plan_order.specs.Meaning.{Left-means}
 use Rattle.plan_order.specs.Promise.{Safe, unrefused, Demand-3-stored, check-outcome-in}
 use Rattle.plan_order.specs.Runs.{missing, standard}
-use Rattle.plan_order.proofs.LeftMeaning.{table-untouched, list-untouched, table-zeros, list-zeros, table-rows, list-run-left}
+use Rattle.plan_order.proofs.LeftMeaning.{table-untouched, list-untouched, table-zeros, list-zeros, table-rows}
+use Rattle.plan_order.proofs.LeftMeaning.{list-run-left}
 use Rattle.plan_order.proofs.Standard.{standard-full, missing-none, full-run}
-use Rattle.plan_order.proofs.CheckMeaning.{Check-case, plan-case, room-case, stuck-case, broken-case, pass-case, check-case, gives-of, check-means, passed-unrefused}
+use Rattle.plan_order.proofs.CheckMeaning.{Check-case, plan-case, room-case, stuck-case, broken-case, pass-case}
+use Rattle.plan_order.proofs.CheckMeaning.{check-case, gives-of, check-means, passed-unrefused}
 use Rattle.plan_order.proofs.Promises.{demand-3-stored}
 
 -- ---- what is left, by the outcome
@@ -48,7 +51,8 @@ module _ (p : Plan) (o : Outcome) (answer : ℕ) (r : Told) (t x l y : List ℕ)
   }
 
 -- ---- of the check
-runs-whole : (bs : List ℕ) → plan-refusal bs .number ≡ 0 → _≡_ {A = Option ℕ} (missing (plan-in bs)) none → Runs-whole (plan-in bs)
+runs-whole : (bs : List ℕ) → plan-refusal bs .number ≡ 0 → _≡_ {A = Option ℕ} (missing (plan-in bs)) none →
+    Runs-whole (plan-in bs)
 runs-whole bs good m =
     let p = plan-in bs in
     let known : (j : ℕ) → j < count p → op p j .queue < queues p = λ j l. sound-in bs good .in-range j l .queue in

@@ -46,22 +46,27 @@ module _ (p : Plan) where
   unfolding at-or-before
   at-or-down i k j t e =
       or-right (eqb i j) (before p i j)
-      (either (or-cases (eqb k j) (before p k j) t) (λ q. chain-before i j (once i j (subst (λ (z : ℕ). direct p i z ≡ true) (eqb-true k j q) e))) (λ b. before-down i k j e b))
+      (either (or-cases (eqb k j) (before p k j) t)
+      (λ q. chain-before i j (once i j (subst (λ (z : ℕ). direct p i z ≡ true) (eqb-true k j q) e)))
+      (λ b. before-down i k j e b))
 
   pub at-or-means : (i j : ℕ) → (at-or-before p i j ≡ true) ↔ ((i ≡ j) ⊎ Before p i j)
   unfolding at-or-before
   at-or-means i j = (
     (λ t. either (or-cases (eqb i j) (before p i j) t) (λ q. inl (eqb-true i j q)) (λ b. inr (before-chain i j b))),
-    (λ w. either w (λ q. or-left (eqb i j) (before p i j) (eq-eqb i j q)) (λ c. or-right (eqb i j) (before p i j) (chain-before i j c))),
+    (λ w. either w (λ q. or-left (eqb i j) (before p i j) (eq-eqb i j q))
+        (λ c. or-right (eqb i j) (before p i j) (chain-before i j c))),
   )
 
   module _ (signals-good : signals-refusal 0 p [] (p .operations) .number ≡ 0) where
     -- before, so at an earlier step of every run that has the later one
-    pub before-steps : (r : List ℕ) → is-full p r ≡ true → (i j : ℕ) → before p i j ≡ true → step-of 0 r i < step-of 0 r j
+    pub before-steps : (r : List ℕ) → is-full p r ≡ true → (i j : ℕ) → before p i j ≡ true →
+        step-of 0 r i < step-of 0 r j
     unfolding is-run
     before-steps r h i j e =
         let c = before-chain i j e in
-        chain-steps (count p) (enabled p) (direct p) (predecessors-run p signals-good) r i j (full-run p r h .0) (full-has p r h j (chain-below i j c .1)) c .1
+        chain-steps (count p) (enabled p) (direct p) (predecessors-run p signals-good) r i j (full-run p r h .0)
+        (full-has p r h j (chain-below i j c .1)) c .1
 
     pub not-itself : (r : List ℕ) → is-full p r ≡ true → (j : ℕ) → before p j j ≡ false
     not-itself r h j = is-false (before p j j) (λ t. lt-irrefl (step-of 0 r j) (before-steps r h j j t))
@@ -73,6 +78,7 @@ module _ (p : Plan) where
       unfolding is-run
       unordered f h i j b ne n =
           let r = full-run p f h in
-          let w = either-first (count p) (enabled p) (direct p) (predecessors-run p signals-good) (predecessors-suffice p waits-good) (λ i k e. direct-below p i k e .0) f (r .0) (omega (arith, r .1)) i j b ne
+          let w = either-first (count p) (enabled p) (direct p) (predecessors-run p signals-good)
+          (predecessors-suffice p waits-good) (λ i k e. direct-below p i k e .0) f (r .0) (omega (arith, r .1)) i j b ne
           (λ c. clash (before p i j) (chain-before i j c) n) in
           (w .0, run-full p (w .0) (w .1) (w .2 ∙ r .1), w .3)

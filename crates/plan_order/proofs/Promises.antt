@@ -14,8 +14,11 @@ use Rattle.plan_format.specs.Refusal.{Refusal, none-given, given}
 use Rattle.plan_format.specs.Sound.{Sound}
 use Rattle.plan_format.specs.Stored.{all-bytes, plan-in, plan-refusal}
 use Rattle.plan_format.proofs.Plans.{sound-in}
-use Rattle.plan_order.specs.Check.{room-refusal, order-refusal, zeros, rows-and-run, outcome, or-then, check-outcome}
-use Rattle.plan_order.specs.Promise.{Safe, Demand-3, unrefused, Demand-3-stored, Before-right, Before-forces, Standard-right, good, passed, Passed-keeps, Passed-runs, Never-stuck, Raises, Stuck-truly, Broken-truly, None-itself}
+use Rattle.plan_order.specs.Check.{room-refusal, order-refusal, zeros, rows-and-run, outcome, or-then}
+use Rattle.plan_order.specs.Check.{check-outcome}
+use Rattle.plan_order.specs.Promise.{Safe, Demand-3, unrefused, Demand-3-stored, Before-right, Before-forces}
+use Rattle.plan_order.specs.Promise.{Standard-right, good, passed, Passed-keeps, Passed-runs, Never-stuck, Raises}
+use Rattle.plan_order.specs.Promise.{Stuck-truly, Broken-truly, None-itself}
 use Rattle.plan_order.specs.Precedence.{Before}
 use Rattle.plan_order.specs.Runs.{enabled, ready, is-run, is-full}
 use Rattle.plan_order.proofs.Demand2.{before-forces, standard-right}
@@ -25,7 +28,8 @@ use Rattle.plan_order.proofs.Precedence.{before-chain, chain-before, no
 -- ---- what the tests of stored plans say
 pub good-sound : (bs : List ℕ) → good bs ≡ true → Sound (plan-in bs)
 unfolding good
-good-sound bs g = sound-in bs (eqb-true (plan-refusal bs .number) 0 (and-right (all-bytes bs) (eqb (plan-refusal bs .number) 0) g))
+good-sound bs g =
+    sound-in bs (eqb-true (plan-refusal bs .number) 0 (and-right (all-bytes bs) (eqb (plan-refusal bs .number) 0) g))
 
 passed-good : (bs : List ℕ) → passed bs ≡ true → (good bs ≡ true) × (order-refusal (plan-in bs) .number ≡ 0)
 unfolding passed
@@ -34,7 +38,8 @@ passed-good bs h = (
   eqb-true (order-refusal (plan-in bs) .number) 0 (and-right (good bs) (eqb (order-refusal (plan-in bs) .number) 0) h),
 )
 
-of-good : (bs : List ℕ) → good bs ≡ true → Demand-3 (plan-in bs) (order-refusal (plan-in bs) .number) (order-refusal (plan-in bs) .place)
+of-good : (bs : List ℕ) → good bs ≡ true →
+    Demand-3 (plan-in bs) (order-refusal (plan-in bs) .number) (order-refusal (plan-in bs) .place)
 of-good bs g = demand-3 (plan-in bs) (good-sound bs g)
 
 safe-passed : (bs : List ℕ) → passed bs ≡ true → Safe (plan-in bs)
@@ -79,7 +84,8 @@ none-itself-stored bs j h =
     let s = safe-passed bs h .0 in
     not-itself (plan-in bs) (rules-good (plan-in bs) (good-sound bs (g .0)) .0) (s .0) (s .1) j
 
-pub before-forces-stored : (bs : List ℕ) → passed bs ≡ true → (i j : ℕ) → i < count (plan-in bs) → j < count (plan-in bs) →
+pub before-forces-stored : (bs : List ℕ) → passed bs ≡ true → (i j : ℕ) → i < count (plan-in bs) →
+    j < count (plan-in bs) →
     Before (plan-in bs) i j ↔ ((r : List ℕ) → is-full (plan-in bs) r ≡ true → step-of 0 r i < step-of 0 r j)
 unfolding Before-forces
 before-forces-stored bs h =
@@ -98,13 +104,16 @@ demand-3-stored bs t l h =
     let b = room-refusal (count (plan-in bs)) t l in
     by-cases (eqb (a .number) 0)
     (λ x. by-cases (eqb (b .number) 0)
-    (λ y. rw (x, y) (either-way (order-refusal (plan-in bs)) (demand-3 (plan-in bs) (sound-in bs (eqb-true (a .number) 0 x)))))
+    (λ y. rw (x, y)
+    (either-way (order-refusal (plan-in bs)) (demand-3 (plan-in bs) (sound-in bs (eqb-true (a .number) 0 x)))))
     (λ y. absurd (true≢false (sym (let z : false ≡ true = rw (x, y) at h in z)))))
     (λ x. absurd (true≢false (sym (let z : false ≡ true = rw x at h in z))))
   where
     either-way : (f : Refusal) → Demand-3 (plan-in bs) (f .number) (f .place) →
-        Demand-3 (plan-in bs) (or-then (outcome f zeros) (outcome none-given rows-and-run) .refusal .number) (or-then (outcome f zeros) (outcome none-given rows-and-run) .refusal .place)
+        Demand-3 (plan-in bs) (or-then (outcome f zeros) (outcome none-given rows-and-run) .refusal .number)
+        (or-then (outcome f zeros) (outcome none-given rows-and-run) .refusal .place)
     either-way f d =
         by-cases (eqb (f .number) 0)
-        (λ z. rw z (subst (λ (k : ℕ). Demand-3 (plan-in bs) 0 k) (d .passed-place (eqb-true (f .number) 0 z)) (subst (λ (k : ℕ). Demand-3 (plan-in bs) k (f .place)) (eqb-true (f .number) 0 z) d)))
+        (λ z. rw z (subst (λ (k : ℕ). Demand-3 (plan-in bs) 0 k) (d .passed-place (eqb-true (f .number) 0 z))
+        (subst (λ (k : ℕ). Demand-3 (plan-in bs) k (f .place)) (eqb-true (f .number) 0 z) d)))
         (λ z. rw z d)

@@ -24,7 +24,8 @@ use Rattle.plan_order.specs.Check.{untouched, rows-and-run, outcome, or-
 use Rattle.plan_order.specs.Reuse.{number-of, verdict, question-refusal, reuse-outcome, Reuse-says}
 use Rattle.plan_order.specs.Meaning.{Verdict-table, Question-means, Left-means}
 use Rattle.plan_order.specs.Promise.{Safe, unrefused}
-use Rattle.plan_order.proofs.Asking.{plan-first, gives-asked, asked-own, asked-safe, asked-number, asked-leaves-by, asked-left}
+use Rattle.plan_order.proofs.Asking.{plan-first, gives-asked, asked-own, asked-safe, asked-number}
+use Rattle.plan_order.proofs.Asking.{asked-leaves-by, asked-left}
 use Rattle.plan_order.proofs.CheckMeaning.{check-means}
 use Rattle.plan_order.proofs.VerdictMeaning.{one-use, number-most, verdict-table}
 
@@ -160,5 +161,6 @@ module _ (bs : List ℕ) (q b : ℕ) (r : Told) (t x l y : List ℕ) (s : Reuse-
   pub question-most : r .answer ≤ 3
   question-most =
       by-cases (eqb (r .number) 0)
-      (λ t. let e = question-number (eqb-true (r .number) 0 t) in omega (arith, e, number-most (verdict (plan-in bs) q b)))
+      (λ t. let e = question-number (eqb-true (r .number) 0 t) in
+      omega (arith, e, number-most (verdict (plan-in bs) q b)))
       (λ f. let e = question-no-answer (eqb-false (r .number) 0 f) in omega arith)

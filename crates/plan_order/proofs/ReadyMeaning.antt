@@ -18,7 +18,8 @@ use Rattle.base_lists.proofs.Searches.{some-is, none-is}
 use Rattle.base_lists.proofs.Places.{tally-counts}
 use Rattle.order.proofs.Runs.{can-fresh, can-enabled}
 use Rattle.plan_format.specs.Plan.{Plan, count, op, queues}
-use Rattle.plan_order.specs.Runs.{enabled, ready, is-run, ready-on, standard, number-ready, ready-numbers, run-list}
+use Rattle.plan_order.specs.Runs.{enabled, ready, is-run, ready-on, standard, number-ready, ready-numbers}
+use Rattle.plan_order.specs.Runs.{run-list}
 use Rattle.plan_order.specs.Meaning.{Run-means, Ready-queue}
 use Rattle.plan_order.proofs.Readiness.{enabled-gives}
 use Rattle.plan_order.proofs.Standard.{ready-on-gives, ready-on-none}
@@ -29,12 +30,14 @@ module _ (p : Plan) (r : List ℕ) where
   not-earlier : (i j : ℕ) → ready p r i ≡ true → ready p r j ≡ true → op p i .queue ≡ op p j .queue → i < j → ⊥
   unfolding ready
   not-earlier i j a b q l =
-      clash (member i r) (enabled-gives p r j (can-enabled (count p) (enabled p) r j b) .earlier i l q) (can-fresh (count p) (enabled p) r i a)
+      clash (member i r) (enabled-gives p r j (can-enabled (count p) (enabled p) r j b) .earlier i l q)
+      (can-fresh (count p) (enabled p) r i a)
 
   pub one-ready : (i j : ℕ) → ready p r i ≡ true → ready p r j ≡ true → op p i .queue ≡ op p j .queue → i ≡ j
   one-ready i j a b q =
       by-cases (ltb i j) (λ t. absurd (not-earlier i j a b q (ltb-true i j t)))
-      (λ f. by-cases (ltb j i) (λ t. absurd (not-earlier j i b a (sym q) (ltb-true j i t))) (λ g. omega (arith, ltb-false i j f, ltb-false j i g)))
+      (λ f. by-cases (ltb j i) (λ t. absurd (not-earlier j i b a (sym q) (ltb-true j i t)))
+      (λ g. omega (arith, ltb-false i j f, ltb-false j i g)))
 
   -- ---- ready queues
   module _ (run : is-run p r ≡ true) where
@@ -71,7 +74,8 @@ module _ (p : Plan) where
   numbers-length r [] = refl
   numbers-length r (j ∷ js) = ap suc (numbers-length (r ++ (j ∷ [])) js)
 
-  numbers-at : (r js : List ℕ) (k : ℕ) → k < length js → getD (ready-numbers p r js) k 0 ≡ number-ready p (r ++ take k js)
+  numbers-at : (r js : List ℕ) (k : ℕ) → k < length js →
+      getD (ready-numbers p r js) k 0 ≡ number-ready p (r ++ take k js)
   unfolding ready-numbers
   numbers-at r [] k l = absurd (not-suc-le-zero l)
   numbers-at r (j ∷ js) zero l = rw append-nil
@@ -85,6 +89,7 @@ module _ (p : Plan) where
   unfolding run-list
   list-run k l = List·getD-append (standard p) (ready-numbers p [] (standard p)) 0 k l
 
-  pub list-ready : (k : ℕ) → k < length (standard p) → getD (run-list p) (length (standard p) + k) 0 ≡ number-ready p (take k (standard p))
+  pub list-ready : (k : ℕ) → k < length (standard p) →
+      getD (run-list p) (length (standard p) + k) 0 ≡ number-ready p (take k (standard p))
   unfolding run-list
   list-ready k l = getD-append-add (standard p) (ready-numbers p [] (standard p)) k 0 ∙ numbers-at [] (standard p) k l

@@ -3,7 +3,8 @@
 use mathlib.Core.Path.{_≡_, refl, sym, ap, _∙_, subst}
 use mathlib.Core.Bool.{true, false, false≢true}
 use mathlib.Core.Logic.{_⊎_, inl, inr}
-use mathlib.Core.List.{List, [], _∷_, List·Memᴰ, List·Memᴰ·head, List·Memᴰ·tail, List·Memᴰ·not-nil, List·Memᴰ·cases-cons, List·Memᴰ·append-cases, Memᴰ·append-left, Memᴰ·append-right}
+use mathlib.Core.List.{List, [], _∷_, List·Memᴰ, List·Memᴰ·head, List·Memᴰ·tail, List·Memᴰ·not-nil}
+use mathlib.Core.List.{List·Memᴰ·cases-cons, List·Memᴰ·append-cases, Memᴰ·append-left, Memᴰ·append-right}
 use mathlib.Core.Option.{Option, none, some}
 use Prim.Native.Nat.{ℕ, zero, suc, _+_, _-_, _≤_, _<_}
 use native.Mathlib.Nat.{le-of-suc-le-suc, not-suc-le-zero, le-refl}
@@ -21,17 +22,17 @@ abbrev pub no-point : Point
 no-point = record { semaphore = 0; value = 0 }
 
 -- ---- a list of signals has just those of its operations
-pub record Stands (i k : ℕ) (xs : List Point) (y : Signal) : Type 0 where
+pub record Signal-at (i k : ℕ) (xs : List Point) (y : Signal) : Type 0 where
   pub by-it : y .operation ≡ i
   pub low : k ≤ y .position
   pub high : y .position < length xs + k
   pub semaphore-there : getD xs (y .position - k) no-point .semaphore ≡ y .semaphore
   pub value-there-is : getD xs (y .position - k) no-point .value ≡ y .value
 
-of-stands : (i k : ℕ) (xs : List Point) (y : Signal) → List·Memᴰ y (signals-of i k xs) → Stands i k xs y
+of-signal-at : (i k : ℕ) (xs : List Point) (y : Signal) → List·Memᴰ y (signals-of i k xs) → Signal-at i k xs y
 unfolding signals-of
-of-stands i k [] y m = absurd (List·Memᴰ·not-nil m)
-of-stands i k (x ∷ xs) y m =
+of-signal-at i k [] y m = absurd (List·Memᴰ·not-nil m)
+of-signal-at i k (x ∷ xs) y m =
     either (List·Memᴰ·cases-cons m)
     (λ e. let o : y .operation ≡ i = ap (λ (z : Signal). z .operation) e in
     let q : y .position ≡ k = ap (λ (z : Signal). z .position) e in
@@ -40,10 +41,11 @@ of-stands i k (x ∷ xs) y m =
       by-it = o;
       low = omega arith;
       high = omega arith;
-      semaphore-there = ap (λ (n : ℕ). getD (x ∷ xs) n no-point .semaphore) here ∙ sym (ap (λ (z : Signal). z .semaphore) e);
+      semaphore-there = ap (λ (n : ℕ). getD (x ∷ xs) n no-point .semaphore) here
+          ∙ sym (ap (λ (z : Signal). z .semaphore) e);
       value-there-is = ap (λ (n : ℕ). getD (x ∷ xs) n no-point .value) here ∙ sym (ap (λ (z : Signal). z .value) e);
     })
-    (λ t. let w = of-stands i (suc k) xs y t in
+    (λ t. let w = of-signal-at i (suc k) xs y t in
     let next-one : y .position - k ≡ suc (y .position - suc k) = omega (arith, w .low) in
     record {
       by-it = w .by-it;
@@ -53,15 +55,23 @@ of-stands i k (x ∷ xs) y m =
       value-there-is = ap (λ (n : ℕ). getD (x ∷ xs) n no-point .value) next-one ∙ w .value-there-is;
     })
 
-of-has : (i k s v : ℕ) (xs : List Point) → signals-value s v xs ≡ true → (y : Signal) × List·Memᴰ y (signals-of i k xs) × (y .operation ≡ i) × (y .semaphore ≡ s) × (y .value ≡ v)
+of-has : (i k s v : ℕ) (xs : List Point) → signals-value s v xs ≡ true →
+    (y : Signal) × List·Memᴰ y (signals-of i k xs) × (y .operation ≡ i) × (y .semaphore ≡ s) × (y .value ≡ v)
 unfolding signals-of
 of-has i k s v [] h = absurd (false≢true (unfold signals-value in h))
 of-has i k s v (x ∷ xs) h =
     either (value-cons s v x xs h)
-    (λ e. (record { operation = i; position = k; semaphore = x .semaphore; value = x .value }, List·Memᴰ·head refl, refl, e .0, e .1))
+    (λ e. (
+      record { operation = i; position = k; semaphore = x .semaphore; value = x .value },
+      List·Memᴰ·head refl,
+      refl,
+      e .0,
+      e .1,
+    ))
     (λ t. let w = of-has i (suc k) s v xs t in (w .0, List·Memᴰ·tail (w .1), w .2, w .3, w .4))
 
-value-at : (s v : ℕ) (xs : List Point) (k : ℕ) → k < length xs → getD xs k no-point .semaphore ≡ s → getD xs k no-point .value ≡ v → signals-value s v xs ≡ true
+value-at : (s v : ℕ) (xs : List Point) (k : ℕ) → k < length xs → getD xs k no-point .semaphore ≡ s →
+    getD xs k no-point .value ≡ v → signals-value s v xs ≡ true
 value-at s v [] k l a b = absurd (not-suc-le-zero l)
 value-at s v (x ∷ xs) zero l a b = value-here s v x xs a b
 value-at s v (x ∷ xs) (suc k) l a b = value-there s v x xs (value-at s v xs k (le-of-suc-le-suc l) a b)
@@ -70,30 +80,32 @@ value-at s v (x ∷ xs) (suc k) l a b = value-there s v x xs (value-at s v xs k 
 pub record Signalled (os : List Operation) (i : ℕ) (y : Signal) : Type 0 where
   pub low : i ≤ y .operation
   pub high : y .operation < length os + i
-  pub stands : Stands (y .operation) 0 (getD os (y .operation - i) empty-operation .signals) y
+  pub listed : Signal-at (y .operation) 0 (getD os (y .operation - i) empty-operation .signals) y
 
 from-signalled : (i : ℕ) (os : List Operation) (y : Signal) → List·Memᴰ y (signals-from i os) → Signalled os i y
 unfolding signals-from
 from-signalled i [] y m = absurd (List·Memᴰ·not-nil m)
 from-signalled i (o ∷ os) y m =
     either (List·Memᴰ·append-cases (signals-of i 0 (o .signals)) m)
-    (λ t. let w = of-stands i 0 (o .signals) y t in
+    (λ t. let w = of-signal-at i 0 (o .signals) y t in
     let here : 0 ≡ y .operation - i = omega (arith, w .by-it) in
     record {
       low = omega (arith, w .by-it);
       high = omega (arith, w .by-it);
-      stands = subst (λ (n : ℕ). Stands (y .operation) 0 (getD (o ∷ os) n empty-operation .signals) y) here
-          (subst (λ (n : ℕ). Stands n 0 (o .signals) y) (sym (w .by-it)) w);
+      listed = subst (λ (n : ℕ). Signal-at (y .operation) 0 (getD (o ∷ os) n empty-operation .signals) y) here
+          (subst (λ (n : ℕ). Signal-at n 0 (o .signals) y) (sym (w .by-it)) w);
     })
     (λ t. let w = from-signalled (suc i) os y t in
     let further : suc (y .operation - suc i) ≡ y .operation - i = omega (arith, w .low) in
     record {
       low = omega (arith, w .low);
       high = omega (arith, w .high);
-      stands = subst (λ (n : ℕ). Stands (y .operation) 0 (getD (o ∷ os) n empty-operation .signals) y) further (w .stands);
+      listed = subst (λ (n : ℕ). Signal-at (y .operation) 0 (getD (o ∷ os) n empty-operation .signals) y) further
+          (w .listed);
     })
 
-from-has : (i s v : ℕ) (os : List Operation) (k : ℕ) → k < length os → signals-value s v (getD os k empty-operation .signals) ≡ true →
+from-has : (i s v : ℕ) (os : List Operation) (k : ℕ) → k < length os →
+    signals-value s v (getD os k empty-operation .signals) ≡ true →
     (y : Signal) × List·Memᴰ y (signals-from i os) × (y .operation ≡ i + k) × (y .semaphore ≡ s) × (y .value ≡ v)
 unfolding signals-from
 from-has i s v [] k l h = absurd (not-suc-le-zero l)
@@ -105,10 +117,13 @@ from-has i s v (o ∷ os) (suc k) l h =
     (w .0, Memᴰ·append-right (signals-of i 0 (o .signals)) (w .1), omega (arith, w .2), w .3, w .4)
 
 -- ---- the nearest of a list
-nearer-value : (x y : Signal) → (nearer x (some y) .value ≤ x .value) × (nearer x (some y) .value ≤ y .value) × ((nearer x (some y) ≡ x) ⊎ (nearer x (some y) ≡ y))
+nearer-value : (x y : Signal) →
+    (nearer x (some y) .value ≤ x .value) × (nearer x (some y) .value ≤ y .value) ×
+    ((nearer x (some y) ≡ x) ⊎ (nearer x (some y) ≡ y))
 unfolding nearer
 nearer-value x y =
-    by-cases (ltb (y .value) (x .value)) (λ t. rw t (omega (arith, ltb-true (y .value) (x .value) t), le-refl (y .value), inr refl))
+    by-cases (ltb (y .value) (x .value))
+    (λ t. rw t (omega (arith, ltb-true (y .value) (x .value) t), le-refl (y .value), inr refl))
     (λ f. rw f (le-refl (x .value), ltb-false (y .value) (x .value) f, inl refl))
 
 pub record Nearest (w : Point) (xs : List Signal) (x : Signal) : Type 0 where
@@ -116,13 +131,16 @@ pub record Nearest (w : Point) (xs : List Signal) (x : Signal) : Type 0 where
   pub reaching : reaches w x ≡ true
   pub least : (y : Signal) → List·Memᴰ y xs → reaches w y ≡ true → x .value ≤ y .value
 
-nearest-none : (w : Point) (xs : List Signal) → _≡_ {A = Option Signal} (nearest w xs) none → (y : Signal) → List·Memᴰ y xs → reaches w y ≡ false
+nearest-none : (w : Point) (xs : List Signal) → _≡_ {A = Option Signal} (nearest w xs) none → (y : Signal) →
+    List·Memᴰ y xs → reaches w y ≡ false
 unfolding nearest
 nearest-none w [] e y m = absurd (List·Memᴰ·not-nil m)
 nearest-none w (x ∷ xs) e y m =
     by-cases (reaches w x)
-    (λ t. absurd (let z : some (nearer x (nearest w xs)) ≡ none = rw t at e in let q : _≡_ {A = ℕ} 0 1 = cc in omega arith))
-    (λ f. either (List·Memᴰ·cases-cons m) (λ q. ap (λ (z : Signal). reaches w z) q ∙ f) (λ t. nearest-none w xs (rw f at e) y t))
+    (λ t.
+    absurd (let z : some (nearer x (nearest w xs)) ≡ none = rw t at e in let q : _≡_ {A = ℕ} 0 1 = cc in omega arith))
+    (λ f. either (List·Memᴰ·cases-cons m) (λ q. ap (λ (z : Signal). reaches w z) q ∙ f)
+    (λ t. nearest-none w xs (rw f at e) y t))
 
 nearest-some : (w : Point) (xs : List Signal) (x : Signal) → nearest w xs ≡ some x → Nearest w xs x
 unfolding nearest nearer
@@ -134,26 +152,33 @@ nearest-some w (y ∷ ys) x e =
     subst (λ (z : Signal). Nearest w (y ∷ ys) z) same (record {
       among = List·Memᴰ·head refl;
       reaching = t;
-      least = λ z m r. either (List·Memᴰ·cases-cons m) (λ q. omega (arith, ap (λ (u : Signal). u .value) q)) (λ m′. clash (reaches w z) r (nearest-none w ys n z m′));
+      least = λ z m r. either (List·Memᴰ·cases-cons m) (λ q. omega (arith, ap (λ (u : Signal). u .value) q))
+          (λ m′. clash (reaches w z) r (nearest-none w ys n z m′));
     }))
     (λ b n. let same : nearer y (some b) ≡ x = let e′ : some (nearer y (some b)) ≡ some x = rw (t, n) at e in cc in
     let ih = nearest-some w ys b n in
     let v = nearer-value y b in
     subst (λ (z : Signal). Nearest w (y ∷ ys) z) same (record {
-      among = either (v .2) (λ q. List·Memᴰ·head q) (λ q. List·Memᴰ·tail (subst (λ (z : Signal). List·Memᴰ z ys) (sym q) (ih .among)));
-      reaching = either (v .2) (λ q. ap (λ (z : Signal). reaches w z) q ∙ t) (λ q. ap (λ (z : Signal). reaches w z) q ∙ ih .reaching);
-      least = λ z m r. either (List·Memᴰ·cases-cons m) (λ q. omega (arith, v .0, ap (λ (u : Signal). u .value) q)) (λ m′. omega (arith, v .1, ih .least z m′ r));
+      among = either (v .2) (λ q. List·Memᴰ·head q)
+          (λ q. List·Memᴰ·tail (subst (λ (z : Signal). List·Memᴰ z ys) (sym q) (ih .among)));
+      reaching = either (v .2) (λ q. ap (λ (z : Signal). reaches w z) q ∙ t)
+          (λ q. ap (λ (z : Signal). reaches w z) q ∙ ih .reaching);
+      least = λ z m r. either (List·Memᴰ·cases-cons m) (λ q. omega (arith, v .0, ap (λ (u : Signal). u .value) q))
+          (λ m′. omega (arith, v .1, ih .least z m′ r));
     })))
     (λ f. let ih = nearest-some w ys x (rw f at e) in
     record {
       among = List·Memᴰ·tail (ih .among);
       reaching = ih .reaching;
-      least = λ z m r. either (List·Memᴰ·cases-cons m) (λ q. clash (reaches w z) r (ap (λ (u : Signal). reaches w u) q ∙ f)) (λ m′. ih .least z m′ r);
+      least = λ z m r. either (List·Memᴰ·cases-cons m)
+          (λ q. clash (reaches w z) r (ap (λ (u : Signal). reaches w u) q ∙ f)) (λ m′. ih .least z m′ r);
     })
 
 pub reaches-by : (w : Point) (y : Signal) → y .semaphore ≡ w .semaphore → w .value ≤ y .value → reaches w y ≡ true
 unfolding reaches
-reaches-by w y a b = and-both (eqb (y .semaphore) (w .semaphore)) (leb (w .value) (y .value)) (eq-eqb (y .semaphore) (w .semaphore) a) (le-leb (w .value) (y .value) b)
+reaches-by w y a b =
+    and-both (eqb (y .semaphore) (w .semaphore)) (leb (w .value) (y .value)) (eq-eqb (y .semaphore) (w .semaphore) a)
+    (le-leb (w .value) (y .value) b)
 
 -- ---- what resolution says
 pub record Rests (p : Plan) (w : Point) (x : Signal) : Type 0 where
@@ -164,12 +189,15 @@ pub record Rests (p : Plan) (w : Point) (x : Signal) : Type 0 where
   pub value-there-is : getD (op p (x .operation) .signals) (x .position) no-point .value ≡ x .value
   pub signalled : signals-value (w .semaphore) (x .value) (op p (x .operation) .signals) ≡ true
   pub enough : w .value ≤ x .value
-  pub least : (i v : ℕ) → i < count p → signals-value (w .semaphore) v (op p i .signals) ≡ true → w .value ≤ v → x .value ≤ v
+  pub least : (i v : ℕ) → i < count p → signals-value (w .semaphore) v (op p i .signals) ≡ true →
+      w .value ≤ v → x .value ≤ v
 
-pub data Resolved (p : Plan) (w : Point) : Resolution → Type 0 where
-  at-zero : w .value ≡ 0 → Resolved p w at-once
-  at-signal : (x : Signal) → Rests p w x → Resolved p w (on x)
-  at-none : 0 < w .value → ((i v : ℕ) → i < count p → signals-value (w .semaphore) v (op p i .signals) ≡ true → v < w .value) → Resolved p w never
+pub data Resolution-case (p : Plan) (w : Point) : Resolution → Type 0 where
+  at-zero : w .value ≡ 0 → Resolution-case p w at-once
+  at-signal : (x : Signal) → Rests p w x → Resolution-case p w (on x)
+  at-none : 0 < w .value →
+      ((i v : ℕ) → i < count p → signals-value (w .semaphore) v (op p i .signals) ≡ true → v < w .value) →
+      Resolution-case p w never
 
 module _ (p : Plan) (w : Point) where
   rests : (x : Signal) → 0 < w .value → nearest w (plan-signals p) ≡ some x → Rests p w x
@@ -177,14 +205,19 @@ module _ (p : Plan) (w : Point) where
   rests x pos e =
       let n = nearest-some w (plan-signals p) x e in
       let s = from-signalled 0 (p .operations) x (n .among) in
-      let st = s .stands in
+      let st = s .listed in
       let r = n .reaching in
-      let sem = eqb-true (x .semaphore) (w .semaphore) (and-left (eqb (x .semaphore) (w .semaphore)) (leb (w .value) (x .value)) r) in
+      let sem = eqb-true (x .semaphore) (w .semaphore)
+      (and-left (eqb (x .semaphore) (w .semaphore)) (leb (w .value) (x .value)) r) in
       let at-it : x .operation - 0 ≡ x .operation = omega arith in
       let in-it : x .position - 0 ≡ x .position = omega arith in
-      let whole : Stands (x .operation) 0 (op p (x .operation) .signals) x = subst (λ (k : ℕ). Stands (x .operation) 0 (getD (p .operations) k empty-operation .signals) x) at-it st in
-      let sem-at : getD (op p (x .operation) .signals) (x .position) no-point .semaphore ≡ w .semaphore = ap (λ (k : ℕ). getD (op p (x .operation) .signals) k no-point .semaphore) (sym in-it) ∙ whole .semaphore-there ∙ sem in
-      let val-at : getD (op p (x .operation) .signals) (x .position) no-point .value ≡ x .value = ap (λ (k : ℕ). getD (op p (x .operation) .signals) k no-point .value) (sym in-it) ∙ whole .value-there-is in
+      let whole : Signal-at (x .operation) 0 (op p (x .operation) .signals) x =
+      subst (λ (k : ℕ). Signal-at (x .operation) 0 (getD (p .operations) k empty-operation .signals) x) at-it st in
+      let sem-at : getD (op p (x .operation) .signals) (x .position) no-point .semaphore ≡ w .semaphore =
+      ap (λ (k : ℕ). getD (op p (x .operation) .signals) k no-point .semaphore) (sym in-it)
+      ∙ whole .semaphore-there ∙ sem in
+      let val-at : getD (op p (x .operation) .signals) (x .position) no-point .value ≡ x .value =
+      ap (λ (k : ℕ). getD (op p (x .operation) .signals) k no-point .value) (sym in-it) ∙ whole .value-there-is in
       let inside-it : x .position < length (op p (x .operation) .signals) = omega (arith, whole .high) in
       record {
         above = pos;
@@ -192,42 +225,50 @@ module _ (p : Plan) (w : Point) where
         place-inside = inside-it;
         semaphore-there = sem-at;
         value-there-is = val-at;
-        signalled = value-at (w .semaphore) (x .value) (op p (x .operation) .signals) (x .position) inside-it sem-at val-at;
-        enough = leb-true (w .value) (x .value) (and-right (eqb (x .semaphore) (w .semaphore)) (leb (w .value) (x .value)) r);
+        signalled = value-at (w .semaphore) (x .value) (op p (x .operation) .signals)
+            (x .position) inside-it sem-at val-at;
+        enough = leb-true (w .value) (x .value)
+            (and-right (eqb (x .semaphore) (w .semaphore)) (leb (w .value) (x .value)) r);
         least = λ i v l g h. let y = from-has 0 (w .semaphore) v (p .operations) i l g in
             omega (arith, y .4, n .least (y .0) (y .1) (reaches-by w (y .0) (y .3) (omega (arith, y .4))));
       }
 
-  never-rests : 0 < w .value → _≡_ {A = Option Signal} (nearest w (plan-signals p)) none → (i v : ℕ) → i < count p → signals-value (w .semaphore) v (op p i .signals) ≡ true → v < w .value
+  never-rests : 0 < w .value → _≡_ {A = Option Signal} (nearest w (plan-signals p)) none → (i v : ℕ) → i < count p →
+      signals-value (w .semaphore) v (op p i .signals) ≡ true → v < w .value
   unfolding plan-signals op count
   never-rests pos e i v l g =
       let y = from-has 0 (w .semaphore) v (p .operations) i l g in
       by-cases (ltb v (w .value)) (λ t. ltb-true v (w .value) t)
-      (λ f. clash (reaches w (y .0)) (reaches-by w (y .0) (y .3) (omega (arith, y .4, ltb-false v (w .value) f))) (nearest-none w (plan-signals p) e (y .0) (y .1)))
+      (λ f. clash (reaches w (y .0)) (reaches-by w (y .0) (y .3) (omega (arith, y .4, ltb-false v (w .value) f)))
+      (nearest-none w (plan-signals p) e (y .0) (y .1)))
 
-  pub resolve-is : Resolved p w (resolve p w)
+  pub resolve-is : Resolution-case p w (resolve p w)
   unfolding resolve resolution-of
   resolve-is =
       by-cases (eqb (w .value) 0)
       (λ t. rw t (at-zero (eqb-true (w .value) 0 t)))
       (λ f. let pos : 0 < w .value = omega (arith, eqb-false (w .value) 0 f) in
-      by-option (nearest w (plan-signals p)) (λ n. rw (f, n) (at-none pos (never-rests pos n))) (λ x n. rw (f, n) (at-signal x (rests x pos n))))
+      by-option (nearest w (plan-signals p)) (λ n. rw (f, n) (at-none pos (never-rests pos n)))
+      (λ x n. rw (f, n) (at-signal x (rests x pos n))))
 
   -- what a wait rests on
   pub rests-gives : (i : ℕ) → rests-on (resolve p w) i ≡ true → (x : Signal) × Rests p w x × (x .operation ≡ i)
   rests-gives i e = rests-of (resolve p w) resolve-is i e
     where
-      rests-of : (r : Resolution) → Resolved p w r → (i : ℕ) → rests-on r i ≡ true → (x : Signal) × Rests p w x × (x .operation ≡ i)
+      rests-of : (r : Resolution) → Resolution-case p w r → (i : ℕ) → rests-on r i ≡ true →
+          (x : Signal) × Rests p w x × (x .operation ≡ i)
       rests-of at-once d i e = absurd (false≢true (unfold rests-on in e))
       rests-of (on x) (at-signal _ t) i e = (x, t, eqb-true (x .operation) i (unfold rests-on in e))
       rests-of never d i e = absurd (false≢true (unfold rests-on in e))
 
   -- a wait above 0 that some signal reaches rests on an operation
-  pub rests-somewhere : 0 < w .value → (k v : ℕ) → k < count p → signals-value (w .semaphore) v (op p k .signals) ≡ true → w .value ≤ v →
+  pub rests-somewhere : 0 < w .value → (k v : ℕ) → k < count p →
+      signals-value (w .semaphore) v (op p k .signals) ≡ true → w .value ≤ v →
       (x : Signal) × Rests p w x × (rests-on (resolve p w) (x .operation) ≡ true)
   rests-somewhere pos k v l g h = rests-of (resolve p w) resolve-is
     where
-      rests-of : (r : Resolution) → Resolved p w r → (x : Signal) × Rests p w x × (rests-on r (x .operation) ≡ true)
+      rests-of : (r : Resolution) → Resolution-case p w r →
+          (x : Signal) × Rests p w x × (rests-on r (x .operation) ≡ true)
       rests-of at-once (at-zero z) = absurd (omega arith)
       rests-of (on x) (at-signal _ t) = (x, t, unfold rests-on in (eq-eqb (x .operation) (x .operation) refl))
       rests-of never (at-none a none-such) = absurd (omega (arith, none-such k v l g))

@@ -32,7 +32,8 @@ module _ (n t l : ℕ) where
       let table = room-for-means (16 * n) t in
       let list = room-for-means (2 * n) l in
       record {
-        table-short = λ h. let w = table .short h in rw (or-else-first a b (other-given a (λ z. omega (arith, w .0)))) w;
+        table-short = λ h. let w = table .short h in
+            rw (or-else-first a b (other-given a (λ z. omega (arith, w .0)))) w;
         list-short = λ h g. rw (or-else-second a b (table .enough h .0)) (list .short g);
         enough = λ h g. rw (or-else-second a b (table .enough h .0)) (list .enough g);
       }
@@ -41,5 +42,6 @@ module _ (n t l : ℕ) where
   pub room-nine : (room-refusal n t l .number ≡ 0) ⊎ (room-refusal n t l .number ≡ 9)
   room-nine =
       by-cases (ltb t (16 * n)) (λ a. inr (room-means .table-short (ltb-true t (16 * n) a) .0))
-      (λ a. by-cases (ltb l (2 * n)) (λ b. inr (room-means .list-short (ltb-false t (16 * n) a) (ltb-true l (2 * n) b) .0))
+      (λ a. by-cases (ltb l (2 * n))
+      (λ b. inr (room-means .list-short (ltb-false t (16 * n) a) (ltb-true l (2 * n) b) .0))
       (λ b. inl (room-means .enough (ltb-false t (16 * n) a) (ltb-false l (2 * n) b) .0)))

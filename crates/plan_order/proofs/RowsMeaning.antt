@@ -37,7 +37,8 @@ module _ (p : Plan) where
         (λ w. (w .0, eqb-true (op p i .queue) q (and-left a b (w .1)), at-or-means p i j .0 (and-right a b (w .1)))),
       )) many
 
-  pub rows-means : (j q many : ℕ) → j < count p → q < 16 → (getD (rows p) (16 * j + q) 0 ≡ many) ↔ Counts (In-column p j q) many
+  pub rows-means : (j q many : ℕ) → j < count p → q < 16 →
+      (getD (rows p) (16 * j + q) 0 ≡ many) ↔ Counts (In-column p j q) many
   rows-means j q many l b = (
     (λ e. entry-means j q many .0 (sym (rows-at p j q l b) ∙ e)),
     (λ c. rows-at p j q l b ∙ entry-means j q many .1 c),

@@ -22,13 +22,15 @@ use Rattle.plan_format.specs.Sound.{signals-refusal, waits-refusal}
 use Rattle.plan_order.specs.Runs.{reached, enabled, ready, is-run, is-full}
 use Rattle.plan_order.specs.Meaning.{Signals, Highest-signalled, Run-step, Run-means, Full-means, Ready-means}
 use Rattle.plan_order.proofs.Signals.{signals-value, value-under}
-use Rattle.plan_order.proofs.Readiness.{reached-has, reached-gives, enabled-gives, enabled-by, predecessors-run, predecessors-suffice}
+use Rattle.plan_order.proofs.Readiness.{reached-has, reached-gives, enabled-gives, enabled-by, predecessors-run}
+use Rattle.plan_order.proofs.Readiness.{predecessors-suffice}
 use Rattle.plan_order.proofs.OrderMeaning.{signals-means, direct-means}
 use Rattle.plan_order.proofs.Standard.{full-run, run-full, full-has}
 
 module _ (p : Plan) where
   -- ---- the value that a semaphore has reached is the highest signalled
-  signals-at : (s v i u : ℕ) (r : List ℕ) → Among r (length r) i → signals-value s u (op p i .signals) ≡ true → u ≡ v → (k : ℕ) × (k < length r) × Signals p (getD r k 0) s v
+  signals-at : (s v i u : ℕ) (r : List ℕ) → Among r (length r) i → signals-value s u (op p i .signals) ≡ true → u ≡ v →
+      (k : ℕ) × (k < length r) × Signals p (getD r k 0) s v
   signals-at s v i u r w h e =
       (w .0, w .1, subst₂ (λ (y z : ℕ). Signals p y s z) (sym (w .2)) e (signals-means p i s u .0 h))
 
@@ -37,18 +39,21 @@ module _ (p : Plan) where
     highest = λ k u l w. le-trans (value-under s u (op p (getD r k 0) .signals) (signals-means p (getD r k 0) s u .1 w))
         (reached-has p s r (getD r k 0) (member-at r k l));
     signalled = λ pos. let g = reached-gives p s (reached p s r) r pos (le-refl (reached p s r)) in
-        let under : g .1 ≤ reached p s r = le-trans (value-under s (g .1) (op p (g .0) .signals) (g .4)) (reached-has p s r (g .0) (g .2)) in
+        let under : g .1 ≤ reached p s r =
+        le-trans (value-under s (g .1) (op p (g .0) .signals) (g .4)) (reached-has p s r (g .0) (g .2)) in
         signals-at s (reached p s r) (g .0) (g .1) r (member-place r (g .0) (g .2)) (g .4) (omega (arith, g .3));
   }
 
   highest-one : (s : ℕ) (r : List ℕ) (u v : ℕ) → Highest-signalled p s r u → Highest-signalled p s r v → u ≤ v
   highest-one s r u v a b =
-      by-cases (ltb 0 u) (λ t. let w = a .signalled (ltb-true 0 u t) in b .highest (w .0) u (w .1) (w .2)) (λ f. omega (arith, ltb-false 0 u f))
+      by-cases (ltb 0 u) (λ t. let w = a .signalled (ltb-true 0 u t) in b .highest (w .0) u (w .1) (w .2))
+      (λ f. omega (arith, ltb-false 0 u f))
 
   pub reached-means : (s : ℕ) (r : List ℕ) (v : ℕ) → (reached p s r ≡ v) ↔ Highest-signalled p s r v
   reached-means s r v = (
     (λ e. subst (λ (z : ℕ). Highest-signalled p s r z) e (reached-highest s r)),
-    (λ h. let a = highest-one s r (reached p s r) v (reached-highest s r) h in let b = highest-one s r v (reached p s r) h (reached-highest s r) in omega arith),
+    (λ h. let a = highest-one s r (reached p s r) v (reached-highest s r) h in
+        let b = highest-one s r v (reached p s r) h (reached-highest s r) in omega arith),
   )
 
   -- ---- runs
@@ -60,7 +65,8 @@ module _ (p : Plan) where
       let e = enabled-gives p (take k r) j (can-enabled (count p) (enabled p) (take k r) j c) in
       record {
         operation = can-below (count p) (enabled p) (take k r) j c;
-        distinct = λ w. clash (member j (take k r)) (place-take r k j short w) (can-fresh (count p) (enabled p) (take k r) j c);
+        distinct = λ w. clash (member j (take k r)) (place-take r k j short w)
+            (can-fresh (count p) (enabled p) (take k r) j c);
         earlier = λ i b q. take-place r k i short (e .earlier i b q);
         waits = λ w m. (reached p (w .semaphore) (take k r), reached-highest (w .semaphore) (take k r), e .waits w m);
       }
@@ -74,7 +80,9 @@ module _ (p : Plan) where
       (is-false (member j (take k r)) (λ t. h .distinct (take-place r k j short t)))
       (enabled-by p (take k r) j (record {
         earlier = λ i b q. place-take r k i short (h .earlier i b q);
-        waits = λ w m. let g = h .waits w m in le-trans (g .2) (highest-one (w .semaphore) (take k r) (g .0) (reached p (w .semaphore) (take k r)) (g .1) (reached-highest (w .semaphore) (take k r)));
+        waits = λ w m. let g = h .waits w m in
+            le-trans (g .2) (highest-one (w .semaphore) (take k r) (g .0) (reached p (w .semaphore) (take k r)) (g .1)
+            (reached-highest (w .semaphore) (take k r)));
       }))
 
   pub run-means : (r : List ℕ) → (is-run p r ≡ true) ↔ Run-means p r
@@ -93,7 +101,8 @@ module _ (p : Plan) where
   full-means r = (
     (λ h. record { run = run-means r .0 (full-run p r h .0); every = λ i l. member-place r i (full-has p r h i l) }),
     (λ h. let t = run-means r .1 (h .run) in
-        run-full p r t (sized-full (count p) r (run-sized (count p) (enabled p) r t) (λ i l. place-member r i (h .every i l)))),
+        run-full p r t
+        (sized-full (count p) r (run-sized (count p) (enabled p) r t) (λ i l. place-member r i (h .every i l)))),
   )
 
   -- ---- ready: adding it gives a run
@@ -102,7 +111,8 @@ module _ (p : Plan) where
   ready-adds r j h =
       by-cases (ready p r j)
       (λ t. t ∙ sym (runs-snoc (count p) (enabled p) r j h t))
-      (λ f. f ∙ sym (is-false (is-run p (r ++ (j ∷ []))) (λ t. clash (ready p r j) (run-last (count p) (enabled p) r j t) f)))
+      (λ f. f
+      ∙ sym (is-false (is-run p (r ++ (j ∷ []))) (λ t. clash (ready p r j) (run-last (count p) (enabled p) r j t) f)))
 
   -- without refusals 6 to 8: what is directly before it has run
   pub ready-means : signals-refusal 0 p [] (p .operations) .number ≡ 0 → waits-refusal 0 p (p .operations) .number ≡ 0 →
@@ -112,8 +122,11 @@ module _ (p : Plan) where
     (λ c. record {
       operation = can-below (count p) (enabled p) r j c;
       not-run = λ w. clash (member j r) (place-member r j w) (can-fresh (count p) (enabled p) r j c);
-      before = λ i d. member-place r i (predecessors-run p signals-good r i j h (can-enabled (count p) (enabled p) r j c) (direct-means p signals-good i j .1 d));
+      before =
+          λ i d. member-place r i (predecessors-run p signals-good r i j h (can-enabled (count p) (enabled p) r j c)
+          (direct-means p signals-good i j .1 d));
     }),
     (λ m. can-by (count p) (enabled p) r j (m .operation) (is-false (member j r) (λ t. m .not-run (member-place r j t)))
-        (predecessors-suffice p waits-good r j (m .operation) (λ i d. place-member r i (m .before i (direct-means p signals-good i j .0 d))))),
+        (predecessors-suffice p waits-good r j (m .operation)
+        (λ i d. place-member r i (m .before i (direct-means p signals-good i j .0 d))))),
   )

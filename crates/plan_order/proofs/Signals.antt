@@ -10,10 +10,12 @@ use lib.Dec.{ltb, leb, eqb}
 use lib.ListN.{length, getD, take, getElem?}
 use lib.Seq.{getD-take}
 use borrow.Author.Tests.{ltb-false, leb-true, leb-false, eqb-true, eqb-false, eq-eqb, lt-ltb}
-use Rattle.base_lists.proofs.Tests.{by-cases, by-option, clash, is-false, and-left, and-right, and-both, or-cases, or-left, or-right, either}
+use Rattle.base_lists.proofs.Tests.{by-cases, by-option, clash, is-false, and-left, and-right, and-both, or-cases}
+use Rattle.base_lists.proofs.Tests.{or-left, or-right, either}
 use Rattle.plan_format.specs.Refusal.{refusal, none-given}
 use Rattle.plan_format.specs.Plan.{Point, Operation, Plan, empty-operation, count, op}
-use Rattle.plan_format.specs.Sound.{highest-in, highest, is-queue, owns, signals-number, signals-refusal, too-high, any-too-high, waits-refusal}
+use Rattle.plan_format.specs.Sound.{highest-in, highest, is-queue, owns, signals-number, signals-refusal, too-high}
+use Rattle.plan_format.specs.Sound.{any-too-high, waits-refusal}
 
 -- an operation's list signals s to v
 unfoldable pub signals-value : (s v : ℕ) → List Point → Bool
@@ -29,36 +31,48 @@ value-under s v (x ∷ xs) h =
     rw a (omega (arith, eqb-true (x .value) v (and-right (eqb (x .semaphore) s) (eqb (x .value) v) t))))
     (λ t. omega (arith, value-under s v xs t))
 
-pub value-here : (s v : ℕ) (x : Point) (xs : List Point) → x .semaphore ≡ s → x .value ≡ v → signals-value s v (x ∷ xs) ≡ true
+pub value-here : (s v : ℕ) (x : Point) (xs : List Point) → x .semaphore ≡ s → x .value ≡ v →
+    signals-value s v (x ∷ xs) ≡ true
 unfolding signals-value
 value-here s v x xs a b =
     or-left (eqb (x .semaphore) s && eqb (x .value) v) (signals-value s v xs)
     (and-both (eqb (x .semaphore) s) (eqb (x .value) v) (eq-eqb (x .semaphore) s a) (eq-eqb (x .value) v b))
 
-pub value-there : (s v : ℕ) (x : Point) (xs : List Point) → signals-value s v xs ≡ true → signals-value s v (x ∷ xs) ≡ true
+pub value-there : (s v : ℕ) (x : Point) (xs : List Point) → signals-value s v xs ≡ true →
+    signals-value s v (x ∷ xs) ≡ true
 unfolding signals-value
 value-there s v x xs h = or-right (eqb (x .semaphore) s && eqb (x .value) v) (signals-value s v xs) h
 
-pub value-cons : (s v : ℕ) (x : Point) (xs : List Point) → signals-value s v (x ∷ xs) ≡ true → ((x .semaphore ≡ s) × (x .value ≡ v)) ⊎ (signals-value s v xs ≡ true)
+pub value-cons : (s v : ℕ) (x : Point) (xs : List Point) → signals-value s v (x ∷ xs) ≡ true →
+    ((x .semaphore ≡ s) × (x .value ≡ v)) ⊎ (signals-value s v xs ≡ true)
 unfolding signals-value
 value-cons s v x xs h =
     either (or-cases (eqb (x .semaphore) s && eqb (x .value) v) (signals-value s v xs) h)
-    (λ t. inl (eqb-true (x .semaphore) s (and-left (eqb (x .semaphore) s) (eqb (x .value) v) t), eqb-true (x .value) v (and-right (eqb (x .semaphore) s) (eqb (x .value) v) t)))
+    (λ t. inl (
+      eqb-true (x .semaphore) s (and-left (eqb (x .semaphore) s) (eqb (x .value) v) t),
+      eqb-true (x .value) v (and-right (eqb (x .semaphore) s) (eqb (x .value) v) t),
+    ))
     (λ t. inr t)
 
-pub high-gives : (s v : ℕ) (xs : List Point) → 0 < v → v ≤ highest-in s xs → (y : ℕ) × (v ≤ y) × (signals-value s y xs ≡ true)
+pub high-gives : (s v : ℕ) (xs : List Point) → 0 < v → v ≤ highest-in s xs →
+    (y : ℕ) × (v ≤ y) × (signals-value s y xs ≡ true)
 unfolding highest-in
 high-gives s v [] a h = absurd (omega arith)
 high-gives s v (x ∷ xs) a h =
     by-cases (leb v (highest-in s xs))
-    (λ t. let w = high-gives s v xs a (leb-true v (highest-in s xs) t) in (w .0, w .1, value-there s (w .0) x xs (w .2)))
+    (λ t. let w = high-gives s v xs a (leb-true v (highest-in s xs) t) in
+    (w .0, w .1, value-there s (w .0) x xs (w .2)))
     (λ f. by-cases (eqb (x .semaphore) s)
-    (λ t. let h′ : v ≤ max (x .value) (highest-in s xs) = rw t at h in
-    (x .value, omega (arith, leb-false v (highest-in s xs) f), value-here s (x .value) x xs (eqb-true (x .semaphore) s t) refl))
+    (λ t. let h′ : v ≤ max (x .value) (highest-in s xs) = rw t at h in (
+      x .value,
+      omega (arith, leb-false v (highest-in s xs) f),
+      value-here s (x .value) x xs (eqb-true (x .semaphore) s t) refl,
+    ))
     (λ g. let h′ : v ≤ max 0 (highest-in s xs) = rw g at h in absurd (omega (arith, leb-false v (highest-in s xs) f))))
 
 -- ---- over operations
-pub highest-gives : (s v : ℕ) (os : List Operation) → 0 < v → v ≤ highest s os → (i : ℕ) × (y : ℕ) × (v ≤ y) × (signals-value s y (getD os i empty-operation .signals) ≡ true)
+pub highest-gives : (s v : ℕ) (os : List Operation) → 0 < v → v ≤ highest s os →
+    (i : ℕ) × (y : ℕ) × (v ≤ y) × (signals-value s y (getD os i empty-operation .signals) ≡ true)
 unfolding highest
 highest-gives s v [] a h = absurd (omega arith)
 highest-gives s v (o ∷ os) a h =
@@ -66,7 +80,8 @@ highest-gives s v (o ∷ os) a h =
     (λ t. let w = highest-gives s v os a (leb-true v (highest s os) t) in (suc (w .0), w .1, w .2, w .3))
     (λ f. let w = high-gives s v (o .signals) a (omega (arith, leb-false v (highest s os) f)) in (0, w .0, w .1, w .2))
 
-pub highest-over : (s v : ℕ) (os : List Operation) (i : ℕ) → signals-value s v (getD os i empty-operation .signals) ≡ true → v ≤ highest s os
+pub highest-over : (s v : ℕ) (os : List Operation) (i : ℕ) →
+    signals-value s v (getD os i empty-operation .signals) ≡ true → v ≤ highest s os
 unfolding highest signals-value
 highest-over s v [] i h = absurd (false≢true h)
 highest-over s v (o ∷ os) zero h = omega (arith, value-under s v (o .signals) h)
@@ -74,7 +89,8 @@ highest-over s v (o ∷ os) (suc i) h = omega (arith, highest-over s v os i h)
 
 -- ---- refusals 6 to 8, none given
 -- a signal is the owner's, and above all signals before its operation
-pub number-none : (p : Plan) (q : ℕ) (bs : List Operation) (own xs : List Point) → signals-number p q bs own xs ≡ 0 → (s v : ℕ) → signals-value s v xs ≡ true →
+pub number-none : (p : Plan) (q : ℕ) (bs : List Operation) (own xs : List Point) → signals-number p q bs own xs ≡ 0 →
+    (s v : ℕ) → signals-value s v xs ≡ true →
     (owns p q s ≡ true) × (highest s bs < v)
 unfolding signals-number signals-value
 number-none p q bs own [] e s v h = absurd (false≢true h)
@@ -87,12 +103,16 @@ number-none p q bs own (x ∷ xs) e s v h =
     (λ u. either (value-cons s v x xs h)
     (λ d. (
       subst (λ (z : ℕ). owns p q z ≡ true) (d .0) t,
-      subst (λ (z : ℕ). highest z bs < v) (d .0) (omega (arith, d .1, leb-false (x .value) (max (highest (x .semaphore) bs) (highest-in (x .semaphore) own)) u)),
+      subst (λ (z : ℕ). highest z bs <
+          v) (d .0)
+          (omega
+          (arith, d .1, leb-false (x .value) (max (highest (x .semaphore) bs) (highest-in (x .semaphore) own)) u)),
     ))
     (λ d. number-none p q bs (x ∷ own) xs (rw (t, u) at e) s v d)))
     (λ f. absurd (let z : 6 ≡ 0 = rw f at e in omega arith))
 
-refusal-head : (i : ℕ) (p : Plan) (bs : List Operation) (o : Operation) (os : List Operation) → signals-refusal i p bs (o ∷ os) .number ≡ 0 →
+refusal-head : (i : ℕ) (p : Plan) (bs : List Operation) (o : Operation) (os : List Operation) →
+    signals-refusal i p bs (o ∷ os) .number ≡ 0 →
     (signals-number p (o .queue) bs [] (o .signals) ≡ 0) × (signals-refusal (suc i) p (bs ++ (o ∷ [])) os .number ≡ 0)
 unfolding signals-refusal refusal none-given
 refusal-head i p bs o os e =
@@ -100,12 +120,14 @@ refusal-head i p bs o os e =
     (λ t. (eqb-true (signals-number p (o .queue) bs [] (o .signals)) 0 t, rw t at e))
     (λ f. absurd (eqb-false (signals-number p (o .queue) bs [] (o .signals)) 0 f (rw f at e)))
 
-pub refusal-none : (i : ℕ) (p : Plan) (bs os : List Operation) → signals-refusal i p bs os .number ≡ 0 → (k : ℕ) → k < length os →
+pub refusal-none : (i : ℕ) (p : Plan) (bs os : List Operation) → signals-refusal i p bs os .number ≡ 0 → (k : ℕ) →
+    k < length os →
     signals-number p (getD os k empty-operation .queue) (bs ++ take k os) [] (getD os k empty-operation .signals) ≡ 0
 refusal-none i p bs [] e k l = absurd (not-suc-le-zero l)
 refusal-none i p bs (o ∷ os) e zero l = rw append-nil (refusal-head i p bs o os e .0)
 refusal-none i p bs (o ∷ os) e (suc k) l =
-    rw append-assoc at (refusal-none (suc i) p (bs ++ (o ∷ [])) os (refusal-head i p bs o os e .1) k (le-of-suc-le-suc l))
+    rw append-assoc
+    at (refusal-none (suc i) p (bs ++ (o ∷ [])) os (refusal-head i p bs o os e .1) k (le-of-suc-le-suc l))
 
 -- a wait is not above all signals
 pub too-high-none : (p : Plan) (w : Point) (ws : List Point) → any-too-high p (w ∷ ws) ≡ false →
@@ -117,19 +139,23 @@ too-high-none p w ws e =
     (λ t. absurd (let z : true ≡ false = rw t at e in true≢false z))
     (λ f. (
       (λ h. ltb-false (highest (w .semaphore) (p .operations)) (w .value)
-          (is-false high (λ u. clash (ltb 0 (w .value) && high) (and-both (ltb 0 (w .value)) high (lt-ltb 0 (w .value) h) u) f))),
+          (is-false high
+          (λ u. clash (ltb 0 (w .value) && high) (and-both (ltb 0 (w .value)) high (lt-ltb 0 (w .value) h) u) f))),
       (rw f at e),
     ))
 
-pub waits-none : (i : ℕ) (p : Plan) (os : List Operation) → waits-refusal i p os .number ≡ 0 → (k : ℕ) → k < length os → any-too-high p (getD os k empty-operation .waits) ≡ false
+pub waits-none : (i : ℕ) (p : Plan) (os : List Operation) → waits-refusal i p os .number ≡ 0 → (k : ℕ) → k < length os →
+    any-too-high p (getD os k empty-operation .waits) ≡ false
 unfolding waits-refusal refusal none-given
 waits-none i p [] e k l = absurd (not-suc-le-zero l)
 waits-none i p (o ∷ os) e zero l = is-false (any-too-high p (o .waits)) (λ t. let z : 8 ≡ 0 = rw t at e in omega arith)
 waits-none i p (o ∷ os) e (suc k) l =
-    by-cases (any-too-high p (o .waits)) (λ t. absurd (let z : 8 ≡ 0 = rw t at e in omega arith)) (λ f. waits-none (suc i) p os (rw f at e) k (le-of-suc-le-suc l))
+    by-cases (any-too-high p (o .waits)) (λ t. absurd (let z : 8 ≡ 0 = rw t at e in omega arith))
+    (λ f. waits-none (suc i) p os (rw f at e) k (le-of-suc-le-suc l))
 
 -- what signals is an operation of the list
-pub value-inside : (s v : ℕ) (os : List Operation) (k : ℕ) → signals-value s v (getD os k empty-operation .signals) ≡ true → k < length os
+pub value-inside : (s v : ℕ) (os : List Operation) (k : ℕ) →
+    signals-value s v (getD os k empty-operation .signals) ≡ true → k < length os
 unfolding signals-value
 value-inside s v [] k e = absurd (false≢true e)
 value-inside s v (o ∷ os) zero e = omega arith
@@ -140,20 +166,26 @@ owns-one : (p : Plan) (a b s : ℕ) → owns p a s ≡ true → owns p b s ≡ t
 unfolding owns is-queue
 owns-one p a b s h g =
     by-option (getElem? (p .owners) s) (λ n. absurd (false≢true (rw n at h)))
-    (λ o e. let x : eqb o a ≡ true = rw e at h in let y : eqb o b ≡ true = rw e at g in sym (eqb-true o a x) ∙ eqb-true o b y)
+    (λ o e. let x : eqb o a ≡ true = rw e at h in let y : eqb o b ≡ true = rw e at g in
+    sym (eqb-true o a x) ∙ eqb-true o b y)
 
 module _ (p : Plan) (signals-good : signals-refusal 0 p [] (p .operations) .number ≡ 0) where
-  pub signal-facts : (k s v : ℕ) → k < count p → signals-value s v (op p k .signals) ≡ true → (owns p (op p k .queue) s ≡ true) × (highest s (take k (p .operations)) < v)
+  pub signal-facts : (k s v : ℕ) → k < count p → signals-value s v (op p k .signals) ≡ true →
+      (owns p (op p k .queue) s ≡ true) × (highest s (take k (p .operations)) < v)
   unfolding op count
   signal-facts k s v l h =
-      number-none p (op p k .queue) (take k (p .operations)) [] (op p k .signals) (refusal-none 0 p [] (p .operations) signals-good k l) s v h
+      number-none p (op p k .queue) (take k (p .operations)) [] (op p k .signals)
+      (refusal-none 0 p [] (p .operations) signals-good k l) s v h
 
   -- one queue signals a semaphore
-  pub one-queue : (i k s v w : ℕ) → i < count p → k < count p → signals-value s v (op p i .signals) ≡ true → signals-value s w (op p k .signals) ≡ true → op p i .queue ≡ op p k .queue
-  one-queue i k s v w a b h g = owns-one p (op p i .queue) (op p k .queue) s (signal-facts i s v a h .0) (signal-facts k s w b g .0)
+  pub one-queue : (i k s v w : ℕ) → i < count p → k < count p → signals-value s v (op p i .signals) ≡ true →
+      signals-value s w (op p k .signals) ≡ true → op p i .queue ≡ op p k .queue
+  one-queue i k s v w a b h g =
+      owns-one p (op p i .queue) (op p k .queue) s (signal-facts i s v a h .0) (signal-facts k s w b g .0)
 
   -- a later operation signals higher
-  pub rises : (i k s v w : ℕ) → i < k → k < count p → signals-value s v (op p i .signals) ≡ true → signals-value s w (op p k .signals) ≡ true → v < w
+  pub rises : (i k s v w : ℕ) → i < k → k < count p → signals-value s v (op p i .signals) ≡ true →
+      signals-value s w (op p k .signals) ≡ true → v < w
   unfolding op
   rises i k s v w a b h g =
       let under : v ≤ highest s (take k (p .operations)) =

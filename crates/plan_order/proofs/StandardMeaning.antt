@@ -19,7 +19,8 @@ use Rattle.order.proofs.Turns.{run-take}
 use Rattle.plan_format.specs.Plan.{Plan, count, op, queues}
 use Rattle.plan_order.specs.Runs.{enabled, ready, is-run, standard, missing}
 use Rattle.plan_order.specs.Meaning.{Run-means, Full-means, Takes, Standard-means, Lowest-in-no-run}
-use Rattle.plan_order.proofs.Standard.{next-ready, next-lowest, standard-steps, standard-runs, standard-stuck, standard-lacks, standard-full, missing-some, missing-none}
+use Rattle.plan_order.proofs.Standard.{next-ready, next-lowest, standard-steps, standard-runs, standard-stuck}
+use Rattle.plan_order.proofs.Standard.{standard-lacks, standard-full, missing-some, missing-none}
 use Rattle.plan_order.proofs.RunMeaning.{run-means, full-means}
 use Rattle.plan_order.proofs.ReadyMeaning.{one-ready, ready-runs}
 
@@ -31,7 +32,8 @@ module _ (p : Plan) where
       let y = b .lowest i (a .ready) in
       one-ready p r i j (ready-runs p r h i .1 (a .ready)) (ready-runs p r h j .1 (b .ready)) (omega arith)
 
-  agree : (r s : List ℕ) → is-run p r ≡ true → Standard-means p r → Standard-means p s → (k : ℕ) → k ≤ length r → (k ≤ length s) × (take k r ≡ take k s)
+  agree : (r s : List ℕ) → is-run p r ≡ true → Standard-means p r → Standard-means p s → (k : ℕ) → k ≤ length r →
+      (k ≤ length s) × (take k r ≡ take k s)
   unfolding is-run
   agree r s h a b zero l = (zero-le, refl)
   agree r s h a b (suc k) l =
@@ -39,11 +41,20 @@ module _ (p : Plan) where
       let t = a .takes k l in
       let run = run-take (count p) (enabled p) r h k (omega arith) in
       by-cases (ltb k (length s))
-      (λ u. let short = ltb-true k (length s) u in
-      (short, take-suc r k 0 l ∙ same r s k (w .1) (takes-same (take k r) (getD r k 0) (getD s k 0) run t (subst (λ (z : List ℕ). Takes p z (getD s k 0)) (sym (w .1)) (b .takes k short))) ∙ sym (take-suc s k 0 short)))
-      (λ f. absurd (b .ends (getD r k 0) (subst (λ (z : List ℕ). Run-means p (z ++ (getD r k 0 ∷ []))) (w .1 ∙ take-all k s (ltb-false k (length s) f)) (t .ready))))
+      (λ u. let short = ltb-true k (length s) u in (
+        short,
+        take-suc r k 0 l
+            ∙ same r s k (w .1) (takes-same (take k r) (getD r k 0) (getD s k 0) run t
+            (subst (λ (z : List ℕ). Takes p z (getD s k 0)) (sym (w .1)) (b .takes k short)))
+            ∙ sym (take-suc s k 0 short),
+      ))
+      (λ f.
+      absurd
+      (b .ends (getD r k 0) (subst (λ (z : List ℕ). Run-means p (z ++ (getD r k 0 ∷ [])))
+      (w .1 ∙ take-all k s (ltb-false k (length s) f)) (t .ready))))
     where
-      same : (r s : List ℕ) (k : ℕ) → take k r ≡ take k s → getD r k 0 ≡ getD s k 0 → take k r ++ (getD r k 0 ∷ []) ≡ take k s ++ (getD s k 0 ∷ [])
+      same : (r s : List ℕ) (k : ℕ) → take k r ≡ take k s → getD r k 0 ≡ getD s k 0 →
+          take k r ++ (getD r k 0 ∷ []) ≡ take k s ++ (getD s k 0 ∷ [])
       same r s k e q = rw (e, q)
 
   module _ (in-range : (j : ℕ) → j < count p → op p j .queue < queues p) where
@@ -52,23 +63,27 @@ module _ (p : Plan) where
     is-standard = record {
       takes = λ k l.
           let t = take k (standard p) in
-          let run : is-run p t ≡ true = run-take (count p) (enabled p) (standard p) (standard-runs p in-range) k (omega arith) in
+          let run : is-run p t ≡ true = run-take (count p) (enabled p) (standard p) (standard-runs p in-range) k
+          (omega arith) in
           let j = getD (standard p) k 0 in
           let e = standard-steps p k l in
           record {
             ready = ready-runs p t run j .0 (next-ready p t j e);
             lowest = λ i h. next-lowest p t j e i (ready-runs p t run i .1 h);
           };
-      ends = λ j h. clash (ready p (standard p) j) (ready-runs p (standard p) (standard-runs p in-range) j .1 h) (standard-stuck p in-range j);
+      ends = λ j h. clash (ready p (standard p) j) (ready-runs p (standard p) (standard-runs p in-range) j .1 h)
+          (standard-stuck p in-range j);
     }
 
     standard-only : (r : List ℕ) → Standard-means p r → standard p ≡ r
     standard-only r h =
-        let w = agree (standard p) r (standard-runs p in-range) is-standard h (length (standard p)) (le-refl (length (standard p))) in
+        let w = agree (standard p) r (standard-runs p in-range) is-standard h (length (standard p))
+        (le-refl (length (standard p))) in
         let front : standard p ≡ take (length (standard p)) r = sym (take-length (standard p)) ∙ w .1 in
         by-cases (ltb (length (standard p)) (length r))
         (λ t. let x = h .takes (length (standard p)) (ltb-true (length (standard p)) (length r) t) in
-        absurd (is-standard .ends (getD r (length (standard p)) 0) (subst (λ (z : List ℕ). Run-means p (z ++ (getD r (length (standard p)) 0 ∷ []))) (sym front) (x .ready))))
+        absurd (is-standard .ends (getD r (length (standard p)) 0)
+        (subst (λ (z : List ℕ). Run-means p (z ++ (getD r (length (standard p)) 0 ∷ []))) (sym front) (x .ready))))
         (λ f. front ∙ take-all (length (standard p)) r (ltb-false (length (standard p)) (length r) f))
 
     pub standard-means : (r : List ℕ) → (standard p ≡ r) ↔ Standard-means p r
@@ -80,8 +95,13 @@ module _ (p : Plan) where
         let w = missing-some p in-range j e in
         record {
           operation = w .0;
-          in-no-run = λ r h a. clash (member j r) (place-member r j a) (standard-lacks p in-range j (w .1) r (run-means p r .1 h));
-          lowest = λ i l. (standard p, run-means p (standard p) .0 (standard-runs p in-range), member-place (standard p) i (w .2 i l));
+          in-no-run = λ r h a. clash (member j r) (place-member r j a)
+              (standard-lacks p in-range j (w .1) r (run-means p r .1 h));
+          lowest = λ i l. (
+            standard p,
+            run-means p (standard p) .0 (standard-runs p in-range),
+            member-place (standard p) i (w .2 i l),
+          );
         }
 
     none-full : _≡_ {A = Option ℕ} (missing p) none → Full-means p (standard p)
@@ -89,7 +109,8 @@ module _ (p : Plan) where
 
     not-lower : (i j : ℕ) → Lowest-in-no-run p i → Lowest-in-no-run p j → i ≤ j
     not-lower i j a b =
-        by-cases (ltb j i) (λ t. let w = a .lowest j (ltb-true j i t) in absurd (b .in-no-run (w .0) (w .1) (w .2))) (λ f. ltb-false j i f)
+        by-cases (ltb j i) (λ t. let w = a .lowest j (ltb-true j i t) in absurd (b .in-no-run (w .0) (w .1) (w .2)))
+        (λ f. ltb-false j i f)
 
     pub missing-means : (j : ℕ) → (missing p ≡ some j) ↔ Lowest-in-no-run p j
     missing-means j = (
@@ -103,5 +124,7 @@ module _ (p : Plan) where
     pub none-missing-means : _≡_ {A = Option ℕ} (missing p) none ↔ ((r : List ℕ) × Full-means p r)
     none-missing-means = (
       (λ e. (standard p, none-full e)),
-      (λ w. by-option (missing p) (λ e. e) (λ j e. let h = missing-lowest j e in absurd (h .in-no-run (w .0) (w .1 .run) (w .1 .every j (h .operation))))),
+      (λ w. by-option (missing p) (λ e. e)
+          (λ j e. let h = missing-lowest j e in
+          absurd (h .in-no-run (w .0) (w .1 .run) (w .1 .every j (h .operation))))),
     )

@@ -76,7 +76,8 @@ module _ (p : Plan) (q : ℕ) where
   last-means j = (
     last-gives j,
     (λ w. by-option (last-on p q)
-        (λ e. absurd (eqb-false (op p j .queue) q (highest-none (count p) (λ i. eqb (op p i .queue) q) e j (w .operation)) (w .own)))
+        (λ e. absurd (eqb-false (op p j .queue) q
+        (highest-none (count p) (λ i. eqb (op p i .queue) q) e j (w .operation)) (w .own)))
         (λ i e. e ∙ ap some (last-one i j (last-gives i e) w))),
   )
 
@@ -84,7 +85,8 @@ module _ (p : Plan) (q : ℕ) where
   pub seen-means : (i : ℕ) → (seen-by p (last-on p q) i ≡ true) ↔ Seen p q i
   unfolding seen-by
   seen-means i = (
-    (λ h. by-option (last-on p q) (λ e. absurd (false≢true (rw e at h))) (λ j e. (j, last-gives j e, at-or-means p i j .0 (rw e at h)))),
+    (λ h. by-option (last-on p q) (λ e. absurd (false≢true (rw e at h)))
+        (λ j e. (j, last-gives j e, at-or-means p i j .0 (rw e at h)))),
     (λ w. rw (last-means (w .0) .1 (w .1)) (at-or-means p i (w .0) .1 (w .2))),
   )
 
@@ -171,7 +173,9 @@ module _ (p : Plan) (q b : ℕ) where
   unfolding When
   table =
       by-option (last-mark marks)
-      (λ e. rw (is-fresh e) (λ i w. let x = marked-mark p b i w in List·Memᴰ·not-nil (subst (λ (z : List Placed). List·Memᴰ (x .0) z) (none-last marks e) (x .1))))
+      (λ e. rw (is-fresh e)
+      (λ i w. let x = marked-mark p b i w in
+      List·Memᴰ·not-nil (subst (λ (z : List Placed). List·Memᴰ (x .0) z) (none-last marks e) (x .1))))
       (λ m e. let last = some-last marks m e in
       by-cases (is-free m)
       (λ t. by-cases (all sees marks)
@@ -192,7 +196,9 @@ module _ (p : Plan) (q b : ℕ) where
 
   when-is : (v : Verdict) → When p q b v → verdict p q b ≡ v
   unfolding When
-  when-is Fresh w = by-option (last-mark marks) is-fresh (λ m e. absurd (w (m .by) (mark-marked p b m (last-in m (some-last marks m e)))))
+  when-is Fresh w =
+      by-option (last-mark marks) is-fresh
+      (λ m e. absurd (w (m .by) (mark-marked p b m (last-in m (some-last marks m e)))))
   when-is Held w = is-held (w .0) (last-is (w .0) (w .1)) (kind-use (w .0) (w .2))
   when-is Reusable w =
       let m = w .0 in
@@ -219,4 +225,5 @@ module _ (p : Plan) (q b : ℕ) where
   }
     where
       numbered : (v : Verdict) → (number-of (verdict p q b) ≡ number-of v) ↔ When p q b v
-      numbered v = ((λ e. verdict-means v .0 (number-one (verdict p q b) v e)), (λ w. ap number-of (verdict-means v .1 w)))
+      numbered v =
+          ((λ e. verdict-means v .0 (number-one (verdict p q b) v e)), (λ w. ap number-of (verdict-means v .1 w)))

@@ -48,7 +48,8 @@ verdict p q b = let ms = buffer-marks p b in verdict-on p (last-on p q) ms (last
 -- R49, refusals 12 and 13: no such queue, then no such buffer, with the number that was asked
 unfoldable pub question-refusal : Plan → (q b : ℕ) → Refusal
 question-refusal p q b =
-    or-else (cond (leb (queues p) q) (refusal 12 q) none-given) (cond (leb (length (p .sizes)) b) (refusal 13 b) none-given)
+    or-else (cond (leb (queues p) q) (refusal 12 q) none-given)
+    (cond (leb (length (p .sizes)) b) (refusal 13 b) none-given)
 
 -- R57: the check first, then the question; R56: the question leaves rows and run
 unfoldable pub reuse-outcome : (bytes : List ℕ) → (q b table list : ℕ) → Outcome

@@ -171,7 +171,8 @@ unfoldable pub t13 : List Case
 t13 =
     asked (dominance-of (pack (entry 1 5 ∷ entry 2 7 ∷ []) false) (pack (entry 1 3 ∷ entry 3 4 ∷ []) false))
     (dominates No)
-    ∷ asked (dominance-of (pack (entry 1 5 ∷ entry 2 7 ∷ []) true) (pack (entry 1 3 ∷ entry 3 4 ∷ []) false)) (dominates Unknown)
+    ∷ asked (dominance-of (pack (entry 1 5 ∷ entry 2 7 ∷ []) true) (pack (entry 1 3 ∷ entry 3 4 ∷ []) false))
+    (dominates Unknown)
     ∷ asked (dominance-of (pack (entry 1 5 ∷ []) false) (pack (entry 1 3 ∷ []) true)) (dominates Unknown) ∷ []
 
 -- a signal to 2^64 − 1 passes, and another one after it is 7

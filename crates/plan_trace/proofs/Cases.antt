@@ -10,7 +10,8 @@ use Rattle.plan_format.specs.Plan.{Point, Plan, count, op}
 use Rattle.plan_format.specs.Sound.{highest-in}
 use Rattle.plan_order.specs.Precedence.{same-queue}
 use Rattle.plan_order.specs.Runs.{reached, wait-met, earlier-run}
-use Rattle.plan_trace.specs.Trace.{step-count, step-at, trace-steps, unmet-wait, of-wait, judged, departs, found, at-end, follow, followed}
+use Rattle.plan_trace.specs.Trace.{step-count, step-at, trace-steps, unmet-wait, of-wait, judged, departs, found}
+use Rattle.plan_trace.specs.Trace.{at-end, follow, followed}
 use Rattle.plan_trace.specs.State.{queue-count, queue-counts, semaphore-values, state-of, trace-state, traced-of}
 use Rattle.plan_trace.specs.Numbers.{number-of, operation-of, wait-of, found-numbers}
 

@@ -30,7 +30,7 @@ use Rattle.plan_trace.specs.declared.Followed.the-variants.{
   WaitNotMet,
 }
 use Rattle.plan_trace.specs.Trace.{unmet-wait, of-wait, judged, departs}
-use Rattle.plan_trace.specs.Meaning.{Met, First, Breaks}
+use Rattle.plan_trace.specs.Meaning.{Met, First-in-queue, Breaks}
 use Rattle.plan_trace.proofs.Cases.{chain}
 
 -- an operation that the plan does not have is unknown, also where it is among the steps
@@ -52,7 +52,7 @@ module _ (p : Plan) (r : List ℕ) where
         le-leb (w .value) (reached p (w .semaphore) r) (omega (arith, m .2))),
   )
 
-  first-means : (j : ℕ) → (earlier-run p r j ≡ true) ↔ First p r j
+  first-means : (j : ℕ) → (earlier-run p r j ≡ true) ↔ First-in-queue p r j
   first-means j = (
     (λ t i l q. member-place r i (earlier-gives p r j t i l q)),
     (λ h. earlier-by p r j (λ i l q. place-member r i (h i l q))),
@@ -81,16 +81,16 @@ module _ (p : Plan) (r : List ℕ) where
       (mem-at (op p j .waits) (record { semaphore = 0; value = 0 }) k l)
 
   -- ---- a step departs exactly if it is not ready
-  pub data Judged (j : ℕ) : Followed → Type 0 where
-    unknown : count p ≤ j → Judged j (Unknown j)
-    repeated : j < count p → member j r ≡ true → Judged j (Repeated j)
-    not-first : j < count p → member j r ≡ false → earlier-run p r j ≡ false → Judged j (NotFirst j)
+  pub data Judged-case (j : ℕ) : Followed → Type 0 where
+    unknown : count p ≤ j → Judged-case j (Unknown j)
+    repeated : j < count p → member j r ≡ true → Judged-case j (Repeated j)
+    not-first : j < count p → member j r ≡ false → earlier-run p r j ≡ false → Judged-case j (NotFirst j)
     unmet-at : (k : ℕ) → j < count p → member j r ≡ false → earlier-run p r j ≡ true → unmet-wait p r j ≡ some k →
-        Judged j (WaitNotMet (record { operation = j; wait = k }))
+        Judged-case j (WaitNotMet (record { operation = j; wait = k }))
     follows : j < count p → member j r ≡ false → earlier-run p r j ≡ true → _≡_ {A = Option ℕ} (unmet-wait p r j) none →
-        Judged j Unfinished
+        Judged-case j Unfinished
 
-  pub judged-case : (j : ℕ) → Judged j (judged p r j)
+  pub judged-case : (j : ℕ) → Judged-case j (judged p r j)
   unfolding judged of-wait
   judged-case j =
       by-cases (leb (count p) j) (λ t. rw t (unknown (leb-true (count p) j t)))
@@ -119,7 +119,7 @@ module _ (p : Plan) (r : List ℕ) where
   ready-by j l m e a = can-by (count p) (λ r j. enabled p r j) r j l m
       (and-both (earlier-run p r j) (all (λ w. wait-met p r w) (op p j .waits)) e a)
 
-  case-ready : (j : ℕ) (f : Followed) → Judged j f → departs f ≡ not (ready p r j)
+  case-ready : (j : ℕ) (f : Followed) → Judged-case j f → departs f ≡ not (ready p r j)
   unfolding departs ready
   case-ready j _ (unknown l) = not-ready j (λ t. absurd (omega (arith, can-below (count p) (enabled p) r j t)))
   case-ready j _ (repeated l m) = not-ready j (λ t. clash (member j r) m (can-fresh (count p) (enabled p) r j t))
@@ -134,7 +134,7 @@ module _ (p : Plan) (r : List ℕ) where
   departs-ready j = case-ready j (judged p r j) (judged-case j)
 
   -- ---- the reason, both ways
-  case-breaks : (j : ℕ) (f : Followed) → Judged j f → departs f ≡ true → Breaks p r j f
+  case-breaks : (j : ℕ) (f : Followed) → Judged-case j f → departs f ≡ true → Breaks p r j f
   unfolding departs Breaks
   case-breaks j _ (unknown l) d = (refl, l)
   case-breaks j _ (repeated l m) d = (refl, l, member-place r j m)

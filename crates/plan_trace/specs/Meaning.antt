@@ -59,8 +59,8 @@ abbrev pub Has-run : (run : List ℕ) → (i : ℕ) → Type 0
 Has-run r i = Among r (length r) i
 
 -- all earlier operations of its queue have run
-abbrev pub First : Plan → (run : List ℕ) → (j : ℕ) → Type 0
-First p r j = (i : ℕ) → i < j → op p i .queue ≡ op p j .queue → Has-run r i
+abbrev pub First-in-queue : Plan → (run : List ℕ) → (j : ℕ) → Type 0
+First-in-queue p r j = (i : ℕ) → i < j → op p i .queue ≡ op p j .queue → Has-run r i
 
 -- R81: the rule that the case names is broken, and none before it; of the waits, every one before it in the list is met
 unfoldable pub Breaks : Plan → (run : List ℕ) → (j : ℕ) → Followed → Type 0
@@ -68,9 +68,9 @@ Breaks p r j Full = ⊥
 Breaks p r j Unfinished = ⊥
 Breaks p r j (Unknown i) = (i ≡ j) × (count p ≤ j)
 Breaks p r j (Repeated i) = (i ≡ j) × (j < count p) × Has-run r j
-Breaks p r j (NotFirst i) = (i ≡ j) × (j < count p) × (Has-run r j → ⊥) × (First p r j → ⊥)
+Breaks p r j (NotFirst i) = (i ≡ j) × (j < count p) × (Has-run r j → ⊥) × (First-in-queue p r j → ⊥)
 Breaks p r j (WaitNotMet u) =
-    (u .operation ≡ j) × (j < count p) × (Has-run r j → ⊥) × First p r j ×
+    (u .operation ≡ j) × (j < count p) × (Has-run r j → ⊥) × First-in-queue p r j ×
     (u .wait < length (op p j .waits)) × (Met p r (wait-at p j (u .wait)) → ⊥) ×
     ((k : ℕ) → k < u .wait → Met p r (wait-at p j k))
 

@@ -8,7 +8,7 @@ use Rattle.base_lists.specs.Lists.{join-from}
 use Rattle.plan_format.specs.Sizes.{table-numbers, list-numbers}
 use Rattle.plan_format.specs.declared.Told.{Told}
 use Rattle.frontier.specs.declared.Frontier.{Frontier}
-use Rattle.ask_reuse.specs.Reuse.{Asked}
+use Rattle.ask_reuse.specs.Reuse.{Reuse-asked}
 use Rattle.ask_frontier.specs.SentMeaning.{Frontier-right}
 use Rattle.ask_frontier.specs.declared.Sent.{Sent}
 use Rattle.base_text.specs.Ascii.{ascii}
@@ -30,7 +30,7 @@ pub record Reuse-printed (bytes : List ℕ) (queue buffer : ℕ) (room room-now 
   pub told : Told
   pub table : List ℕ
   pub list : List ℕ
-  pub asked : Asked bytes queue buffer told (replicate table-numbers 0) table (replicate list-numbers 0) list
+  pub asked : Reuse-asked bytes queue buffer told (replicate table-numbers 0) table (replicate list-numbers 0) list
   pub text : Puts (or-refused (told .number) (told .place) (verdict-text (told .answer))) room 0 room-now end
 
 -- whether something was cut

@@ -5,7 +5,8 @@ use plan_format::limits::LIST_NUMBERS;
 use plan_format::limits::TABLE_NUMBERS;
 ghost use Rattle.base_lists.specs.Lists.{join-from};
 ghost use Rattle.base_text.specs.Text.{Puts, or-refused};
-ghost use Rattle.print_ask.specs.Questions.{verdict-name, verdict-text, whole-words, entry-of, entry-text, frontier-text, Reuse-printed, Frontier-printed};
+ghost use Rattle.print_ask.specs.Questions.{verdict-name, verdict-text, whole-words, entry-of, entry-text};
+ghost use Rattle.print_ask.specs.Questions.{frontier-text, Reuse-printed, Frontier-printed};
 
 // The verdict on a buffer for a queue.
 pub fn reuse(plan: &[u8], queue: u32, buffer: u32, out: &mut [u8]) -> usize
@@ -19,7 +20,8 @@ pub fn reuse(plan: &[u8], queue: u32, buffer: u32, out: &mut [u8]) -> usize
 
 // The line of a refusal or of a verdict.
 fn judged(out: &mut [u8], told: Told) -> usize
-    ensures { λ r. ⌜ Puts (or-refused (told .number) (told .place) (verdict-text (told .answer))) (now (out .entry)) 0 (now (out .exit)) r ⌝ }
+    ensures { λ r. ⌜ Puts (or-refused (told .number) (told .place) (verdict-text (told .answer))) (now (out .entry)) 0
+        (now (out .exit)) r ⌝ }
 {
     if told.number != 0 {
         return base_text::refused(out, told.number, told.place);
@@ -58,7 +60,8 @@ pub fn frontier(plan: &[u8], operation: u32, capacity: u32, out: &mut [u8]) -> u
 
 // The line of a refusal or of a frontier.
 fn entered(out: &mut [u8], sent: Sent) -> usize
-    ensures { λ r. ⌜ Puts (or-refused (sent .number) (sent .place) (frontier-text (sent .frontier))) (now (out .entry)) 0 (now (out .exit)) r ⌝ }
+    ensures { λ r. ⌜ Puts (or-refused (sent .number) (sent .place) (frontier-text (sent .frontier)))
+        (now (out .entry)) 0 (now (out .exit)) r ⌝ }
 {
     if sent.number != 0 {
         return base_text::refused(out, sent.number, sent.place);
@@ -83,7 +86,8 @@ fn whole(out: &mut [u8], tainted: bool) -> usize
 
 // The first n entries, AXIS:EPOCH, each after a blank.
 fn entries(out: &mut [u8], at: usize, axes: &[u64], epochs: &[u64], n: usize) -> usize
-    ensures { λ r. ⌜ Puts (join-from n 0 (entry-text (now (axes .entry)) (now (epochs .entry)))) (now (out .entry)) at (now (out .exit)) r ⌝ }
+    ensures { λ r. ⌜ Puts (join-from n 0 (entry-text (now (axes .entry)) (now (epochs .entry)))) (now (out .entry))
+        at (now (out .exit)) r ⌝ }
 {
     let mut end = at;
     let mut i = 0;

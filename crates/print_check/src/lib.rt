@@ -9,7 +9,8 @@ ghost use lib.ListN.{length, take, drop};
 ghost use Rattle.base_lists.specs.Lists.{join-from};
 ghost use Rattle.plan_format.specs.Sizes.{most-queues, most-operations, table-numbers, list-numbers};
 ghost use Rattle.base_text.specs.Text.{Puts, blanked, or-refused};
-ghost use Rattle.print_check.specs.CheckText.{sizes-text, runs-text, row-text, passed-text, Rows-inside, Check-printed};
+ghost use Rattle.print_check.specs.CheckText.{sizes-text, runs-text, row-text, passed-text, Rows-inside};
+ghost use Rattle.print_check.specs.CheckText.{Check-printed};
 
 // The check of a plan.
 pub fn check(plan: &[u8], out: &mut [u8]) -> usize
@@ -24,7 +25,9 @@ pub fn check(plan: &[u8], out: &mut [u8]) -> usize
 // The line of a refusal, or the text of a pass.
 fn checked(out: &mut [u8], counts: Counted, table: &[u32], list: &[u32]) -> usize
     requires { ⌜ Rows-inside (counts .operations) (counts .queues) (now table) × (list-numbers ≤ length (now list)) ⌝ }
-    ensures { λ r. ⌜ Puts (or-refused (counts .number) (counts .place) (passed-text counts (now (table .entry)) (now (list .entry)))) (now (out .entry)) 0 (now (out .exit)) r ⌝ }
+    ensures { λ r. ⌜ Puts
+        (or-refused (counts .number) (counts .place) (passed-text counts (now (table .entry)) (now (list .entry))))
+        (now (out .entry)) 0 (now (out .exit)) r ⌝ }
 {
     if counts.number != 0 {
         return base_text::refused(out, counts.number, counts.place);
@@ -61,7 +64,8 @@ fn runs(out: &mut [u8], at: usize, n: usize, list: &[u32]) -> usize
 // A word, and n numbers of a list from a place on, each after a blank.
 fn listed(out: &mut [u8], at: usize, word: &[u8], list: &[u32], from: usize, n: usize) -> usize
     requires { ⌜ from + n ≤ length (now list) ⌝ }
-    ensures { λ r. ⌜ Puts (now (word .entry) ++ blanked (take n (drop from (now (list .entry))))) (now (out .entry)) at (now (out .exit)) r ⌝ }
+    ensures { λ r. ⌜ Puts (now (word .entry) ++ blanked (take n (drop from (now (list .entry))))) (now (out .entry))
+        at (now (out .exit)) r ⌝ }
 {
     let end = from + n;
     let words = base_text::words(out, at, word);
@@ -71,7 +75,8 @@ fn listed(out: &mut [u8], at: usize, word: &[u8], list: &[u32], from: usize, n: 
 // A line for each operation: its row, one column for each queue.
 fn rows(out: &mut [u8], at: usize, n: usize, queues: usize, table: &[u32]) -> usize
     requires { ⌜ Rows-inside n queues (now table) ⌝ }
-    ensures { λ r. ⌜ Puts (join-from n 0 (row-text queues (now (table .entry)))) (now (out .entry)) at (now (out .exit)) r ⌝ }
+    ensures { λ r. ⌜ Puts (join-from n 0 (row-text queues (now (table .entry)))) (now (out .entry))
+        at (now (out .exit)) r ⌝ }
 {
     let mut end = at;
     let mut i = 0;

@@ -45,9 +45,11 @@ pub fn written(numbers: &[u64], n: usize, out: &mut [u8]) -> usize
     print_stored::write(numbers, n, out)
 }
 
-// What is printed of every trace that begins as the first m bytes do, held against every plan that begins as the first n bytes do.
+// What is printed of every trace that begins as the first m bytes do, held against every plan that begins as the first
+// n bytes do.
 pub fn traced(plan: &[u8], n: usize, trace: &[u8], m: usize, out: &mut [u8]) -> usize
-    ensures { λ r. ⌜ Traced-whole (take n (now (plan .entry))) (take m (now (trace .entry))) (now (out .entry)) (now (out .exit)) r ⌝ }
+    ensures { λ r. ⌜ Traced-whole (take n (now (plan .entry))) (take m (now (trace .entry))) (now (out .entry))
+        (now (out .exit)) r ⌝ }
 {
     if n < plan.len() {
         return with_plan(&plan[..n], trace, m, out);
@@ -57,7 +59,8 @@ pub fn traced(plan: &[u8], n: usize, trace: &[u8], m: usize, out: &mut [u8]) -> 
 
 // The first m bytes of a trace held against a plan.
 fn with_plan(plan: &[u8], trace: &[u8], m: usize, out: &mut [u8]) -> usize
-    ensures { λ r. ⌜ Trace-printed (now (plan .entry)) (take m (now (trace .entry))) (now (out .entry)) (now (out .exit)) r ⌝ }
+    ensures { λ r. ⌜ Trace-printed (now (plan .entry)) (take m (now (trace .entry))) (now (out .entry))
+        (now (out .exit)) r ⌝ }
 {
     if m < trace.len() {
         return print_trace::trace(plan, &trace[..m], out);

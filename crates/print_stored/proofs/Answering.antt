@@ -13,7 +13,8 @@ use Rattle.base_lists.specs.Lists.{in-front}
 use Rattle.base_lists.proofs.Tests.{by-cases, clash}
 use Rattle.plan_format.specs.Sizes.{plan-numbers}
 use Rattle.plan_format.specs.Refusal.{Refusal, given, none-given, or-else}
-use Rattle.plan_format.specs.Stored.{scanned, listed, spelled, room-for, read-refusal, write-refusal, Fills, Read-says, Write-says}
+use Rattle.plan_format.specs.Stored.{scanned, listed, spelled, room-for, read-refusal, write-refusal, Fills, Read-says}
+use Rattle.plan_format.specs.Stored.{Write-says}
 use Rattle.plan_format.specs.declared.Told.{Told}
 use Rattle.plan_format.proofs.Judged.{zero-not-given, other-given, not-given-zero, or-else-none}
 use Rattle.plan_format.proofs.RoomMeaning.{room-for-none}
@@ -38,7 +39,12 @@ module _
   unfolding Fills none-given
   given-told z =
       by-cases (given f)
-      (λ g. (g, (rw (refused-first g) at (h .0)) .number, (rw (refused-first g) at (h .0)) .place, rw (refused-first g, g) at (h .1)))
+      (λ g. (
+        g,
+        (rw (refused-first g) at (h .0)) .number,
+        (rw (refused-first g) at (h .0)) .place,
+        rw (refused-first g, g) at (h .1),
+      ))
       (λ n. absurd (z ((rw (none-refused n) at (h .0)) .number)))
 
   pub whole-told : r .number ≡ 0 → (given f ≡ false) × (r .answer ≡ length new) × (x ≡ in-front new o)
@@ -72,7 +78,8 @@ put-inside [] o a h = sym (rw (add-zero a) (take-append-drop a o))
 put-inside (b ∷ t) o a h =
     put-inside t (set o a b) (suc a) (rw (length-set o a b) (omega arith))
     ∙ rw (take-suc-set o a b (omega arith), drop-set-lt (suc a + length t) o a b (omega arith))
-    (append-assoc (take a o) (b ∷ []) (t ++ drop (suc a + length t) o) ∙ ap (λ (k : ℕ). take a o ++ (b ∷ (t ++ drop k o))) (shift (length t)))
+    (append-assoc (take a o) (b ∷ []) (t ++ drop (suc a + length t) o)
+    ∙ ap (λ (k : ℕ). take a o ++ (b ∷ (t ++ drop k o))) (shift (length t)))
   where
     shift : (n : ℕ) → suc a + n ≡ a + suc n
     shift n = omega arith
@@ -93,6 +100,8 @@ module _ (xs o x : List ℕ) (r : Told) (h : Write-says xs r o x) where
   write-stored z =
       let none = sym (h .0 .number) ∙ z in
       let n = zero-not-given (write-refusal xs (length o)) none in
-      let fits = room-for-none (length (spelled xs)) (length o) (or-else-none (listed xs .fault) (room-for (length (spelled xs)) (length o)) none .1) in
+      let fits = room-for-none (length (spelled xs)) (length o)
+      (or-else-none (listed xs .fault) (room-for (length (spelled xs)) (length o)) none .1) in
       let long : r .answer ≡ length (spelled xs) = h .0 .answer-is ∙ rw n in
-      rw n (record { room-is = (h .1 ∙ rw n) ∙ sym (put-front (spelled xs) o fits); end-is = omega (arith, long, fits) })
+      rw n
+      (record { room-is = (h .1 ∙ rw n) ∙ sym (put-front (spelled xs) o fits); end-is = omega (arith, long, fits) })

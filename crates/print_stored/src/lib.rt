@@ -20,7 +20,8 @@ pub fn read(plan: &[u8], out: &mut [u8]) -> usize
 
 // The stored plan of the first n numbers.
 pub fn write(numbers: &[u64], n: usize, out: &mut [u8]) -> usize
-    ensures { λ r. ⌜ Puts (write-text (take n (now (numbers .entry))) (length (now (out .entry)))) (now (out .entry)) 0 (now (out .exit)) r ⌝ }
+    ensures { λ r. ⌜ Puts (write-text (take n (now (numbers .entry))) (length (now (out .entry)))) (now (out .entry)) 0
+        (now (out .exit)) r ⌝ }
 {
     if n < numbers.len() {
         return written(&numbers[..n], out);
@@ -30,7 +31,8 @@ pub fn write(numbers: &[u64], n: usize, out: &mut [u8]) -> usize
 
 // The stored plan of all numbers.
 fn written(numbers: &[u64], out: &mut [u8]) -> usize
-    ensures { λ r. ⌜ Puts (write-text (now (numbers .entry)) (length (now (out .entry)))) (now (out .entry)) 0 (now (out .exit)) r ⌝ }
+    ensures { λ r. ⌜ Puts (write-text (now (numbers .entry)) (length (now (out .entry)))) (now (out .entry)) 0
+        (now (out .exit)) r ⌝ }
 {
     let told = stored_write::write_plan(numbers, out);
     if told.number != 0 {

@@ -25,7 +25,9 @@ pub fn trace(plan: &[u8], trace: &[u8], out: &mut [u8]) -> usize
 // The line of a refusal, or the three lines of an answer.
 fn answered(out: &mut [u8], told: TraceTold, state: &[u64]) -> usize
     requires { ⌜ length (now state) ≡ state-size ⌝ }
-    ensures { λ r. ⌜ Puts (or-refused (told .counted .number) (told .counted .place) (trace-text (told .traced) (told .counted .queues) (told .counted .semaphores) (now (state .entry)))) (now (out .entry)) 0 (now (out .exit)) r ⌝ }
+    ensures { λ r. ⌜ Puts (or-refused (told .counted .number) (told .counted .place)
+        (trace-text (told .traced) (told .counted .queues) (told .counted .semaphores) (now (state .entry))))
+        (now (out .entry)) 0 (now (out .exit)) r ⌝ }
 {
     let c = told.counted;
     if c.number != 0 {

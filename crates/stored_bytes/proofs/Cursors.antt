@@ -23,16 +23,19 @@ use Rattle.stored_bytes.specs.Writing.{fault-of, here, spelling, Writes,
 use Rattle.stored_bytes.proofs.Fields.{here-given, fault-none, fault-clean}
 
 -- where there is no refusal at the end, there was none before
-pub clean-before : {g : Grammar} {many : ℕ} {xs : List ℕ} {c r : Cursor} {bytes bytes-now : List ℕ} → Writes g many xs c bytes r bytes-now → r .number ≡ 0 → c .number ≡ 0
+pub clean-before : {g : Grammar} {many : ℕ} {xs : List ℕ} {c r : Cursor} {bytes bytes-now : List ℕ} →
+    Writes g many xs c bytes r bytes-now → r .number ≡ 0 → c .number ≡ 0
 unfolding here scan
 clean-before {g} {xs = xs} {c} {r} p e =
     by-cases (eqb (c .number) 0) (λ t. eqb-true (c .number) 0 t)
     (λ f. let z = eqb-false (c .number) 0 f in
-    fault-none c (ap (λ (s : Scan). s .fault .number) (sym (read-stays numbers g (here xs c) (here-given xs c z)) ∙ p .read) ∙ fault-clean r e))
+    fault-none c (ap (λ (s : Scan). s .fault .number)
+    (sym (read-stays numbers g (here xs c) (here-given xs c z)) ∙ p .read) ∙ fault-clean r e))
 
 module _ {xs : List ℕ} {c d r : Cursor} {bytes bytes₁ bytes₂ : List ℕ} where
   -- one thing after another
-  pub writes-seq : {g h : Grammar} {m n : ℕ} → Writes g m xs c bytes d bytes₁ → Writes h n xs d bytes₁ r bytes₂ → Writes (seq g h) (m + n) xs c bytes r bytes₂
+  pub writes-seq : {g h : Grammar} {m n : ℕ} → Writes g m xs c bytes d bytes₁ → Writes h n xs d bytes₁ r bytes₂ →
+      Writes (seq g h) (m + n) xs c bytes r bytes₂
   unfolding read-by spell-by
   writes-seq {g} {h} p q =
       record {
@@ -47,12 +50,14 @@ module _ {xs : List ℕ} {c d r : Cursor} {bytes bytes₁ bytes₂ : List ℕ} w
       }
 
   -- one more
-  pub writes-more : {g : Grammar} {m : ℕ} (i : ℕ) → Writes (repeat i g) (m * i) xs c bytes d bytes₁ → Writes g m xs d bytes₁ r bytes₂ → Writes (repeat (i + 1) g) (m * (i + 1)) xs c bytes r bytes₂
+  pub writes-more : {g : Grammar} {m : ℕ} (i : ℕ) → Writes (repeat i g) (m * i) xs c bytes d bytes₁ →
+      Writes g m xs d bytes₁ r bytes₂ → Writes (repeat (i + 1) g) (m * (i + 1)) xs c bytes r bytes₂
   unfolding repeat
   writes-more {g} {m} i p q = rw (add-one i, mul-suc m i) (writes-seq p q)
 
 -- none of a thing
-pub writes-none : (g : Grammar) (m : ℕ) (xs : List ℕ) (c : Cursor) (bytes : List ℕ) → c .at ≤ length xs → Writes (repeat 0 g) (m * 0) xs c bytes c bytes
+pub writes-none : (g : Grammar) (m : ℕ) (xs : List ℕ) (c : Cursor) (bytes : List ℕ) → c .at ≤ length xs →
+    Writes (repeat 0 g) (m * 0) xs c bytes c bytes
 unfolding repeat read-by spell-by
 writes-none g m xs c bytes h = record {
   read = refl;
@@ -68,14 +73,19 @@ writes-none g m xs c bytes h = record {
 spell-repeat : (n : ℕ) (g : Grammar) (s : Spelling) → spell-by (repeat n g) s ≡ times n (λ u. spell-by g u) s
 unfolding spell-by repeat times
 spell-repeat zero g s = refl
-spell-repeat (suc n) g s = ap (λ (u : Spelling). spell-by g u) (spell-repeat n g s) ∙ sym (times-last n (λ u. spell-by g u) s)
+spell-repeat (suc n) g s = ap (λ (u : Spelling). spell-by g u) (spell-repeat n g s)
+    ∙ sym (times-last n (λ u. spell-by g u) s)
 
-spell-counted : (l m w n : ℕ) (g : Grammar) (s t : Spelling) → spell-field w s ≡ t → getD (s .left) 0 0 ≡ n → spell-by (counted l m w g) s ≡ spell-by (repeat n g) t
+spell-counted : (l m w n : ℕ) (g : Grammar) (s t : Spelling) → spell-field w s ≡ t → getD (s .left) 0 0 ≡ n →
+    spell-by (counted l m w g) s ≡ spell-by (repeat n g) t
 unfolding spell-by
 spell-counted l m w n g s t e h = rw (e, h) (sym (spell-repeat n g t))
 
 -- a count, and so many of a thing
-pub writes-counted : {g : Grammar} {xs : List ℕ} {c start r : Cursor} {bytes bytes₁ bytes₂ : List ℕ} {w most : ℕ} (m : ℕ) → Limited w (most + 1) 2 xs c bytes start bytes₁ → (n : ℕ) → n ≡ start .value → Writes (repeat n g) (m * n) xs start bytes₁ r bytes₂ → Writes (counted 0 most w g) (w + m * most) xs c bytes r bytes₂
+pub writes-counted : {g : Grammar} {xs : List ℕ} {c start r : Cursor} {bytes bytes₁ bytes₂ : List ℕ} {w most : ℕ}
+    (m : ℕ) → Limited w (most + 1) 2 xs c bytes start bytes₁ → (n : ℕ) → n ≡ start .value →
+    Writes (repeat n g) (m * n) xs start bytes₁ r bytes₂ →
+    Writes (counted 0 most w g) (w + m * most) xs c bytes r bytes₂
 unfolding here scan fault-of limited read-by spell-by spelling
 writes-counted {g} {xs} {c} {start} {bytes = bytes} {bytes₁} {w = w} {most} m p n e q =
     record {
@@ -85,20 +95,26 @@ writes-counted {g} {xs} {c} {start} {bytes = bytes} {bytes₁} {w = w} {most} m 
           (count-limited most (numbers .front w (drop (c .at) xs))) ∙ p .writes .read)
           (λ z. p .value-is (fault-none start z) ∙ sym e) ∙ q .read;
       spell = λ z. let s = clean-before q z in
-          spell-counted 0 most w n g (spelling xs c bytes) (spelling xs start bytes₁) (p .writes .spell s) (p .value-read s ∙ sym e) ∙ q .spell z;
+          spell-counted 0 most w n g (spelling xs c bytes) (spelling xs start bytes₁) (p .writes .spell s)
+          (p .value-read s ∙ sym e) ∙ q .spell z;
       inside = q .inside;
       more = omega (arith, p .writes .more, q .more);
-      few = omega (arith, mul-le-mul-left m (let h : n ≤ most = omega (arith, p .value-below) in h), p .writes .few, q .few);
+      few =
+          omega
+          (arith, mul-le-mul-left m (let h : n ≤ most = omega (arith, p .value-below) in h), p .writes .few, q .few);
       by-eight = omega (arith, p .writes .by-eight, q .by-eight);
       as-long = q .as-long ∙ p .writes .as-long;
       past = q .past ∙ past-later _ _ bytes₁ bytes (q .more) (p .writes .past);
     }
 
 -- a loop that met a refusal has written all that can be written
-pub writes-stopped : {xs : List ℕ} {start r : Cursor} {bytes bytes-now : List ℕ} (g : Grammar) (m : ℕ) (i n : ℕ) → (r .number ≡ 0 → ⊥) → i ≤ n → Writes (repeat i g) (m * i) xs start bytes r bytes-now → Writes (repeat n g) (m * n) xs start bytes r bytes-now
+pub writes-stopped : {xs : List ℕ} {start r : Cursor} {bytes bytes-now : List ℕ} (g : Grammar) (m : ℕ) (i n : ℕ) →
+    (r .number ≡ 0 → ⊥) → i ≤ n → Writes (repeat i g) (m * i) xs start bytes r bytes-now →
+    Writes (repeat n g) (m * n) xs start bytes r bytes-now
 writes-stopped {xs} {start} {r} {bytes} {bytes-now} g m i n z h p =
     record {
-      read = repeat-stops numbers g (here xs start) i n (ap (λ (s : Scan). given (s .fault)) (p .read) ∙ here-given xs r z) h ∙ p .read;
+      read = repeat-stops numbers g (here xs start) i n
+          (ap (λ (s : Scan). given (s .fault)) (p .read) ∙ here-given xs r z) h ∙ p .read;
       spell = λ e. absurd (z e);
       inside = p .inside;
       more = p .more;

@@ -32,7 +32,8 @@ spelled-is : {xs bytes₀ : List ℕ} {c : Cursor} {bytes : List ℕ} → Plan-w
 unfolding spelled first-form spelling
 spelled-is p z = ap (λ (s : Spelling). s .made) (p .spell z)
 
-tells : (xs : List ℕ) {n : ℕ} {r : Told} (s : Scan) → listed xs ≡ s → Tells (s .fault) n r → Tells (listed xs .fault) n r
+tells : (xs : List ℕ) {n : ℕ} {r : Told} (s : Scan) → listed xs ≡ s → Tells (s .fault) n r →
+    Tells (listed xs .fault) n r
 tells xs {n} {r} s e t = subst (λ (x : Scan). Tells (x .fault) n r) (sym e) t
 
 fault-place : (c : Cursor) → (c .number ≡ 0 → ⊥) → fault-of c .place ≡ c .at
@@ -56,7 +57,11 @@ module _ {xs bytes₀ : List ℕ} {c : Cursor} {bytes : List ℕ} (p : Plan-writ
       record {
         told =
             tells xs (here xs c) (listed-is p ∙ ended-stays (here xs c) (here-given xs c z))
-            (record { number = sym (fault-number c z); place = sym (fault-place c z); answer-is = rw (here-given xs c z) });
+            (record {
+              number = sym (fault-number c z);
+              place = sym (fault-place c z);
+              answer-is = rw (here-given xs c z);
+            });
         passed = λ e. absurd (z e);
         refused = λ _. stays;
         few = omega arith;

@@ -10,7 +10,8 @@ use Rattle.base_lists.specs.Lists.{in-front}
 use Rattle.plan_format.specs.Sizes.{most-queues, most-buffers, most-operations, most-waits, most-signals, most-marks}
 use Rattle.plan_format.specs.Sizes.{plan-bytes}
 use Rattle.plan_format.specs.Refusal.{Refusal, refusal, none-given}
-use Rattle.plan_format.specs.Grammar.{Grammar, field, digits, numbers, Scan, scan, last-got, read-by, Spelling, spell-by}
+use Rattle.plan_format.specs.Grammar.{Grammar, field, digits, numbers, Scan, scan, last-got, read-by, Spelling}
+use Rattle.plan_format.specs.Grammar.{spell-by}
 use Rattle.plan_format.specs.Form.{Form, plan-grammar}
 use Rattle.plan_format.specs.Stored.{listed, spelled, Tells}
 use Rattle.plan_format.specs.declared.Told.{Told}
@@ -34,7 +35,8 @@ pub record Room (many : ℕ) (xs : List ℕ) (c : Cursor) (bytes : List ℕ) : T
 
 -- from the cursor `c` to the cursor `r` a thing is read from the list and, where there is no refusal, spelled, at most
 -- so many bytes long and eight for each number; past the bytes put the array stays
-pub record Writes (g : Grammar) (many : ℕ) (xs : List ℕ) (c : Cursor) (bytes : List ℕ) (r : Cursor) (bytes-now : List ℕ) : Type 0 where
+pub record Writes (g : Grammar) (many : ℕ) (xs : List ℕ) (c : Cursor) (bytes : List ℕ) (r : Cursor)
+    (bytes-now : List ℕ) : Type 0 where
   pub read : read-by numbers g (here xs c) ≡ here xs r
   pub spell : r .number ≡ 0 → spell-by g (spelling xs c bytes) ≡ spelling xs r bytes-now
   pub inside : r .at ≤ length xs
@@ -45,13 +47,14 @@ pub record Writes (g : Grammar) (many : ℕ) (xs : List ℕ) (c : Cursor) (bytes
   pub past : drop (r .put) bytes-now ≡ drop (r .put) bytes
 
 -- the bytes of a number were put at a place, and nothing after them
-pub record Puts (width : ℕ) (bytes : List ℕ) (at v : ℕ) (bytes-now : List ℕ) : Type 0 where
+pub record Number-put (width : ℕ) (bytes : List ℕ) (at v : ℕ) (bytes-now : List ℕ) : Type 0 where
   pub front : take (at + width) bytes-now ≡ take at bytes ++ digits width v
   pub as-long : length bytes-now ≡ length bytes
   pub past : drop (at + width) bytes-now ≡ drop (at + width) bytes
 
 -- a limited field was written, and the cursor has its number: 0 where it is refused
-pub record Limited (width limit over : ℕ) (xs : List ℕ) (c : Cursor) (bytes : List ℕ) (r : Cursor) (bytes-now : List ℕ) : Type 0 where
+pub record Limited (width limit over : ℕ) (xs : List ℕ) (c : Cursor) (bytes : List ℕ) (r : Cursor)
+    (bytes-now : List ℕ) : Type 0 where
   pub writes : Writes (field width (limited limit over)) width xs c bytes r bytes-now
   pub value-is : r .number ≡ 0 → last-got (here xs r) ≡ r .value
   pub value-read : r .number ≡ 0 → getD (drop (c .at) xs) 0 0 ≡ r .value

@@ -81,7 +81,8 @@ pub fn size(numbers: &[u64], c: Cursor, bytes: &mut [u8]) -> Cursor
 // The value of a wait or a signal: any number.
 pub fn point_value(numbers: &[u64], c: Cursor, bytes: &mut [u8]) -> Cursor
     requires { ⌜ Room 8 (now numbers) c (now bytes) ⌝ }
-    ensures { λ r. ⌜ Writes (field 8 any-number) 8 (now (numbers .entry)) c (now (bytes .entry)) r (now (bytes .exit)) ⌝ }
+    ensures { λ r. ⌜ Writes (field 8 any-number) 8 (now (numbers .entry)) c (now (bytes .entry)) r
+        (now (bytes .exit)) ⌝ }
 {
     let at = c.at;
     if c.number != 0 {

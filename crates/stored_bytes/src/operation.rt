@@ -23,7 +23,8 @@ const TOO_MANY_OPERATIONS: u64 = MOST_OPERATIONS as u64 + 1;
 // A wait or a signal: a semaphore and a value.
 fn point(numbers: &[u64], c: Cursor, semaphores: u64, bytes: &mut [u8]) -> Cursor
     requires { ⌜ Room 9 (now numbers) c (now bytes) ⌝ }
-    ensures { λ r. ⌜ Writes (point-below 1 semaphores) 9 (now (numbers .entry)) c (now (bytes .entry)) r (now (bytes .exit)) ⌝ }
+    ensures { λ r. ⌜ Writes (point-below 1 semaphores) 9 (now (numbers .entry)) c (now (bytes .entry)) r
+        (now (bytes .exit)) ⌝ }
 {
     let semaphore = field::byte(numbers, c, semaphores, 4, bytes);
     field::point_value(numbers, semaphore, bytes)
@@ -32,7 +33,8 @@ fn point(numbers: &[u64], c: Cursor, semaphores: u64, bytes: &mut [u8]) -> Curso
 // The waits or the signals: a count, at most `most`, and the points.
 fn points(numbers: &[u64], c: Cursor, most: u64, semaphores: u64, bytes: &mut [u8]) -> Cursor
     requires { ⌜ Room (1 + 9 * most) (now numbers) c (now bytes) ⌝ }
-    ensures { λ r. ⌜ Writes (counted 0 most 1 (point-below 1 semaphores)) (1 + 9 * most) (now (numbers .entry)) c (now (bytes .entry)) r (now (bytes .exit)) ⌝ }
+    ensures { λ r. ⌜ Writes (counted 0 most 1 (point-below 1 semaphores)) (1 + 9 * most) (now (numbers .entry)) c
+        (now (bytes .entry)) r (now (bytes .exit)) ⌝ }
 {
     let start = field::byte(numbers, c, most + 1, 2, bytes);
     let count = start.value;
@@ -51,7 +53,8 @@ fn points(numbers: &[u64], c: Cursor, most: u64, semaphores: u64, bytes: &mut [u
 // A mark: a buffer and a kind.
 fn mark(numbers: &[u64], c: Cursor, buffers: u64, bytes: &mut [u8]) -> Cursor
     requires { ⌜ Room 3 (now numbers) c (now bytes) ⌝ }
-    ensures { λ r. ⌜ Writes (mark-below buffers) 3 (now (numbers .entry)) c (now (bytes .entry)) r (now (bytes .exit)) ⌝ }
+    ensures { λ r. ⌜ Writes (mark-below buffers) 3 (now (numbers .entry)) c (now (bytes .entry)) r
+        (now (bytes .exit)) ⌝ }
 {
     let buffer = field::pair(numbers, c, buffers, 4, bytes);
     field::byte(numbers, buffer, 2, 4, bytes)
@@ -60,7 +63,8 @@ fn mark(numbers: &[u64], c: Cursor, buffers: u64, bytes: &mut [u8]) -> Cursor
 // The marks: a count and the marks.
 fn marks(numbers: &[u64], c: Cursor, buffers: u64, bytes: &mut [u8]) -> Cursor
     requires { ⌜ Room (1 + 3 * most-marks) (now numbers) c (now bytes) ⌝ }
-    ensures { λ r. ⌜ Writes (counted 0 most-marks 1 (mark-below buffers)) (1 + 3 * most-marks) (now (numbers .entry)) c (now (bytes .entry)) r (now (bytes .exit)) ⌝ }
+    ensures { λ r. ⌜ Writes (counted 0 most-marks 1 (mark-below buffers)) (1 + 3 * most-marks) (now (numbers .entry)) c
+        (now (bytes .entry)) r (now (bytes .exit)) ⌝ }
 {
     let start = field::byte(numbers, c, TOO_MANY_MARKS, 2, bytes);
     let count = start.value;
@@ -86,7 +90,8 @@ fn operation(
     bytes: &mut [u8],
 ) -> Cursor
     requires { ⌜ Room block-bytes (now numbers) c (now bytes) ⌝ }
-    ensures { λ r. ⌜ Writes (operation-below 1 queues semaphores buffers) block-bytes (now (numbers .entry)) c (now (bytes .entry)) r (now (bytes .exit)) ⌝ }
+    ensures { λ r. ⌜ Writes (operation-below 1 queues semaphores buffers) block-bytes (now (numbers .entry)) c
+        (now (bytes .entry)) r (now (bytes .exit)) ⌝ }
 {
     let queue = field::byte(numbers, c, queues, 4, bytes);
     let waits = points(numbers, queue, WAITS, semaphores, bytes);
@@ -104,7 +109,8 @@ pub fn operations(
     bytes: &mut [u8],
 ) -> Cursor
     requires { ⌜ Room (2 + block-bytes * most-operations) (now numbers) c (now bytes) ⌝ }
-    ensures { λ r. ⌜ Writes (counted 0 most-operations 2 (operation-below 1 queues semaphores buffers)) (2 + block-bytes * most-operations) (now (numbers .entry)) c (now (bytes .entry)) r (now (bytes .exit)) ⌝ }
+    ensures { λ r. ⌜ Writes (counted 0 most-operations 2 (operation-below 1 queues semaphores buffers))
+        (2 + block-bytes * most-operations) (now (numbers .entry)) c (now (bytes .entry)) r (now (bytes .exit)) ⌝ }
 {
     let start = field::pair(numbers, c, TOO_MANY_OPERATIONS, 2, bytes);
     let count = start.value;

@@ -24,7 +24,8 @@ const TOO_MANY_BUFFERS: u64 = MOST_BUFFERS as u64 + 1;
 // The section of queues.
 fn axes(numbers: &[u64], c: Cursor, bytes: &mut [u8]) -> Cursor
     requires { ⌜ Room (1 + 8 * most-queues) (now numbers) c (now bytes) ⌝ }
-    ensures { λ r. ⌜ Writes (counted 0 most-queues 1 axis-field) (1 + 8 * most-queues) (now (numbers .entry)) c (now (bytes .entry)) r (now (bytes .exit)) ⌝ }
+    ensures { λ r. ⌜ Writes (counted 0 most-queues 1 axis-field) (1 + 8 * most-queues) (now (numbers .entry)) c
+        (now (bytes .entry)) r (now (bytes .exit)) ⌝ }
 {
     let start = field::byte(numbers, c, TOO_MANY_QUEUES, 2, bytes);
     let count = start.value;
@@ -43,7 +44,8 @@ fn axes(numbers: &[u64], c: Cursor, bytes: &mut [u8]) -> Cursor
 // The section of semaphores.
 fn owners(numbers: &[u64], c: Cursor, queues: u64, bytes: &mut [u8]) -> Cursor
     requires { ⌜ Room (1 + most-semaphores) (now numbers) c (now bytes) ⌝ }
-    ensures { λ r. ⌜ Writes (counted 0 most-semaphores 1 (field 1 (limited queues 4))) (1 + most-semaphores) (now (numbers .entry)) c (now (bytes .entry)) r (now (bytes .exit)) ⌝ }
+    ensures { λ r. ⌜ Writes (counted 0 most-semaphores 1 (field 1 (limited queues 4))) (1 + most-semaphores)
+        (now (numbers .entry)) c (now (bytes .entry)) r (now (bytes .exit)) ⌝ }
 {
     let start = field::byte(numbers, c, TOO_MANY_SEMAPHORES, 2, bytes);
     let count = start.value;
@@ -62,7 +64,8 @@ fn owners(numbers: &[u64], c: Cursor, queues: u64, bytes: &mut [u8]) -> Cursor
 // The section of buffers.
 fn sizes(numbers: &[u64], c: Cursor, bytes: &mut [u8]) -> Cursor
     requires { ⌜ Room (2 + 4 * most-buffers) (now numbers) c (now bytes) ⌝ }
-    ensures { λ r. ⌜ Writes (counted 0 most-buffers 2 size-field) (2 + 4 * most-buffers) (now (numbers .entry)) c (now (bytes .entry)) r (now (bytes .exit)) ⌝ }
+    ensures { λ r. ⌜ Writes (counted 0 most-buffers 2 size-field) (2 + 4 * most-buffers) (now (numbers .entry)) c
+        (now (bytes .entry)) r (now (bytes .exit)) ⌝ }
 {
     let start = field::pair(numbers, c, TOO_MANY_BUFFERS, 2, bytes);
     let count = start.value;

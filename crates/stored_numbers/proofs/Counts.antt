@@ -20,11 +20,14 @@ use Rattle.stored_numbers.specs.Reading.{Front-read}
 use Rattle.stored_numbers.proofs.Fields.{here-clean}
 use Rattle.stored_numbers.proofs.Cursors.{past-then, reads-past}
 
-glued : {got₁ got₂ got₃ : List ℕ} (axes owners sizes : List ℕ) (q m b n : ℕ) → got₁ ≡ q ∷ axes → got₂ ≡ got₁ ++ (m ∷ owners) → got₃ ≡ got₂ ++ (b ∷ sizes) →
+glued : {got₁ got₂ got₃ : List ℕ} (axes owners sizes : List ℕ) (q m b n : ℕ) → got₁ ≡ q ∷ axes →
+    got₂ ≡ got₁ ++ (m ∷ owners) → got₃ ≡ got₂ ++ (b ∷ sizes) →
     got₃ ++ (n ∷ []) ≡ q ∷ (axes ++ (m ∷ (owners ++ (b ∷ (sizes ++ (n ∷ []))))))
 glued axes owners sizes q m b n e₁ e₂ e₃ =
-    let split : ((axes ++ (m ∷ owners)) ++ (b ∷ sizes)) ++ (n ∷ []) ≡ axes ++ (m ∷ (owners ++ (b ∷ (sizes ++ (n ∷ []))))) = simp append-assoc in
-    ap (λ (l : List ℕ). l ++ (n ∷ [])) (e₃ ∙ ap (λ (l : List ℕ). l ++ (b ∷ sizes)) (e₂ ∙ ap (λ (l : List ℕ). l ++ (m ∷ owners)) e₁))
+    let split : ((axes ++ (m ∷ owners)) ++ (b ∷ sizes)) ++ (n ∷ []) ≡
+    axes ++ (m ∷ (owners ++ (b ∷ (sizes ++ (n ∷ []))))) = simp append-assoc in
+    ap (λ (l : List ℕ). l ++ (n ∷ []))
+    (e₃ ∙ ap (λ (l : List ℕ). l ++ (b ∷ sizes)) (e₂ ∙ ap (λ (l : List ℕ). l ++ (m ∷ owners)) e₁))
     ∙ ap (λ (l : List ℕ). q ∷ l) split
 
 module _ (F : Form) where

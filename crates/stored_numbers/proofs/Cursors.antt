@@ -29,7 +29,8 @@ reads-past p = record { as-long = p .as-long; past = p .past }
 -- ---- one thing after another
 module _ {bs : List ℕ} {c d r : Cursor} {nums nums₁ nums₂ : List ℕ} where
   -- one thing after another
-  pub reads-seq : {g h : Grammar} {m n : ℕ} → Reads g m bs c nums d nums₁ → Reads h n bs d nums₁ r nums₂ → Reads (seq g h) (m + n) bs c nums r nums₂
+  pub reads-seq : {g h : Grammar} {m n : ℕ} → Reads g m bs c nums d nums₁ → Reads h n bs d nums₁ r nums₂ →
+      Reads (seq g h) (m + n) bs c nums r nums₂
   unfolding read-by
   reads-seq {g} {h} p q = record {
     read = ap (λ (s : Scan). read-by bytes h s) (p .read) ∙ q .read;
@@ -41,18 +42,21 @@ module _ {bs : List ℕ} {c d r : Cursor} {nums nums₁ nums₂ : List ℕ} wher
   }
 
   -- one more
-  pub reads-more : {g : Grammar} {m : ℕ} (i : ℕ) → Reads (repeat i g) (m * i) bs c nums d nums₁ → Reads g m bs d nums₁ r nums₂ → Reads (repeat (i + 1) g) (m * (i + 1)) bs c nums r nums₂
+  pub reads-more : {g : Grammar} {m : ℕ} (i : ℕ) → Reads (repeat i g) (m * i) bs c nums d nums₁ →
+      Reads g m bs d nums₁ r nums₂ → Reads (repeat (i + 1) g) (m * (i + 1)) bs c nums r nums₂
   unfolding repeat
   reads-more {g} {m} i p q = rw (add-one i, mul-suc m i) (reads-seq p q)
 
 -- none of a thing
-pub reads-none : (g : Grammar) (m : ℕ) (bs : List ℕ) (c : Cursor) (nums : List ℕ) → c .at ≤ length bs → Reads (repeat 0 g) (m * 0) bs c nums c nums
+pub reads-none : (g : Grammar) (m : ℕ) (bs : List ℕ) (c : Cursor) (nums : List ℕ) → c .at ≤ length bs →
+    Reads (repeat 0 g) (m * 0) bs c nums c nums
 unfolding repeat read-by
 reads-none g m bs c nums h = record
     { read = refl; inside = h; more = omega arith; few = omega arith; as-long = refl; past = refl }
 
 -- a count, and so many of a thing
-pub counted-read : (g : Grammar) {bs : List ℕ} {c start : Cursor} {nums nums₁ : List ℕ} {w : ℕ} (most : ℕ) → Limited w (most + 1) 2 bs c nums start nums₁ → (n : ℕ) → n ≡ start .value →
+pub counted-read : (g : Grammar) {bs : List ℕ} {c start : Cursor} {nums nums₁ : List ℕ} {w : ℕ} (most : ℕ) →
+    Limited w (most + 1) 2 bs c nums start nums₁ → (n : ℕ) → n ≡ start .value →
     read-by bytes (counted 0 most w g) (here bs c nums) ≡ read-by bytes (repeat n g) (here bs start nums₁)
 unfolding here scan fault-of limited read-by
 counted-read g {bs} {c} {start} {nums} {nums₁} {w} most p n e =
@@ -61,22 +65,29 @@ counted-read g {bs} {c} {start} {nums} {nums₁} {w} most p n e =
     (count-limited most (bytes .front w (drop (c .at) bs))) ∙ p .reads .read)
     (λ z. value-last p (fault-none start z) ∙ sym e)
 
-pub reads-counted : {g : Grammar} {bs : List ℕ} {c start r : Cursor} {nums nums₁ nums₂ : List ℕ} {w most : ℕ} (m : ℕ) → Limited w (most + 1) 2 bs c nums start nums₁ → (n : ℕ) → n ≡ start .value → Reads (repeat n g) (m * n) bs start nums₁ r nums₂ → Reads (counted 0 most w g) (1 + m * most) bs c nums r nums₂
+pub reads-counted : {g : Grammar} {bs : List ℕ} {c start r : Cursor} {nums nums₁ nums₂ : List ℕ} {w most : ℕ} (m : ℕ) →
+    Limited w (most + 1) 2 bs c nums start nums₁ → (n : ℕ) → n ≡ start .value →
+    Reads (repeat n g) (m * n) bs start nums₁ r nums₂ → Reads (counted 0 most w g) (1 + m * most) bs c nums r nums₂
 reads-counted {g} {most = most} m p n e q =
     record {
       read = counted-read g most p n e ∙ q .read;
       inside = q .inside;
-      few = omega (arith, mul-le-mul-left m (let h : n ≤ most = omega (arith, p .value-below) in h), p .reads .few, q .few);
+      few =
+          omega
+          (arith, mul-le-mul-left m (let h : n ≤ most = omega (arith, p .value-below) in h), p .reads .few, q .few);
       more = omega (arith, p .reads .more, q .more);
       as-long = q .as-long ∙ p .reads .as-long;
       past = past-then (q .more) (reads-past (p .reads)) (reads-past q) .past;
     }
 
 -- a loop that met a refusal has read all that can be read
-pub reads-stopped : {bs : List ℕ} {start r : Cursor} {nums nums-now : List ℕ} (g : Grammar) (m : ℕ) (i n : ℕ) → (r .number ≡ 0 → ⊥) → i ≤ n → Reads (repeat i g) (m * i) bs start nums r nums-now → Reads (repeat n g) (m * n) bs start nums r nums-now
+pub reads-stopped : {bs : List ℕ} {start r : Cursor} {nums nums-now : List ℕ} (g : Grammar) (m : ℕ) (i n : ℕ) →
+    (r .number ≡ 0 → ⊥) → i ≤ n → Reads (repeat i g) (m * i) bs start nums r nums-now →
+    Reads (repeat n g) (m * n) bs start nums r nums-now
 reads-stopped {bs} {start} {r} {nums} {nums-now} g m i n z h p =
     record {
-      read = repeat-stops bytes g (here bs start nums) i n (ap (λ (s : Scan). given (s .fault)) (p .read) ∙ here-given bs r nums-now z) h ∙ p .read;
+      read = repeat-stops bytes g (here bs start nums) i n
+          (ap (λ (s : Scan). given (s .fault)) (p .read) ∙ here-given bs r nums-now z) h ∙ p .read;
       inside = p .inside;
       few = omega (arith, mul-le-mul-left m h, p .few);
       more = p .more;

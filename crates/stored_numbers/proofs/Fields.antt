@@ -12,7 +12,8 @@ use lib.Seq.{drop-drop, drop-set-lt, take-suc-set}
 use borrow.Author.Tests.{lt-ltb, le-ltb, ne-eqb, eqb-true, eqb-false}
 use Rattle.base_lists.proofs.Tests.{by-cases}
 use Rattle.plan_format.specs.Refusal.{refusal, none-given, given}
-use Rattle.plan_format.specs.Grammar.{Check, Grammar, field, value, bytes, Scan, scan, refused, field-number, read-field, last-got, read-by}
+use Rattle.plan_format.specs.Grammar.{Check, Grammar, field, value, bytes, Scan, scan, refused, field-number}
+use Rattle.plan_format.specs.Grammar.{read-field, last-got, read-by}
 use Rattle.plan_format.specs.Sections.{limited}
 use Rattle.plan_format.proofs.Faults.{read-stays}
 use Rattle.plan_format.proofs.Judged.{other-given}
@@ -25,11 +26,14 @@ module _ (w : ℕ) (c : ℕ → ℕ) (rest : List ℕ) (p : ℕ) (got : List ℕ
   unfolding read-field field-number bytes scan refused given none-given
   field-cut h = rw (lt-ltb (length rest) w h)
 
-  field-wrong : (n : ℕ) → w ≤ length rest → c (value (take w rest)) ≡ n → (n ≡ 0 → ⊥) → read-field bytes w c (scan rest p got none-given) ≡ scan rest p got (refusal n p)
+  field-wrong : (n : ℕ) → w ≤ length rest → c (value (take w rest)) ≡ n → (n ≡ 0 → ⊥) →
+      read-field bytes w c (scan rest p got none-given) ≡ scan rest p got (refusal n p)
   unfolding read-field field-number bytes scan refused given none-given
   field-wrong n h e z = rw (le-ltb (length rest) w h, e, ne-eqb n 0 z, ne-eqb n 0 z)
 
-  field-right : w ≤ length rest → c (value (take w rest)) ≡ 0 → read-field bytes w c (scan rest p got none-given) ≡ scan (drop w rest) (p + w) (got ++ (value (take w rest) ∷ [])) none-given
+  field-right : w ≤ length rest → c (value (take w rest)) ≡ 0 →
+      read-field bytes w c (scan rest p got none-given) ≡
+      scan (drop w rest) (p + w) (got ++ (value (take w rest) ∷ [])) none-given
   unfolding read-field field-number bytes scan refused given none-given
   field-right h e = rw (le-ltb (length rest) w h, e)
 
@@ -37,11 +41,15 @@ module _ (w : ℕ) (c : ℕ → ℕ) (rest : List ℕ) (p : ℕ) (got : List ℕ
 abbrev cursor : (number at got value : ℕ) → Cursor
 cursor n a k v = record { number = n; at = a; got = k; value = v }
 
-pub here-clean : (bs : List ℕ) (c : Cursor) (nums : List ℕ) → c .number ≡ 0 → here bs c nums ≡ scan (drop (c .at) bs) (c .at) (take (c .got) nums) none-given
+pub here-clean : (bs : List ℕ) (c : Cursor) (nums : List ℕ) → c .number ≡ 0 →
+    here bs c nums ≡ scan (drop (c .at) bs) (c .at) (take (c .got) nums) none-given
 unfolding here fault-of
-here-clean bs c nums e = ap (λ (n : ℕ). scan (drop (c .at) bs) (c .at) (take (c .got) nums) (cond (eqb n 0) none-given (refusal n (c .at)))) e
+here-clean bs c nums e =
+    ap (λ (n : ℕ). scan (drop (c .at) bs) (c .at) (take (c .got) nums) (cond (eqb n 0) none-given (refusal n (c .at))))
+    e
 
-here-fault : (bs : List ℕ) (n a k v : ℕ) (nums : List ℕ) → (n ≡ 0 → ⊥) → here bs (cursor n a k v) nums ≡ scan (drop a bs) a (take k nums) (refusal n a)
+here-fault : (bs : List ℕ) (n a k v : ℕ) (nums : List ℕ) → (n ≡ 0 → ⊥) →
+    here bs (cursor n a k v) nums ≡ scan (drop a bs) a (take k nums) (refusal n a)
 unfolding here fault-of
 here-fault bs n a k v nums z = rw (ne-eqb n 0 z)
 
@@ -54,10 +62,13 @@ unfolding here scan
 here-given bs c nums z = other-given (fault-of c) (λ e. z (sym (fault-number c z) ∙ e))
 
 pub fault-none : (c : Cursor) → fault-of c .number ≡ 0 → c .number ≡ 0
-fault-none c e = by-cases (eqb (c .number) 0) (λ t. eqb-true (c .number) 0 t) (λ f. sym (fault-number c (eqb-false (c .number) 0 f)) ∙ e)
+fault-none c e =
+    by-cases (eqb (c .number) 0) (λ t. eqb-true (c .number) 0 t)
+    (λ f. sym (fault-number c (eqb-false (c .number) 0 f)) ∙ e)
 
 -- a cursor with a refusal passes through
-pub passed : {g : Grammar} {many : ℕ} {bs : List ℕ} {c : Cursor} {nums : List ℕ} {v : ℕ} → (c .number ≡ 0 → ⊥) → c .at ≤ length bs → Reads g many bs c nums (cursor (c .number) (c .at) (c .got) v) nums
+pub passed : {g : Grammar} {many : ℕ} {bs : List ℕ} {c : Cursor} {nums : List ℕ} {v : ℕ} → (c .number ≡ 0 → ⊥) →
+    c .at ≤ length bs → Reads g many bs c nums (cursor (c .number) (c .at) (c .got) v) nums
 unfolding here fault-of
 passed {g} {bs = bs} {c} {nums} z h =
     record {
@@ -70,18 +81,23 @@ passed {g} {bs = bs} {c} {nums} z h =
       past = refl;
     }
 
-read-clean : (w : ℕ) (check : Check) (bs : List ℕ) (c : Cursor) (nums : List ℕ) → c .number ≡ 0 → read-by bytes (field w check) (here bs c nums) ≡ read-field bytes w (λ v. check (take (c .got) nums) v) (scan (drop (c .at) bs) (c .at) (take (c .got) nums) none-given)
+read-clean : (w : ℕ) (check : Check) (bs : List ℕ) (c : Cursor) (nums : List ℕ) → c .number ≡ 0 →
+    read-by bytes (field w check) (here bs c nums) ≡
+    read-field bytes w (λ v. check (take (c .got) nums) v)
+    (scan (drop (c .at) bs) (c .at) (take (c .got) nums) none-given)
 unfolding read-by scan
 read-clean w check bs c nums e = ap (λ (s : Scan). read-by bytes (field w check) s) (here-clean bs c nums e)
 
-module _ {w : ℕ} {check : Check} {bs : List ℕ} {c : Cursor} {nums : List ℕ} (clean : c .number ≡ 0) (h : c .at ≤ length bs) where
+module _ {w : ℕ} {check : Check} {bs : List ℕ} {c : Cursor} {nums : List ℕ} (clean : c .number ≡ 0)
+    (h : c .at ≤ length bs) where
   -- cut short
   pub cut : {v : ℕ} → length bs - c .at < w → Reads (field w check) 1 bs c nums (cursor 1 (c .at) (c .got) v) nums
   cut {v} l =
       record {
         read =
             read-clean w check bs c nums clean
-            ∙ field-cut w (λ u. check (take (c .got) nums) u) (drop (c .at) bs) (c .at) (take (c .got) nums) (rw (length-drop (c .at) bs) l)
+            ∙ field-cut w (λ u. check (take (c .got) nums) u) (drop (c .at) bs) (c .at) (take (c .got) nums)
+            (rw (length-drop (c .at) bs) l)
             ∙ sym (here-fault bs 1 (c .at) (c .got) v nums (eqb-false 1 0 refl));
         inside = h;
         more = omega arith;
@@ -92,12 +108,14 @@ module _ {w : ℕ} {check : Check} {bs : List ℕ} {c : Cursor} {nums : List ℕ
 
   module _ (l : w ≤ length bs - c .at) {v : ℕ} (d : Word w bs (c .at) v) where
     -- refused by its check
-    pub wrong : {n u : ℕ} → check (take (c .got) nums) v ≡ n → (n ≡ 0 → ⊥) → Reads (field w check) 1 bs c nums (cursor n (c .at) (c .got) u) nums
+    pub wrong : {n u : ℕ} → check (take (c .got) nums) v ≡ n → (n ≡ 0 → ⊥) →
+        Reads (field w check) 1 bs c nums (cursor n (c .at) (c .got) u) nums
     wrong {n} {u} e z =
         record {
           read =
               read-clean w check bs c nums clean
-              ∙ field-wrong w (λ x. check (take (c .got) nums) x) (drop (c .at) bs) (c .at) (take (c .got) nums) n (rw (length-drop (c .at) bs) l)
+              ∙ field-wrong w (λ x. check (take (c .got) nums) x) (drop (c .at) bs) (c .at) (take (c .got) nums) n
+              (rw (length-drop (c .at) bs) l)
               (rw (← d .word) e) z
               ∙ sym (here-fault bs n (c .at) (c .got) u nums z);
           inside = h;
@@ -108,13 +126,15 @@ module _ {w : ℕ} {check : Check} {bs : List ℕ} {c : Cursor} {nums : List ℕ
         }
 
     -- kept
-    pub kept : c .got < length nums → check (take (c .got) nums) v ≡ 0 → Reads (field w check) 1 bs c nums (cursor 0 (c .at + w) (c .got + 1) v) (set nums (c .got) v)
+    pub kept : c .got < length nums → check (take (c .got) nums) v ≡ 0 →
+        Reads (field w check) 1 bs c nums (cursor 0 (c .at + w) (c .got + 1) v) (set nums (c .got) v)
     unfolding here fault-of
     kept k e =
         record {
           read =
               read-clean w check bs c nums clean
-              ∙ field-right w (λ x. check (take (c .got) nums) x) (drop (c .at) bs) (c .at) (take (c .got) nums) (rw (length-drop (c .at) bs) l)
+              ∙ field-right w (λ x. check (take (c .got) nums) x) (drop (c .at) bs) (c .at) (take (c .got) nums)
+              (rw (length-drop (c .at) bs) l)
               (rw (← d .word) e)
               ∙ rw (drop-drop w (c .at) bs, ← d .word, add-one (c .got), take-suc-set nums (c .got) v k);
           inside = omega arith;
@@ -125,20 +145,25 @@ module _ {w : ℕ} {check : Check} {bs : List ℕ} {c : Cursor} {nums : List ℕ
         }
 
 -- ---- limited fields, whose number the cursor has
-pub value-last : {w limit over : ℕ} {bs : List ℕ} {c r : Cursor} {nums nums-now : List ℕ} → Limited w limit over bs c nums r nums-now → r .number ≡ 0 → last-got (here bs r nums-now) ≡ r .value
-value-last {bs = bs} {r = r} {nums-now = nums-now} p z = sym (p .valued ∙ ap (λ (n : ℕ). cond (eqb n 0) (last-got (here bs r nums-now)) 0) z)
+pub value-last : {w limit over : ℕ} {bs : List ℕ} {c r : Cursor} {nums nums-now : List ℕ} →
+    Limited w limit over bs c nums r nums-now → r .number ≡ 0 → last-got (here bs r nums-now) ≡ r .value
+value-last {bs = bs} {r = r} {nums-now = nums-now} p z =
+    sym (p .valued ∙ ap (λ (n : ℕ). cond (eqb n 0) (last-got (here bs r nums-now)) 0) z)
 
 value-none : (n x : ℕ) → (n ≡ 0 → ⊥) → 0 ≡ cond (eqb n 0) x 0
 value-none n x z = rw (ne-eqb n 0 z)
 
 module _ {w limit over : ℕ} {bs : List ℕ} {c : Cursor} {nums : List ℕ} where
-  pub limited-passed : (c .number ≡ 0 → ⊥) → c .at ≤ length bs → Limited w limit over bs c nums (cursor (c .number) (c .at) (c .got) 0) nums
+  pub limited-passed : (c .number ≡ 0 → ⊥) → c .at ≤ length bs →
+      Limited w limit over bs c nums (cursor (c .number) (c .at) (c .got) 0) nums
   limited-passed z h = record { reads = passed z h; valued = value-none (c .number) _ z; value-below = omega arith }
 
-  pub limited-cut : c .number ≡ 0 → c .at ≤ length bs → length bs - c .at < w → Limited w limit over bs c nums (cursor 1 (c .at) (c .got) 0) nums
+  pub limited-cut : c .number ≡ 0 → c .at ≤ length bs → length bs - c .at < w →
+      Limited w limit over bs c nums (cursor 1 (c .at) (c .got) 0) nums
   limited-cut e h l = record { reads = cut e h l; valued = refl; value-below = omega arith }
 
-  module _ (clean : c .number ≡ 0) (h : c .at ≤ length bs) (l : w ≤ length bs - c .at) {v : ℕ} (d : Word w bs (c .at) v) where
+  module _ (clean : c .number ≡ 0) (h : c .at ≤ length bs) (l : w ≤ length bs - c .at) {v : ℕ}
+      (d : Word w bs (c .at) v) where
     pub limited-over : 1 ≤ over → limit ≤ v → Limited w limit over bs c nums (cursor over (c .at) (c .got) 0) nums
     unfolding limited
     limited-over o m =
@@ -148,7 +173,8 @@ module _ {w limit over : ℕ} {bs : List ℕ} {c : Cursor} {nums : List ℕ} whe
           value-below = omega arith;
         }
 
-    pub limited-kept : c .got < length nums → v < limit → Limited w limit over bs c nums (cursor 0 (c .at + w) (c .got + 1) v) (set nums (c .got) v)
+    pub limited-kept : c .got < length nums → v < limit →
+        Limited w limit over bs c nums (cursor 0 (c .at + w) (c .got + 1) v) (set nums (c .got) v)
     unfolding limited here scan last-got
     limited-kept k m =
         record {

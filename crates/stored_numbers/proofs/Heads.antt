@@ -15,7 +15,7 @@ use Rattle.plan_format.specs.Refusal.{none-given}
 use Rattle.plan_format.specs.Grammar.{field, bytes, Scan, scan, last-got, times, count-check, read-by}
 use Rattle.plan_format.specs.Form.{first-form, queue-count, semaphore-count, buffer-count}
 use Rattle.plan_format.specs.Sections.{repeat, limited, operation-below}
-use Rattle.plan_format.proofs.Blocks.{Counts, kept-now}
+use Rattle.plan_format.proofs.Blocks.{Counts-given, kept-now}
 use Rattle.plan_format.proofs.Counts.{count-limited}
 use Rattle.plan_format.proofs.Faults.{read-stays}
 use Rattle.plan_format.proofs.Fields.{field-done}
@@ -63,7 +63,7 @@ unless-clean s n z = rw (zero-not-given (s .fault) z)
 
 -- ---- the head
 -- the counts are at their places among the numbers
-heading-counts : {q m b n : ℕ} {nums : List ℕ} → Heading q m b n nums → Counts q m b nums
+heading-counts : {q m b n : ℕ} {nums : List ℕ} → Heading q m b n nums → Counts-given q m b nums
 heading-counts {q} {m} {b} {n} h =
     let v₁ = q ∷ h .axes in
     let v₂ = m ∷ h .owners in
@@ -71,7 +71,7 @@ heading-counts {q} {m} {b} {n} h =
     let all = ((v₁ ++ v₂) ++ v₃) ++ (n ∷ []) in
     let split : ((h .axes ++ v₂) ++ v₃) ++ (n ∷ []) ≡ h .axes ++ (m ∷ (h .owners ++ (b ∷ (h .sizes ++ (n ∷ []))))) =
     simp append-assoc in
-    subst (Counts q m b) (ap (λ (l : List ℕ). q ∷ l) split ∙ sym (h .numbers-are))
+    subst (Counts-given q m b) (ap (λ (l : List ℕ). q ∷ l) split ∙ sym (h .numbers-are))
     (kept-now q m b all (sections-kept q m b (h .axes) (h .owners) (h .sizes) (h .axes-long) (h .owners-long)
     (h .sizes-long) v₁ v₂ v₃ n refl refl refl))
 
@@ -80,7 +80,16 @@ module _ {bs : List ℕ} {c r : Cursor} {q m b : ℕ} {nums₀ nums nums-now : L
     (kept : Past (c .got) nums₀ nums) (roomy : r .got ≤ length nums-now)
     (count : Limited 2 (most-operations + 1) 2 bs c nums r nums-now) where
   abbrev head : Head
-  head = record { number = r .number; at = r .at; got = r .got; queues = q; semaphores = m; buffers = b; operations = r .value }
+  head =
+      record {
+        number = r .number;
+        at = r .at;
+        got = r .got;
+        queues = q;
+        semaphores = m;
+        buffers = b;
+        operations = r .value;
+      }
 
   abbrev refused : Head
   refused = record {
@@ -98,11 +107,13 @@ module _ {bs : List ℕ} {c r : Cursor} {q m b : ℕ} {nums₀ nums nums-now : L
   counted-after : r .number ≡ 0 → (c .number ≡ 0) × (take (r .got) nums-now ≡ take (c .got) nums ++ (r .value ∷ []))
   unfolding here scan read-by none-given
   counted-after z =
-      let clean : here bs r nums-now .fault .number ≡ 0 = ap (λ (s : Scan). s .fault .number) (here-clean bs r nums-now z) in
+      let clean : here bs r nums-now .fault .number ≡ 0 =
+      ap (λ (s : Scan). s .fault .number) (here-clean bs r nums-now z) in
       let d = field-done bytes 2 (λ v. limited (most-operations + 1) 2 (take (c .got) nums) v) (here bs c nums)
       (ap (λ (s : Scan). s .fault .number) (count .reads .read) ∙ clean) in
       let v = bytes .front 2 (drop (c .at) bs) in
-      let got : take (r .got) nums-now ≡ take (c .got) nums ++ (v ∷ []) = ap (λ (s : Scan). s .got) (sym (count .reads .read) ∙ d .result) in
+      let got : take (r .got) nums-now ≡ take (c .got) nums ++ (v ∷ []) =
+      ap (λ (s : Scan). s .got) (sym (count .reads .read) ∙ d .result) in
       let same : v ≡ r .value =
       sym (last-is (drop (r .at) bs) (take (c .got) nums) (r .at) v (fault-of r))
       ∙ ap (λ (l : List ℕ). last-got (scan (drop (r .at) bs) (r .at) l (fault-of r))) (sym got) ∙ value-last count z in
@@ -191,7 +202,8 @@ module _ (q m b : ℕ) {a : ℕ} (at : ℕ) {bs w w-now : List ℕ} {r : Cursor}
   where
     operation-is : operation-scan 1 q m b bs at ≡ here bs r w-now
     unfolding operation-scan here fault-of
-    operation-is = subst (λ (z : ℕ). read-by bytes (operation-below 1 q m b) (scan (drop z bs) z [] none-given) ≡ here bs
+    operation-is =
+        subst (λ (z : ℕ). read-by bytes (operation-below 1 q m b) (scan (drop z bs) z [] none-given) ≡ here bs
         r w-now) place (p .read)
 
     abbrev end : End
@@ -199,7 +211,8 @@ module _ (q m b : ℕ) {a : ℕ} (at : ℕ) {bs w w-now : List ℕ} {r : Cursor}
 
     pub operation-told : Operation-told 1 q m b bs at w end w-now
     unfolding Operation-told
-    operation-told = stopped-here bs (operation-scan 1 q m b bs at) r operation-is (omega (arith, p .few)) (reads-past p)
+    operation-told =
+        stopped-here bs (operation-scan 1 q m b bs at) r operation-is (omega (arith, p .few)) (reads-past p)
 
     pub operation-read : Operation-read 1 q m b bs at end w-now
     unfolding end-cursor here fault-of

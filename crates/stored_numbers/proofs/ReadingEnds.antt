@@ -18,7 +18,8 @@ use Rattle.plan_format.specs.declared.Told.{Told}
 use Rattle.plan_format.proofs.HandedBack.{ended-none, ended-more, ended-got}
 use Rattle.plan_format.proofs.Faults.{ended-stays}
 use Rattle.stored_numbers.specs.declared.cursor.Cursor.{Cursor}
-use Rattle.stored_numbers.specs.Reading.{fault-of, here, Past, begun, front-numbers, Plan-read, Ends, Numbers-read}
+use Rattle.stored_numbers.specs.Reading.{fault-of, here, Past, begun, front-numbers, Plan-read, Ends}
+use Rattle.stored_numbers.specs.Reading.{Numbers-read}
 use Rattle.stored_numbers.proofs.Fields.{here-given, here-clean, fault-number}
 
 fault-place : (c : Cursor) → (c .number ≡ 0 → ⊥) → fault-of c .place ≡ c .at

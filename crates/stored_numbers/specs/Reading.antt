@@ -39,7 +39,8 @@ pub record Past (got : ℕ) (nums nums-now : List ℕ) : Type 0 where
   pub past : drop got nums-now ≡ drop got nums
 
 -- from the cursor `c` to the cursor `r` a thing is read, at most so many numbers long
-pub record Reads (g : Grammar) (many : ℕ) (bs : List ℕ) (c : Cursor) (nums : List ℕ) (r : Cursor) (nums-now : List ℕ) : Type 0 where
+pub record Reads (g : Grammar) (many : ℕ) (bs : List ℕ) (c : Cursor) (nums : List ℕ) (r : Cursor)
+    (nums-now : List ℕ) : Type 0 where
   pub read : read-by bytes g (here bs c nums) ≡ here bs r nums-now
   pub inside : r .at ≤ length bs
   pub more : c .got ≤ r .got
@@ -53,7 +54,8 @@ pub record Word (width : ℕ) (bs : List ℕ) (at v : ℕ) : Type 0 where
   pub small : v < 256 ^ width
 
 -- a limited field was read, and the cursor has its number, 0 beside a refusal
-pub record Limited (width limit over : ℕ) (bs : List ℕ) (c : Cursor) (nums : List ℕ) (r : Cursor) (nums-now : List ℕ) : Type 0 where
+pub record Limited (width limit over : ℕ) (bs : List ℕ) (c : Cursor) (nums : List ℕ) (r : Cursor)
+    (nums-now : List ℕ) : Type 0 where
   pub reads : Reads (field width (limited limit over)) 1 bs c nums r nums-now
   pub valued : r .value ≡ cond (eqb (r .number) 0) (last-got (here bs r nums-now)) 0
   pub value-below : r .value ≤ limit - 1
@@ -137,7 +139,8 @@ pub record Head-read (bs : List ℕ) (h : Head) (nums-now : List ℕ) : Type 0 w
   pub plan : read-by bytes (plan-grammar first-form) (begun first-form bs) ≡
       times (h .operations) (λ s. read-by bytes (operation-below 1 (h .queues) (h .semaphores) (h .buffers)) s)
       (here bs (head-cursor h) nums-now)
-  pub heading : h .number ≡ 0 → Heading (h .queues) (h .semaphores) (h .buffers) (h .operations) (take (h .got) nums-now)
+  pub heading : h .number ≡ 0 →
+      Heading (h .queues) (h .semaphores) (h .buffers) (h .operations) (take (h .got) nums-now)
   pub inside : h .at ≤ length bs
   pub few : h .got ≤ head-numbers
   pub few-operations : h .operations ≤ most-operations

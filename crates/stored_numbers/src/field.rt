@@ -73,7 +73,8 @@ pub fn size(plan: &[u8], c: Cursor, numbers: &mut [u64]) -> Cursor
 // The value of a wait or a signal: eight bytes, any number.
 pub fn point_value(plan: &[u8], c: Cursor, numbers: &mut [u64]) -> Cursor
     requires { ⌜ Room 1 (now plan) c (now numbers) ⌝ }
-    ensures { λ r. ⌜ Reads (field 8 any-number) 1 (now (plan .entry)) c (now (numbers .entry)) r (now (numbers .exit)) ⌝ }
+    ensures { λ r. ⌜ Reads (field 8 any-number) 1 (now (plan .entry)) c (now (numbers .entry)) r
+        (now (numbers .exit)) ⌝ }
 {
     let at = c.at;
     let got = c.got;

@@ -22,7 +22,8 @@ ghost use Rattle.base_lists.specs.Lists.{in-front};
 ghost use Rattle.plan_format.specs.Grammar.{ended};
 ghost use Rattle.plan_format.specs.Sizes.{most-operations, plan-numbers};
 ghost use Rattle.plan_format.specs.Stored.{scanned};
-ghost use Rattle.stored_numbers.specs.Reading.{here, Head-told, Head-read, Operation-told, Operation-read, Ends, Numbers-read, rest-scan};
+ghost use Rattle.stored_numbers.specs.Reading.{here, Head-told, Head-read, Operation-told, Operation-read, Ends};
+ghost use Rattle.stored_numbers.specs.Reading.{Numbers-read, rest-scan};
 
 // The most operations, and the least number of them that is too many.
 const OPERATIONS: u64 = MOST_OPERATIONS as u64;
@@ -89,7 +90,8 @@ pub fn read_operation(
     buffers: u64,
     window: &mut [u64; WINDOW],
 ) -> End
-    ensures told { λ r. ⌜ Operation-told 1 queues semaphores buffers (now (plan .entry)) at (now (window .entry)) r (now (window .exit)) ⌝ }
+    ensures told { λ r. ⌜ Operation-told 1 queues semaphores buffers (now (plan .entry))
+        at (now (window .entry)) r (now (window .exit)) ⌝ }
     ensures means { λ r. ⌜ Operation-read 1 queues semaphores buffers (now (plan .entry)) at r (now (window .exit)) ⌝ }
 {
     let start = Cursor {
@@ -161,7 +163,8 @@ pub fn read_rest(
     numbers: &mut [u64; PLAN_NUMBERS],
 ) -> Told
     ensures told { λ r. ⌜ Ends (rest-scan (now (plan .entry)) at h (now (head .entry))) r ⌝ }
-    ensures array { λ _. ⌜ now (numbers .exit) ≡ in-front (rest-scan (now (plan .entry)) at h (now (head .entry)) .got) (now (numbers .entry)) ⌝ }
+    ensures array { λ _. ⌜ now (numbers .exit) ≡
+        in-front (rest-scan (now (plan .entry)) at h (now (head .entry)) .got) (now (numbers .entry)) ⌝ }
     ensures few { λ r. ⌜ r .answer ≤ plan-numbers ⌝ }
 {
     let before = base_numbers::min_usize(h.got, HEAD_NUMBERS);

@@ -23,7 +23,8 @@ const TOO_MANY_OPERATIONS: u64 = MOST_OPERATIONS as u64 + 1;
 // A wait or a signal: a semaphore and a value.
 fn point(plan: &[u8], c: Cursor, semaphores: u64, numbers: &mut [u64]) -> Cursor
     requires { ⌜ Room 2 (now plan) c (now numbers) ⌝ }
-    ensures { λ r. ⌜ Reads (point-below 1 semaphores) 2 (now (plan .entry)) c (now (numbers .entry)) r (now (numbers .exit)) ⌝ }
+    ensures { λ r. ⌜ Reads (point-below 1 semaphores) 2 (now (plan .entry)) c (now (numbers .entry)) r
+        (now (numbers .exit)) ⌝ }
 {
     let semaphore = field::byte(plan, c, semaphores, 4, numbers);
     field::point_value(plan, semaphore, numbers)
@@ -32,7 +33,8 @@ fn point(plan: &[u8], c: Cursor, semaphores: u64, numbers: &mut [u64]) -> Cursor
 // The waits or the signals: a count, at most `most`, and the points.
 fn points(plan: &[u8], c: Cursor, most: u64, semaphores: u64, numbers: &mut [u64]) -> Cursor
     requires { ⌜ Room (1 + 2 * most) (now plan) c (now numbers) ⌝ }
-    ensures { λ r. ⌜ Reads (counted 0 most 1 (point-below 1 semaphores)) (1 + 2 * most) (now (plan .entry)) c (now (numbers .entry)) r (now (numbers .exit)) ⌝ }
+    ensures { λ r. ⌜ Reads (counted 0 most 1 (point-below 1 semaphores)) (1 + 2 * most) (now (plan .entry)) c
+        (now (numbers .entry)) r (now (numbers .exit)) ⌝ }
 {
     let start = field::byte(plan, c, most + 1, 2, numbers);
     let count = start.value;
@@ -51,7 +53,8 @@ fn points(plan: &[u8], c: Cursor, most: u64, semaphores: u64, numbers: &mut [u64
 // A mark: a buffer and a kind.
 fn mark(plan: &[u8], c: Cursor, buffers: u64, numbers: &mut [u64]) -> Cursor
     requires { ⌜ Room 2 (now plan) c (now numbers) ⌝ }
-    ensures { λ r. ⌜ Reads (mark-below buffers) 2 (now (plan .entry)) c (now (numbers .entry)) r (now (numbers .exit)) ⌝ }
+    ensures { λ r. ⌜ Reads (mark-below buffers) 2 (now (plan .entry)) c (now (numbers .entry)) r
+        (now (numbers .exit)) ⌝ }
 {
     let buffer = field::pair(plan, c, buffers, 4, numbers);
     field::byte(plan, buffer, 2, 4, numbers)
@@ -60,7 +63,8 @@ fn mark(plan: &[u8], c: Cursor, buffers: u64, numbers: &mut [u64]) -> Cursor
 // The marks: a count and the marks.
 fn marks(plan: &[u8], c: Cursor, buffers: u64, numbers: &mut [u64]) -> Cursor
     requires { ⌜ Room (1 + 2 * most-marks) (now plan) c (now numbers) ⌝ }
-    ensures { λ r. ⌜ Reads (counted 0 most-marks 1 (mark-below buffers)) (1 + 2 * most-marks) (now (plan .entry)) c (now (numbers .entry)) r (now (numbers .exit)) ⌝ }
+    ensures { λ r. ⌜ Reads (counted 0 most-marks 1 (mark-below buffers)) (1 + 2 * most-marks) (now (plan .entry)) c
+        (now (numbers .entry)) r (now (numbers .exit)) ⌝ }
 {
     let start = field::byte(plan, c, TOO_MANY_MARKS, 2, numbers);
     let count = start.value;
@@ -86,7 +90,8 @@ pub fn operation(
     numbers: &mut [u64],
 ) -> Cursor
     requires { ⌜ Room block-numbers (now plan) c (now numbers) ⌝ }
-    ensures { λ r. ⌜ Reads (operation-below 1 queues semaphores buffers) block-numbers (now (plan .entry)) c (now (numbers .entry)) r (now (numbers .exit)) ⌝ }
+    ensures { λ r. ⌜ Reads (operation-below 1 queues semaphores buffers) block-numbers (now (plan .entry)) c
+        (now (numbers .entry)) r (now (numbers .exit)) ⌝ }
 {
     let queue = field::byte(plan, c, queues, 4, numbers);
     let waits = points(plan, queue, WAITS, semaphores, numbers);
@@ -105,7 +110,8 @@ pub fn several(
     numbers: &mut [u64],
 ) -> Cursor
     requires { ⌜ Room (block-numbers * many) (now plan) c (now numbers) ⌝ }
-    ensures { λ r. ⌜ Reads (repeat many (operation-below 1 queues semaphores buffers)) (block-numbers * many) (now (plan .entry)) c (now (numbers .entry)) r (now (numbers .exit)) ⌝ }
+    ensures { λ r. ⌜ Reads (repeat many (operation-below 1 queues semaphores buffers)) (block-numbers * many)
+        (now (plan .entry)) c (now (numbers .entry)) r (now (numbers .exit)) ⌝ }
 {
     let mut o = c;
     let mut i: u64 = 0;
@@ -129,7 +135,8 @@ pub fn operations(
     numbers: &mut [u64],
 ) -> Cursor
     requires { ⌜ Room (1 + most-operations * block-numbers) (now plan) c (now numbers) ⌝ }
-    ensures { λ r. ⌜ Reads (counted 0 most-operations 2 (operation-below 1 queues semaphores buffers)) (1 + most-operations * block-numbers) (now (plan .entry)) c (now (numbers .entry)) r (now (numbers .exit)) ⌝ }
+    ensures { λ r. ⌜ Reads (counted 0 most-operations 2 (operation-below 1 queues semaphores buffers))
+        (1 + most-operations * block-numbers) (now (plan .entry)) c (now (numbers .entry)) r (now (numbers .exit)) ⌝ }
 {
     let start = field::pair(plan, c, TOO_MANY_OPERATIONS, 2, numbers);
     let count = start.value;

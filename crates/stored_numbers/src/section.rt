@@ -24,7 +24,8 @@ const TOO_MANY_BUFFERS: u64 = MOST_BUFFERS as u64 + 1;
 // The section of queues.
 fn axes(plan: &[u8], c: Cursor, numbers: &mut [u64]) -> Cursor
     requires { ⌜ Room (1 + most-queues) (now plan) c (now numbers) ⌝ }
-    ensures { λ r. ⌜ Reads (counted 0 most-queues 1 axis-field) (1 + most-queues) (now (plan .entry)) c (now (numbers .entry)) r (now (numbers .exit)) ⌝ }
+    ensures { λ r. ⌜ Reads (counted 0 most-queues 1 axis-field) (1 + most-queues) (now (plan .entry)) c
+        (now (numbers .entry)) r (now (numbers .exit)) ⌝ }
 {
     let start = field::byte(plan, c, TOO_MANY_QUEUES, 2, numbers);
     let count = start.value;
@@ -43,7 +44,8 @@ fn axes(plan: &[u8], c: Cursor, numbers: &mut [u64]) -> Cursor
 // The section of semaphores.
 fn owners(plan: &[u8], c: Cursor, queues: u64, numbers: &mut [u64]) -> Cursor
     requires { ⌜ Room (1 + most-semaphores) (now plan) c (now numbers) ⌝ }
-    ensures { λ r. ⌜ Reads (counted 0 most-semaphores 1 (field 1 (limited queues 4))) (1 + most-semaphores) (now (plan .entry)) c (now (numbers .entry)) r (now (numbers .exit)) ⌝ }
+    ensures { λ r. ⌜ Reads (counted 0 most-semaphores 1 (field 1 (limited queues 4))) (1 + most-semaphores)
+        (now (plan .entry)) c (now (numbers .entry)) r (now (numbers .exit)) ⌝ }
 {
     let start = field::byte(plan, c, TOO_MANY_SEMAPHORES, 2, numbers);
     let count = start.value;
@@ -62,7 +64,8 @@ fn owners(plan: &[u8], c: Cursor, queues: u64, numbers: &mut [u64]) -> Cursor
 // The section of buffers.
 fn sizes(plan: &[u8], c: Cursor, numbers: &mut [u64]) -> Cursor
     requires { ⌜ Room (1 + most-buffers) (now plan) c (now numbers) ⌝ }
-    ensures { λ r. ⌜ Reads (counted 0 most-buffers 2 size-field) (1 + most-buffers) (now (plan .entry)) c (now (numbers .entry)) r (now (numbers .exit)) ⌝ }
+    ensures { λ r. ⌜ Reads (counted 0 most-buffers 2 size-field) (1 + most-buffers) (now (plan .entry)) c
+        (now (numbers .entry)) r (now (numbers .exit)) ⌝ }
 {
     let start = field::pair(plan, c, TOO_MANY_BUFFERS, 2, numbers);
     let count = start.value;
@@ -96,7 +99,8 @@ pub struct Front {
 // The first three sections; a count comes before its section.
 pub fn first_sections(plan: &[u8], numbers: &mut [u64]) -> Front
     requires { ⌜ head-numbers ≤ length (now numbers) ⌝ }
-    ensures read { λ r. ⌜ Front-read first-form (now (plan .entry)) (r .cursor) (r .queues) (r .semaphores) (r .buffers) (now (numbers .exit)) ⌝ }
+    ensures read { λ r. ⌜ Front-read first-form (now (plan .entry)) (r .cursor) (r .queues) (r .semaphores) (r .buffers)
+        (now (numbers .exit)) ⌝ }
     ensures past { λ r. ⌜ Past (r .cursor .got) (now (numbers .entry)) (now (numbers .exit)) ⌝ }
     ensures few { λ r. ⌜ r .cursor .got + 1 ≤ head-numbers ⌝ }
 {

@@ -31,8 +31,10 @@ fn store(numbers: &[u64; PLAN_NUMBERS], many: usize, room: &mut [u64])
 // What a reading told, with its numbers in front of the room, if they fit.
 fn into_room(told: Told, numbers: &[u64; PLAN_NUMBERS], room: &mut [u64]) -> Told
     requires { ⌜ (told .answer ≤ plan-numbers) × (told .answer ≤ length (now numbers)) ⌝ }
-    ensures { λ r. ⌜ ((f : Refusal) (got : List ℕ) → Tells f (length got) told → (told .number ≡ 0 → take (length got) (now (numbers .entry)) ≡ got) →
-        Fills (or-else f (room-for (length got) (length (now (room .entry))))) got r (now (room .entry)) (now (room .exit))) ⌝ }
+    ensures { λ r. ⌜ ((f : Refusal) (got : List ℕ) → Tells f (length got) told →
+        (told .number ≡ 0 → take (length got) (now (numbers .entry)) ≡ got) →
+        Fills (or-else f (room-for (length got) (length (now (room .entry))))) got r (now (room .entry))
+        (now (room .exit))) ⌝ }
 {
     if told.number != 0 {
         return told;

@@ -332,7 +332,7 @@ fn bad_input() {
     changed_cut(17, 2, 24);
     changed_cut(93, 1, 94);
     faults();
-    text(b"bytes behind the last section\n");
+    text(b"bytes after the last section\n");
     longer(1);
     longer(1048576);
 }

@@ -156,7 +156,7 @@ fn main() {
     changed(9, 1);
     changed(17, 1);
     changed(17, 2);
-    head(b"bytes behind the last section\n");
+    head(b"bytes after the last section\n");
     longer(1);
     longer(1048576);
     head(b"room\n");

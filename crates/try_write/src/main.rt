@@ -179,7 +179,7 @@ fn main() {
     changed(2, 1);
     changed(3, 1);
     changed(3, 2);
-    head(b"numbers behind the last field\n");
+    head(b"numbers after the last field\n");
     first(39);
     first(40);
     longer();

@@ -14,7 +14,8 @@ use Rattle.ask_frontier.proofs.gather.Tie as tie
 
 abbrev Inv-loop : tie.InvT-loop
 Inv-loop head table queues first f₀ q₀ f q =
-    (q ≤ queues) × (raises (left-from head table first queues q) f ≡ raises (left-from head table first queues 0) (pack [] false))
+    (q ≤ queues) ×
+    (raises (left-from head table first queues q) f ≡ raises (left-from head table first queues 0) (pack [] false))
 
 abbrev μ-loop : tie.MeasureT-loop
 μ-loop head table queues first f₀ q₀ f q = queues - q
@@ -56,16 +57,18 @@ loop-less : tie.Need-loop-less Inv-loop μ-loop
 loop-less c = search needs
 
 loop-again : tie.Need-loop-again Inv-loop μ-loop
-loop-again c = (
-  omega arith,
-  raised-more _ _ _ _ _ _ _ _ (c .before .before .before .before .before .loop-test .taken)
-      (c .before .before .u32-to-u64 .ensures) (c .before .raise .ensures .0)
-      ∙ c .before .before .before .before .before .before .loop .inv .1,
-)
+loop-again c =
+    let turn = c .before .before .before .before .before .before in (
+      omega arith,
+      raised-more _ _ _ _ _ _ _ _ (c .before .before .before .before .before .loop-test .taken)
+          (c .before .before .u32-to-u64 .ensures) (c .before .raise .ensures .0)
+          ∙ turn .loop .inv .1,
+    )
 
 returns : tie.Need-returns Inv-loop μ-loop
 returns c =
-    sym (raised-all _ _ _ _ _ _ (c .loop-test .left)) ∙ c .before .loop .inv .1 ∙ raised-whole _ _ _ _ (c .before .before .before .before .pre .0)
+    sym (raised-all _ _ _ _ _ _ (c .loop-test .left)) ∙ c .before .loop .inv .1
+    ∙ raised-whole _ _ _ _ (c .before .before .before .before .pre .0)
 
 pub gather-spec : {M : Type 1} → statement M
 gather-spec =

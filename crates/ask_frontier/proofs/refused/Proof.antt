@@ -9,7 +9,9 @@ empty-requires : tie.Need-empty-requires
 empty-requires c κs = search needs
 
 returns : tie.Need-returns
-returns c = ap (λ (f : Frontier). record { number = c .before .args .number; place = c .before .args .place; frontier = f }) (c .empty .ensures)
+returns c =
+    ap (λ (f : Frontier). record { number = c .before .args .number; place = c .before .args .place; frontier = f })
+    (c .empty .ensures)
 
 pub refused-spec : {M : Type 1} → statement M
 refused-spec = tie.close (tie.spec empty-requires returns)

@@ -16,7 +16,8 @@ refused-requires-2 : tie.Need-refused-requires-2
 refused-requires-2 c κs = search needs
 
 returns-2 : tie.Need-returns-2
-returns-2 c = λ p o. rw (c .refused2 .ensures) (no-buffer o _ _ (c .before .before .before .if1 .left) (c .before .if2 .taken))
+returns-2 c =
+    λ p o. rw (c .refused2 .ensures) (no-buffer o _ _ (c .before .before .before .if1 .left) (c .before .if2 .taken))
 
 verdict-requires : tie.Need-verdict-requires
 verdict-requires c κs = search needs

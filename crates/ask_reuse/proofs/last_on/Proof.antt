@@ -22,13 +22,15 @@ get16-requires : tie.Need-get16-requires Inv-loop μ-loop
 get16-requires c κs = search needs
 
 returns : tie.Need-returns Inv-loop μ-loop
-returns c = last-here _ _ _ _ (c .before .before .loop-test .taken) (c .before .get16 .ensures) (c .if1 .taken) ∙ c .before .before .before .loop .inv
+returns c = last-here _ _ _ _ (c .before .before .loop-test .taken) (c .before .get16 .ensures) (c .if1 .taken)
+    ∙ c .before .before .before .loop .inv
 
 loop-less : tie.Need-loop-less Inv-loop μ-loop
 loop-less c = search needs
 
 loop-again : tie.Need-loop-again Inv-loop μ-loop
-loop-again c = last-past _ _ _ _ (c .before .before .loop-test .taken) (c .before .get16 .ensures) (c .if1 .left) ∙ c .before .before .before .loop .inv
+loop-again c = last-past _ _ _ _ (c .before .before .loop-test .taken) (c .before .get16 .ensures) (c .if1 .left)
+    ∙ c .before .before .before .loop .inv
 
 returns-2 : tie.Need-returns-2 Inv-loop μ-loop
 returns-2 c = last-none _ _ _ (c .loop-test .left) ∙ c .before .loop .inv

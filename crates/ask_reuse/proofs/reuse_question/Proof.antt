@@ -15,7 +15,9 @@ same-length-2 : tie.Need-same-length-2
 same-length-2 c = search needs
 
 returns : tie.Need-returns
-returns c = asked _ _ _ _ _ _ _ _ (plan-refused _ _ (c .before .before .before .before .before .before .check-opened .ensures .0) (c .if1 .taken))
+returns c =
+    let earlier = c .before .before .before .before .before .before in
+    asked _ _ _ _ _ _ _ _ (plan-refused _ _ (earlier .check-opened .ensures .0) (c .if1 .taken))
 
 answer-requires : tie.Need-answer-requires
 answer-requires c κs = search needs
@@ -28,7 +30,8 @@ same-length-4 c = search needs
 
 returns-2 : tie.Need-returns-2
 returns-2 c =
-    let check = c .before .before .before .before .before .before .before .before .before .before .before .check-opened .ensures in
+    let midway = c .before .before .before .before .before in
+    let check = midway .before .before .before .before .before .before .check-opened .ensures in
     let passed = c .before .before .before .before .before .if1 .left in
     asked _ _ _ _ _ _ _ _ (then-asked _ _ (check .0) passed
     (c .answer .ensures _ (question-given (check .1 .1 .1 .1 .0 passed))))

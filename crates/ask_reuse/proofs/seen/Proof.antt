@@ -29,7 +29,9 @@ get32-requires-2 : tie.Need-get32-requires-2
 get32-requires-2 c κs = search needs
 
 returns-2 : tie.Need-returns-2
-returns-2 c = seen-some _ _ _ _ _ _ _ (c .before .before .before .if1 .left) (c .before .before .get16 .ensures) (c .before .get32 .ensures) (c .get322 .ensures)
+returns-2 c =
+    seen-some _ _ _ _ _ _ _ (c .before .before .before .if1 .left) (c .before .before .get16 .ensures)
+    (c .before .get32 .ensures) (c .get322 .ensures)
 
 pub seen-spec : {M : Type 1} → statement M
 seen-spec =

@@ -37,22 +37,26 @@ loop-less : tie.Need-loop-less Inv-loop μ-loop
 loop-less c = omega arith
 
 loop-again : tie.Need-loop-again Inv-loop μ-loop
-loop-again c = (
-  omega arith,
-  puts-number
-      (c .before .before .before .before .before .before .before .before .before .before .args .numbers .now)
-      (c .before .before .before .before .before .before .before .loop .i) (omega arith)
-      (c .before .before .before .before .before .before .before .loop .inv .1)
-      (rw (c .before .before .before .u32-to-u64 .ensures) at (c .before .before .next .ensures)),
-)
+loop-again c =
+    let turn = c .before .before .before .before .before .before .before in (
+      omega arith,
+      puts-number
+          (turn .before .before .before .args .numbers .now)
+          (turn .loop .i) (omega arith)
+          (turn .loop .inv .1)
+          (rw (c .before .before .before .u32-to-u64 .ensures) at (c .before .before .next .ensures)),
+    )
 
 same-length : tie.Need-same-length Inv-loop μ-loop
 same-length c = puts-length (c .before .loop .inv .1)
 
 returns : tie.Need-returns Inv-loop μ-loop
-returns c = puts-list (c .before .before .before .before .args .numbers .now) (c .before .loop .i) (omega arith) (c .before .loop .inv .1)
+returns c =
+    puts-list (c .before .before .before .before .args .numbers .now) (c .before .loop .i) (omega arith)
+    (c .before .loop .inv .1)
 
 pub list-spec : {M : Type 1} → statement M
 list-spec =
     tie.close
-    (tie.spec Inv-loop μ-loop loop-holds mul-u32-to-u64 shared-slice-read-u32-to-u64 u32-to-u64-requires next-requires add-i loop-less loop-again same-length returns)
+    (tie.spec Inv-loop μ-loop loop-holds mul-u32-to-u64 shared-slice-read-u32-to-u64 u32-to-u64-requires next-requires
+    add-i loop-less loop-again same-length returns)

@@ -35,15 +35,22 @@ loop-less c = omega arith
 
 loop-again : tie.Need-loop-again Inv-loop μ-loop
 loop-again c =
-    (omega arith, puts-number (c .before .before .before .before .before .before .before .before .before .args .numbers .now) (c .before .before .before .before .before .before .loop .i) (omega arith) (c .before .before .before .before .before .before .loop .inv .1) (c .before .before .next .ensures))
+    let turn = c .before .before .before .before .before .before in (
+      omega arith,
+      puts-number (turn .before .before .before .args .numbers .now) (turn .loop .i) (omega arith) (turn .loop .inv .1)
+          (c .before .before .next .ensures),
+    )
 
 same-length : tie.Need-same-length Inv-loop μ-loop
 same-length c = puts-length (c .before .loop .inv .1)
 
 returns : tie.Need-returns Inv-loop μ-loop
-returns c = puts-list (c .before .before .before .before .args .numbers .now) (c .before .loop .i) (omega arith) (c .before .loop .inv .1)
+returns c =
+    puts-list (c .before .before .before .before .args .numbers .now) (c .before .loop .i) (omega arith)
+    (c .before .loop .inv .1)
 
 pub long-list-spec : {M : Type 1} → statement M
 long-list-spec =
     tie.close
-    (tie.spec Inv-loop μ-loop loop-holds mul-next shared-slice-read-next next-requires add-i loop-less loop-again same-length returns)
+    (tie.spec Inv-loop μ-loop loop-holds mul-next shared-slice-read-next next-requires add-i loop-less loop-again
+    same-length returns)

@@ -14,7 +14,9 @@ same-length : tie.Need-same-length
 same-length c = search needs
 
 returns : tie.Need-returns
-returns c = puts-both (c .before .before .before .before .before .before .byte .ensures) (c .before .before .number .ensures)
+returns c =
+    let earlier = c .before .before .before .before .before .before in
+    puts-both (earlier .byte .ensures) (c .before .before .number .ensures)
 
 pub next-spec : {M : Type 1} → statement M
 next-spec = tie.close (tie.spec byte-requires number-requires same-length returns)

@@ -21,7 +21,11 @@ same-length : tie.Need-same-length
 same-length c = search needs
 
 returns : tie.Need-returns
-returns c = rw (c .before .before .before .before .before .decimal .ensures .1 .1 ∙ spelled (c .before .before .before .before .before .decimal .result) (c .before .before .before .before .before .before .before .before .args .n) (c .before .before .before .before .before .decimal .ensures .1 .0)) at (c .before .before .words .ensures)
+returns c =
+    let start = c .before .before .before .before .before .before .before .before in
+    rw (c .before .before .before .before .before .decimal .ensures .1 .1
+    ∙ spelled (c .before .before .before .before .before .decimal .result) (start .args .n)
+    (c .before .before .before .before .before .decimal .ensures .1 .0)) at (c .before .before .words .ensures)
 
 pub number-spec : {M : Type 1} → statement M
 number-spec =

@@ -25,7 +25,11 @@ same-length c = search needs
 
 returns : tie.Need-returns
 unfolding refused-text
-returns c = puts-both (puts-both (puts-both (c .before .before .before .before .before .before .before .before .before .before .before .before .before .before .words .ensures) (c .before .before .before .before .before .before .before .before .before .before .next .ensures)) (c .before .before .before .before .before .before .next2 .ensures)) (c .before .before .byte .ensures)
+returns c =
+    let earlier = c .before .before .before .before .before .before in
+    let first = earlier .before .before .before .before .before .before .before .before in
+    puts-both (puts-both (puts-both (first .words .ensures) (earlier .before .before .before .before .next .ensures))
+    (earlier .next2 .ensures)) (c .before .before .byte .ensures)
 
 pub refused-spec : {M : Type 1} → statement M
 refused-spec =

@@ -34,8 +34,13 @@ same-length : tie.Need-same-length
 same-length c = search needs
 
 returns-2 : tie.Need-returns-2
-returns-2 c = rw (spaced-some (c .before .before .before .before .before .before .before .before .before .before .before .before .before .args .numbers .now) (omega arith))
-    (puts-both (c .before .before .before .before .before .before .before .number .ensures) (rw (take-all (length (c .before .before .before .before .before .before .before .before .before .before .before .before .before .args .numbers .now) - 1) (drop 1 (c .before .before .before .before .before .before .before .before .before .before .before .before .before .args .numbers .now)) (omega (arith, length-drop 1 (c .before .before .before .before .before .before .before .before .before .before .before .before .before .args .numbers .now)))) at (c .before .before .long-list .ensures)))
+returns-2 c =
+    let earlier = c .before .before .before .before .before .before .before in
+    let start = earlier .before .before .before .before .before .before in
+    rw (spaced-some (start .args .numbers .now) (omega arith))
+    (puts-both (earlier .number .ensures)
+    (rw (take-all (length (start .args .numbers .now) - 1) (drop 1 (start .args .numbers .now))
+    (omega (arith, length-drop 1 (start .args .numbers .now)))) at (c .before .before .long-list .ensures)))
 
 pub spaced-list-spec : {M : Type 1} → statement M
 spaced-list-spec =

@@ -31,15 +31,22 @@ loop-less c = omega arith
 
 loop-again : tie.Need-loop-again Inv-loop μ-loop
 loop-again c =
-    (omega arith, puts-more (c .before .before .before .before .before .before .before .before .before .args .text .now) (c .before .before .before .before .before .before .loop .i) (omega arith) (c .before .before .before .before .before .before .loop .inv .1) (c .before .before .byte .ensures))
+    let turn = c .before .before .before .before .before .before in (
+      omega arith,
+      puts-more (turn .before .before .before .args .text .now) (turn .loop .i) (omega arith) (turn .loop .inv .1)
+          (c .before .before .byte .ensures),
+    )
 
 same-length : tie.Need-same-length Inv-loop μ-loop
 same-length c = puts-length (c .before .loop .inv .1)
 
 returns : tie.Need-returns Inv-loop μ-loop
-returns c = puts-whole (c .before .before .before .before .args .text .now) (c .before .loop .i) (omega arith) (c .before .loop .inv .1)
+returns c =
+    puts-whole (c .before .before .before .before .args .text .now) (c .before .loop .i) (omega arith)
+    (c .before .loop .inv .1)
 
 pub words-spec : {M : Type 1} → statement M
 words-spec =
     tie.close
-    (tie.spec Inv-loop μ-loop loop-holds shared-slice-read-byte byte-requires add-i loop-less loop-again same-length returns)
+    (tie.spec Inv-loop μ-loop loop-holds shared-slice-read-byte byte-requires add-i loop-less loop-again
+    same-length returns)

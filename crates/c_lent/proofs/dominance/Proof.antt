@@ -47,4 +47,5 @@ returns-4 c = rw (c .before .before .r .given .1) (c .refused .ensures)
 pub dominance-spec : {M : Type 1} → statement M
 dominance-spec =
     tie.close
-    (tie.spec enum-told answered-requires enum-told-2 answered-requires-2 enum-told-3 answered-requires-3 enum-known-r refused-requires returns returns-2 returns-3 returns-4)
+    (tie.spec enum-told answered-requires enum-told-2 answered-requires-2 enum-told-3 answered-requires-3 enum-known-r
+    refused-requires returns returns-2 returns-3 returns-4)

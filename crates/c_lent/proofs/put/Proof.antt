@@ -18,7 +18,10 @@ byte-of true = refl
 byte-of false = refl
 
 abbrev start : (c : tie.After-slice-known3) → tie.Start
-start c = c .before .before .before .before .before .before .before .before .before .before .before .before .before .before .before
+start c =
+    let midway = c .before .before .before .before .before .before .before in
+    let earlier = midway .before .before .before .before .before .before .before .before in
+    earlier
 
 put-row-requires : tie.Need-put-row-requires
 put-row-requires c κs = search needs

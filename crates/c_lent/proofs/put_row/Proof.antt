@@ -47,7 +47,8 @@ loop-again c =
     let l = c .before .before .loop in
     let s = c .before .before .before in (
       omega arith,
-      store-more (s .args .numbers .now) (s .args .at) (s .args .row .now) (l .i) (l .numbers) (omega arith) (l .inv .1),
+      store-more (s .args .numbers .now) (s .args .at) (s .args .row .now) (l .i) (l .numbers)
+          (omega arith) (l .inv .1),
       length-set (l .numbers) (s .args .at + l .i) (getD (s .args .row .now) (l .i) 0) ∙ l .inv .2,
     )
 
@@ -58,7 +59,9 @@ returns : tie.Need-returns Inv-loop μ-loop
 returns c =
     let l = c .before .loop in
     let s = c .before .before in
-    l .inv .1 ∙ ap (λ (xs : List ℕ). sets (s .args .numbers .now) (s .args .at) xs) (take-all (l .i) (s .args .row .now) (omega arith))
+    l .inv .1
+    ∙ ap (λ (xs : List ℕ). sets (s .args .numbers .now) (s .args .at) xs)
+    (take-all (l .i) (s .args .row .now) (omega arith))
 
 pub put-row-spec : {M : Type 1} → statement M
 put-row-spec =

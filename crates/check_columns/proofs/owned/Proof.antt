@@ -32,7 +32,10 @@ loop-less : tie.Need-loop-less Inv-loop μ-loop
 loop-less c = search needs
 
 loop-again : tie.Need-loop-again Inv-loop μ-loop
-loop-again c = putting-front (c .before .before .before .before .before .before .loop .inv) (c .before .before .before .before .before .loop-test .taken) (c .before .before .put16 .ensures) (ap (λ (z : ℕ). z % 65536) (c .before .before .before .number .ensures))
+loop-again c =
+    let turn = c .before .before .before .before .before .before in
+    putting-front (turn .loop .inv) (c .before .before .before .before .before .loop-test .taken)
+    (c .before .before .put16 .ensures) (ap (λ (z : ℕ). z % 65536) (c .before .before .before .number .ensures))
 
 same-length : tie.Need-same-length Inv-loop μ-loop
 same-length c = putting-length (c .before .loop .inv)

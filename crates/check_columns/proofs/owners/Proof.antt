@@ -17,8 +17,11 @@ returns : tie.Need-returns
 returns c =
     let start = c .before .before .before .before .before .args in
     let e = owners-stored (start .numbers .now) (start .owner .now) _ _ _ _ _
-    (c .before .before .before .min-usize .ensures) (c .before .before .min-usize2 .ensures) (c .owned .ensures) in
-    (e, λ p stand low few queues known. owners-shown p (start .numbers .now) (start .owner .now) _ _ _ stand low few queues known e (c .before .owned-arg .given .0 .1))
+    (c .before .before .before .min-usize .ensures) (c .before .before .min-usize2 .ensures) (c .owned .ensures) in (
+      e,
+      λ p stored-as low few queues known. owners-shown p (start .numbers .now)
+          (start .owner .now) _ _ _ stored-as low few queues known e (c .before .owned-arg .given .0 .1),
+    )
 
 pub owners-spec : {M : Type 1} → statement M
 owners-spec = tie.close (tie.spec min-usize-requires min-usize-requires-2 owned-requires returns)

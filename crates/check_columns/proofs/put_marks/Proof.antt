@@ -3,12 +3,15 @@ use mathlib.Core.Path.{ap}
 use Prim.Native.Nat.{ℕ, _*_, _+_, _-_, _%_}
 use borrow.Author.Needs.{needs}
 use Rattle.check_columns.specs.Filling.{first-at, second-at}
-use Rattle.check_columns.proofs.Putting.{Putting, putting-none, putting-next, putting-end, putting-length, small-is, code-is}
+use Rattle.check_columns.proofs.Putting.{Putting, putting-none, putting-next, putting-end, putting-length}
+use Rattle.check_columns.proofs.Putting.{small-is, code-is}
 use Rattle.check_columns.proofs.put_marks.Statement.{statement}
 use Rattle.check_columns.proofs.put_marks.Tie as tie
 
 abbrev Inv-loop : tie.InvT-loop
-Inv-loop window at i had mark₀ operation₀ many j₀ mark operation j = Putting (λ j. 2 * (first-at window at j % 256) + second-at window at j % 2) had many mark₀ mark j × Putting (λ j. i) had many operation₀ operation j
+Inv-loop window at i had mark₀ operation₀ many j₀ mark operation j =
+    Putting (λ j. 2 * (first-at window at j % 256) + second-at window at j % 2) had many mark₀ mark j ×
+    Putting (λ j. i) had many operation₀ operation j
 
 abbrev μ-loop : tie.MeasureT-loop
 μ-loop window at i had mark₀ operation₀ many j₀ mark operation j = many - j
@@ -87,11 +90,15 @@ loop-less c = search needs
 
 loop-again : tie.Need-loop-again Inv-loop μ-loop
 loop-again c =
-    let l = c .before .before .before .before .before .before .before .before .before .before .before .before .before .loop .inv in
-    let on = c .before .before .before .before .before .before .before .before .before .before .before .before .loop-test .taken in (
-      putting-next (l .0) on (c .before .before .before .before .before .before .put16 .ensures)
-          (code-is _ _ _ _ (c .before .before .before .before .before .before .before .before .before .before .u64-to-usize2 .ensures) (c .before .before .before .before .before .before .before .before .u64-to-usize3 .ensures)),
-      putting-next (l .1) on (c .before .before .put162 .ensures) (small-is _ (c .before .before .before .before .before .before .before .before .before .before .before .before .before .before .before .before .before .before .pre .1)),
+    let earlier = c .before .before .before .before .before .before in
+    let midway = earlier .before .before .before .before .before .before in
+    let start = midway .before .before .before .before .before .before in
+    let l = earlier .before .before .before .before .before .before .before .loop .inv in
+    let on = earlier .before .before .before .before .before .before .loop-test .taken in (
+      putting-next (l .0) on (earlier .put16 .ensures)
+          (code-is _ _ _ _ (earlier .before .before .before .before .u64-to-usize2 .ensures)
+          (earlier .before .before .u64-to-usize3 .ensures)),
+      putting-next (l .1) on (c .before .before .put162 .ensures) (small-is _ (start .pre .1)),
     )
 
 same-length : tie.Need-same-length Inv-loop μ-loop

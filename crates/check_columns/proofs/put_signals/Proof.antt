@@ -3,12 +3,15 @@ use mathlib.Core.Path.{refl, ap}
 use Prim.Native.Nat.{ℕ, _-_, _%_}
 use borrow.Author.Needs.{needs}
 use Rattle.check_columns.specs.Filling.{first-at, second-at}
-use Rattle.check_columns.proofs.Putting.{Putting, putting-none, putting-next, putting-end, putting-length, small-is}
+use Rattle.check_columns.proofs.Putting.{Putting, putting-none, putting-next, putting-end, putting-length}
+use Rattle.check_columns.proofs.Putting.{small-is}
 use Rattle.check_columns.proofs.put_signals.Statement.{statement}
 use Rattle.check_columns.proofs.put_signals.Tie as tie
 
 abbrev Inv-loop : tie.InvT-loop
-Inv-loop window at i had semaphore₀ value₀ operation₀ many j₀ semaphore value operation j = Putting (λ j. first-at window at j % 65536) had many semaphore₀ semaphore j × Putting (λ j. second-at window at j) had many value₀ value j × Putting (λ j. i) had many operation₀ operation j
+Inv-loop window at i had semaphore₀ value₀ operation₀ many j₀ semaphore value operation j =
+    Putting (λ j. first-at window at j % 65536) had many semaphore₀ semaphore j ×
+    Putting (λ j. second-at window at j) had many value₀ value j × Putting (λ j. i) had many operation₀ operation j
 
 abbrev μ-loop : tie.MeasureT-loop
 μ-loop window at i had semaphore₀ value₀ operation₀ many j₀ semaphore value operation j = many - j
@@ -84,14 +87,17 @@ loop-less c = search needs
 
 loop-again : tie.Need-loop-again Inv-loop μ-loop
 loop-again c =
-    let l = c .before .before .before .before .before .before .before .before .before .before .before .before .before .before .before .before .loop .inv in
-    let on = c .before .before .before .before .before .before .before .before .before .before .before .before .before .before .before .loop-test .taken in (
+    let earlier = c .before .before .before .before .before .before in
+    let first = earlier .before .before .before .before .before .before in
+    let start = first .before .before .before .before .before .before .before .before .before .before in
+    let l = first .before .before .before .before .loop .inv in
+    let on = first .before .before .before .loop-test .taken in (
       putting-next (l .0) on
-          (c .before .before .before .before .before .before .before .before .before .before .before .put16 .ensures)
+          (earlier .before .before .before .before .before .put16 .ensures)
           (ap (λ (z : ℕ). z % 65536)
-          (c .before .before .before .before .before .before .before .before .before .before .before .before .u64-to-usize2 .ensures)),
-      putting-next (l .1) on (c .before .before .before .before .before .before .put64 .ensures) refl,
-      putting-next (l .2) on (c .before .before .put162 .ensures) (small-is _ (c .before .before .before .before .before .before .before .before .before .before .before .before .before .before .before .before .before .before .before .before .before .before .pre .1)),
+          (first .u64-to-usize2 .ensures)),
+      putting-next (l .1) on (earlier .put64 .ensures) refl,
+      putting-next (l .2) on (c .before .before .put162 .ensures) (small-is _ (start .pre .1)),
     )
 
 same-length : tie.Need-same-length Inv-loop μ-loop

@@ -9,7 +9,9 @@ use Rattle.check_columns.proofs.put_waits.Statement.{statement}
 use Rattle.check_columns.proofs.put_waits.Tie as tie
 
 abbrev Inv-loop : tie.InvT-loop
-Inv-loop window i semaphore₀ value₀ many j₀ semaphore value j = Putting (λ j. three many (first-at window 1) j % 65536) (3 * i) 3 semaphore₀ semaphore j × Putting (three many (second-at window 1)) (3 * i) 3 value₀ value j
+Inv-loop window i semaphore₀ value₀ many j₀ semaphore value j =
+    Putting (λ j. three many (first-at window 1) j % 65536) (3 * i) 3 semaphore₀ semaphore j ×
+    Putting (three many (second-at window 1)) (3 * i) 3 value₀ value j
 
 abbrev μ-loop : tie.MeasureT-loop
 μ-loop window i semaphore₀ value₀ many j₀ semaphore value j = 3 - j
@@ -78,7 +80,9 @@ mul-value-2 : tie.Need-mul-value-2 Inv-loop μ-loop
 mul-value-2 c = search needs
 
 slice-write-value : tie.Need-slice-write-value Inv-loop μ-loop
-slice-write-value c = omega (arith, putting-length (c .before .before .before .before .before .before .loop .inv .1))
+slice-write-value c =
+    let turn = c .before .before .before .before .before .before in
+    omega (arith, putting-length (turn .loop .inv .1))
 
 add-j : tie.Need-add-j Inv-loop μ-loop
 add-j c = search needs
@@ -90,7 +94,8 @@ loop-again : tie.Need-loop-again Inv-loop μ-loop
 loop-again c =
     let l = c .before .before .before .before .before .before .loop .inv in
     let on = c .before .before .before .before .before .loop-test .taken in (
-      putting-next (l .0) on refl (c .before .before .low .ensures ∙ ap (λ (z : ℕ). z % 65536) (c .before .before .before .waited .ensures)),
+      putting-next (l .0) on refl
+          (c .before .before .low .ensures ∙ ap (λ (z : ℕ). z % 65536) (c .before .before .before .waited .ensures)),
       putting-next (l .1) on refl (c .waited2 .ensures),
     )
 

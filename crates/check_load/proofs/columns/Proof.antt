@@ -20,7 +20,9 @@ operations-requires c κs = search needs
 
 returns : tie.Need-returns
 returns c =
-    let (head, z) = c .before .before .before .before .before .before .before .before .before .before .before .before .before .pre in
+    let midway = c .before .before .before .before .before .before in
+    let start = midway .before .before .before .before .before .before .before in
+    let (head, z) = start .pre in
     let o = c .operations .ensures _ head z in
     let stored = c .before .before .before .before .before .before .before .before .before .owners .ensures in (
       o .0,

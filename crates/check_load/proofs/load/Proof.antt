@@ -15,16 +15,26 @@ returns : tie.Need-returns
 returns c =
     let taken = c .before .if1 .taken in
     let read = c .before .before .before .read-head .ensures in
-    rw (c .refused .ensures) (refused-loads (head-refused (read .1) taken) taken, ((λ e. absurd (taken e)), left-refused (read .0) _ _ taken taken _))
+    rw (c .refused .ensures) (
+      refused-loads (head-refused (read .1) taken) taken,
+      ((λ e. absurd (taken e)), left-refused (read .0) _ _ taken taken _),
+    )
 
 columns-requires : tie.Need-columns-requires
-columns-requires c κs = (c .before .before .before .before .before .before .before .before .before .before .before .before .read-head .ensures .1, c .before .before .before .before .before .before .before .before .before .before .if1 .left)
+columns-requires c κs =
+    let earlier = c .before .before .before .before .before .before .before .before .before .before in
+    (earlier .before .before .read-head .ensures .1, earlier .if1 .left)
 
 returns-2 : tie.Need-returns-2
 returns-2 c =
     let before = c .before .before .before .before .before .before .before .before .before .before .before in
-    let o = c .columns .ensures in
-    (o .0, (o .1 .0, left-after (before .before .before .read-head .ensures .0) _ _ (before .if1 .left) (o .1 .1 .0) (o .1 .1 .1)))
+    let o = c .columns .ensures in (
+      o .0,
+      (
+        o .1 .0,
+        left-after (before .before .before .read-head .ensures .0) _ _ (before .if1 .left) (o .1 .1 .0) (o .1 .1 .1),
+      ),
+    )
 
 pub load-spec : {M : Type 1} → statement M
 load-spec = tie.close (tie.spec read-head-requires refused-requires returns columns-requires returns-2)

@@ -39,12 +39,16 @@ freed-requires : tie.Need-freed-requires Inv-loop μ-loop
 freed-requires c κs = search needs
 
 early-requires : tie.Need-early-requires Inv-loop μ-loop
-early-requires c κs = (rw (c .freed .ensures) (c .before .before .before .before .before .before .before .loop .inv .low _), search needs)
+early-requires c κs =
+    let turn = c .before .before .before .before .before .before .before in
+    (rw (c .freed .ensures) (turn .loop .inv .low _), search needs)
 
 returns : tie.Need-returns Inv-loop μ-loop
-returns c = forward-early (c .before .before .before .before .before .before .before .before .before .loop .inv)
-    (c .before .before .before .before .before .before .before .before .loop-test .taken)
-    (ap (λ (z : ℕ). z % 512) (c .before .before .before .before .before .before .u16-to-usize .ensures .0))
+returns c =
+    let earlier = c .before .before .before .before .before .before in
+    forward-early (earlier .before .before .before .loop .inv)
+    (earlier .before .before .loop-test .taken)
+    (ap (λ (z : ℕ). z % 512) (earlier .u16-to-usize .ensures .0))
     (ap (λ (z : ℕ). z % most-operations) (c .before .before .before .before .u16-to-usize2 .ensures .0))
     (c .before .before .freed .ensures) (c .before .early .ensures) (c .if1 .taken)
 
@@ -58,13 +62,15 @@ loop-less : tie.Need-loop-less Inv-loop μ-loop
 loop-less c = search needs
 
 loop-again : tie.Need-loop-again Inv-loop μ-loop
-loop-again c = forward-fine
-    (c .before .before .before .before .before .before .before .before .before .before .before .loop .inv)
-    (c .before .before .before .before .before .before .before .before .before .before .loop-test .taken)
+loop-again c =
+    let earlier = c .before .before .before .before .before .before in
+    forward-fine
+    (earlier .before .before .before .before .before .loop .inv)
+    (earlier .before .before .before .before .loop-test .taken)
     (ap (λ (z : ℕ). z % 512)
-    (c .before .before .before .before .before .before .before .before .u16-to-usize .ensures .0))
+    (earlier .before .before .u16-to-usize .ensures .0))
     (ap (λ (z : ℕ). z % most-operations)
-    (c .before .before .before .before .before .before .u16-to-usize2 .ensures .0))
+    (earlier .u16-to-usize2 .ensures .0))
     (c .before .before .before .before .freed .ensures) (c .before .before .before .early .ensures)
     (c .before .before .if1 .left) (c .note .ensures)
 

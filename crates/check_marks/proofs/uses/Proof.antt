@@ -42,7 +42,9 @@ freed-requires : tie.Need-freed-requires Inv-loop μ-loop
 freed-requires c κs = search needs
 
 late-requires : tie.Need-late-requires Inv-loop μ-loop
-late-requires c κs = (search needs, rw (c .freed .ensures) (c .before .before .before .before .before .before .before .loop .inv .low _))
+late-requires c κs =
+    let turn = c .before .before .before .before .before .before .before in
+    (search needs, rw (c .freed .ensures) (turn .loop .inv .low _))
 
 pick-requires : tie.Need-pick-requires Inv-loop μ-loop
 pick-requires c κs = search needs
@@ -54,13 +56,15 @@ loop-less : tie.Need-loop-less Inv-loop μ-loop
 loop-less c = search needs
 
 loop-again : tie.Need-loop-again Inv-loop μ-loop
-loop-again c = backward-more
-    (c .before .before .before .before .before .before .before .before .before .before .before .loop .inv)
-    (c .before .before .before .before .before .before .before .before .before .before .loop-test .taken)
+loop-again c =
+    let earlier = c .before .before .before .before .before .before in
+    backward-more
+    (earlier .before .before .before .before .before .loop .inv)
+    (earlier .before .before .before .before .loop-test .taken)
     (ap (λ (z : ℕ). z % 512)
-    (c .before .before .before .before .before .before .before .before .u16-to-usize .ensures .0))
+    (earlier .before .before .u16-to-usize .ensures .0))
     (ap (λ (z : ℕ). z % most-operations)
-    (c .before .before .before .before .before .before .u16-to-usize2 .ensures .0))
+    (earlier .u16-to-usize2 .ensures .0))
     (c .before .before .before .before .freed .ensures) (c .before .before .before .late .ensures)
     (c .before .before .pick .ensures) (c .note .ensures)
 

@@ -48,4 +48,5 @@ returns-2 c =
     )
 
 pub judge-columns-spec : {M : Type 1} → statement M
-judge-columns-spec = tie.close (tie.spec rules-requires returns check-order-requires same-length same-length-2 returns-2)
+judge-columns-spec =
+    tie.close (tie.spec rules-requires returns check-order-requires same-length same-length-2 returns-2)

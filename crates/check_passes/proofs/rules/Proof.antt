@@ -15,7 +15,10 @@ returns c =
     let found = c .before .judge .ensures in
     let taken = c .if1 .taken in (
       rules-first _ _ _ _ _ _ _ _ _ _ _ (found .0) taken,
-      (sources-refused _ _ _ _ _ _ _ _ _ _ _ (found .0) taken, λ p given. six-or-seven (found .1 .1 p (signals-given given)) taken),
+      (
+        sources-refused _ _ _ _ _ _ _ _ _ _ _ (found .0) taken,
+        λ p given. six-or-seven (found .1 .1 p (signals-given given)) taken,
+      ),
     )
 
 resolve-requires : tie.Need-resolve-requires

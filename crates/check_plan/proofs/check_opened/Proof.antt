@@ -58,7 +58,8 @@ same-length-2 c = c .before .before .list .given
 returns-2 : tie.Need-returns-2
 returns-2 c =
     let judged = c .before .before .before .before .before in
-    let test = judged .before .before .before .before .before .before .before .before .before .before .before .before .before .before in
+    let midway = judged .before .before .before .before .before .before .before in
+    let test = midway .before .before .before .before .before .before .before in
     let l = test .before .before .load .ensures in
     let none = test .if1 .left in
     let of-plan = judged .judge-columns .ensures .1 .1 _ (loaded-given (l .0) none _ (l .1 .0 none)) in
@@ -84,4 +85,5 @@ returns-2 c =
 pub check-opened-spec : {M : Type 1} → statement M
 check-opened-spec =
     tie.close
-    (tie.spec load-requires with-lists-requires returns cast-judge-columns cast-judge-columns-2 judge-columns-requires with-lists-requires-2 same-length same-length-2 returns-2)
+    (tie.spec load-requires with-lists-requires returns cast-judge-columns cast-judge-columns-2 judge-columns-requires
+    with-lists-requires-2 same-length same-length-2 returns-2)

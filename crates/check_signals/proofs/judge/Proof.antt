@@ -6,12 +6,14 @@ use lib.ListN.{length, length-set}
 use Rattle.plan_format.specs.Refusal.{refusal, none-given}
 use Rattle.check_signals.specs.Walks.{zeros}
 use Rattle.check_signals.proofs.Shows.{judged}
-use Rattle.check_signals.proofs.Loops.{Signals-left, signals-none, signals-six, signals-seven, signals-more, signals-end}
+use Rattle.check_signals.proofs.Loops.{Signals-left, signals-none, signals-six, signals-seven, signals-more}
+use Rattle.check_signals.proofs.Loops.{signals-end}
 use Rattle.check_signals.proofs.judge.Statement.{statement}
 use Rattle.check_signals.proofs.judge.Tie as tie
 
 abbrev Inv-loop : tie.InvT-loop
-Inv-loop signals owner queue ssem sval sop last₀ k₀ last k = (length last ≡ 64) × Signals-left owner queue ssem sval sop signals zeros k last
+Inv-loop signals owner queue ssem sval sop last₀ k₀ last k =
+    (length last ≡ 64) × Signals-left owner queue ssem sval sop signals zeros k last
 
 abbrev μ-loop : tie.MeasureT-loop
 μ-loop signals owner queue ssem sval sop last₀ k₀ last k = signals - k
@@ -37,8 +39,10 @@ get16-requires-4 c κs = search needs
 returns : tie.Need-returns Inv-loop μ-loop
 returns c =
     let read = c .before in
-    let first = read .before .before .before .before .before .before .before .before in
-    let e = signals-six (first .before .before .before .loop .inv .1) (first .before .before .loop-test .taken) (first .get16 .ensures) (read .before .before .before .before .before .before .get162 .ensures) (read .before .before .before .before .get64 .ensures)
+    let earlier = read .before .before .before .before .before .before in
+    let first = earlier .before .before in
+    let e = signals-six (first .before .before .before .loop .inv .1) (first .before .before .loop-test .taken)
+    (first .get16 .ensures) (earlier .get162 .ensures) (read .before .before .before .before .get64 .ensures)
     (read .before .before .get163 .ensures) (read .get164 .ensures) (c .if1 .taken) in
     (e .found, (e .table, λ p shown. judged shown _ e))
 
@@ -51,9 +55,12 @@ get64-requires-2 c κs = search needs
 returns-2 : tie.Need-returns-2 Inv-loop μ-loop
 returns-2 c =
     let read = c .before .before .before .before in
-    let first = read .before .before .before .before .before .before .before .before in
-    let e = signals-seven (first .before .before .before .loop .inv .1) (first .before .before .loop-test .taken) (first .get16 .ensures) (read .before .before .before .before .before .before .get162 .ensures) (read .before .before .before .before .get64 .ensures)
-    (read .before .before .get163 .ensures) (read .get164 .ensures) (c .before .before .before .if1 .left) (c .before .get642 .ensures) (c .if2 .taken) in
+    let earlier = read .before .before .before .before .before .before in
+    let first = earlier .before .before in
+    let e = signals-seven (first .before .before .before .loop .inv .1) (first .before .before .loop-test .taken)
+    (first .get16 .ensures) (earlier .get162 .ensures) (read .before .before .before .before .get64 .ensures)
+    (read .before .before .get163 .ensures) (read .get164 .ensures) (c .before .before .before .if1 .left)
+    (c .before .get642 .ensures) (c .if2 .taken) in
     (e .found, (e .table, λ p shown. judged shown _ e))
 
 slice-aggregate-put64 : tie.Need-slice-aggregate-put64 Inv-loop μ-loop
@@ -70,17 +77,23 @@ loop-less c = search needs
 
 loop-again : tie.Need-loop-again Inv-loop μ-loop
 loop-again c =
-    let read = c .before .before .before .before .before .before .before in
-    let first = read .before .before .before .before .before .before .before .before in (
+    let start-of = c .before .before .before .before .before .before in
+    let read = start-of .before in
+    let earlier = read .before .before .before .before .before .before in
+    let first = earlier .before .before in (
       ap length (c .before .put64 .ensures) ∙ simp length-set (first .before .before .before .loop .inv .0),
-      signals-more (first .before .before .before .loop .inv .1) (first .before .before .loop-test .taken) (first .get16 .ensures) (read .before .before .before .before .before .before .get162 .ensures) (read .before .before .before .before .get64 .ensures)
-          (read .before .before .get163 .ensures) (read .get164 .ensures) (c .before .before .before .before .before .before .if1 .left) (c .before .before .before .before .get642 .ensures) (c .before .before .before .if2 .left) (c .before .put64 .ensures),
+      signals-more (first .before .before .before .loop .inv .1) (first .before .before .loop-test .taken)
+          (first .get16 .ensures) (earlier .get162 .ensures) (read .before .before .before .before .get64 .ensures)
+          (read .before .before .get163 .ensures) (read .get164 .ensures) (start-of .if1 .left)
+          (c .before .before .before .before .get642 .ensures) (c .before .before .before .if2 .left)
+          (c .before .put64 .ensures),
     )
 
 returns-3 : tie.Need-returns-3 Inv-loop μ-loop
 unfolding none-given refusal
 returns-3 c =
-    let e = signals-end (c .before .loop .inv .1) (c .loop-test .left) in (e .found, (e .table, λ p shown. judged shown _ e))
+    let e = signals-end (c .before .loop .inv .1) (c .loop-test .left) in
+    (e .found, (e .table, λ p shown. judged shown _ e))
 
 pub judge-spec : {M : Type 1} → statement M
 judge-spec =

@@ -37,7 +37,8 @@ returns c =
     let here = top .before .args in
     let e =
     zero-at _ _ _ _ (seen .before .before .loop-test .taken)
-    (own-cell (here .queue .now) (here .rows .now) (top .loop .i) _ _ (seen .get16 .ensures) (c .before .get162 .ensures) ∙ c .if1 .taken) (top .loop .inv .1) in
+    (own-cell (here .queue .now) (here .rows .now) (top .loop .i) _ _ (seen .get16 .ensures)
+    (c .before .get162 .ensures) ∙ c .if1 .taken) (top .loop .inv .1) in
     (e, λ p sound many shows filled. e ∙ first-missing p _ _ _ sound many shows filled)
 
 add-i : tie.Need-add-i Inv-loop μ-loop
@@ -53,7 +54,9 @@ loop-again c =
     let here = top .before .args in (
       omega arith,
       below-more _ _ (top .loop .inv .1)
-          (λ z. c .if1 .left (sym (own-cell (here .queue .now) (here .rows .now) (top .loop .i) _ _ (seen .get16 .ensures) (c .before .get162 .ensures)) ∙ z)),
+          (λ z. c .if1 .left
+          (sym (own-cell (here .queue .now) (here .rows .now) (top .loop .i) _ _ (seen .get16 .ensures)
+          (c .before .get162 .ensures)) ∙ z)),
     )
 
 returns-2 : tie.Need-returns-2 Inv-loop μ-loop

@@ -26,7 +26,8 @@ returns c =
     let judged = c .before .before .before .dominates in
     let left = c .before .before .before .before .before .frontier in
     let right = c .before .before .before .before .frontier2 in
-    dominance-answered (a .left .now) (a .right .now) (judged .result) (c .tell .last .1 .0) (c .tell .ensures ∙ c .before .before .dominance .ensures)
+    dominance-answered (a .left .now) (a .right .now) (judged .result) (c .tell .last .1 .0)
+    (c .tell .ensures ∙ c .before .before .dominance .ensures)
     (left .result) (right .result) (left .ensures) (right .ensures) (judged .ensures .0) (judged .ensures .1)
 
 pub cundvrest-dominates-spec : {M : Type 1} → statement M

@@ -17,7 +17,9 @@ same-length-2 : tie.Need-same-length-2
 same-length-2 c = search needs
 
 returns : tie.Need-returns
-returns c = sent-answered _ _ _ _ _ _ _ _ _ _ (c .hand .ensures) (c .before .before .before .before .before .before .before .frontier-of .ensures)
+returns c =
+    let earlier = c .before .before .before .before .before .before .before in
+    sent-answered _ _ _ _ _ _ _ _ _ _ (c .hand .ensures) (earlier .frontier-of .ensures)
 
 pub cundvrest-frontier-spec : {M : Type 1} → statement M
 cundvrest-frontier-spec =

@@ -23,7 +23,8 @@ returns c =
     let merged = c .before .before .before .merge in
     let left = c .before .before .before .before .before .frontier in
     let right = c .before .before .before .before .frontier2 in
-    merge-answered (a .left .now) (a .right .now) (a .capacity) (merged .result) (c .hand .last .1 .1 .1 .1 .0) (c .hand .last .1 .1 .1 .0) (c .hand .ensures)
+    merge-answered (a .left .now) (a .right .now) (a .capacity) (merged .result) (c .hand .last .1 .1 .1 .1 .0)
+    (c .hand .last .1 .1 .1 .0) (c .hand .ensures)
     (left .result) (right .result) (left .ensures) (right .ensures) (merged .ensures .0) (merged .ensures .1)
 
 pub cundvrest-merge-spec : {M : Type 1} → statement M

@@ -18,7 +18,8 @@ returns c =
     let a = c .before .before .before .before .before .args in
     let raised = c .before .before .before .raise in
     let old = c .before .before .before .before .frontier in
-    raise-answered (a .old .now) (a .axis) (a .epoch) (a .capacity) (raised .result) (c .hand .last .1 .1 .1 .1 .0) (c .hand .last .1 .1 .1 .0) (c .hand .ensures)
+    raise-answered (a .old .now) (a .axis) (a .epoch) (a .capacity) (raised .result) (c .hand .last .1 .1 .1 .1 .0)
+    (c .hand .last .1 .1 .1 .0) (c .hand .ensures)
     (old .result) (old .ensures) (raised .ensures .0) (raised .ensures .1)
 
 pub cundvrest-raise-spec : {M : Type 1} → statement M

@@ -15,13 +15,18 @@ row-reaches-requires-2 : tie.Need-row-reaches-requires-2
 row-reaches-requires-2 c κs = search needs
 
 returns-2 : tie.Need-returns-2
-returns-2 c = second-reaches _ _ (sym (c .before .before .before .row-reaches .ensures) ∙ c .before .before .if1 .left) (sym (c .before .row-reaches2 .ensures) ∙ c .if2 .taken)
+returns-2 c =
+    second-reaches _ _ (sym (c .before .before .before .row-reaches .ensures) ∙ c .before .before .if1 .left)
+    (sym (c .before .row-reaches2 .ensures) ∙ c .if2 .taken)
 
 slice-aggregate-result : tie.Need-slice-aggregate-result
 slice-aggregate-result c = search needs
 
 returns-3 : tie.Need-returns-3
-returns-3 c = none-reaches _ _ _ refl refl (sym (c .before .before .before .before .row-reaches .ensures) ∙ c .before .before .before .if1 .left) (sym (c .before .before .row-reaches2 .ensures) ∙ c .before .if2 .left)
+returns-3 c =
+    none-reaches _ _ _ refl refl
+    (sym (c .before .before .before .before .row-reaches .ensures) ∙ c .before .before .before .if1 .left)
+    (sym (c .before .before .row-reaches2 .ensures) ∙ c .before .if2 .left)
 
 pub reaching-spec : {M : Type 1} → statement M
 reaching-spec =

@@ -27,7 +27,8 @@ returns : tie.Need-returns Inv-loop μ-loop
 returns c =
     let s = c .before .before .before .before in
     let l = c .before .before .before .loop in
-    sym (seen-here (s .args .list .now) (s .args .number) (l .i) (c .before .before .loop-test .taken) (c .if1 .taken)) ∙ l .inv
+    sym (seen-here (s .args .list .now) (s .args .number) (l .i) (c .before .before .loop-test .taken) (c .if1 .taken))
+    ∙ l .inv
 
 add-i : tie.Need-add-i Inv-loop μ-loop
 add-i c = search needs
@@ -39,7 +40,8 @@ loop-again : tie.Need-loop-again Inv-loop μ-loop
 loop-again c =
     let s = c .before .before .before .before in
     let l = c .before .before .before .loop in
-    sym (seen-next (s .args .list .now) (s .args .number) (l .i) (c .before .before .loop-test .taken) (c .if1 .left)) ∙ l .inv
+    sym (seen-next (s .args .list .now) (s .args .number) (l .i) (c .before .before .loop-test .taken) (c .if1 .left))
+    ∙ l .inv
 
 returns-2 : tie.Need-returns-2 Inv-loop μ-loop
 returns-2 c =

@@ -12,7 +12,10 @@ same-length : tie.Need-same-length
 same-length c = search needs
 
 returns : tie.Need-returns
-returns c = rw (line-refused (c .before .before .before .before .before .before .before .args .sent .number) (c .before .before .before .before .before .before .before .args .sent .place) _ (c .before .before .before .before .if1 .taken)) (c .before .before .refused .ensures)
+returns c =
+    let start = c .before .before .before .before .before .before .before in
+    rw (line-refused (start .args .sent .number) (start .args .sent .place) _
+    (c .before .before .before .before .if1 .taken)) (c .before .before .refused .ensures)
 
 whole-requires : tie.Need-whole-requires
 whole-requires c κs = search needs
@@ -35,8 +38,12 @@ same-length-2 c = search needs
 returns-2 : tie.Need-returns-2
 unfolding frontier-text
 returns-2 c =
-    rw (line-answered (c .before .before .before .before .before .before .before .before .before .before .before .before .before .before .before .before .before .before .before .before .args .sent .number) (c .before .before .before .before .before .before .before .before .before .before .before .before .before .before .before .before .before .before .before .before .args .sent .place) _ (c .before .before .before .before .before .before .before .before .before .before .before .before .before .before .before .before .before .if1 .left))
-    (puts-both (puts-both (c .before .before .before .before .before .before .before .before .before .before .before .before .whole .ensures) (c .before .before .before .before .before .before .entries .ensures)) (c .before .before .byte .ensures))
+    let earlier = c .before .before .before .before .before .before in
+    let first = earlier .before .before .before .before .before .before in
+    let start = first .before .before .before .before .before .before .before .before in
+    rw (line-answered (start .args .sent .number) (start .args .sent .place) _
+    (first .before .before .before .before .before .if1 .left))
+    (puts-both (puts-both (first .whole .ensures) (earlier .entries .ensures)) (c .before .before .byte .ensures))
 
 pub entered-spec : {M : Type 1} → statement M
 entered-spec =

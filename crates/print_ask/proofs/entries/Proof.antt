@@ -10,7 +10,8 @@ use Rattle.print_ask.proofs.entries.Statement.{statement}
 use Rattle.print_ask.proofs.entries.Tie as tie
 
 abbrev Inv-loop : tie.InvT-loop
-Inv-loop out₀ at axes epochs n end₀ i₀ out end i = (i ≤ n) × Puts (join-from i 0 (entry-text axes epochs)) out₀ at out end
+Inv-loop out₀ at axes epochs n end₀ i₀ out end i =
+    (i ≤ n) × Puts (join-from i 0 (entry-text axes epochs)) out₀ at out end
 
 abbrev μ-loop : tie.MeasureT-loop
 μ-loop out₀ at axes epochs n end₀ i₀ out end i = n - i
@@ -36,17 +37,22 @@ loop-less c = search needs
 
 loop-again : tie.Need-loop-again Inv-loop μ-loop
 unfolding entry-text
-loop-again c = (
-  omega arith,
-  puts-join (entry-text (c .before .before .before .before .before .before .before .before .before .before .before .args .axes .now) (c .before .before .before .before .before .before .before .before .before .before .before .args .epochs .now)) (c .before .before .before .before .before .before .before .loop .i) (c .before .before .before .before .before .before .before .loop .inv .1)
-      (rw (c .before .before .before .before .get64 .ensures, c .before .before .before .get642 .ensures) at (c .before .before .entry .ensures)),
-)
+loop-again c =
+    let turn = c .before .before .before .before .before .before .before in (
+      omega arith,
+      puts-join (entry-text (turn .before .before .before .before .args .axes .now)
+          (turn .before .before .before .before .args .epochs .now)) (turn .loop .i) (turn .loop .inv .1)
+          (rw (c .before .before .before .before .get64 .ensures, c .before .before .before .get642 .ensures)
+          at (c .before .before .entry .ensures)),
+    )
 
 same-length : tie.Need-same-length Inv-loop μ-loop
 same-length c = puts-length (c .before .loop .inv .1)
 
 returns : tie.Need-returns Inv-loop μ-loop
-returns c = puts-joined (entry-text (c .before .before .before .before .before .args .axes .now) (c .before .before .before .before .before .args .epochs .now)) (omega arith) (c .before .loop .inv .1)
+returns c =
+    puts-joined (entry-text (c .before .before .before .before .before .args .axes .now)
+    (c .before .before .before .before .before .args .epochs .now)) (omega arith) (c .before .loop .inv .1)
 
 pub entries-spec : {M : Type 1} → statement M
 entries-spec =

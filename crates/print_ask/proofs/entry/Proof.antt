@@ -17,7 +17,10 @@ same-length : tie.Need-same-length
 same-length c = search needs
 
 returns : tie.Need-returns
-returns c = puts-both (puts-both (c .before .before .before .before .before .before .before .before .before .before .next .ensures) (c .before .before .before .before .before .before .byte .ensures)) (c .before .before .number .ensures)
+returns c =
+    let earlier = c .before .before .before .before .before .before in
+    puts-both (puts-both (earlier .before .before .before .before .next .ensures) (earlier .byte .ensures))
+    (c .before .before .number .ensures)
 
 pub entry-spec : {M : Type 1} → statement M
 entry-spec = tie.close (tie.spec next-requires byte-requires number-requires same-length returns)

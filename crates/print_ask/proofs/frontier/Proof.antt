@@ -20,11 +20,12 @@ same-length c = search needs
 
 returns : tie.Need-returns
 returns c =
+    let earlier = c .before .before .before .before .before .before in
     record {
-      sent = c .before .before .before .before .before .before .frontier-of .result;
+      sent = earlier .frontier-of .result;
       table = _;
       list = _;
-      right = c .before .before .before .before .before .before .frontier-of .ensures;
+      right = earlier .frontier-of .ensures;
       text = c .before .before .entered .ensures;
     }
 

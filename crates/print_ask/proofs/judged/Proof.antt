@@ -12,7 +12,10 @@ same-length : tie.Need-same-length
 same-length c = search needs
 
 returns : tie.Need-returns
-returns c = rw (line-refused (c .before .before .before .before .before .before .before .args .told .number) (c .before .before .before .before .before .before .before .args .told .place) _ (c .before .before .before .before .if1 .taken)) (c .before .before .refused .ensures)
+returns c =
+    let start = c .before .before .before .before .before .before .before in
+    rw (line-refused (start .args .told .number) (start .args .told .place) _
+    (c .before .before .before .before .if1 .taken)) (c .before .before .refused .ensures)
 
 slice-aggregate-words : tie.Need-slice-aggregate-words
 slice-aggregate-words c = search needs
@@ -35,8 +38,13 @@ same-length-2 c = search needs
 returns-2 : tie.Need-returns-2
 unfolding verdict-text
 returns-2 c =
-    rw (line-answered (c .before .before .before .before .before .before .before .before .before .before .before .before .before .before .before .before .before .before .before .before .args .told .number) (c .before .before .before .before .before .before .before .before .before .before .before .before .before .before .before .before .before .before .before .before .args .told .place) _ (c .before .before .before .before .before .before .before .before .before .before .before .before .before .before .before .before .before .if1 .left))
-    (puts-both (puts-both (puts-both (c .before .before .before .before .before .before .before .before .before .before .before .before .before .before .words .ensures) (c .before .before .before .before .before .before .before .before .before .before .next .ensures)) (c .before .before .before .before .before .before .verdict .ensures)) (c .before .before .byte .ensures))
+    let earlier = c .before .before .before .before .before .before in
+    let first = earlier .before .before .before .before .before .before .before .before in
+    let start = first .before .before .before .before .before .before in
+    rw (line-answered (start .args .told .number) (start .args .told .place) _
+    (first .before .before .before .if1 .left))
+    (puts-both (puts-both (puts-both (first .words .ensures) (earlier .before .before .before .before .next .ensures))
+    (earlier .verdict .ensures)) (c .before .before .byte .ensures))
 
 pub judged-spec : {M : Type 1} → statement M
 judged-spec =

@@ -20,11 +20,12 @@ same-length c = search needs
 
 returns : tie.Need-returns
 returns c =
+    let earlier = c .before .before .before .before .before .before in
     record {
-      told = c .before .before .before .before .before .before .reuse-question .result;
+      told = earlier .reuse-question .result;
       table = _;
       list = _;
-      asked = c .before .before .before .before .before .before .reuse-question .ensures;
+      asked = earlier .reuse-question .ensures;
       text = c .before .before .judged .ensures;
     }
 

@@ -16,7 +16,10 @@ same-length c = search needs
 
 returns : tie.Need-returns
 unfolding verdict-name
-returns c = rw (eq-eqb (c .before .before .before .before .before .before .before .args .number) 0 (c .before .before .before .before .before .if1 .taken)) (c .before .before .words .ensures)
+returns c =
+    let start = c .before .before .before .before .before .before .before in
+    rw (eq-eqb (start .args .number) 0 (c .before .before .before .before .before .if1 .taken))
+    (c .before .before .words .ensures)
 
 slice-aggregate-words-2 : tie.Need-slice-aggregate-words-2
 slice-aggregate-words-2 c = search needs
@@ -29,7 +32,12 @@ same-length-2 c = search needs
 
 returns-2 : tie.Need-returns-2
 unfolding verdict-name
-returns-2 c = rw (ne-eqb (c .before .before .before .before .before .before .before .before .args .number) 0 (c .before .before .before .before .before .before .if1 .left), eq-eqb (c .before .before .before .before .before .before .before .before .args .number) 1 (c .before .before .before .before .before .if2 .taken)) (c .before .before .words2 .ensures)
+returns-2 c =
+    let earlier = c .before .before .before .before .before .before in
+    rw (
+      ne-eqb (earlier .before .before .args .number) 0 (earlier .if1 .left),
+      eq-eqb (earlier .before .before .args .number) 1 (c .before .before .before .before .before .if2 .taken),
+    ) (c .before .before .words2 .ensures)
 
 slice-aggregate-words-3 : tie.Need-slice-aggregate-words-3
 slice-aggregate-words-3 c = search needs
@@ -42,7 +50,13 @@ same-length-3 c = search needs
 
 returns-3 : tie.Need-returns-3
 unfolding verdict-name
-returns-3 c = rw (ne-eqb (c .before .before .before .before .before .before .before .before .before .args .number) 0 (c .before .before .before .before .before .before .before .if1 .left), ne-eqb (c .before .before .before .before .before .before .before .before .before .args .number) 1 (c .before .before .before .before .before .before .if2 .left), eq-eqb (c .before .before .before .before .before .before .before .before .before .args .number) 2 (c .before .before .before .before .before .if3 .taken)) (c .before .before .words3 .ensures)
+returns-3 c =
+    let earlier = c .before .before .before .before .before .before in
+    rw (
+      ne-eqb (earlier .before .before .before .args .number) 0 (earlier .before .if1 .left),
+      ne-eqb (earlier .before .before .before .args .number) 1 (earlier .if2 .left),
+      eq-eqb (earlier .before .before .before .args .number) 2 (c .before .before .before .before .before .if3 .taken),
+    ) (c .before .before .words3 .ensures)
 
 slice-aggregate-words-4 : tie.Need-slice-aggregate-words-4
 slice-aggregate-words-4 c = search needs

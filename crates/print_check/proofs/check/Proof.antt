@@ -37,12 +37,13 @@ same-length c = search needs
 
 returns : tie.Need-returns
 returns c =
+    let earlier = c .before .before .before .before .before .before .before .before in
     record {
-      counts = c .before .before .before .before .before .before .before .before .check-counted .result;
+      counts = earlier .check-counted .result;
       table = _;
       list = _;
-      checked = c .before .before .before .before .before .before .before .before .check-counted .ensures .0;
-      sizes = c .before .before .before .before .before .before .before .before .check-counted .ensures .1;
+      checked = earlier .check-counted .ensures .0;
+      sizes = earlier .check-counted .ensures .1;
       text = c .before .before .checked .ensures;
     }
 

@@ -12,7 +12,10 @@ same-length : tie.Need-same-length
 same-length c = search needs
 
 returns : tie.Need-returns
-returns c = rw (line-refused (c .before .before .before .before .before .before .before .before .before .args .counts .number) (c .before .before .before .before .before .before .before .before .before .args .counts .place) _ (c .before .before .before .before .if1 .taken)) (c .before .before .refused .ensures)
+returns c =
+    let start = c .before .before .before .before .before .before .before .before .before in
+    rw (line-refused (start .args .counts .number) (start .args .counts .place) _
+    (c .before .before .before .before .if1 .taken)) (c .before .before .refused .ensures)
 
 sizes-requires : tie.Need-sizes-requires
 sizes-requires c κs = search needs
@@ -29,8 +32,12 @@ same-length-2 c = search needs
 returns-2 : tie.Need-returns-2
 unfolding passed-text
 returns-2 c =
-    rw (line-answered (c .before .before .before .before .before .before .before .before .before .before .before .before .before .before .before .before .before .args .counts .number) (c .before .before .before .before .before .before .before .before .before .before .before .before .before .before .before .before .before .args .counts .place) _ (c .before .before .before .before .before .before .before .before .before .before .before .before .if1 .left))
-    (puts-both (puts-both (c .before .before .before .before .before .before .before .before .before .before .sizes .ensures) (c .before .before .before .before .before .before .runs .ensures)) (c .before .before .rows .ensures))
+    let earlier = c .before .before .before .before .before .before in
+    let first = earlier .before .before .before .before .before .before in
+    rw (line-answered (first .before .before .before .before .before .args .counts .number)
+    (first .before .before .before .before .before .args .counts .place) _ (first .if1 .left))
+    (puts-both (puts-both (earlier .before .before .before .before .sizes .ensures) (earlier .runs .ensures))
+    (c .before .before .rows .ensures))
 
 pub checked-spec : {M : Type 1} → statement M
 checked-spec =

@@ -33,8 +33,12 @@ same-length c = search needs
 
 returns : tie.Need-returns
 returns c =
-    let e : c .before .before .before .before .before .before .before .before .before .before .before .before .args .from + c .before .before .before .before .before .before .before .before .before .before .before .before .args .n - c .before .before .before .before .before .before .before .before .before .before .before .before .args .from ≡ c .before .before .before .before .before .before .before .before .before .before .before .before .args .n = omega arith in
-    puts-both (c .before .before .before .before .before .before .before .words .ensures) (rw e at (c .before .before .list .ensures))
+    let earlier = c .before .before .before .before .before .before .before in
+    let e : earlier .before .before .before .before .before .args .from
+    + earlier .before .before .before .before .before .args .n
+    - earlier .before .before .before .before .before .args .from ≡
+    earlier .before .before .before .before .before .args .n = omega arith in
+    puts-both (earlier .words .ensures) (rw e at (c .before .before .list .ensures))
 
 pub listed-spec : {M : Type 1} → statement M
 listed-spec =

@@ -25,7 +25,10 @@ same-length c = search needs
 
 returns : tie.Need-returns
 unfolding row-text
-returns c = puts-both (puts-both (c .before .before .before .before .before .before .before .before .before .before .before .number .ensures) (c .before .before .before .before .before .before .listed .ensures)) (c .before .before .byte .ensures)
+returns c =
+    let earlier = c .before .before .before .before .before .before in
+    puts-both (puts-both (earlier .before .before .before .before .before .number .ensures) (earlier .listed .ensures))
+    (c .before .before .byte .ensures)
 
 pub row-spec : {M : Type 1} → statement M
 row-spec =

@@ -22,7 +22,9 @@ same-length c = search needs
 
 returns : tie.Need-returns
 unfolding sizes-text
-returns c = puts-both (c .before .before .before .before .before .before .before .words .ensures) (c .before .before .line .ensures)
+returns c =
+    let earlier = c .before .before .before .before .before .before .before in
+    puts-both (earlier .words .ensures) (c .before .before .line .ensures)
 
 pub sizes-spec : {M : Type 1} → statement M
 sizes-spec =

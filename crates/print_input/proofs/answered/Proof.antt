@@ -1,4 +1,4 @@
--- `answered` meets its contract: each question is answered by its own report.
+-- `answered` meets its contract: each question is answered by the function for it.
 use Rattle.print_input.specs.Inputs.{Answered}
 use borrow.Author.Needs.{needs}
 use Rattle.print_input.proofs.answered.Statement.{statement}

@@ -65,7 +65,9 @@ same-length-2 c = search needs
 
 returns-2 : tie.Need-returns-2
 unfolding trace-text
-returns-2 c = let second = c .before .before .before .before .before .before .before .before .before .before .before in
+returns-2 c =
+    let earlier = c .before .before .before .before .before .before in
+    let second = earlier .before .before .before .before .before in
     let word = second .before .before .before .before .before .before .before .before .before .before in
     let first = word .before .before .before .before .before in
     let start = first .before .before .before .before .before .before .before .before in
@@ -75,7 +77,7 @@ returns-2 c = let second = c .before .before .before .before .before .before .be
     (puts-both (puts-both (puts-both (puts-both (puts-both (first .line .ensures) (word .words .ensures))
     (second .before .before .before .before .before .numbers .ensures))
     (second .words2 .ensures)) (rest-put most-queues (here .state .now) _
-    (c .before .before .before .before .before .before .numbers2 .ensures))) (c .before .before .byte .ensures))
+    (earlier .numbers2 .ensures))) (c .before .before .byte .ensures))
 
 pub answered-spec : {M : Type 1} → statement M
 answered-spec =

@@ -86,14 +86,18 @@ same-length-3 c = search needs
 
 returns-3 : tie.Need-returns-3
 unfolding followed-text
-returns-3 c = rw (c .before .before .before .before .before .before .f .given .1) (c .before .before .departs .ensures)
+returns-3 c =
+    let earlier = c .before .before .before .before .before .before in
+    rw (earlier .f .given .1) (c .before .before .departs .ensures)
 
 same-length-4 : tie.Need-same-length-4
 same-length-4 c = search needs
 
 returns-4 : tie.Need-returns-4
 unfolding followed-text
-returns-4 c = rw (c .before .before .before .before .before .before .f2 .given .1)
+returns-4 c =
+    let earlier = c .before .before .before .before .before .before in
+    rw (earlier .f2 .given .1)
     (c .before .before .departs2 .ensures)
 
 same-length-5 : tie.Need-same-length-5
@@ -101,7 +105,9 @@ same-length-5 c = search needs
 
 returns-5 : tie.Need-returns-5
 unfolding followed-text
-returns-5 c = rw (c .before .before .before .before .before .before .f3 .given .1)
+returns-5 c =
+    let earlier = c .before .before .before .before .before .before in
+    rw (earlier .f3 .given .1)
     (c .before .before .departs3 .ensures)
 
 same-length-6 : tie.Need-same-length-6

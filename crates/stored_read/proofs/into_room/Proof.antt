@@ -36,4 +36,5 @@ returns-3 c = rw (c .answered .ensures) (λ f got t e.
     (store .store .ensures ∙ in-room f got t (a .room .now) (a .numbers .now) clean (e clean)))
 
 pub into-room-spec : {M : Type 1} → statement M
-into-room-spec = tie.close (tie.spec returns refused-requires returns-2 store-requires answered-requires same-length returns-3)
+into-room-spec =
+    tie.close (tie.spec returns refused-requires returns-2 store-requires answered-requires same-length returns-3)

@@ -14,7 +14,8 @@ returns : tie.Need-returns
 returns c =
     let known = c .before .before .before .before in
     let s = known .before in
-    heading-past (s .args .plan .now) (known .shared-slice-known .given) (s .args .at) _ (c .before .before .before .if1 .taken) (c .read-head .ensures)
+    heading-past (s .args .plan .now) (known .shared-slice-known .given) (s .args .at) _
+    (c .before .before .before .if1 .taken) (c .read-head .ensures)
 
 sub-read-head : tie.Need-sub-read-head
 sub-read-head c = search needs

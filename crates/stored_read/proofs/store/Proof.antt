@@ -11,7 +11,8 @@ use Rattle.stored_read.proofs.store.Statement.{statement}
 use Rattle.stored_read.proofs.store.Tie as tie
 
 abbrev Inv-loop : tie.InvT-loop
-Inv-loop numbers many room₀ i₀ room i = (i ≤ many) × (room ≡ in-front (take i numbers) room₀) × (length room ≡ length room₀)
+Inv-loop numbers many room₀ i₀ room i =
+    (i ≤ many) × (room ≡ in-front (take i numbers) room₀) × (length room ≡ length room₀)
 
 abbrev μ-loop : tie.MeasureT-loop
 μ-loop numbers many room₀ i₀ room i = many - i
@@ -43,7 +44,8 @@ loop-again c =
     let a = c .before .before .before .args in
     let v = getD (a .numbers .now) (l .i) 0 in (
       omega arith,
-      ap (λ (xs : List ℕ). set xs (l .i) v) (l .inv .1) ∙ front-more (a .numbers .now) (a .room .now) (l .i) 0 (omega arith) (omega arith),
+      ap (λ (xs : List ℕ). set xs (l .i) v) (l .inv .1)
+          ∙ front-more (a .numbers .now) (a .room .now) (l .i) 0 (omega arith) (omega arith),
       length-set (l .room) (l .i) v ∙ l .inv .2,
     )
 
@@ -60,4 +62,5 @@ returns c =
 pub store-spec : {M : Type 1} → statement M
 store-spec =
     tie.close
-    (tie.spec Inv-loop μ-loop loop-holds mul-room element-copy-out-room mul-room-2 slice-write-room add-i loop-less loop-again same-length returns)
+    (tie.spec Inv-loop μ-loop loop-holds mul-room element-copy-out-room mul-room-2 slice-write-room add-i loop-less
+    loop-again same-length returns)

@@ -1,8 +1,6 @@
--- `read_through` meets its contract: a walk of its MIR, by hand. `new` makes the struct of the plan's bytes, `head` reads
--- through it, `moved` hands it on
--- to where the head ends, and `rest` reads through it again, into the room. All that the proof knows of the four is
--- that each meets its contract.
--- Assumes nothing.
+-- `read_through` meets its contract: a walk of its MIR, by hand. `new` makes the struct of the plan's bytes, `head`
+-- reads through it, `moved` hands it on to where the head ends, and `rest` reads through it again, into the room. All
+-- that the proof knows of the four is that each meets its contract. Assumes nothing.
 use mathlib.Core.Path.{_≡_, refl}
 use Prim.Native.Nat.{ℕ}
 use mathlib.Core.List.{List, [], _∷_}
@@ -31,7 +29,8 @@ use denote.Laws.{Is, shows}
 use denote.Builtin.{u8, u64}
 use denote.Ref.{RefT, NamedLft, now}
 use denote.Signature.{plain}
-use denote.Slice.{sliceVal, ShrSlice, MutSlice, Room, finally, slice-vals, shr-slice-tells, mut-slice-tells, shr-slice-copy, shr-slice-lawful}
+use denote.Slice.{sliceVal, ShrSlice, MutSlice, Room, finally, slice-vals, shr-slice-tells, mut-slice-tells}
+use denote.Slice.{shr-slice-copy, shr-slice-lawful}
 use denote.Steps.{owned, peeks, heard, nothing}
 use denote.Struct.Laws as LL
 use denote.Triple.Statement.{Contract, Triple}
@@ -39,7 +38,8 @@ use denote.Triple.Call.{calls-at}
 use denote.Triple.Entry.{onEntry}
 use denote.Triple.Spec.{Meets, tripleOf}
 use denote.Triple.Table.{entered, cited}
-use denote.Triple.Walked.{says, Stays, stay-none-slice, gave-slice, walkOf, goes-none-slice, goes-gave-slice, Walks, ends-at, walked, walk-meets}
+use denote.Triple.Walked.{says, Stays, stay-none-slice, gave-slice, walkOf, goes-none-slice, goes-gave-slice, Walks}
+use denote.Triple.Walked.{ends-at, walked, walk-meets}
 use denote.Exit.{yes}
 use denote.Triple.Clauses.{ensured, lasts}
 use Rattle.plan_format.specs.Meaning.{Read-means}
@@ -93,7 +93,8 @@ module _ {M : Type 1} (𝓤 : URA M) (H : Heap 𝓤) (A : Atoms 𝓤) (mem : Mem
   abbrev Rest : Contract 𝓤
   Rest = tripleOf 𝓤 H A rest.signature (rest.spec 𝓤 H A mem run)
 
-module _ {M : Type 1} (𝓤 : URA M) (H : Heap 𝓤) (A : Atoms 𝓤) (W : Given 𝓤 H A) (mem : Memory → SProp 𝓤) (run : Routine → Fun 𝓤) (κ κ′ : Lft)
+module _ {M : Type 1} (𝓤 : URA M) (H : Heap 𝓤) (A : Atoms 𝓤) (W : Given 𝓤 H A) (mem : Memory → SProp 𝓤)
+    (run : Routine → Fun 𝓤) (κ κ′ : Lft)
     (q q′ : Share) (s : RefT (List ℕ)) (b o : ℕ) (γ : GName) (ys : List ℕ) where
   -- the struct's lifetime in a signature, and in a local
   abbrev α : NamedLft
@@ -135,7 +136,9 @@ module _ {M : Type 1} (𝓤 : URA M) (H : Heap 𝓤) (A : Atoms 𝓤) (W : Given
   vals = (v ∷ [], (vx ∷ [], tt))
 
   abbrev Post : Val → SProp 𝓤
-  Post = walkOf 𝓤 H A held.ended stayed (held.clauses 𝓤 H A mem run) .post (((κ, (κ′, tt)), (q, (q′, tt)), tt, a, vals), tt)
+  Post =
+      walkOf 𝓤 H A held.ended stayed (held.clauses 𝓤 H A mem run) .post
+      (((κ, (κ′, tt)), (q, (q′, tt)), tt, a, vals), tt)
 
   abbrev Own : Fml
   Own = ShrSlice (named 0) κ u8 .own s (v ∷ [])
@@ -152,7 +155,8 @@ module _ {M : Type 1} (𝓤 : URA M) (H : Heap 𝓤) (A : Atoms 𝓤) (W : Given
   to-new = (((κ, tt), (q, tt), tt, (s, tt), (v ∷ [], tt)), tt)
 
   goes-new : ent 𝓤 (⋆ 𝓤 H A (‵ (flft κ q) ∷ ‵ Own ∷ [])) (New 𝓤 H A mem run .pre to-new)
-  goes-new = qed W (‵ (flft κ q) ∷ ‵ Own ∷ []) ∵ nothing ! $ move ! (1 ∷ 0 ∷ []) $ join ! $ nothing ! $ move ! (2 ∷ 0 ∷ []) $ fjoin ! $
+  goes-new = qed W (‵ (flft κ q) ∷ ‵ Own ∷ []) ∵ nothing ! $ move ! (1 ∷ 0 ∷ []) $ join ! $ nothing ! $
+      move ! (2 ∷ 0 ∷ []) $ fjoin ! $
       move ! (1 ∷ 0 ∷ []) $ join ! $ frame ! $ done !
 
   abbrev NewSays : Reader → Type 0
@@ -212,20 +216,28 @@ module _ {M : Type 1} (𝓤 : URA M) (H : Heap 𝓤) (A : Atoms 𝓤) (W : Given
         move ! (1 ∷ 0 ∷ []) $ join ! $ frame ! $ done !
 
   exits : (t : Told) (w : Val) (zs : List ℕ) → Says t zs → length zs ≡ length ys
-      → ent 𝓤 (⋆ 𝓤 H A ((‵ (flft κ q) ⊛ ‵ (flft κ′ q′) ⊛ ‵ ftrue) ∷ ‵ (finally u64 γ zs) ∷ ‵ (S.the-row .own t (w ∷ [])) ∷ ‵ Own ∷ [])) (Post w)
+      →
+      ent 𝓤
+      (⋆ 𝓤 H A ((‵ (flft κ q) ⊛ ‵ (flft κ′ q′) ⊛ ‵ ftrue) ∷ ‵ (finally u64 γ zs) ∷ ‵ (S.the-row .own t (w ∷ [])) ∷ ‵ Own
+      ∷ [])) (Post w)
   exits t w zs e l =
-      qed W ((‵ (flft κ q) ⊛ ‵ (flft κ′ q′) ⊛ ‵ ftrue) ∷ ‵ (finally u64 γ zs) ∷ ‵ (S.the-row .own t (w ∷ [])) ∷ ‵ Own ∷ []) ∵
-      suffices ! _ (ends-at 𝓤 H A held.ended stayed (held.clauses 𝓤 H A mem run) W (((κ, (κ′, tt)), (q, (q′, tt)), tt, a, vals), tt) w t
+      qed W ((‵ (flft κ q) ⊛ ‵ (flft κ′ q′) ⊛ ‵ ftrue) ∷ ‵ (finally u64 γ zs) ∷ ‵ (S.the-row .own t (w ∷ []))
+      ∷ ‵ Own ∷ []) ∵
+      suffices ! _ (ends-at 𝓤 H A held.ended stayed (held.clauses 𝓤 H A mem run) W
+      (((κ, (κ′, tt)), (q, (q′, tt)), tt, a, vals), tt) w t
       (tt, (zs, tt)) (tt, (l, tt))) $ says ! e $ frame ! $
       nothing ! $ move ! (1 ∷ 0 ∷ []) $ fjoin ! $ move ! (2 ∷ 0 ∷ []) $ fjoin ! $ frame ! $ done !
 
-  module _ (C : Calls 𝓤 H) (Λ : Loops 𝓤 H) (fm : FmC 𝓤 H (W .laws) C) (known-new : Triple 𝓤 (C #new) (New 𝓤 H A mem run))
+  module _ (C : Calls 𝓤 H) (Λ : Loops 𝓤 H) (fm : FmC 𝓤 H (W .laws) C)
+      (known-new : Triple 𝓤 (C #new) (New 𝓤 H A mem run))
       (known-head : Triple 𝓤 (C #head) (Head 𝓤 H A mem run)) (known-moved : Triple 𝓤 (C #moved) (Moved 𝓤 H A mem run))
       (known-rest : Triple 𝓤 (C #rest) (Rest 𝓤 H A mem run)) where
-    walk : Is (ShrSlice (named 0) κ u8) s (v ∷ []) → Room u64 (length ys) → ent 𝓤 (onEntry 𝓤 H A held.signature (κ, (κ′, tt)) (q, (q′, tt)) a vals)
+    walk : Is (ShrSlice (named 0) κ u8) s (v ∷ []) → Room u64 (length ys) →
+        ent 𝓤 (onEntry 𝓤 H A held.signature (κ, (κ′, tt)) (q, (q′, tt)) a vals)
         (WpFn 𝓤 H C Λ code.function (v ∷ vx ∷ []) Post)
     walk p room =
-        qed W ((‵ (flft κ q) ⊛ ‵ (flft κ′ q′) ⊛ ‵ ftrue) ∷ ‵ (owns (ShrSlice (named 0) κ u8 ∷ MutSlice (named 1) κ′ u64 ∷ []) a vals) ∷ []) ∵
+        qed W ((‵ (flft κ q) ⊛ ‵ (flft κ′ q′) ⊛ ‵ ftrue)
+        ∷ ‵ (owns (ShrSlice (named 0) κ u8 ∷ MutSlice (named 1) κ′ u64 ∷ []) a vals) ∷ []) ∵
         enter ! C Λ code.function (v ∷ vx ∷ []) _ $
         alloc1 ! (λ l₀. alloc1 ! (λ l₁.
         alloc1 ! (λ l₂. alloc1 ! (λ l₃.
@@ -242,7 +254,8 @@ module _ {M : Type 1} (𝓤 : URA M) (H : Heap 𝓤) (A : Atoms 𝓤) (W : Given
         calls-at ! fm (New 𝓤 H A mem run) known-new to-new
         (and-then ! (load ! (from ! (stop !)) (look ! 20 refl)) (no-more !)) (λ u.
         use1 W (later (some (λ (r : Reader). ((‵ (flft κ q) ⊛ ‵ ftrue) ⊛ ‵ (OwnReader r u)) ⊛ raw
-        (ensured 𝓤 H A new.ended (new.clauses 𝓤 H A mem run) (κ, tt) (s, tt) tt r)))) (id⊢ 𝓤 _) $ await ! tt $ pick ! (λ r.
+        (ensured 𝓤 H A new.ended (new.clauses 𝓤 H A mem run) (κ, tt) (s, tt) tt r)))) (id⊢ 𝓤 _) $
+        await ! tt $ pick ! (λ r.
         split ! $ move ! (1 ∷ []) $ use1 W (raw (fact 𝓤 (NewSays r))) (new-said r) $ heard ! (NewSays r) (λ e.
         split ! $ rewrite ! 1 (λ (d : Reader). ‵ (OwnReader d u)) (λ i. record { src = e .0 i; at = e .1 i }) refl $
         move ! (1 ∷ []) $
@@ -326,19 +339,23 @@ module _ {M : Type 1} (𝓤 : URA M) (H : Heap 𝓤) (A : Atoms 𝓤) (W : Given
         keep ! (1 ∷ 2 ∷ 0 ∷ 7 ∷ []) $ by ! (exits t w′ (zs .1 .1 .0) (rest-reads (now s) h e₁ t ys (zs .1 .1 .0) e₃)
         l)))))))))))))))))))))))))))))
 
-module _ {M : Type 1} (𝓤 : URA M) (H : Heap 𝓤) (A : Atoms 𝓤) (W : Given 𝓤 H A) (mem : Memory → SProp 𝓤) (run : Routine → Fun 𝓤) where
+module _ {M : Type 1} (𝓤 : URA M) (H : Heap 𝓤) (A : Atoms 𝓤) (W : Given 𝓤 H A) (mem : Memory → SProp 𝓤)
+    (run : Routine → Fun 𝓤) where
   held-walks : (C : Calls 𝓤 H) (Λ : Loops 𝓤 H) → FmC 𝓤 H (W .laws) C → Triple 𝓤 (C #new) (New 𝓤 H A mem run)
       → Triple 𝓤 (C #head) (Head 𝓤 H A mem run) → Triple 𝓤 (C #moved) (Moved 𝓤 H A mem run) →
       Triple 𝓤 (C #rest) (Rest 𝓤 H A mem run)
       → Walks 𝓤 H A held.ended stayed (WpFn 𝓤 H C Λ code.function) (held.clauses 𝓤 H A mem run)
   held-walks C Λ fm known-new known-head known-moved known-rest =
       walked 𝓤 H A held.ended stayed (held.clauses 𝓤 H A mem run) (WpFn 𝓤 H C Λ code.function)
-      (λ κs. (slice-vals, (slice-vals, tt))) (λ κs. (shr-slice-tells (named 0) (κs .0) u8, (mut-slice-tells (named 1) (κs .1 .0) u64, tt)))
-      (λ κs qs bounds a g are. via 𝓤 _ (fst∗ 𝓤 _ (emp 𝓤)) (walk 𝓤 H A W mem run (κs .0) (κs .1 .0) (qs .0) (qs .1 .0) (a .0) (a .1 .0 .ptr .0)
+      (λ κs. (slice-vals, (slice-vals, tt)))
+      (λ κs. (shr-slice-tells (named 0) (κs .0) u8, (mut-slice-tells (named 1) (κs .1 .0) u64, tt)))
+      (λ κs qs bounds a g are. via 𝓤 _ (fst∗ 𝓤 _ (emp 𝓤))
+      (walk 𝓤 H A W mem run (κs .0) (κs .1 .0) (qs .0) (qs .1 .0) (a .0) (a .1 .0 .ptr .0)
       (a .1 .0 .ptr .1) (a .1 .0 .name) (a .1 .0 .now) C Λ fm known-new known-head known-moved known-rest (are .0)
       (are .1 .0 .0 .1)))
 
-held-meets : {M : Type 1} (𝓤 : URA M) (H : Heap 𝓤) (A : Atoms 𝓤) (W : Given 𝓤 H A) (mem : Memory → SProp 𝓤) (run : Routine → Fun 𝓤) (𝓣 : Tables 𝓤 H)
+held-meets : {M : Type 1} (𝓤 : URA M) (H : Heap 𝓤) (A : Atoms 𝓤) (W : Given 𝓤 H A) (mem : Memory → SProp 𝓤)
+    (run : Routine → Fun 𝓤) (𝓣 : Tables 𝓤 H)
     → Triple 𝓤 (𝓣 .C #new) (New 𝓤 H A mem run) → Triple 𝓤 (𝓣 .C #head) (Head 𝓤 H A mem run)
     → Triple 𝓤 (𝓣 .C #moved) (Moved 𝓤 H A mem run) → Triple 𝓤 (𝓣 .C #rest) (Rest 𝓤 H A mem run)
     → Meets 𝓤 H A held.signature (WpFn 𝓤 H (𝓣 .C) (𝓣 .Λ) code.function) (held.spec 𝓤 H A mem run)
@@ -356,7 +373,8 @@ read-through-spec 𝓤 H 𝓜 𝓖 𝓡 =
     entered 𝓤 H (tripleOf 𝓤 H (𝓖 .A) held.signature (held.spec 𝓤 H (𝓖 .A) (𝓜 .mem) (𝓡 .run)))
     (tables 𝓤 H 𝓜 𝓡 code.env .C) (tables 𝓤 H 𝓜 𝓡 code.env .Λ) #read-through code.function (code.unfolded 𝓤 H 𝓜 𝓡)
     (held-meets 𝓤 H (𝓖 .A) (givenOf 𝓤 H 𝓜 𝓖) (𝓜 .mem) (𝓡 .run) (tablesOf 𝓤 H 𝓜 (tables 𝓤 H 𝓜 𝓡 code.env))
-    (cited 𝓤 H (New 𝓤 H (𝓖 .A) (𝓜 .mem) (𝓡 .run)) 𝓜 𝓡 code.env #new new-def.routine code.calls-stored-reader·new (new-thm.met 𝓤 H 𝓜 𝓖 𝓡))
+    (cited 𝓤 H (New 𝓤 H (𝓖 .A) (𝓜 .mem) (𝓡 .run)) 𝓜 𝓡 code.env #new new-def.routine code.calls-stored-reader·new
+    (new-thm.met 𝓤 H 𝓜 𝓖 𝓡))
     (cited 𝓤 H (Head 𝓤 H (𝓖 .A) (𝓜 .mem) (𝓡 .run)) 𝓜 𝓡 code.env #head head-def.routine code.calls-stored-reader·head
     (head-thm.met 𝓤 H 𝓜 𝓖 𝓡))
     (cited 𝓤 H (Moved 𝓤 H (𝓖 .A) (𝓜 .mem) (𝓡 .run)) 𝓜 𝓡 code.env #moved moved-def.routine code.calls-stored-reader·moved

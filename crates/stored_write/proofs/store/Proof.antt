@@ -37,7 +37,8 @@ loop-again c =
     let a = c .before .before .before .args in
     let v = getD (a .bytes .now) (l .i) 0 in (
       omega arith,
-      ap (λ (xs : List ℕ). set xs (l .i) v) (l .inv .1) ∙ front-more (a .bytes .now) (a .room .now) (l .i) 0 (omega arith) (omega arith),
+      ap (λ (xs : List ℕ). set xs (l .i) v) (l .inv .1)
+          ∙ front-more (a .bytes .now) (a .room .now) (l .i) 0 (omega arith) (omega arith),
       length-set (l .room) (l .i) v ∙ l .inv .2,
     )
 
@@ -54,4 +55,5 @@ returns c =
 pub store-spec : {M : Type 1} → statement M
 store-spec =
     tie.close
-    (tie.spec Inv-loop μ-loop loop-holds element-copy-out-room slice-write-room add-i loop-less loop-again same-length returns)
+    (tie.spec Inv-loop μ-loop loop-holds element-copy-out-room slice-write-room add-i loop-less loop-again
+    same-length returns)

@@ -35,8 +35,11 @@ returns-2 c =
     (left .if1 .left) (c .before .if2 .taken)))
 
 store-requires : tie.Need-store-requires
-store-requires c κs =
-    (omega arith, written-fits (c .before .before .before .before .before .write-bytes .ensures) (c .before .before .before .if1 .left), c .before .before .if2 .left)
+store-requires c κs = (
+  omega arith,
+  written-fits (c .before .before .before .before .before .write-bytes .ensures) (c .before .before .before .if1 .left),
+  c .before .before .if2 .left,
+)
 
 answered-requires : tie.Need-answered-requires
 answered-requires c κs = search needs
@@ -62,4 +65,5 @@ returns-3 c =
 pub write-plan-spec : {M : Type 1} → statement M
 write-plan-spec =
     tie.close
-    (tie.spec write-bytes-requires returns refused-requires returns-2 store-requires answered-requires same-length returns-3)
+    (tie.spec write-bytes-requires returns refused-requires returns-2 store-requires answered-requires
+    same-length returns-3)

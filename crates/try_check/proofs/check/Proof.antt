@@ -21,14 +21,16 @@ array-borrow-prefix-rows c = search needs
 
 slice-aggregate-check-plan : tie.Need-slice-aggregate-check-plan
 slice-aggregate-check-plan c =
-    sym (length-take-le (c .before .before .before .before .before .before .args .table) (replicate 128 7) (omega arith))
+    let start = c .before .before .before .before .before .before in
+    sym (length-take-le (start .args .table) (replicate 128 7) (omega arith))
 
 array-borrow-prefix-run : tie.Need-array-borrow-prefix-run
 array-borrow-prefix-run c = search needs
 
 slice-aggregate-check-plan-2 : tie.Need-slice-aggregate-check-plan-2
 slice-aggregate-check-plan-2 c =
-    sym (length-take-le (c .before .before .before .before .before .before .before .args .list) (replicate 128 7) (omega arith))
+    let start = c .before .before .before .before .before .before .before in
+    sym (length-take-le (start .args .list) (replicate 128 7) (omega arith))
 
 check-plan-requires : tie.Need-check-plan-requires
 check-plan-requires c κs = search needs

@@ -46,7 +46,8 @@ array-share-prefix-long c = search needs
 
 slice-aggregate-check-kept : tie.Need-slice-aggregate-check-kept Inv-loop μ-loop
 slice-aggregate-check-kept c =
-    sym (length-take-le (96 + c .before .before .before .before .before .args .more) (c .before .before .loop .long) (omega arith))
+    sym (length-take-le (96 + c .before .before .before .before .before .args .more)
+    (c .before .before .loop .long) (omega arith))
 
 check-kept-requires : tie.Need-check-kept-requires Inv-loop μ-loop
 check-kept-requires c κs = search needs

@@ -18,7 +18,9 @@ array-share-prefix-plan c = simp length-set (omega arith)
 
 slice-aggregate-read : tie.Need-slice-aggregate-read
 slice-aggregate-read c =
-    sym (length-take-le (c .before .before .args .n) (set (c .before .t3 .result) (c .before .before .args .at) (c .before .before .args .byte)) (simp length-set (omega arith)))
+    sym (length-take-le (c .before .before .args .n)
+    (set (c .before .t3 .result) (c .before .before .args .at) (c .before .before .args .byte))
+    (simp length-set (omega arith)))
 
 read-requires : tie.Need-read-requires
 read-requires c κs = search needs

@@ -20,7 +20,8 @@ array-borrow-prefix-room c = search needs
 
 slice-aggregate-read-plan-2 : tie.Need-slice-aggregate-read-plan-2
 slice-aggregate-read-plan-2 c =
-    sym (length-take-le (c .before .before .before .before .args .size) (c .before .before .sevens .result) (omega arith))
+    sym (length-take-le (c .before .before .before .before .args .size)
+    (c .before .before .sevens .result) (omega arith))
 
 read-plan-requires : tie.Need-read-plan-requires
 read-plan-requires c κs = search needs
@@ -37,4 +38,5 @@ returns c = search needs
 pub into-room-spec : {M : Type 1} → statement M
 into-room-spec =
     tie.close
-    (tie.spec t3-requires sevens-requires slice-aggregate-read-plan array-borrow-prefix-room slice-aggregate-read-plan-2 read-plan-requires show-requires show-numbers-requires returns)
+    (tie.spec t3-requires sevens-requires slice-aggregate-read-plan array-borrow-prefix-room slice-aggregate-read-plan-2
+    read-plan-requires show-requires show-numbers-requires returns)

@@ -46,7 +46,8 @@ array-share-prefix-long c = search needs
 
 slice-aggregate-read : tie.Need-slice-aggregate-read Inv-loop μ-loop
 slice-aggregate-read c =
-    sym (length-take-le (96 + c .before .before .before .before .before .args .more) (c .before .before .loop .long) (omega arith))
+    sym (length-take-le (96 + c .before .before .before .before .before .args .more)
+    (c .before .before .loop .long) (omega arith))
 
 read-requires : tie.Need-read-requires Inv-loop μ-loop
 read-requires c κs = search needs
@@ -57,4 +58,5 @@ returns c = search needs
 pub longer-spec : {M : Type 1} → statement M
 longer-spec =
     tie.close
-    (tie.spec Inv-loop μ-loop t3-requires zeros-requires loop-holds array-read-long array-write-long add-i loop-less loop-again add-long array-share-prefix-long slice-aggregate-read read-requires returns)
+    (tie.spec Inv-loop μ-loop t3-requires zeros-requires loop-holds array-read-long array-write-long add-i loop-less
+    loop-again add-long array-share-prefix-long slice-aggregate-read read-requires returns)

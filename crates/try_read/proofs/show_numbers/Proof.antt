@@ -43,4 +43,5 @@ returns c = search needs
 pub show-numbers-spec : {M : Type 1} → statement M
 show-numbers-spec =
     tie.close
-    (tie.spec Inv-loop μ-loop loop-holds mul-show-number element-copy-out-show-number show-number-requires add-i loop-less loop-again slice-aggregate-head head-requires returns)
+    (tie.spec Inv-loop μ-loop loop-holds mul-show-number element-copy-out-show-number show-number-requires add-i
+    loop-less loop-again slice-aggregate-head head-requires returns)

@@ -21,7 +21,8 @@ array-share-prefix-numbers c = simp length-set (omega arith)
 
 slice-aggregate-write : tie.Need-slice-aggregate-write
 slice-aggregate-write c =
-    sym (length-take-le 38 (set (c .before .t3 .result) (c .before .before .args .at) (c .before .before .args .number)) (simp length-set (omega arith)))
+    sym (length-take-le 38 (set (c .before .t3 .result) (c .before .before .args .at) (c .before .before .args .number))
+    (simp length-set (omega arith)))
 
 write-requires : tie.Need-write-requires
 write-requires c κs = search needs

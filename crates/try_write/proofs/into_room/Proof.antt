@@ -23,7 +23,8 @@ array-borrow-prefix-room c = search needs
 
 slice-aggregate-write-plan-2 : tie.Need-slice-aggregate-write-plan-2
 slice-aggregate-write-plan-2 c =
-    sym (length-take-le (c .before .before .before .before .args .size) (c .before .before .sevens .result) (omega arith))
+    sym (length-take-le (c .before .before .before .before .args .size)
+    (c .before .before .sevens .result) (omega arith))
 
 write-plan-requires : tie.Need-write-plan-requires
 write-plan-requires c κs = search needs

@@ -55,4 +55,5 @@ returns c = search needs
 pub longer-spec : {M : Type 1} → statement M
 longer-spec =
     tie.close
-    (tie.spec Inv-loop μ-loop t3-requires zeros-requires loop-holds mul-long array-read-long mul-long-2 array-write-long add-i loop-less loop-again slice-aggregate-write write-requires returns)
+    (tie.spec Inv-loop μ-loop t3-requires zeros-requires loop-holds mul-long array-read-long mul-long-2 array-write-long
+    add-i loop-less loop-again slice-aggregate-write write-requires returns)

@@ -40,4 +40,5 @@ returns c = search needs
 pub show-bytes-spec : {M : Type 1} → statement M
 show-bytes-spec =
     tie.close
-    (tie.spec Inv-loop μ-loop loop-holds element-copy-out-show-byte show-byte-requires add-i loop-less loop-again slice-aggregate-head head-requires returns)
+    (tie.spec Inv-loop μ-loop loop-holds element-copy-out-show-byte show-byte-requires add-i loop-less loop-again
+    slice-aggregate-head head-requires returns)

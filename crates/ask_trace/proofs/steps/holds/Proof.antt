@@ -1,5 +1,5 @@
 -- `holds` tests what a wait rests on. Assumes nothing.
-use Rattle.ask_trace.proofs.Turns.{held-is}
+use Rattle.ask_trace.proofs.Turns.{wait-unmet-is}
 use borrow.Author.Needs.{needs}
 use Rattle.ask_trace.proofs.steps.holds.Statement.{statement}
 use Rattle.ask_trace.proofs.steps.holds.Tie as tie
@@ -14,7 +14,8 @@ unless-requires : tie.Need-unless-requires
 unless-requires c κs = search needs
 
 returns : tie.Need-returns
-returns c = held-is _ _ _ _ _ _ _ _ (c .before .before .get16 .ensures) (c .before .has-run .ensures) (c .unless .ensures)
+returns c =
+    wait-unmet-is _ _ _ _ _ _ _ _ (c .before .before .get16 .ensures) (c .before .has-run .ensures) (c .unless .ensures)
 
 pub holds-spec : {M : Type 1} → statement M
 holds-spec = tie.close (tie.spec get16-requires has-run-requires unless-requires returns)

@@ -1,5 +1,5 @@
 -- `unmet` gives the first wait that is held: none before it is. Assumes nothing.
-use Rattle.ask_trace.specs.Walk.{held}
+use Rattle.ask_trace.specs.Walk.{wait-unmet}
 use Rattle.plan_format.specs.Sizes.{most-operations, most-waits}
 use borrow.Author.Count.{below-none, below-more}
 use Prim.Native.Nat.{ℕ, _-_, _*_, _%_, _≤_, _<_}
@@ -13,7 +13,7 @@ use Rattle.ask_trace.proofs.steps.unmet.Tie as tie
 
 abbrev Inv-loop : tie.InvT-loop
 Inv-loop queue source table counts j first k₀ k = (first ≡ most-waits * (j % most-operations)) × (k ≤ most-waits) ×
-    ((i : ℕ) → i < k → held queue source table counts j i ≡ false)
+    ((i : ℕ) → i < k → wait-unmet queue source table counts j i ≡ false)
 
 abbrev μ-loop : tie.MeasureT-loop
 μ-loop queue source table counts j first k₀ k = most-waits - k
@@ -31,7 +31,7 @@ holds-requires : tie.Need-holds-requires Inv-loop μ-loop
 holds-requires c κs = search needs
 
 returns : tie.Need-returns Inv-loop μ-loop
-unfolding held
+unfolding wait-unmet
 returns c = let top = c .before .before .before in
     let here = top .before .before .before .before .args in
     unmet-at (here .queue .now) (here .source .now) (here .table .now) (here .counts .now) (here .j) _
@@ -45,7 +45,7 @@ loop-less : tie.Need-loop-less Inv-loop μ-loop
 loop-less c = search needs
 
 loop-again : tie.Need-loop-again Inv-loop μ-loop
-unfolding held
+unfolding wait-unmet
 loop-again c = let top = c .before .before .before in (
   top .loop .inv .0,
   omega arith,

@@ -48,4 +48,6 @@ returns-3 c =
     )
 
 pub judge-spec : {M : Type 1} → statement M
-judge-spec = tie.close (tie.spec stuck-requires refused-requires returns broken-requires refused-requires-2 returns-2 answered-requires returns-3)
+judge-spec =
+    tie.close (tie.spec stuck-requires refused-requires returns broken-requires refused-requires-2 returns-2
+    answered-requires returns-3)

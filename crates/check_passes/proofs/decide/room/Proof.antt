@@ -27,13 +27,17 @@ refused-requires-2 : tie.Need-refused-requires-2
 refused-requires-2 c κs = search needs
 
 returns-2 : tie.Need-returns-2
-returns-2 c = rw (c .refused2 .ensures) (tells (short-list _ _ _ (c .before .before .if1 .left) (c .before .if2 .taken)))
+returns-2 c =
+    rw (c .refused2 .ensures) (tells (short-list _ _ _ (c .before .before .if1 .left) (c .before .if2 .taken)))
 
 answered-requires : tie.Need-answered-requires
 answered-requires c κs = search needs
 
 returns-3 : tie.Need-returns-3
-returns-3 c = rw (c .answered .ensures) (tells (room-enough _ _ _ (c .before .before .if1 .left) (c .before .if2 .left)))
+returns-3 c =
+    rw (c .answered .ensures) (tells (room-enough _ _ _ (c .before .before .if1 .left) (c .before .if2 .left)))
 
 pub room-spec : {M : Type 1} → statement M
-room-spec = tie.close (tie.spec mul-if1 mul-refused refused-requires returns mul-if2 mul-refused-2 refused-requires-2 returns-2 answered-requires returns-3)
+room-spec =
+    tie.close (tie.spec mul-if1 mul-refused refused-requires returns mul-if2 mul-refused-2 refused-requires-2 returns-2
+    answered-requires returns-3)

@@ -53,4 +53,6 @@ returns-2 c =
     }
 
 pub results-spec : {M : Type 1} → statement M
-results-spec = tie.close (tie.spec mul-rows rows-requires same-length returns mul-zeros zeros-requires mul-zeros-2 zeros-requires-2 same-length-2 same-length-3 returns-2)
+results-spec =
+    tie.close (tie.spec mul-rows rows-requires same-length returns mul-zeros zeros-requires mul-zeros-2 zeros-requires-2
+    same-length-2 same-length-3 returns-2)

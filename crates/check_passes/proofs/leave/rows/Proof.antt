@@ -17,7 +17,8 @@ abbrev μ-loop : tie.MeasureT-loop
 μ-loop from table₀ n i₀ table i = n - i
 
 loop-holds : tie.Need-loop-holds Inv-loop μ-loop
-loop-holds c = (omega arith, sym (front-none (c .before .before .args .from .now) (c .before .before .args .table .now)), refl)
+loop-holds c =
+    (omega arith, sym (front-none (c .before .before .args .from .now) (c .before .before .args .table .now)), refl)
 
 mul-u16-to-u32 : tie.Need-mul-u16-to-u32 Inv-loop μ-loop
 mul-u16-to-u32 c = search needs
@@ -65,4 +66,5 @@ returns c =
 pub rows-spec : {M : Type 1} → statement M
 rows-spec =
     tie.close
-    (tie.spec Inv-loop μ-loop loop-holds mul-u16-to-u32 shared-slice-read-u16-to-u32 u16-to-u32-requires mul-table slice-write-table add-i loop-less loop-again same-length returns)
+    (tie.spec Inv-loop μ-loop loop-holds mul-u16-to-u32 shared-slice-read-u16-to-u32 u16-to-u32-requires mul-table
+    slice-write-table add-i loop-less loop-again same-length returns)

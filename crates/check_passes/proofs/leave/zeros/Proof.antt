@@ -39,8 +39,10 @@ loop-again c =
     let zeros = replicate {A = ℕ} (s .args .n) 0 in (
       omega arith,
       ap (λ (xs : List ℕ). set xs (l .i) 0) (l .inv .1)
-          ∙ ap (λ (v : ℕ). set (in-front (take (l .i) zeros) (s .args .a .now)) (l .i) v) (sym (getD-replicate {A = ℕ} (s .args .n) (l .i) 0 0 below))
-          ∙ front-more zeros (s .args .a .now) (l .i) 0 (omega (arith, length-replicate {A = ℕ} (s .args .n) 0)) (omega arith),
+          ∙ ap (λ (v : ℕ). set (in-front (take (l .i) zeros) (s .args .a .now)) (l .i) v)
+          (sym (getD-replicate {A = ℕ} (s .args .n) (l .i) 0 0 below))
+          ∙ front-more zeros (s .args .a .now) (l .i) 0
+          (omega (arith, length-replicate {A = ℕ} (s .args .n) 0)) (omega arith),
       length-set (l .a) (l .i) 0 ∙ l .inv .2,
     )
 
@@ -51,7 +53,9 @@ returns : tie.Need-returns Inv-loop μ-loop
 returns c =
     let l = c .before .loop in
     let s = c .before .before in
-    l .inv .1 ∙ front-all (replicate {A = ℕ} (s .args .n) 0) (s .args .a .now) (l .i) (omega (arith, length-replicate {A = ℕ} (s .args .n) 0))
+    l .inv .1
+    ∙ front-all (replicate {A = ℕ} (s .args .n) 0) (s .args .a .now) (l .i)
+    (omega (arith, length-replicate {A = ℕ} (s .args .n) 0))
 
 pub zeros-spec : {M : Type 1} → statement M
 zeros-spec =

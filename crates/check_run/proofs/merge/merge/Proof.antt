@@ -13,7 +13,8 @@ use Rattle.check_run.proofs.Merges.{merged-is, merged-more}
 
 abbrev Inv-loop : tie.InvT-loop
 Inv-loop rows unit q a b c d row₀ from k₀ row k =
-    (k ≤ 16) × (length row ≡ 16) × ((m : ℕ) → m < k → getD row m 0 ≡ (largest rows a b c d m + getD unit (16 - q + m) 0) % 65536)
+    (k ≤ 16) × (length row ≡ 16) ×
+    ((m : ℕ) → m < k → getD row m 0 ≡ (largest rows a b c d m + getD unit (16 - q + m) 0) % 65536)
 
 abbrev μ-loop : tie.MeasureT-loop
 μ-loop rows unit q a b c d row₀ from k₀ row k = 16 - k
@@ -65,10 +66,13 @@ loop-again c =
     let top = ab .before .before in
     let here = top .before .args in
     let f : ℕ → ℕ =
-    λ m. (largest (here .rows .now) (here .a) (here .b) (here .c) (here .d) m + getD (here .unit .now) (16 - here .q + m) 0) % 65536 in (
+    λ m.
+    (largest (here .rows .now) (here .a) (here .b) (here .c) (here .d) m + getD (here .unit .now) (16 - here .q + m) 0)
+    % 65536 in (
       omega arith,
       simp length-set (top .loop .inv .1),
-      merged-more f (top .loop .row) (top .loop .k) (c .sum .result) _ (top .loop .inv .1) (omega arith) (top .loop .inv .2)
+      merged-more f (top .loop .row) (top .loop .k) (c .sum .result) _ (top .loop .inv .1) (omega arith)
+          (top .loop .inv .2)
           (merged-is _ _ _ _ _ _ _ _ _ _ _ (ab .higher .ensures) (cd .higher2 .ensures) (most .max-u16 .ensures)
           (c .sum .ensures)) refl,
     )

@@ -14,7 +14,8 @@ get16-requires-2 : tie.Need-get16-requires-2
 get16-requires-2 c κs = search needs
 
 returns : tie.Need-returns
-returns c = held-first _ _ _ _ _ (c .before .before .before .get16 .ensures) (c .before .get162 .ensures) (c .if1 .taken)
+returns c =
+    held-first _ _ _ _ _ (c .before .before .before .get16 .ensures) (c .before .get162 .ensures) (c .if1 .taken)
 
 mul-get16-2 : tie.Need-mul-get16-2
 mul-get16-2 c = search needs
@@ -31,7 +32,8 @@ get16-requires-4 c κs = search needs
 returns-2 : tie.Need-returns-2
 returns-2 c =
     let first = c .before .before .before .before .before in
-    held-second _ _ _ _ _ (first .before .before .before .get16 .ensures) (first .before .get162 .ensures) (first .if1 .left)
+    held-second _ _ _ _ _ (first .before .before .before .get16 .ensures) (first .before .get162 .ensures)
+    (first .if1 .left)
     _ _ (c .before .before .before .get163 .ensures) (c .before .get164 .ensures) (c .if2 .taken)
 
 mul-get16-3 : tie.Need-mul-get16-3
@@ -50,7 +52,8 @@ returns-3 : tie.Need-returns-3
 returns-3 c =
     let second = c .before .before .before .before .before in
     let first = second .before .before .before .before .before in
-    held-third _ _ _ _ _ (first .before .before .before .get16 .ensures) (first .before .get162 .ensures) (first .if1 .left)
+    held-third _ _ _ _ _ (first .before .before .before .get16 .ensures) (first .before .get162 .ensures)
+    (first .if1 .left)
     _ _ (second .before .before .before .get163 .ensures) (second .before .get164 .ensures) (second .if2 .left)
     _ _ (c .before .before .before .get165 .ensures) (c .before .get166 .ensures) (c .if3 .taken)
 
@@ -58,7 +61,8 @@ returns-4 : tie.Need-returns-4
 returns-4 c =
     let second = c .before .before .before .before .before in
     let first = second .before .before .before .before .before in
-    held-none _ _ _ _ _ (first .before .before .before .get16 .ensures) (first .before .get162 .ensures) (first .if1 .left)
+    held-none _ _ _ _ _ (first .before .before .before .get16 .ensures) (first .before .get162 .ensures)
+    (first .if1 .left)
     _ _ (second .before .before .before .get163 .ensures) (second .before .get164 .ensures) (second .if2 .left)
     _ _ (c .before .before .before .get165 .ensures) (c .before .get166 .ensures) (c .if3 .left)
 

@@ -9,7 +9,7 @@ use lib.ListN.{length}
 use native.Mathlib.Omega.{arith}
 use lib.Bits.{or-lt}
 use denote.Ref.{now}
-use Rattle.check_run.proofs.Looks.{unit-shifted, shifted-small, looked-closed, looked-free, looked-held}
+use Rattle.check_run.proofs.Looks.{unit-shifted, shifted-small, looked-closed, looked-unblocked, looked-held}
 
 get16-requires : tie.Need-get16-requires
 get16-requires c κs = search needs
@@ -31,7 +31,8 @@ returns-2 c =
     let start = c .before .before .before .before .before in
     let q = start .args .q in (
       or-lt 16 _ _ (start .pre .1) (shifted-small q 4294967296 (start .pre .0) (omega arith)),
-      looked-free _ _ _ _ _ _ _ (c .before .before .before .get16 .ensures) (c .before .before .if1 .left) _ (c .before .blocker .ensures) (c .if2 .taken)
+      looked-unblocked _ _ _ _ _ _ _ (c .before .before .before .get16 .ensures) (c .before .before .if1 .left) _
+          (c .before .blocker .ensures) (c .if2 .taken)
           _ (unit-shifted q 4294967296 (start .pre .0) (omega arith)),
     )
 
@@ -50,8 +51,10 @@ returns-3 c =
     let start = held .before .before .before .before .before in
     let long : length (now (start .args .waiter)) ≡ no-operation + 1 = search needs in (
       start .pre .1,
-      looked-held _ _ _ _ _ _ _ (held .before .before .before .get16 .ensures) long _ (held .before .blocker .ensures) (held .if2 .left)
-          _ (unit-shifted (start .args .q) 18446744073709551616 (start .pre .0) (omega arith)) _ (c .before .before .get162 .ensures) _ (c .put16 .ensures),
+      looked-held _ _ _ _ _ _ _ (held .before .before .before .get16 .ensures) long _ (held .before .blocker .ensures)
+          (held .if2 .left)
+          _ (unit-shifted (start .args .q) 18446744073709551616 (start .pre .0) (omega arith)) _
+          (c .before .before .get162 .ensures) _ (c .put16 .ensures),
     )
 
 pub look-spec : {M : Type 1} → statement M

@@ -7,14 +7,16 @@ use mathlib.Core.List.{List}
 use Prim.Native.Nat.{ℕ, _<_}
 use native.Mathlib.Omega.{arith}
 use lib.Pow.{pow-pos}
-use Rattle.check_run.specs.Queues.{Looked}
+use Rattle.check_run.specs.Queues.{Heads-looked}
 use Rattle.check_run.proofs.Words.{has-le}
 use Rattle.check_run.proofs.Looks.{unit-shifted, looked-lowest, looked-end}
 
 abbrev Inv-loop : tie.InvT-loop
 Inv-loop mask ready head source ran waiter₀ left₀ r₀ waiter left r =
     (left < 65536) × (r < 65536)
-    × ((x : ℕ) (w : List ℕ) → Looked left r head source ran waiter x w → Looked mask ready head source ran waiter₀ x w)
+    ×
+    ((x : ℕ) (w : List ℕ) → Heads-looked left r head source ran waiter x w →
+    Heads-looked mask ready head source ran waiter₀ x w)
 
 abbrev μ-loop : tie.MeasureT-loop
 μ-loop mask ready head source ran waiter₀ left₀ r₀ waiter left r = left
@@ -33,7 +35,11 @@ shl-left c = search needs
 
 sub-left : tie.Need-sub-left Inv-loop μ-loop
 sub-left c =
-    omega (arith, unit-shifted (c .lowest .result) 4294967296 (c .lowest .ensures .0) (omega arith), has-le _ _ (c .lowest .ensures .1 .there))
+    omega (
+      arith,
+      unit-shifted (c .lowest .result) 4294967296 (c .lowest .ensures .0) (omega arith),
+      has-le _ _ (c .lowest .ensures .1 .there),
+    )
 
 look-requires : tie.Need-look-requires Inv-loop μ-loop
 look-requires c κs = search needs
@@ -49,7 +55,8 @@ loop-again c =
       omega arith,
       c .look .ensures .0,
       λ x w h. c .before .before .before .before .loop .inv .2 x w
-          (looked-lowest _ _ _ _ (l .result) _ _ _ _ _ x w (l .ensures .1) (unit-shifted (l .result) 4294967296 (l .ensures .0) (omega arith)) (c .look .ensures .1) h),
+          (looked-lowest _ _ _ _ (l .result) _ _ _ _ _ x w (l .ensures .1)
+          (unit-shifted (l .result) 4294967296 (l .ensures .0) (omega arith)) (c .look .ensures .1) h),
     )
 
 returns : tie.Need-returns Inv-loop μ-loop

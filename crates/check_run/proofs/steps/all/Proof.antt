@@ -19,11 +19,14 @@ Inv-loop n ready source next head₀ ran₀ waiter₀ rows₀ list₀ prev₀ un
     (i ≤ n) × (word < 65536) × (length list ≡ length list₀)
     × ((queue : List ℕ) → Prepared queue n source head₀ next ran₀ waiter₀ ready →
     Bounds queue n i head word rows₀ rows list₀ list)
-    × ((p : Plan) (queue : List ℕ) → Run-given p n queue source → Cleared rows₀ → 2 * n ≤ length list₀ → Prepared queue n source head₀ next ran₀ waiter₀ ready →
+    ×
+    ((p : Plan) (queue : List ℕ) → Run-given p n queue source → Cleared rows₀ → 2 * n ≤ length list₀ →
+    Prepared queue n source head₀ next ran₀ waiter₀ ready →
     Going p n i source head prev ran waiter word rows list₀ list)
 
 abbrev μ-loop : tie.MeasureT-loop
-μ-loop n ready source next head₀ ran₀ waiter₀ rows₀ list₀ prev₀ unit word₀ i₀ head ran waiter rows list prev word i = n - i
+μ-loop n ready source next head₀ ran₀ waiter₀ rows₀ list₀ prev₀ unit word₀ i₀ head ran waiter rows list prev word i =
+    n - i
 
 array-write-unit : tie.Need-array-write-unit Inv-loop μ-loop
 array-write-unit c = search needs
@@ -45,7 +48,8 @@ returns c =
     let inv = c .before .before .loop .inv in (
       λ queue prepared. inv .3 queue prepared .bounded,
       λ p queue shown cleared room prepared.
-          ended-early p _ queue _ shown _ _ _ _ _ _ _ _ _ room (inv .4 p queue shown cleared room prepared) (c .if1 .taken),
+          ended-early p _ queue _ shown _ _ _ _ _ _ _ _ _ room (inv .4 p queue shown cleared room prepared)
+          (c .if1 .taken),
     )
 
 turn-requires : tie.Need-turn-requires Inv-loop μ-loop
@@ -84,7 +88,8 @@ returns-2 c =
     let inv = c .before .loop .inv in (
       λ queue prepared. inv .3 queue prepared .bounded,
       λ p queue shown cleared room prepared.
-          ended-full p _ queue _ shown _ _ _ _ _ _ _ _ _ room (inv .4 p queue shown cleared room prepared) (omega (arith, inv .0)),
+          ended-full p _ queue _ shown _ _ _ _ _ _ _ _ _ room (inv .4 p queue shown cleared room prepared)
+          (omega (arith, inv .0)),
     )
 
 pub all-spec : {M : Type 1} → statement M

@@ -32,8 +32,10 @@ returns c =
     let start = filled .before .before .before in
     let small : start .args .j < 65536 = omega arith in
     record {
-      head-is = c .put163 .ensures ∙ ap (λ (x : ℕ). set (start .args .head .now) (start .args .q) (x % 65536)) (after .get16 .ensures);
-      prev-is = last .put162 .ensures ∙ ap (λ (x : ℕ). set (start .args .prev .now) (start .args .q) x) (mod-eq-of-lt small);
+      head-is = c .put163 .ensures
+          ∙ ap (λ (x : ℕ). set (start .args .head .now) (start .args .q) (x % 65536)) (after .get16 .ensures);
+      prev-is = last .put162 .ensures
+          ∙ ap (λ (x : ℕ). set (start .args .prev .now) (start .args .q) x) (mod-eq-of-lt small);
       ran-is = ran .put16 .ensures;
       rows-are = filled .fill .ensures;
     }

@@ -19,7 +19,9 @@ add-put32 : tie.Need-add-put32
 add-put32 c = search needs
 
 cast-put32 : tie.Need-cast-put32
-cast-put32 c = omega (arith, ones-le 16 (c .before .before .before .before .before .before .args .ready) (c .before .before .before .before .before .before .pre .1))
+cast-put32 c =
+    let start = c .before .before .before .before .before .before in
+    omega (arith, ones-le 16 (start .args .ready) (start .pre .1))
 
 put32-requires : tie.Need-put32-requires
 put32-requires c κs = search needs
@@ -50,7 +52,8 @@ shl-wake c = search needs
 
 sub-wake : tie.Need-sub-wake
 sub-wake c =
-    let l = c .before .before .before .before .before .before .before .before .before .before .before .before .before .before .before .before .before .before .before .lowest in
+    let midway = c .before .before .before .before .before .before .before .before .before in
+    let l = midway .before .before .before .before .before .before .before .before .before .before .lowest in
     omega (arith, unit-shifted (l .result) 4294967296 (l .ensures .0) (omega arith), has-le _ _ (l .ensures .1 .there))
 
 wake-requires : tie.Need-wake-requires

@@ -13,7 +13,11 @@ enum-known-v : tie.Need-enum-known-v
 enum-known-v c = search needs
 
 cast-t8 : tie.Need-cast-t8
-cast-t8 c = omega (arith, word-limit 4294967295 (c .before .v .given .0 .0) _ (sym (c .before .v .given .1) ∙ c .before .before .before .of-word .ensures))
+cast-t8 c = omega (
+  arith,
+  word-limit 4294967295 (c .before .v .given .0 .0) _
+      (sym (c .before .v .given .1) ∙ c .before .before .before .of-word .ensures),
+)
 
 enum-told : tie.Need-enum-told
 enum-told c = search needs

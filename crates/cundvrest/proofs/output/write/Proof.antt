@@ -7,7 +7,8 @@ use Rattle.cundvrest.proofs.output.write.Statement.{statement}
 use Rattle.cundvrest.proofs.output.write.Tie as tie
 
 slice-aggregate-write-all : tie.Need-slice-aggregate-write-all
-slice-aggregate-write-all c = sym (length-take-le (c .before .before .before .args .n) (c .before .before .before .args .text .now) (omega arith))
+slice-aggregate-write-all c =
+    sym (length-take-le (c .before .before .before .args .n) (c .before .before .before .args .text .now) (omega arith))
 
 write-all-requires : tie.Need-write-all-requires
 write-all-requires c κs = search needs

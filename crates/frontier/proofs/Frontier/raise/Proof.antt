@@ -42,9 +42,10 @@ refused-requires c κs = search needs
 returns : tie.Need-returns
 unfolding left-number well-formed entries
 returns c =
+    let start = c .before .before .before .before .before .before in
     let n = c .before .before .judged in
     raise-all _ _ _ _ _ (c .refused .ensures
-    ∙ raise-refused (c .before .before .before .before .before .before .args .t1) _ _ _ _ (n .ensures)
+    ∙ raise-refused (start .args .t1) _ _ _ _ (n .ensures)
     (c .before .if1 .taken))
 
 lookup-from-requires : tie.Need-lookup-from-requires
@@ -67,8 +68,9 @@ unfolding left-number well-formed entries
 returns-2 c =
     let found = c .before .before .before .before in
     let entry = found .before .before .before .before in
+    let start = entry .before .before .before .before .before .before in
     raise-all _ _ _ _ _
-    (raise-stored (entry .before .before .before .before .before .before .args .t1) _ _ _ _
+    (raise-stored (start .args .t1) _ _ _ _
     (entry .before .before .judged .ensures) (entry .before .if1 .left) _ _ _
     (found .lookup-from .ensures) (c .before .before .answer .given .1) (c .max-u64 .ensures) (entry .if2 .taken))
 
@@ -87,7 +89,8 @@ cast-join c = search needs
 join-requires : tie.Need-join-requires
 unfolding entries
 join-requires c κs =
-    let f = fits (c .before .before .before .before .before .before) in
+    let earlier = c .before .before .before .before .before .before in
+    let f = fits (earlier) in
     let o = one-fits _ _ _ _ in
     ((f .0 .0, o .0), ((f .0 .1, o .1), f .1))
 

@@ -1,4 +1,4 @@
--- `bound_of` meets its contract: the loop's invariant is `Bounded`: the bounds are right, and so is every slot seen.
+-- `bound_of` meets its contract: the loop's invariant is `Cut-bound`: the bounds are right, and so is every slot seen.
 -- Assumes nothing.
 use Prim.Native.Nat.{_-_}
 use native.Mathlib.Omega.{arith}
@@ -6,12 +6,13 @@ use mathlib.Core.Path.{sym, _∙_}
 use borrow.Author.Tests.{not-true, not-false}
 use borrow.Author.Needs.{needs}
 use Rattle.frontier.specs.Frontiers.{slot}
-use Rattle.frontier.proofs.Trim.{Bounded, bounded-none, bounded-lost, bounded-kept, bounded-low, bounded-high, bounded-end, bounded-one}
+use Rattle.frontier.proofs.Trim.{Cut-bound, bounded-none, bounded-lost, bounded-kept, bounded-low, bounded-high}
+use Rattle.frontier.proofs.Trim.{bounded-end, bounded-one}
 use Rattle.frontier.proofs.cuts.bound_of.Statement.{statement}
 use Rattle.frontier.proofs.cuts.bound_of.Tie as tie
 
 abbrev Inv-loop : tie.InvT-loop
-Inv-loop axes epochs len capacity lost₀ kept₀ i₀ lost kept i = Bounded lost kept axes epochs len capacity i
+Inv-loop axes epochs len capacity lost₀ kept₀ i₀ lost kept i = Cut-bound lost kept axes epochs len capacity i
 
 abbrev μ-loop : tie.MeasureT-loop
 μ-loop axes epochs len capacity lost₀ kept₀ i₀ lost kept i = len - i
@@ -26,7 +27,10 @@ returns : tie.Need-returns Inv-loop μ-loop
 returns c = bounded-one _ _ _ _ _ (c .least .ensures) (c .before .if1 .taken)
 
 loop-holds : tie.Need-loop-holds Inv-loop μ-loop
-loop-holds c = bounded-none _ _ _ _ _ (c .before .before .before .pre .0 .2) (c .before .before .before .pre .1 .1) (c .before .before .before .pre .1 .0) (λ k. omega (arith, c .before .before .shared-slice-known .given k)) (λ k. omega (arith, c .before .shared-slice-known2 .given k))
+loop-holds c =
+    bounded-none _ _ _ _ _ (c .before .before .before .pre .0 .2) (c .before .before .before .pre .1 .1)
+    (c .before .before .before .pre .1 .0) (λ k. omega (arith, c .before .before .shared-slice-known .given k))
+    (λ k. omega (arith, c .before .shared-slice-known2 .given k))
 
 mul-axis : tie.Need-mul-axis Inv-loop μ-loop
 mul-axis c = search needs
@@ -51,7 +55,9 @@ loop-less c = search needs
 
 loop-again : tie.Need-loop-again Inv-loop μ-loop
 unfolding slot
-loop-again c = bounded-lost _ _ _ _ _ _ _ (c .before .before .before .before .before .loop .inv) (sym (c .before .above .ensures) ∙ not-true _ (c .if2 .taken))
+loop-again c =
+    bounded-lost _ _ _ _ _ _ _ (c .before .before .before .before .before .loop .inv)
+    (sym (c .before .above .ensures) ∙ not-true _ (c .if2 .taken))
 
 above-requires-2 : tie.Need-above-requires-2 Inv-loop μ-loop
 above-requires-2 c κs = search needs
@@ -61,7 +67,9 @@ loop-less-2 c = search needs
 
 loop-again-2 : tie.Need-loop-again-2 Inv-loop μ-loop
 unfolding slot
-loop-again-2 c = bounded-kept _ _ _ _ _ _ _ (c .before .before .before .before .before .before .before .loop .inv) (sym (c .before .above2 .ensures) ∙ not-true _ (c .if3 .taken))
+loop-again-2 c =
+    let turn = c .before .before .before .before .before .before .before in
+    bounded-kept _ _ _ _ _ _ _ (turn .loop .inv) (sym (c .before .above2 .ensures) ∙ not-true _ (c .if3 .taken))
 
 count-above-requires : tie.Need-count-above-requires Inv-loop μ-loop
 count-above-requires c κs = search needs
@@ -71,14 +79,19 @@ loop-less-3 c = search needs
 
 loop-again-3 : tie.Need-loop-again-3 Inv-loop μ-loop
 unfolding slot
-loop-again-3 c = bounded-low _ _ _ _ _ _ _ _ (c .before .before .before .before .before .before .before .before .before .loop .inv) (c .before .count-above .ensures) (c .if4 .taken)
+loop-again-3 c =
+    let turn = c .before .before .before .before .before .before .before .before .before in
+    bounded-low _ _ _ _ _ _ _ _ (turn .loop .inv) (c .before .count-above .ensures) (c .if4 .taken)
 
 loop-less-4 : tie.Need-loop-less-4 Inv-loop μ-loop
 loop-less-4 c = search needs
 
 loop-again-4 : tie.Need-loop-again-4 Inv-loop μ-loop
 unfolding slot
-loop-again-4 c = bounded-high _ _ _ _ _ _ _ _ (c .before .before .before .before .before .before .before .before .before .loop .inv) (sym (c .before .before .before .before .before .above .ensures) ∙ not-false _ (c .before .before .before .before .if2 .left)) (c .before .count-above .ensures) (c .if4 .left)
+loop-again-4 c =
+    let turn = c .before .before .before .before .before .before .before .before .before in
+    bounded-high _ _ _ _ _ _ _ _ (turn .loop .inv) (sym (c .before .before .before .before .before .above .ensures)
+    ∙ not-false _ (c .before .before .before .before .if2 .left)) (c .before .count-above .ensures) (c .if4 .left)
 
 returns-2 : tie.Need-returns-2 Inv-loop μ-loop
 returns-2 c = bounded-end _ _ _ _ _ _ _ (c .before .loop .inv) (c .loop-test .left)

@@ -12,7 +12,8 @@ use Rattle.frontier.proofs.cuts.count_above.Statement.{statement}
 use Rattle.frontier.proofs.cuts.count_above.Tie as tie
 
 abbrev Inv-loop : tie.InvT-loop
-Inv-loop axes epochs len bound n₀ i₀ n i = (i ≤ len) × (n ≤ i) × (n + exceeding bound (rest axes epochs len i) ≡ exceeding bound (slots axes epochs len 0))
+Inv-loop axes epochs len bound n₀ i₀ n i =
+    (i ≤ len) × (n ≤ i) × (n + exceeding bound (rest axes epochs len i) ≡ exceeding bound (slots axes epochs len 0))
 
 abbrev μ-loop : tie.MeasureT-loop
 μ-loop axes epochs len bound n₀ i₀ n i = len - i
@@ -43,7 +44,13 @@ loop-less c = search needs
 
 loop-again : tie.Need-loop-again Inv-loop μ-loop
 unfolding slot
-loop-again c = (search needs, search needs, count-skip _ _ _ _ _ _ (c .before .before .before .before .loop-test .taken) (sym (c .before .above .ensures) ∙ not-true _ (c .if1 .taken)) (c .before .before .before .before .before .loop .inv .2))
+loop-again c = (
+  search needs,
+  search needs,
+  count-skip _ _ _ _ _ _ (c .before .before .before .before .loop-test .taken)
+      (sym (c .before .above .ensures) ∙ not-true _ (c .if1 .taken))
+      (c .before .before .before .before .before .loop .inv .2),
+)
 
 add-n : tie.Need-add-n Inv-loop μ-loop
 add-n c = search needs
@@ -53,7 +60,13 @@ loop-less-2 c = search needs
 
 loop-again-2 : tie.Need-loop-again-2 Inv-loop μ-loop
 unfolding slot
-loop-again-2 c = (search needs, search needs, count-more _ _ _ _ _ _ (c .before .before .before .before .loop-test .taken) (sym (c .before .above .ensures) ∙ not-false _ (c .if1 .left)) (c .before .before .before .before .before .loop .inv .2))
+loop-again-2 c = (
+  search needs,
+  search needs,
+  count-more _ _ _ _ _ _ (c .before .before .before .before .loop-test .taken)
+      (sym (c .before .above .ensures) ∙ not-false _ (c .if1 .left))
+      (c .before .before .before .before .before .loop .inv .2),
+)
 
 returns : tie.Need-returns Inv-loop μ-loop
 returns c = count-end _ _ _ _ _ _ (c .loop-test .left) (c .before .loop .inv .2)

@@ -36,10 +36,17 @@ loop-less : tie.Need-loop-less Inv-loop μ-loop
 loop-less c = search needs
 
 loop-again : tie.Need-loop-again Inv-loop μ-loop
-loop-again c = (search needs, search needs, take-copied _ _ _ (c .before .before .loop .inv .1) (c .before .before .before .pre) (c .before .loop-test .taken) (c .before .before .loop .inv .2))
+loop-again c = (
+  search needs,
+  search needs,
+  take-copied _ _ _ (c .before .before .loop .inv .1) (c .before .before .before .pre) (c .before .loop-test .taken)
+      (c .before .before .loop .inv .2),
+)
 
 returns : tie.Need-returns Inv-loop μ-loop
-returns c = first-copied _ _ _ (c .before .loop .inv .0) (c .loop-test .left) (c .before .loop .inv .1) (c .before .loop .inv .2)
+returns c =
+    first-copied _ _ _ (c .before .loop .inv .0) (c .loop-test .left) (c .before .loop .inv .1)
+    (c .before .loop .inv .2)
 
 pub first-slots-spec : {M : Type 1} → statement M
 first-slots-spec =

@@ -45,10 +45,13 @@ loop-less c = search needs
 
 loop-again : tie.Need-loop-again Inv-loop μ-loop
 unfolding slot
-loop-again c = (search needs, least-more _ _ _ _ _ (c .before .before .before .before .loop .inv .1) (c .lesser .ensures))
+loop-again c =
+    (search needs, least-more _ _ _ _ _ (c .before .before .before .before .loop .inv .1) (c .lesser .ensures))
 
 returns : tie.Need-returns Inv-loop μ-loop
-returns c = least-end _ _ _ _ _ (c .before .loop .inv .1) (c .before .loop .inv .0) (c .loop-test .left) (c .before .before .before .before .before .before .pre .0 .2)
+returns c =
+    let start = c .before .before .before .before .before .before in
+    least-end _ _ _ _ _ (c .before .loop .inv .1) (c .before .loop .inv .0) (c .loop-test .left) (start .pre .0 .2)
 
 pub least-spec : {M : Type 1} → statement M
 least-spec =

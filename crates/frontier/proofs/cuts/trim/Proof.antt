@@ -20,7 +20,11 @@ abbrev μ-loop : tie.MeasureT-loop
 -- there is room for one more that is kept
 room : (c : tie.Else1 Inv-loop μ-loop) → c .before .before .before .before .before .loop .n < most-entries
 unfolding slot
-room c = trim-room _ _ _ _ _ _ _ _ (c .before .before .before .before .before .loop .inv .1) (c .before .before .before .before .loop-test .taken) (sym (c .before .above .ensures) ∙ not-false _ (c .if1 .left)) (c .before .before .before .before .before .before .before .before .pre .1)
+room c =
+    let start = c .before .before .before .before .before .before .before .before in
+    trim-room _ _ _ _ _ _ _ _ (c .before .before .before .before .before .loop .inv .1)
+    (c .before .before .before .before .loop-test .taken) (sym (c .before .above .ensures) ∙ not-false _ (c .if1 .left))
+    (start .pre .1)
 
 loop-holds : tie.Need-loop-holds Inv-loop μ-loop
 loop-holds c = (search needs, trim-none _ _ _ _ _ _ refl refl)
@@ -48,7 +52,12 @@ loop-less c = search needs
 
 loop-again : tie.Need-loop-again Inv-loop μ-loop
 unfolding slot
-loop-again c = (search needs, trim-skip _ _ _ _ _ _ _ _ (c .before .before .before .before .before .loop .inv .1) (c .before .before .before .before .loop-test .taken) (sym (c .before .above .ensures) ∙ not-true _ (c .if1 .taken)))
+loop-again c = (
+  search needs,
+  trim-skip _ _ _ _ _ _ _ _ (c .before .before .before .before .before .loop .inv .1)
+      (c .before .before .before .before .loop-test .taken)
+      (sym (c .before .above .ensures) ∙ not-true _ (c .if1 .taken)),
+)
 
 mul-kept : tie.Need-mul-kept Inv-loop μ-loop
 mul-kept c = let r = room c in search needs
@@ -70,7 +79,12 @@ loop-less-2 c = search needs
 
 loop-again-2 : tie.Need-loop-again-2 Inv-loop μ-loop
 unfolding slot
-loop-again-2 c = (search needs, trim-more _ _ _ _ _ _ _ _ (c .before .before .before .before .before .loop .inv .1) (c .before .before .before .before .loop-test .taken) (sym (c .before .above .ensures) ∙ not-false _ (c .if1 .left)) (room c))
+loop-again-2 c = (
+  search needs,
+  trim-more _ _ _ _ _ _ _ _ (c .before .before .before .before .before .loop .inv .1)
+      (c .before .before .before .before .loop-test .taken)
+      (sym (c .before .above .ensures) ∙ not-false _ (c .if1 .left)) (room c),
+)
 
 returns : tie.Need-returns Inv-loop μ-loop
 returns c = ap handed (trim-end _ _ _ _ _ _ _ _ _ (c .before .loop .inv .1) (c .loop-test .left)

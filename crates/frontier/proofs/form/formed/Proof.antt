@@ -25,7 +25,11 @@ zero-from-requires-2 : tie.Need-zero-from-requires-2
 zero-from-requires-2 c κs = search needs
 
 returns-4 : tie.Need-returns-4
-returns-4 c = judged _ _ (c .before .before .before .before .before .if1 .left) (c .before .before .before .before .before .before .pre .0) (c .before .before .before .before .before .before .pre .1) (sym (c .before .before .before .before .rising .ensures) ∙ not-false _ (c .before .before .before .if2 .left)) (sym (c .before .before .zero-from .ensures) ∙ not-false _ (c .before .if3 .left)) (c .zero-from2 .ensures)
+returns-4 c =
+    let start = c .before .before .before .before .before .before in
+    judged _ _ (c .before .before .before .before .before .if1 .left) (start .pre .0) (start .pre .1)
+    (sym (c .before .before .before .before .rising .ensures) ∙ not-false _ (c .before .before .before .if2 .left))
+    (sym (c .before .before .zero-from .ensures) ∙ not-false _ (c .before .if3 .left)) (c .zero-from2 .ensures)
 
 pub formed-spec : {M : Type 1} → statement M
 formed-spec =

@@ -16,10 +16,14 @@ formed-requires : tie.Need-formed-requires
 formed-requires c κs = search needs
 
 returns-3 : tie.Need-returns-3
-returns-3 c = judged-form _ _ _ _ (c .before .before .before .if1 .left) (c .before .before .if2 .left) (sym (c .before .formed .ensures) ∙ not-true _ (c .if3 .taken)) refl
+returns-3 c =
+    judged-form _ _ _ _ (c .before .before .before .if1 .left) (c .before .before .if2 .left)
+    (sym (c .before .formed .ensures) ∙ not-true _ (c .if3 .taken)) refl
 
 returns-4 : tie.Need-returns-4
-returns-4 c = judged-form _ _ _ _ (c .before .before .before .if1 .left) (c .before .before .if2 .left) (sym (c .before .formed .ensures) ∙ not-false _ (c .if3 .left)) refl
+returns-4 c =
+    judged-form _ _ _ _ (c .before .before .before .if1 .left) (c .before .before .if2 .left)
+    (sym (c .before .formed .ensures) ∙ not-false _ (c .if3 .left)) refl
 
 pub judged-spec : {M : Type 1} → statement M
 judged-spec = tie.close (tie.spec returns returns-2 formed-requires returns-3 returns-4)

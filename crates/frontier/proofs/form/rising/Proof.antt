@@ -11,7 +11,8 @@ use Rattle.frontier.proofs.form.rising.Statement.{statement}
 use Rattle.frontier.proofs.form.rising.Tie as tie
 
 abbrev Inv-loop : tie.InvT-loop
-Inv-loop axes epochs len i₀ i = (i ≤ len) × (rising-from (floor axes i) (rest axes epochs len i) ≡ rising-from 0 (slots axes epochs len 0))
+Inv-loop axes epochs len i₀ i =
+    (i ≤ len) × (rising-from (floor axes i) (rest axes epochs len i) ≡ rising-from 0 (slots axes epochs len 0))
 
 abbrev μ-loop : tie.MeasureT-loop
 μ-loop axes epochs len i₀ i = len - i
@@ -23,7 +24,9 @@ in-place-requires : tie.Need-in-place-requires Inv-loop μ-loop
 in-place-requires c κs = search needs
 
 returns : tie.Need-returns Inv-loop μ-loop
-returns c = sym (rising-stop _ _ _ _ (c .before .before .loop-test .taken) (sym (c .before .in-place .ensures) ∙ not-true _ (c .if1 .taken))) ∙ c .before .before .before .loop .inv .1
+returns c =
+    sym (rising-stop _ _ _ _ (c .before .before .loop-test .taken)
+    (sym (c .before .in-place .ensures) ∙ not-true _ (c .if1 .taken))) ∙ c .before .before .before .loop .inv .1
 
 add-i : tie.Need-add-i Inv-loop μ-loop
 add-i c = search needs
@@ -32,7 +35,11 @@ loop-less : tie.Need-loop-less Inv-loop μ-loop
 loop-less c = search needs
 
 loop-again : tie.Need-loop-again Inv-loop μ-loop
-loop-again c = (search needs, sym (rising-more _ _ _ _ (c .before .before .loop-test .taken) (sym (c .before .in-place .ensures) ∙ not-false _ (c .if1 .left))) ∙ c .before .before .before .loop .inv .1)
+loop-again c = (
+  search needs,
+  sym (rising-more _ _ _ _ (c .before .before .loop-test .taken)
+      (sym (c .before .in-place .ensures) ∙ not-false _ (c .if1 .left))) ∙ c .before .before .before .loop .inv .1,
+)
 
 returns-2 : tie.Need-returns-2 Inv-loop μ-loop
 returns-2 c = sym (rising-end _ _ _ _ _ (c .loop-test .left)) ∙ c .before .loop .inv .1

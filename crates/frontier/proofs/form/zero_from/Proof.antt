@@ -26,7 +26,10 @@ element-copy-out-if1 : tie.Need-element-copy-out-if1 Inv-loop μ-loop
 element-copy-out-if1 c = search needs
 
 returns : tie.Need-returns Inv-loop μ-loop
-returns c = sym (zero-stop (c .before .before .before .before .args .row .now) (c .before .before .before .loop .i) (omega (arith, c .before .before .before .before .pre, c .before .before .loop-test .taken)) (c .if1 .taken)) ∙ c .before .before .before .loop .inv
+returns c =
+    sym (zero-stop (c .before .before .before .before .args .row .now) (c .before .before .before .loop .i)
+    (omega (arith, c .before .before .before .before .pre, c .before .before .loop-test .taken)) (c .if1 .taken))
+    ∙ c .before .before .before .loop .inv
 
 add-i : tie.Need-add-i Inv-loop μ-loop
 add-i c = search needs
@@ -35,10 +38,15 @@ loop-less : tie.Need-loop-less Inv-loop μ-loop
 loop-less c = search needs
 
 loop-again : tie.Need-loop-again Inv-loop μ-loop
-loop-again c = sym (zero-more (c .before .before .before .before .args .row .now) (c .before .before .before .loop .i) (omega (arith, c .before .before .before .before .pre, c .before .before .loop-test .taken)) (c .if1 .left)) ∙ c .before .before .before .loop .inv
+loop-again c =
+    sym (zero-more (c .before .before .before .before .args .row .now) (c .before .before .before .loop .i)
+    (omega (arith, c .before .before .before .before .pre, c .before .before .loop-test .taken)) (c .if1 .left))
+    ∙ c .before .before .before .loop .inv
 
 returns-2 : tie.Need-returns-2 Inv-loop μ-loop
-returns-2 c = sym (zero-end (c .before .before .args .row .now) (c .before .loop .i) (omega (arith, c .before .before .pre, c .loop-test .left))) ∙ c .before .loop .inv
+returns-2 c =
+    sym (zero-end (c .before .before .args .row .now) (c .before .loop .i)
+    (omega (arith, c .before .before .pre, c .loop-test .left))) ∙ c .before .loop .inv
 
 pub zero-from-spec : {M : Type 1} → statement M
 zero-from-spec =

@@ -2,7 +2,8 @@
 -- absent. Assumes nothing.
 use mathlib.Core.Logic.{⊎-elim}
 use borrow.Author.Needs.{needs}
-use Rattle.frontier.proofs.Lookups.{Came, came-end, came-first, came-later, lookup-none, lookup-here, lookup-other}
+use Rattle.frontier.proofs.Lookups.{Came, came-end, came-first, came-later, lookup-none, lookup-here}
+use Rattle.frontier.proofs.Lookups.{lookup-other}
 use Rattle.frontier.proofs.search.lookup_from.Statement.{statement}
 use Rattle.frontier.proofs.search.lookup_from.Tie as tie
 

@@ -70,10 +70,11 @@ loop-less c = search needs
 
 loop-again : tie.Need-loop-again Inv-loop μ-loop
 loop-again c =
-    let at = c .before .before .before .before .before .before .before .before in
+    let earlier = c .before .before .before .before .before .before in
+    let at = earlier .before .before in
     reach-more _ _ _ _ _ _ _ _ (at .before .before .pre .1 .0) (at .before .before .pre .1 .1) (at .before .loop .inv)
     (at .loop-test .taken) _
-    (c .before .before .before .before .before .before .lookup-from .ensures) _
+    (earlier .lookup-from .ensures) _
     (c .before .before .before .before .answer .given .1) (c .before .if1 .left)
 
 returns-3 : tie.Need-returns-3 Inv-loop μ-loop

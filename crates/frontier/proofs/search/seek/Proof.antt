@@ -11,7 +11,8 @@ use Rattle.frontier.proofs.search.seek.Statement.{statement}
 use Rattle.frontier.proofs.search.seek.Tie as tie
 
 abbrev Inv-loop : tie.InvT-loop
-Inv-loop axes len from axis i₀ i = (i ≤ len) × ((es : List ℕ) → skip-below axis (rest axes es len i) ≡ skip-below axis (rest axes es len from))
+Inv-loop axes len from axis i₀ i =
+    (i ≤ len) × ((es : List ℕ) → skip-below axis (rest axes es len i) ≡ skip-below axis (rest axes es len from))
 
 abbrev μ-loop : tie.MeasureT-loop
 μ-loop axes len from axis i₀ i = len - i
@@ -40,7 +41,11 @@ loop-less : tie.Need-loop-less Inv-loop μ-loop
 loop-less c = search needs
 
 loop-again : tie.Need-loop-again Inv-loop μ-loop
-loop-again c = (search needs, λ es. sym (skip-more _ es _ _ _ (c .before .before .loop-test .taken) (c .if1 .left)) ∙ c .before .before .before .loop .inv .1 es)
+loop-again c = (
+  search needs,
+  λ es. sym (skip-more _ es _ _ _ (c .before .before .loop-test .taken) (c .if1 .left))
+      ∙ c .before .before .before .loop .inv .1 es,
+)
 
 returns-2 : tie.Need-returns-2 Inv-loop μ-loop
 returns-2 c = (

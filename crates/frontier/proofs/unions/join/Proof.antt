@@ -10,7 +10,8 @@ use Rattle.frontier.proofs.unions.join.Statement.{statement}
 use Rattle.frontier.proofs.unions.join.Tie as tie
 
 abbrev Inv-loop : tie.InvT-loop
-Inv-loop xa xe xn ya ye yn capacity tainted axes₀ epochs₀ n₀ i₀ j₀ axes epochs n i j = Join xa xe ya ye axes epochs xn yn n i j
+Inv-loop xa xe xn ya ye yn capacity tainted axes₀ epochs₀ n₀ i₀ j₀ axes epochs n i j =
+    Join xa xe ya ye axes epochs xn yn n i j
 
 abbrev μ-loop : tie.MeasureT-loop
 μ-loop xa xe xn ya ye yn capacity tainted axes₀ epochs₀ n₀ i₀ j₀ axes epochs n i j = xn + yn - (i + j)
@@ -46,7 +47,9 @@ loop-less : tie.Need-loop-less Inv-loop μ-loop
 loop-less c = search needs
 
 loop-again : tie.Need-loop-again Inv-loop μ-loop
-loop-again c = join-more _ _ _ _ _ _ _ _ _ _ _ _ _ _ _ (c .before .before .loop .inv) (search needs) (c .next .ensures .0 .0) (c .next .ensures .0 .1) (c .next .ensures .0 .2) (c .next .ensures .1)
+loop-again c =
+    join-more _ _ _ _ _ _ _ _ _ _ _ _ _ _ _ (c .before .before .loop .inv) (search needs) (c .next .ensures .0 .0)
+    (c .next .ensures .0 .1) (c .next .ensures .0 .2) (c .next .ensures .1)
 
 first-slots-requires : tie.Need-first-slots-requires Inv-loop μ-loop
 first-slots-requires c κs = c .before .before .before .loop .inv .axes-long
@@ -55,10 +58,12 @@ first-slots-requires-2 : tie.Need-first-slots-requires-2 Inv-loop μ-loop
 first-slots-requires-2 c κs = c .before .before .before .before .before .loop .inv .epochs-long
 
 returns : tie.Need-returns Inv-loop μ-loop
-returns c = ap handed
-    (join-whole _ _ _ _ _ _ _ _ _ _ _ _ _ _ _ (c .before .before .before .before .before .before .loop .inv)
+returns c =
+    let turn = c .before .before .before .before .before .before in
+    ap handed
+    (join-whole _ _ _ _ _ _ _ _ _ _ _ _ _ _ _ (turn .loop .inv)
     (c .before .before .before .before .before .loop-test .left) (c .before .before .before .before .if1 .taken)
-    (c .before .before .before .before .before .before .before .pre .1 .1 .1) (c .before .before .first-slots .ensures)
+    (turn .before .pre .1 .1 .1) (c .before .before .first-slots .ensures)
     (c .first-slots2 .ensures))
 
 slice-aggregate-bound-of : tie.Need-slice-aggregate-bound-of Inv-loop μ-loop
@@ -68,7 +73,13 @@ slice-aggregate-bound-of-2 : tie.Need-slice-aggregate-bound-of-2 Inv-loop μ-loo
 slice-aggregate-bound-of-2 c = search needs
 
 bound-of-requires : tie.Need-bound-of-requires Inv-loop μ-loop
-bound-of-requires c κs = (join-fits _ _ _ _ _ _ _ _ _ _ _ (c .before .before .before .before .loop .inv) (c .before .before .before .loop-test .left) (c .before .before .before .before .before .pre .1 .0 .0) (c .before .before .before .before .before .pre .1 .0 .1) (c .before .before .before .before .before .pre .0 .0) (c .before .before .before .before .before .pre .0 .1), (c .before .before .before .before .before .pre .1 .1 .0, c .before .before .if1 .left))
+bound-of-requires c κs = (
+  join-fits _ _ _ _ _ _ _ _ _ _ _ (c .before .before .before .before .loop .inv)
+      (c .before .before .before .loop-test .left) (c .before .before .before .before .before .pre .1 .0 .0)
+      (c .before .before .before .before .before .pre .1 .0 .1) (c .before .before .before .before .before .pre .0 .0)
+      (c .before .before .before .before .before .pre .0 .1),
+  (c .before .before .before .before .before .pre .1 .1 .0, c .before .before .if1 .left),
+)
 
 slice-aggregate-trim : tie.Need-slice-aggregate-trim Inv-loop μ-loop
 slice-aggregate-trim c = search needs
@@ -78,15 +89,22 @@ slice-aggregate-trim-2 c = search needs
 
 trim-requires : tie.Need-trim-requires Inv-loop μ-loop
 trim-requires c κs =
-    let w = join-fits _ _ _ _ _ _ _ _ _ _ _ (c .before .before .before .before .before .before .before .loop .inv) (c .before .before .before .before .before .before .loop-test .left) (c .before .before .before .before .before .before .before .before .pre .1 .0 .0) (c .before .before .before .before .before .before .before .before .pre .1 .0 .1) (c .before .before .before .before .before .before .before .before .pre .0 .0) (c .before .before .before .before .before .before .before .before .pre .0 .1) in
-    ((w .0, w .1), cut-fits _ _ _ _ _ (w .2) (c .before .before .before .before .before .before .before .before .pre .1 .1 .1) (c .before .before .bound-of .ensures))
+    let turn = c .before .before .before .before .before .before in
+    let w = join-fits _ _ _ _ _ _ _ _ _ _ _ (turn .before .loop .inv) (turn .loop-test .left)
+    (turn .before .before .pre .1 .0 .0) (turn .before .before .pre .1 .0 .1) (turn .before .before .pre .0 .0)
+    (turn .before .before .pre .0 .1) in (
+      (w .0, w .1),
+      cut-fits _ _ _ _ _ (w .2) (turn .before .before .pre .1 .1 .1) (c .before .before .bound-of .ensures),
+    )
 
 returns-2 : tie.Need-returns-2 Inv-loop μ-loop
-returns-2 c = cut-packed _ _ (c .trim .ensures) (c .before .before .before .bound-of .ensures)
+returns-2 c =
+    let earlier = c .before .before .before .before .before .before in
+    cut-packed _ _ (c .trim .ensures) (c .before .before .before .bound-of .ensures)
     ∙ ap handed (join-packed _ _ _ _ _ _ _ _ _ _ _ _ _
-    (c .before .before .before .before .before .before .before .before .loop .inv)
-    (c .before .before .before .before .before .before .before .loop-test .left)
-    (c .before .before .before .before .before .before .if1 .left))
+    (earlier .before .before .loop .inv)
+    (earlier .before .loop-test .left)
+    (earlier .if1 .left))
 
 pub join-spec : {M : Type 1} → statement M
 join-spec =

@@ -18,7 +18,8 @@ same-length c = search needs
 
 returns : tie.Need-returns
 returns c =
-    joined 1 (c .before .before .before .before .before .before .put1 .ensures) (c .before .before .put12 .ensures)
+    let earlier = c .before .before .before .before .before .before in
+    joined 1 (earlier .put1 .ensures) (c .before .before .put12 .ensures)
 
 pub put2-spec : {M : Type 1} → statement M
 put2-spec =

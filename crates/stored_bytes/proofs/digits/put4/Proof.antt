@@ -18,7 +18,8 @@ same-length c = search needs
 
 returns : tie.Need-returns
 returns c =
-    joined 2 (c .before .before .before .before .before .before .put2 .ensures) (c .before .before .put22 .ensures)
+    let earlier = c .before .before .before .before .before .before in
+    joined 2 (earlier .put2 .ensures) (c .before .before .put22 .ensures)
 
 pub put4-spec : {M : Type 1} → statement M
 put4-spec =

@@ -18,7 +18,8 @@ same-length c = search needs
 
 returns : tie.Need-returns
 returns c =
-    joined 4 (c .before .before .before .before .before .before .put4 .ensures) (c .before .before .put42 .ensures)
+    let earlier = c .before .before .before .before .before .before in
+    joined 4 (earlier .put4 .ensures) (c .before .before .put42 .ensures)
 
 pub put8-spec : {M : Type 1} → statement M
 put8-spec =

@@ -19,7 +19,8 @@ refused-requires c κs = search needs
 returns-2 : tie.Need-returns-2
 unfolding axis-field
 returns-2 c =
-    rw (c .refused .ensures) (missing (c .before .before .if1 .left) (c .before .before .before .before .before .before .pre .inside) (c .before .if2 .taken))
+    let start = c .before .before .before .before .before .before in
+    rw (c .refused .ensures) (missing (c .before .before .if1 .left) (start .pre .inside) (c .before .if2 .taken))
 
 mul-value : tie.Need-mul-value
 mul-value c = search needs
@@ -41,8 +42,11 @@ refused-requires-2 c κs = search needs
 returns-3 : tie.Need-returns-3
 unfolding axis-field
 returns-3 c =
+    let earlier = c .before .before .before .before .before .before in
     rw (c .refused2 .ensures)
-    (wrong (c .before .before .before .before .before .before .if1 .left) (c .before .before .before .before .before .before .before .before .before .before .pre .inside) (c .before .before .before .before .before .if2 .left) refl (axis-again _ _ _ (c .before .before .repeated .ensures) (c .before .if3 .taken)) (eqb-false 5 0 refl))
+    (wrong (earlier .if1 .left) (earlier .before .before .before .before .pre .inside)
+    (c .before .before .before .before .before .if2 .left) refl
+    (axis-again _ _ _ (c .before .before .repeated .ensures) (c .before .if3 .taken)) (eqb-false 5 0 refl))
 
 put8-requires : tie.Need-put8-requires
 put8-requires c κs = search needs
@@ -56,15 +60,18 @@ same-length c = search needs
 returns-4 : tie.Need-returns-4
 unfolding axis-field
 returns-4 c =
-    let s = c .before .before .before .before .before .before .before .before .before .before .before .before .before .before in
+    let earlier = c .before .before .before .before .before .before in
+    let s = earlier .before .before .before .before .before .before .before .before in
     rw (c .past .ensures)
-    (kept (c .before .before .before .before .before .before .before .before .before .before .if1 .left)
-    (s .pre .inside) (c .before .before .before .before .before .before .before .before .before .if2 .left) refl
-    (omega arith) (axis-new _ _ _ (c .before .before .before .before .before .before .repeated .ensures)
+    (kept (earlier .before .before .before .before .if1 .left)
+    (s .pre .inside) (earlier .before .before .before .if2 .left) refl
+    (omega arith) (axis-new _ _ _ (earlier .repeated .ensures)
     (c .before .before .before .before .before .if3 .left))
-    (omega (arith, c .before .before .before .before .before .before .before .before .shared-slice-known2 .given (s .args .c .at))) (c .before .before .before .put8 .ensures))
+    (omega (arith, earlier .before .before .shared-slice-known2 .given (s .args .c .at)))
+    (c .before .before .before .put8 .ensures))
 
 pub axis-spec : {M : Type 1} → statement M
 axis-spec =
     tie.close
-    (tie.spec returns refused-requires returns-2 mul-value shared-slice-read-value slice-aggregate-repeated repeated-requires refused-requires-2 returns-3 put8-requires past-requires same-length returns-4)
+    (tie.spec returns refused-requires returns-2 mul-value shared-slice-read-value slice-aggregate-repeated
+    repeated-requires refused-requires-2 returns-3 put8-requires past-requires same-length returns-4)

@@ -15,7 +15,8 @@ refused-requires c κs = search needs
 
 returns-2 : tie.Need-returns-2
 returns-2 c =
-    rw (c .refused .ensures) (missing (c .before .before .if1 .left) (c .before .before .before .before .before .before .pre .inside) (c .before .if2 .taken))
+    let start = c .before .before .before .before .before .before in
+    rw (c .refused .ensures) (missing (c .before .before .if1 .left) (start .pre .inside) (c .before .if2 .taken))
 
 mul-value : tie.Need-mul-value
 mul-value c = search needs
@@ -35,13 +36,16 @@ same-length c = search needs
 returns-3 : tie.Need-returns-3
 unfolding any-number
 returns-3 c =
-    let s = c .before .before .before .before .before .before .before .before .before .before .before in
+    let earlier = c .before .before .before .before .before .before in
+    let s = earlier .before .before .before .before .before in
     rw (c .past .ensures)
-    (kept (c .before .before .before .before .before .before .before .if1 .left) (s .pre .inside)
-    (c .before .before .before .before .before .before .if2 .left) refl (omega arith) refl
-    (omega (arith, c .before .before .before .before .before .shared-slice-known2 .given (s .args .c .at))) (c .before .before .before .put8 .ensures))
+    (kept (earlier .before .if1 .left) (s .pre .inside)
+    (earlier .if2 .left) refl (omega arith) refl
+    (omega (arith, c .before .before .before .before .before .shared-slice-known2 .given (s .args .c .at)))
+    (c .before .before .before .put8 .ensures))
 
 pub point-value-spec : {M : Type 1} → statement M
 point-value-spec =
     tie.close
-    (tie.spec returns refused-requires returns-2 mul-value shared-slice-read-value put8-requires past-requires same-length returns-3)
+    (tie.spec returns refused-requires returns-2 mul-value shared-slice-read-value put8-requires past-requires
+    same-length returns-3)

@@ -17,7 +17,8 @@ refused-requires c κs = search needs
 returns-2 : tie.Need-returns-2
 unfolding size-field
 returns-2 c =
-    rw (c .refused .ensures) (missing (c .before .before .if1 .left) (c .before .before .before .before .before .before .pre .inside) (c .before .if2 .taken))
+    let start = c .before .before .before .before .before .before in
+    rw (c .refused .ensures) (missing (c .before .before .if1 .left) (start .pre .inside) (c .before .if2 .taken))
 
 mul-value : tie.Need-mul-value
 mul-value c = search needs
@@ -31,8 +32,10 @@ refused-requires-2 c κs = search needs
 returns-3 : tie.Need-returns-3
 unfolding size-field any-number
 returns-3 c =
+    let start = c .before .before .before .before .before .before .before .before in
     rw (c .refused2 .ensures)
-    (wide (c .before .before .before .before .if1 .left) (c .before .before .before .before .before .before .before .before .pre .inside) (c .before .before .before .if2 .left) refl refl (c .before .if3 .taken))
+    (wide (c .before .before .before .before .if1 .left) (start .pre .inside)
+    (c .before .before .before .if2 .left) refl refl (c .before .if3 .taken))
 
 put4-requires : tie.Need-put4-requires
 put4-requires c κs = search needs
@@ -46,11 +49,14 @@ same-length c = search needs
 returns-4 : tie.Need-returns-4
 unfolding size-field any-number
 returns-4 c =
+    let earlier = c .before .before .before .before .before .before .before in
     rw (c .past .ensures)
-    (kept (c .before .before .before .before .before .before .before .before .if1 .left)
-    (c .before .before .before .before .before .before .before .before .before .before .before .before .pre .inside) (c .before .before .before .before .before .before .before .if2 .left) refl (omega arith) refl (c .before .before .before .before .before .if3 .left) (c .before .before .before .put4 .ensures))
+    (kept (earlier .before .if1 .left)
+    (earlier .before .before .before .before .before .pre .inside) (earlier .if2 .left) refl (omega arith) refl
+    (c .before .before .before .before .before .if3 .left) (c .before .before .before .put4 .ensures))
 
 pub size-spec : {M : Type 1} → statement M
 size-spec =
     tie.close
-    (tie.spec returns refused-requires returns-2 mul-value shared-slice-read-value refused-requires-2 returns-3 put4-requires past-requires same-length returns-4)
+    (tie.spec returns refused-requires returns-2 mul-value shared-slice-read-value refused-requires-2 returns-3
+    put4-requires past-requires same-length returns-4)

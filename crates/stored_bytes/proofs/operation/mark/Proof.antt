@@ -17,7 +17,8 @@ same-length c = search needs
 returns : tie.Need-returns
 unfolding mark-below
 returns c =
-    writes-seq (c .before .before .before .before .before .before .pair .ensures .writes) (c .before .before .byte .ensures .writes)
+    let earlier = c .before .before .before .before .before .before in
+    writes-seq (earlier .pair .ensures .writes) (c .before .before .byte .ensures .writes)
 
 pub mark-spec : {M : Type 1} → statement M
 mark-spec =

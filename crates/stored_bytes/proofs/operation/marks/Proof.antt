@@ -10,7 +10,8 @@ use Rattle.stored_bytes.proofs.operation.marks.Statement.{statement}
 use Rattle.stored_bytes.proofs.operation.marks.Tie as tie
 
 abbrev Inv-loop : tie.InvT-loop
-Inv-loop numbers buffers bytes₀ count m₀ i₀ bytes m i = (i ≤ count) × Writes (repeat i (mark-below buffers)) (3 * i) numbers m₀ bytes₀ m bytes
+Inv-loop numbers buffers bytes₀ count m₀ i₀ bytes m i =
+    (i ≤ count) × Writes (repeat i (mark-below buffers)) (3 * i) numbers m₀ bytes₀ m bytes
 
 abbrev μ-loop : tie.MeasureT-loop
 μ-loop numbers buffers bytes₀ count m₀ i₀ bytes m i = count - i
@@ -20,8 +21,10 @@ byte-requires c κs = search needs
 
 loop-holds : tie.Need-loop-holds Inv-loop μ-loop
 loop-holds c =
-    let s = c .before .before .before .before .before .before in
-    (omega arith, writes-none (mark-below (s .args .buffers)) 3 _ _ _ (c .before .before .byte .ensures .writes .inside))
+    let s = c .before .before .before .before .before .before in (
+      omega arith,
+      writes-none (mark-below (s .args .buffers)) 3 _ _ _ (c .before .before .byte .ensures .writes .inside),
+    )
 
 mark-requires : tie.Need-mark-requires Inv-loop μ-loop
 mark-requires c κs = search needs
@@ -36,7 +39,8 @@ returns c =
     let start = head .before .before .before in
     let s = start .before .before .before .before in
     writes-counted 3 (start .byte .ensures) (start .byte .result .value) refl
-    (writes-stopped (mark-below (s .args .buffers)) 3 (head .loop .i + 1) (start .byte .result .value) (c .if1 .taken) (omega arith)
+    (writes-stopped (mark-below (s .args .buffers)) 3 (head .loop .i + 1) (start .byte .result .value)
+    (c .if1 .taken) (omega arith)
     (writes-more (head .loop .i) (head .loop .inv .1) (turn .mark .ensures)))
 
 add-i : tie.Need-add-i Inv-loop μ-loop
@@ -62,4 +66,5 @@ returns-2 c =
 pub marks-spec : {M : Type 1} → statement M
 marks-spec =
     tie.close
-    (tie.spec Inv-loop μ-loop byte-requires loop-holds mark-requires same-length returns add-i loop-less loop-again same-length-2 returns-2)
+    (tie.spec Inv-loop μ-loop byte-requires loop-holds mark-requires same-length returns add-i loop-less loop-again
+    same-length-2 returns-2)

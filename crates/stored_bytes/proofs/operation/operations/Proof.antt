@@ -69,4 +69,5 @@ returns-2 c =
 pub operations-spec : {M : Type 1} → statement M
 operations-spec =
     tie.close
-    (tie.spec Inv-loop μ-loop pair-requires loop-holds operation-requires same-length returns add-i loop-less loop-again same-length-2 returns-2)
+    (tie.spec Inv-loop μ-loop pair-requires loop-holds operation-requires same-length returns add-i loop-less loop-again
+    same-length-2 returns-2)

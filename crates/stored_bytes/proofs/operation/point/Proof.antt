@@ -17,7 +17,8 @@ same-length c = search needs
 returns : tie.Need-returns
 unfolding point-below
 returns c =
-    writes-seq (c .before .before .before .before .before .before .byte .ensures .writes) (c .before .before .point-value .ensures)
+    let earlier = c .before .before .before .before .before .before in
+    writes-seq (earlier .byte .ensures .writes) (c .before .before .point-value .ensures)
 
 pub point-spec : {M : Type 1} → statement M
 point-spec =

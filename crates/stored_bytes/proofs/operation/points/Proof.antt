@@ -70,4 +70,5 @@ returns-2 c =
 pub points-spec : {M : Type 1} → statement M
 points-spec =
     tie.close
-    (tie.spec Inv-loop μ-loop add-byte byte-requires loop-holds point-requires same-length returns add-i loop-less loop-again same-length-2 returns-2)
+    (tie.spec Inv-loop μ-loop add-byte byte-requires loop-holds point-requires same-length returns add-i loop-less
+    loop-again same-length-2 returns-2)

@@ -10,7 +10,8 @@ use Rattle.stored_bytes.proofs.section.axes.Statement.{statement}
 use Rattle.stored_bytes.proofs.section.axes.Tie as tie
 
 abbrev Inv-loop : tie.InvT-loop
-Inv-loop numbers bytes₀ count a₀ i₀ bytes a i = (i ≤ count) × Writes (repeat i axis-field) (8 * i) numbers a₀ bytes₀ a bytes
+Inv-loop numbers bytes₀ count a₀ i₀ bytes a i =
+    (i ≤ count) × Writes (repeat i axis-field) (8 * i) numbers a₀ bytes₀ a bytes
 
 abbrev μ-loop : tie.MeasureT-loop
 μ-loop numbers bytes₀ count a₀ i₀ bytes a i = count - i
@@ -60,4 +61,5 @@ returns-2 c =
 pub axes-spec : {M : Type 1} → statement M
 axes-spec =
     tie.close
-    (tie.spec Inv-loop μ-loop byte-requires loop-holds axis-requires same-length returns add-i loop-less loop-again same-length-2 returns-2)
+    (tie.spec Inv-loop μ-loop byte-requires loop-holds axis-requires same-length returns add-i loop-less loop-again
+    same-length-2 returns-2)

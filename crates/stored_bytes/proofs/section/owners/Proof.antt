@@ -11,7 +11,8 @@ use Rattle.stored_bytes.proofs.section.owners.Statement.{statement}
 use Rattle.stored_bytes.proofs.section.owners.Tie as tie
 
 abbrev Inv-loop : tie.InvT-loop
-Inv-loop numbers queues bytes₀ count o₀ i₀ bytes o i = (i ≤ count) × Writes (repeat i (field 1 (limited queues 4))) (1 * i) numbers o₀ bytes₀ o bytes
+Inv-loop numbers queues bytes₀ count o₀ i₀ bytes o i =
+    (i ≤ count) × Writes (repeat i (field 1 (limited queues 4))) (1 * i) numbers o₀ bytes₀ o bytes
 
 abbrev μ-loop : tie.MeasureT-loop
 μ-loop numbers queues bytes₀ count o₀ i₀ bytes o i = count - i
@@ -21,8 +22,10 @@ byte-requires c κs = search needs
 
 loop-holds : tie.Need-loop-holds Inv-loop μ-loop
 loop-holds c =
-    let s = c .before .before .before .before .before .before in
-    (omega arith, writes-none (field 1 (limited (s .args .queues) 4)) 1 _ _ _ (c .before .before .byte .ensures .writes .inside))
+    let s = c .before .before .before .before .before .before in (
+      omega arith,
+      writes-none (field 1 (limited (s .args .queues) 4)) 1 _ _ _ (c .before .before .byte .ensures .writes .inside),
+    )
 
 byte-requires-2 : tie.Need-byte-requires-2 Inv-loop μ-loop
 byte-requires-2 c κs = search needs
@@ -37,7 +40,8 @@ returns c =
     let start = head .before .before .before in
     let s = start .before .before .before .before in
     writes-counted 1 (start .byte .ensures) (start .byte .result .value) refl
-    (writes-stopped (field 1 (limited (s .args .queues) 4)) 1 (head .loop .i + 1) (start .byte .result .value) (c .if1 .taken) (omega arith)
+    (writes-stopped (field 1 (limited (s .args .queues) 4)) 1 (head .loop .i + 1) (start .byte .result .value)
+    (c .if1 .taken) (omega arith)
     (writes-more (head .loop .i) (head .loop .inv .1) (turn .byte2 .ensures .writes)))
 
 add-i : tie.Need-add-i Inv-loop μ-loop
@@ -63,4 +67,5 @@ returns-2 c =
 pub owners-spec : {M : Type 1} → statement M
 owners-spec =
     tie.close
-    (tie.spec Inv-loop μ-loop byte-requires loop-holds byte-requires-2 same-length returns add-i loop-less loop-again same-length-2 returns-2)
+    (tie.spec Inv-loop μ-loop byte-requires loop-holds byte-requires-2 same-length returns add-i loop-less loop-again
+    same-length-2 returns-2)

@@ -34,7 +34,8 @@ same-length c =
     let third = fourth .before .before .before .before .before in
     let second = third .before .before .before .before .before in
     let first = second .before .before .before .before .before in
-    fourth .operations .ensures .as-long ∙ third .sizes .ensures .as-long ∙ second .owners .ensures .as-long ∙ first .axes .ensures .as-long
+    fourth .operations .ensures .as-long ∙ third .sizes .ensures .as-long ∙ second .owners .ensures .as-long
+    ∙ first .axes .ensures .as-long
 
 returns : tie.Need-returns
 unfolding first-form point-most operation-most
@@ -46,9 +47,11 @@ returns c =
     let s = first .before .before .before .before in
     plan-written first-form (s .args .numbers .now) (first .axes .ensures) (second .before .before .entry .ensures)
     (second .owners .ensures)
-    (third .before .before .entry2 .ensures) (third .sizes .ensures) (fourth .before .before .entry3 .ensures) (fourth .operations .ensures)
+    (third .before .before .entry2 .ensures) (third .sizes .ensures) (fourth .before .before .entry3 .ensures)
+    (fourth .operations .ensures)
 
 pub sections-spec : {M : Type 1} → statement M
 sections-spec =
     tie.close
-    (tie.spec axes-requires entry-requires owners-requires entry-requires-2 sizes-requires entry-requires-3 operations-requires same-length returns)
+    (tie.spec axes-requires entry-requires owners-requires entry-requires-2 sizes-requires entry-requires-3
+    operations-requires same-length returns)

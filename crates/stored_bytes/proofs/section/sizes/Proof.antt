@@ -10,7 +10,8 @@ use Rattle.stored_bytes.proofs.section.sizes.Statement.{statement}
 use Rattle.stored_bytes.proofs.section.sizes.Tie as tie
 
 abbrev Inv-loop : tie.InvT-loop
-Inv-loop numbers bytes₀ count b₀ i₀ bytes b i = (i ≤ count) × Writes (repeat i size-field) (4 * i) numbers b₀ bytes₀ b bytes
+Inv-loop numbers bytes₀ count b₀ i₀ bytes b i =
+    (i ≤ count) × Writes (repeat i size-field) (4 * i) numbers b₀ bytes₀ b bytes
 
 abbrev μ-loop : tie.MeasureT-loop
 μ-loop numbers bytes₀ count b₀ i₀ bytes b i = count - i
@@ -60,4 +61,5 @@ returns-2 c =
 pub sizes-spec : {M : Type 1} → statement M
 sizes-spec =
     tie.close
-    (tie.spec Inv-loop μ-loop pair-requires loop-holds size-requires same-length returns add-i loop-less loop-again same-length-2 returns-2)
+    (tie.spec Inv-loop μ-loop pair-requires loop-holds size-requires same-length returns add-i loop-less loop-again
+    same-length-2 returns-2)

@@ -22,7 +22,8 @@ refused-requires c κs = search needs
 returns-2 : tie.Need-returns-2
 unfolding axis-field
 returns-2 c =
-    rw (c .refused .ensures) (cut (c .before .before .if1 .left) (c .before .before .before .before .before .before .pre .inside) (c .before .if2 .taken))
+    let start = c .before .before .before .before .before .before in
+    rw (c .refused .ensures) (cut (c .before .before .if1 .left) (start .pre .inside) (c .before .if2 .taken))
 
 word8-requires : tie.Need-word8-requires
 word8-requires c κs = search needs
@@ -47,8 +48,10 @@ same-length c = search needs
 returns-3 : tie.Need-returns-3
 unfolding axis-field
 returns-3 c =
+    let earlier = c .before .before .before .before .before .before in
     rw (c .refused2 .ensures)
-    (wrong (c .before .before .before .before .before .before .if1 .left) (c .before .before .before .before .before .before .before .before .before .before .pre .inside) (c .before .before .before .before .before .if2 .left) (c .before .before .before .before .word8 .ensures)
+    (wrong (earlier .if1 .left) (earlier .before .before .before .before .pre .inside)
+    (c .before .before .before .before .before .if2 .left) (c .before .before .before .before .word8 .ensures)
     (axis-again _ _ _ (c .before .before .repeated .ensures) (c .before .if3 .taken)) (eqb-false 5 0 refl))
 
 mul-numbers : tie.Need-mul-numbers
@@ -66,11 +69,16 @@ same-length-2 c = search needs
 returns-4 : tie.Need-returns-4
 unfolding axis-field
 returns-4 c =
+    let earlier = c .before .before .before .before .before .before in
     rw (c .past .ensures)
-    (kept (c .before .before .before .before .before .before .if1 .left) (c .before .before .before .before .before .before .before .before .before .before .pre .inside) (c .before .before .before .before .before .if2 .left) (c .before .before .before .before .word8 .ensures) (omega arith)
+    (kept (earlier .if1 .left) (earlier .before .before .before .before .pre .inside)
+    (c .before .before .before .before .before .if2 .left)
+    (c .before .before .before .before .word8 .ensures) (omega arith)
     (axis-new _ _ _ (c .before .before .repeated .ensures) (c .before .if3 .left)))
 
 pub axis-spec : {M : Type 1} → statement M
 axis-spec =
     tie.close
-    (tie.spec returns sub-if2 refused-requires returns-2 word8-requires slice-reshare-prefix-repeated slice-aggregate-repeated repeated-requires refused-requires-2 same-length returns-3 mul-numbers slice-write-numbers past-requires same-length-2 returns-4)
+    (tie.spec returns sub-if2 refused-requires returns-2 word8-requires slice-reshare-prefix-repeated
+    slice-aggregate-repeated repeated-requires refused-requires-2 same-length returns-3 mul-numbers slice-write-numbers
+    past-requires same-length-2 returns-4)

@@ -18,7 +18,8 @@ refused-requires c κs = search needs
 
 returns-2 : tie.Need-returns-2
 returns-2 c =
-    rw (c .refused .ensures) (cut (c .before .before .if1 .left) (c .before .before .before .before .before .before .pre .inside) (c .before .if2 .taken))
+    let start = c .before .before .before .before .before .before in
+    rw (c .refused .ensures) (cut (c .before .before .if1 .left) (start .pre .inside) (c .before .if2 .taken))
 
 word8-requires : tie.Need-word8-requires
 word8-requires c κs = search needs
@@ -38,10 +39,13 @@ same-length c = search needs
 returns-3 : tie.Need-returns-3
 unfolding any-number
 returns-3 c =
+    let start = c .before .before .before .before .before .before .before in
     rw (c .past .ensures)
-    (kept (c .before .before .before .if1 .left) (c .before .before .before .before .before .before .before .pre .inside) (c .before .before .if2 .left) (c .before .word8 .ensures) (omega arith) refl)
+    (kept (c .before .before .before .if1 .left) (start .pre .inside) (c .before .before .if2 .left)
+    (c .before .word8 .ensures) (omega arith) refl)
 
 pub point-value-spec : {M : Type 1} → statement M
 point-value-spec =
     tie.close
-    (tie.spec returns sub-if2 refused-requires returns-2 word8-requires mul-numbers slice-write-numbers past-requires same-length returns-3)
+    (tie.spec returns sub-if2 refused-requires returns-2 word8-requires mul-numbers slice-write-numbers past-requires
+    same-length returns-3)

@@ -20,7 +20,8 @@ refused-requires c κs = search needs
 returns-2 : tie.Need-returns-2
 unfolding size-field
 returns-2 c =
-    rw (c .refused .ensures) (cut (c .before .before .if1 .left) (c .before .before .before .before .before .before .pre .inside) (c .before .if2 .taken))
+    let start = c .before .before .before .before .before .before in
+    rw (c .refused .ensures) (cut (c .before .before .if1 .left) (start .pre .inside) (c .before .if2 .taken))
 
 word4-requires : tie.Need-word4-requires
 word4-requires c κs = search needs
@@ -40,10 +41,13 @@ same-length c = search needs
 returns-3 : tie.Need-returns-3
 unfolding size-field any-number
 returns-3 c =
+    let start = c .before .before .before .before .before .before .before in
     rw (c .past .ensures)
-    (kept (c .before .before .before .if1 .left) (c .before .before .before .before .before .before .before .pre .inside) (c .before .before .if2 .left) (c .before .word4 .ensures) (omega arith) refl)
+    (kept (c .before .before .before .if1 .left) (start .pre .inside) (c .before .before .if2 .left)
+    (c .before .word4 .ensures) (omega arith) refl)
 
 pub size-spec : {M : Type 1} → statement M
 size-spec =
     tie.close
-    (tie.spec returns sub-if2 refused-requires returns-2 word4-requires mul-numbers slice-write-numbers past-requires same-length returns-3)
+    (tie.spec returns sub-if2 refused-requires returns-2 word4-requires mul-numbers slice-write-numbers past-requires
+    same-length returns-3)

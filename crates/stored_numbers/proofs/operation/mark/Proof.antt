@@ -17,7 +17,8 @@ same-length c = search needs
 returns : tie.Need-returns
 unfolding mark-below
 returns c =
-    reads-seq (c .before .before .before .before .before .before .pair .ensures .reads)
+    let earlier = c .before .before .before .before .before .before in
+    reads-seq (earlier .pair .ensures .reads)
     (c .before .before .byte .ensures .reads)
 
 pub mark-spec : {M : Type 1} → statement M

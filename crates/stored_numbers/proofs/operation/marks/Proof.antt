@@ -64,4 +64,5 @@ returns-2 c =
 pub marks-spec : {M : Type 1} → statement M
 marks-spec =
     tie.close
-    (tie.spec Inv-loop μ-loop byte-requires loop-holds mark-requires same-length returns add-i loop-less loop-again same-length-2 returns-2)
+    (tie.spec Inv-loop μ-loop byte-requires loop-holds mark-requires same-length returns add-i loop-less loop-again
+    same-length-2 returns-2)

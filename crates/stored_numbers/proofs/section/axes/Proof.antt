@@ -10,7 +10,8 @@ use Rattle.stored_numbers.proofs.section.axes.Statement.{statement}
 use Rattle.stored_numbers.proofs.section.axes.Tie as tie
 
 abbrev Inv-loop : tie.InvT-loop
-Inv-loop plan numbers₀ count a₀ i₀ numbers a i = (i ≤ count) × Reads (repeat i axis-field) (1 * i) plan a₀ numbers₀ a numbers
+Inv-loop plan numbers₀ count a₀ i₀ numbers a i =
+    (i ≤ count) × Reads (repeat i axis-field) (1 * i) plan a₀ numbers₀ a numbers
 
 abbrev μ-loop : tie.MeasureT-loop
 μ-loop plan numbers₀ count a₀ i₀ numbers a i = count - i
@@ -60,4 +61,5 @@ returns-2 c =
 pub axes-spec : {M : Type 1} → statement M
 axes-spec =
     tie.close
-    (tie.spec Inv-loop μ-loop byte-requires loop-holds axis-requires same-length returns add-i loop-less loop-again same-length-2 returns-2)
+    (tie.spec Inv-loop μ-loop byte-requires loop-holds axis-requires same-length returns add-i loop-less loop-again
+    same-length-2 returns-2)

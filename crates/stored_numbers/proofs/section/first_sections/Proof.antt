@@ -53,4 +53,5 @@ returns c =
 pub first-sections-spec : {M : Type 1} → statement M
 first-sections-spec =
     tie.close
-    (tie.spec axes-requires entry-requires owners-requires entry-requires-2 sizes-requires entry-requires-3 same-length returns)
+    (tie.spec axes-requires entry-requires owners-requires entry-requires-2 sizes-requires entry-requires-3
+    same-length returns)

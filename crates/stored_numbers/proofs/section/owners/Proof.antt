@@ -11,7 +11,8 @@ use Rattle.stored_numbers.proofs.section.owners.Statement.{statement}
 use Rattle.stored_numbers.proofs.section.owners.Tie as tie
 
 abbrev Inv-loop : tie.InvT-loop
-Inv-loop plan queues numbers₀ count o₀ i₀ numbers o i = (i ≤ count) × Reads (repeat i (field 1 (limited queues 4))) (1 * i) plan o₀ numbers₀ o numbers
+Inv-loop plan queues numbers₀ count o₀ i₀ numbers o i =
+    (i ≤ count) × Reads (repeat i (field 1 (limited queues 4))) (1 * i) plan o₀ numbers₀ o numbers
 
 abbrev μ-loop : tie.MeasureT-loop
 μ-loop plan queues numbers₀ count o₀ i₀ numbers o i = count - i
@@ -21,8 +22,10 @@ byte-requires c κs = search needs
 
 loop-holds : tie.Need-loop-holds Inv-loop μ-loop
 loop-holds c =
-    let s = c .before .before .before .before .before .before in
-    (omega arith, reads-none (field 1 (limited (s .args .queues) 4)) 1 _ _ _ (c .before .before .byte .ensures .reads .inside))
+    let s = c .before .before .before .before .before .before in (
+      omega arith,
+      reads-none (field 1 (limited (s .args .queues) 4)) 1 _ _ _ (c .before .before .byte .ensures .reads .inside),
+    )
 
 byte-requires-2 : tie.Need-byte-requires-2 Inv-loop μ-loop
 byte-requires-2 c κs = search needs
@@ -37,7 +40,8 @@ returns c =
     let start = head .before .before .before in
     let s = start .before .before .before .before in
     reads-counted 1 (start .byte .ensures) (start .byte .result .value) refl
-    (reads-stopped (field 1 (limited (s .args .queues) 4)) 1 (head .loop .i + 1) (start .byte .result .value) (c .if1 .taken) (omega arith)
+    (reads-stopped (field 1 (limited (s .args .queues) 4)) 1 (head .loop .i + 1) (start .byte .result .value)
+    (c .if1 .taken) (omega arith)
     (reads-more (head .loop .i) (head .loop .inv .1) (turn .byte2 .ensures .reads)))
 
 add-i : tie.Need-add-i Inv-loop μ-loop
@@ -63,4 +67,5 @@ returns-2 c =
 pub owners-spec : {M : Type 1} → statement M
 owners-spec =
     tie.close
-    (tie.spec Inv-loop μ-loop byte-requires loop-holds byte-requires-2 same-length returns add-i loop-less loop-again same-length-2 returns-2)
+    (tie.spec Inv-loop μ-loop byte-requires loop-holds byte-requires-2 same-length returns add-i loop-less loop-again
+    same-length-2 returns-2)

@@ -10,7 +10,8 @@ use Rattle.stored_numbers.proofs.section.sizes.Statement.{statement}
 use Rattle.stored_numbers.proofs.section.sizes.Tie as tie
 
 abbrev Inv-loop : tie.InvT-loop
-Inv-loop plan numbers₀ count b₀ i₀ numbers b i = (i ≤ count) × Reads (repeat i size-field) (1 * i) plan b₀ numbers₀ b numbers
+Inv-loop plan numbers₀ count b₀ i₀ numbers b i =
+    (i ≤ count) × Reads (repeat i size-field) (1 * i) plan b₀ numbers₀ b numbers
 
 abbrev μ-loop : tie.MeasureT-loop
 μ-loop plan numbers₀ count b₀ i₀ numbers b i = count - i
@@ -60,4 +61,5 @@ returns-2 c =
 pub sizes-spec : {M : Type 1} → statement M
 sizes-spec =
     tie.close
-    (tie.spec Inv-loop μ-loop pair-requires loop-holds size-requires same-length returns add-i loop-less loop-again same-length-2 returns-2)
+    (tie.spec Inv-loop μ-loop pair-requires loop-holds size-requires same-length returns add-i loop-less loop-again
+    same-length-2 returns-2)

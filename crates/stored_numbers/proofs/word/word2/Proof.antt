@@ -23,7 +23,8 @@ add-result c = search needs
 returns : tie.Need-returns
 returns c =
     let a = c .before .before .before .args in
-    joined 1 (a .plan .now) (a .at) (c .before .word1 .result) (c .word12 .result) (omega arith) (c .before .word1 .ensures) (c .word12 .ensures)
+    joined 1 (a .plan .now) (a .at) (c .before .word1 .result) (c .word12 .result) (omega arith)
+    (c .before .word1 .ensures) (c .word12 .ensures)
 
 pub word2-spec : {M : Type 1} → statement M
 word2-spec =

@@ -23,7 +23,8 @@ add-result c = search needs
 returns : tie.Need-returns
 returns c =
     let a = c .before .before .before .args in
-    joined 2 (a .plan .now) (a .at) (c .before .word2 .result) (c .word22 .result) (omega arith) (c .before .word2 .ensures) (c .word22 .ensures)
+    joined 2 (a .plan .now) (a .at) (c .before .word2 .result) (c .word22 .result) (omega arith)
+    (c .before .word2 .ensures) (c .word22 .ensures)
 
 pub word4-spec : {M : Type 1} → statement M
 word4-spec =

@@ -23,7 +23,8 @@ add-result c = search needs
 returns : tie.Need-returns
 returns c =
     let a = c .before .before .before .args in
-    joined 4 (a .plan .now) (a .at) (c .before .word4 .result) (c .word42 .result) (omega arith) (c .before .word4 .ensures) (c .word42 .ensures)
+    joined 4 (a .plan .now) (a .at) (c .before .word4 .result) (c .word42 .result) (omega arith)
+    (c .before .word4 .ensures) (c .word42 .ensures)
 
 pub word8-spec : {M : Type 1} → statement M
 word8-spec =
