@@ -1,5 +1,5 @@
--- What a loaded plan is: the reader's refusal, or columns that show the plan; and what is left in what was lent. Assumes
--- nothing: these are definitions.
+-- What a loaded plan is: the reader's refusal, or columns that show the plan; and what is left in what was lent.
+-- Assumes nothing: these are definitions.
 use mathlib.Core.Path.{_≡_}
 use mathlib.Core.Bool.{cond}
 use mathlib.Core.List.{List}
