@@ -14,7 +14,6 @@ use Rattle.plan_format.specs.Sound.{signals-refusal, waits-refusal, In-range}
 use Rattle.plan_format.specs.declared.Told.{Told}
 use Rattle.check_columns.specs.Columns.{Wait-columns, Signal-columns, Source-column}
 use Rattle.check_signals.specs.Walks.{Highest-column}
-use Rattle.check_waits.specs.Groups.{Low}
 
 -- the columns show a plan with neither refusal 6 nor 7, and the highest value of each semaphore
 pub record Waits-given (p : Plan) (n signals : ℕ) (ssem sval sop wsem wval last : List ℕ) : Type 0 where
@@ -38,7 +37,8 @@ pub record Resolved (p : Plan) (r : Told) (source : List ℕ) : Type 0 where
 unfoldable pub waits-walk : (wsem wval last : List ℕ) → (left k : ℕ) → Refusal
 waits-walk wsem wval last zero k = none-given
 waits-walk wsem wval last (suc left) k =
-    cond (ltb (getD last (getD wsem k 0 % most-semaphores) 0) (getD wval k 0)) (refusal 8 (k / most-waits)) (waits-walk wsem wval last left (suc k))
+    cond (ltb (getD last (getD wsem k 0 % most-semaphores) 0) (getD wval k 0)) (refusal 8 (k / most-waits))
+    (waits-walk wsem wval last left (suc k))
 
 -- the columns have places for so many operations and signals
 unfoldable pub has-places : (n signals : ℕ) → Bool
@@ -46,7 +46,8 @@ has-places n signals = leb n most-operations && leb signals signal-places
 
 -- 8 by the wait places of n operations; none where the columns have no places for them or for the signals
 unfoldable pub waits-found : (n signals : ℕ) → (wsem wval last : List ℕ) → Refusal
-waits-found n signals wsem wval last = cond (has-places n signals) (waits-walk wsem wval last (most-waits * n) 0) none-given
+waits-found n signals wsem wval last =
+    cond (has-places n signals) (waits-walk wsem wval last (most-waits * n) 0) none-given
 
 -- signal j is of semaphore s and reaches v, above 0: none before it does, and all from it on do
 pub record Rests (ssem sval : List ℕ) (signals s v j : ℕ) : Type 0 where
@@ -63,16 +64,16 @@ Rests-within signals sop r = (r ≡ no-operation) ⊎ ((j : ℕ) × (j < signals
 -- the column of the waits afterwards, whatever the columns show: as long as before; past the places of n operations as
 -- before, and all of it where the columns have no places for the plan. Where nothing is refused a wait for 0 rests on
 -- nothing, and so does one of a semaphore that has no signal; any other rests on nothing or on the operation of a
--- signal, and, where each signal is of one of the 64 semaphores, on the first signal that reaches it if those after it
--- do. Beside a signal of another semaphore, which no plan has, it is unspecified which
+-- signal, and on the first signal of its semaphore that reaches it if those after it do
 pub record Sources (n signals number : ℕ) (ssem sval sop wsem wval source : List ℕ) : Type 0 where
   pub long : length source ≡ length wsem
   pub past : (k : ℕ) → most-waits * n ≤ k → getD source k 0 ≡ getD wsem k 0
   pub no-places : has-places n signals ≡ false → source ≡ wsem
-  pub zero : has-places n signals ≡ true → number ≡ 0 → (k : ℕ) → k < most-waits * n → getD wval k 0 ≡ 0 → getD source k 0 ≡ no-operation
+  pub zero : has-places n signals ≡ true → number ≡ 0 → (k : ℕ) → k < most-waits * n → getD wval k 0 ≡ 0 →
+      getD source k 0 ≡ no-operation
   pub unsignalled : has-places n signals ≡ true → number ≡ 0 → (k : ℕ) → k < most-waits * n →
       ((j : ℕ) → j < signals → getD ssem j 0 ≡ getD wsem k 0 % most-semaphores → ⊥) → getD source k 0 ≡ no-operation
   pub within : has-places n signals ≡ true → number ≡ 0 → (k : ℕ) → k < most-waits * n →
       Rests-within signals sop (getD source k 0)
-  pub found : has-places n signals ≡ true → number ≡ 0 → Low most-semaphores ssem signals → (k j : ℕ) → k < most-waits * n →
+  pub found : has-places n signals ≡ true → number ≡ 0 → (k j : ℕ) → k < most-waits * n →
       Rests ssem sval signals (getD wsem k 0 % most-semaphores) (getD wval k 0) j → getD source k 0 ≡ getD sop j 0
