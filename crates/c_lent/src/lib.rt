@@ -112,5 +112,12 @@ pub fn hand(number: u32, place: u64, f: Frontier, numbers: &mut [u64; NUMBERS], 
     ensures { λ _. ⌜ Handed number place f (now (told .exit)) (now (numbers .exit)) ⌝ }
 {
     put(f, numbers);
-    tell(plan_format::forwarded(number, place), told);
+    tell(
+        Told {
+            number,
+            place,
+            answer: 0,
+        },
+        told,
+    );
 }

@@ -73,7 +73,11 @@ pub fn check_plan(plan: &[u8], table: &mut [u32], list: &mut [u32]) -> Told
     ensures { λ r. ⌜ Checked (now (plan .entry)) r (now (table .entry)) (now (table .exit)) (now (list .entry)) (now (list .exit)) ⌝ }
 {
     let c = check_counted(plan, table, list);
-    plan_format::forwarded(c.number, c.place)
+    Told {
+        number: c.number,
+        place: c.place,
+        answer: 0,
+    }
 }
 
 // The check with the plan's counts beside its answer.

@@ -10,10 +10,12 @@ use Rattle.base_lists.specs.Lists.{member}
 use Rattle.base_lists.proofs.Tests.{either}
 use Rattle.plan_format.specs.Refusal.{Refusal, refusal, none-given, given, or-else}
 use Rattle.plan_format.specs.RefusalNumbers.{None-or, reading-numbers, rule-numbers, plan-gives}
-use Rattle.plan_format.specs.Grammar.{Grammar, field, seq, counted, nothing, Source, Scan, bytes, numbers, scan, refused, field-number, read-field, last-got, times, count-check, read-by, ended}
-use Rattle.plan_format.specs.Form.{Form, first-form, queue-count, semaphore-count, buffer-count, any-number, below}
-use Rattle.plan_format.specs.Form.{new-axis, a-queue, a-semaphore, a-buffer, a-kind, point, mark, operation}
-use Rattle.plan_format.specs.Form.{plan-grammar, scanned-by}
+use Rattle.plan_format.specs.Grammar.{Grammar, field, seq, counted, nothing, Source, Scan, bytes, numbers}
+use Rattle.plan_format.specs.Grammar.{scan, refused, field-number, read-field, last-got, times, count-check}
+use Rattle.plan_format.specs.Grammar.{read-by, ended}
+use Rattle.plan_format.specs.Form.{Form, first-form, queue-count, semaphore-count, buffer-count, any-number}
+use Rattle.plan_format.specs.Form.{below, new-axis, a-queue, a-semaphore, a-buffer, a-kind, point, mark}
+use Rattle.plan_format.specs.Form.{operation, plan-grammar, scanned-by}
 use Rattle.plan_format.specs.Stored.{scanned, listed, plan-in, plan-refusal}
 use Rattle.plan_format.specs.Sound.{rules-refusal}
 use Rattle.plan_format.specs.Meaning.{Fields-answer, first-of, rest-of, Sections-answer}
@@ -51,7 +53,8 @@ module _ (P : ℕ → Type 0) (p0 : P 0) (p1 : P 1) (p2 : P 2) (p4 : P 4) (S : S
       cond-has (Fault-has P) (given (s .fault)) s (cond (eqb n 0) on (refused n s)) e
       (cond-has (Fault-has P) (eqb n 0) on (refused n s) e (number-has w c (s .rest) h))
 
-  times-has : (k : ℕ) (f : Scan → Scan) → ((s : Scan) → Fault-has P s → Fault-has P (f s)) → (s : Scan) → Fault-has P s → Fault-has P (times k f s)
+  times-has : (k : ℕ) (f : Scan → Scan) → ((s : Scan) → Fault-has P s → Fault-has P (f s)) → (s : Scan) →
+      Fault-has P s → Fault-has P (times k f s)
   unfolding times
   times-has zero f h s e = e
   times-has (suc k) f h s e = times-has k f h (f s) (h s e)
@@ -62,7 +65,8 @@ module _ (P : ℕ → Type 0) (p0 : P 0) (p1 : P 1) (p2 : P 2) (p4 : P 4) (S : S
   read-has (seq g k) h s e = read-has k (h .1) (read-by S g s) (read-has g (h .0) s e)
   read-has (counted l m w g) h s e =
       let t = read-field S w (λ v. count-check l m v) s in
-      let f = field-has w (λ v. count-check l m v) s (λ v. unfold count-check in (cond-has P (ltb v l || ltb m v) 2 0 p2 p0)) e in
+      let f = field-has w (λ v. count-check l m v) s
+      (λ v. unfold count-check in (cond-has P (ltb v l || ltb m v) 2 0 p2 p0)) e in
       cond-has (Fault-has P) (given (t .fault)) t (times (last-got t) (λ u. read-by S g u) t) f
       (times-has (last-got t) (λ u. read-by S g u) (read-has g h) t f)
   read-has nothing h s e = e

@@ -253,7 +253,8 @@ refusal-of r = refusal (r .number) (r .place)
 -- very bytes; or why not
 pub record Read-means (bytes : List ℕ) (r : Told) (room room-now : List ℕ) : Type 0 where
   pub reading : Bytes-mean bytes
-  pub refuses : Room-after reader-gives (scanned bytes .fault) (length (scanned bytes .got)) (length room) (refusal-of r)
+  pub refuses : Room-after reader-gives (scanned bytes .fault) (length (scanned bytes .got)) (length room)
+      (refusal-of r)
   pub filled : Filled (scanned bytes .got) r room room-now
   pub within : r .number ≡ 0 → Within (plan-in bytes)
   pub numbers : r .number ≡ 0 → take (r .answer) room-now ≡ numbers-of (plan-in bytes)
