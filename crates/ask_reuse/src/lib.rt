@@ -57,11 +57,7 @@ pub fn reuse_question(
         list,
     );
     if o.counted.number != 0 {
-        return Told {
-            number: o.counted.number,
-            place: o.counted.place,
-            answer: 0,
-        };
+        return plan_format::forwarded(o.counted.number, o.counted.place);
     }
     answer(
         o.counted,

@@ -107,11 +107,7 @@ fn refusal(c: Counted, room: usize, trace: &[u8]) -> Told
     ensures { λ r. ⌜ Tells (first-refusal c (now (trace .entry)) room) 0 r ⌝ }
 {
     if c.number != 0 {
-        return Told {
-            number: c.number,
-            place: c.place,
-            answer: 0,
-        };
+        return plan_format::forwarded(c.number, c.place);
     }
     if room < STATE_SIZE {
         return plan_format::refused(9, STATE_SIZE);

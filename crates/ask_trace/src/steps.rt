@@ -189,11 +189,9 @@ fn word(bytes: &[u8], at: usize) -> usize
 fn byte(bytes: &[u8], at: usize) -> usize
     ensures { λ r. ⌜ (r ≡ getD (now (bytes .entry)) at 0) × (r < 256) ⌝ }
 {
-    if at < bytes.len() { wide(bytes[at]) } else { 0 }
-}
-
-fn wide(x: u8) -> usize
-    ensures { λ r. ⌜ (r ≡ x) × (r < 256) ⌝ }
-{
-    x as usize
+    if at < bytes.len() {
+        base_numbers::u8_to_usize(bytes[at])
+    } else {
+        0
+    }
 }

@@ -8,6 +8,13 @@ pub fn u8_to_u64(byte: u8) -> u64
     byte as u64
 }
 
+// Eight bits hold it, which a caller that reads the byte from an array does not know.
+pub fn u8_to_usize(byte: u8) -> usize
+    ensures { λ r. ⌜ (r ≡ byte) × (r < 256) ⌝ }
+{
+    byte as usize
+}
+
 pub fn u16_to_u32(x: u16) -> u32
     ensures { λ r. ⌜ r ≡ x ⌝ }
 {

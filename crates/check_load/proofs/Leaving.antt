@@ -29,7 +29,7 @@ keeps-refused n r bad k more s m = record {
   refused = λ _. keeps-past k more (omega arith) (omega arith);
 }
 
-module _ {bs nums nums-now : List ℕ} {h : Head} (told : Head-told bs nums h nums-now) (r : Loaded)
+module _ {bs nums nums-now : List ℕ} {h : Head} (told : Head-told (head-scan bs) nums h nums-now) (r : Loaded)
     (owner : List ℕ) where
   -- a refusal of the head
   pub left-refused : (h .number ≡ 0 → ⊥) → (r .number ≡ 0 → ⊥) → (cs : Columns) →

@@ -16,7 +16,8 @@ use Rattle.check_columns.specs.Filling.{next-at, signal-count, mark-count, Adde
 use Rattle.check_columns.proofs.Parts.{Filling, filling-none, filling-next}
 use Rattle.stored_numbers.specs.declared.Head.{Head}
 use Rattle.stored_numbers.specs.declared.End.{End}
-use Rattle.stored_numbers.specs.Reading.{fault-of, here, head-cursor, operation-scan, end-cursor, Operation-read}
+use Rattle.stored_numbers.specs.Reading.{fault-of, here, head-cursor, operations-after, operation-scan}
+use Rattle.stored_numbers.specs.Reading.{end-cursor, Operation-read}
 use Rattle.stored_numbers.proofs.Fields.{here-clean}
 use Rattle.check_load.specs.Loading.{Kept-past}
 use Rattle.check_load.proofs.Blind.{after, blind-read, operation-blind}
@@ -24,15 +25,11 @@ use Rattle.check_load.proofs.Blocks.{Small, block-read}
 use Rattle.check_load.proofs.Windows.{added-among}
 use Rattle.check_load.proofs.Keeping.{keeps-none, keeps-more}
 
--- one operation more is read, a semaphore's position having so many bytes
-abbrev pub step : (width : ℕ) → Head → Scan → Scan
-step width h s = read-by bytes (operation-below width (h .queues) (h .semaphores) (h .buffers)) s
-
 -- i operations after a head's numbers are read, up to a place of the bytes, and are in the columns
 pub record Load (width : ℕ) (bs : List ℕ) (h : Head) (nums : List ℕ) (cs₀ cs : Columns)
     (i at signals marks : ℕ) : Type 0 where
   pub blocks : List ℕ
-  pub read : times i (step width h) (here bs (head-cursor h) nums) ≡
+  pub read : operations-after width h i (here bs (head-cursor h) nums) ≡
       scan (drop at bs) at (take (h .got) nums ++ blocks) none-given
   pub inside : at ≤ length bs
   pub few : length blocks ≤ block-numbers * i
@@ -58,23 +55,21 @@ few-more {window} a =
 -- ---- one operation in a window
 module _ (width q m b : ℕ) (bs : List ℕ) (at : ℕ) (w-now : List ℕ) (r : End)
     (o : Operation-read width q m b bs at r w-now) (inside : at ≤ length bs) where
-  in-window : read-by bytes (operation-below width q m b) (scan (drop at bs) at [] none-given) ≡
-      here bs (end-cursor r) w-now
+  abbrev op : Scan → Scan
+  op s = read-by bytes (operation-below width q m b) s
+
+  in-window : op (scan (drop at bs) at [] none-given) ≡ here bs (end-cursor r) w-now
   unfolding operation-scan here fault-of
   in-window =
       let same : min at (length bs) ≡ at = omega arith in
-      subst
-      (λ (a : ℕ). read-by bytes (operation-below width q m b) (scan (drop a bs) a [] none-given) ≡
-      here bs (end-cursor r) w-now) same (o .read)
+      subst (λ (a : ℕ). op (scan (drop a bs) a [] none-given) ≡ here bs (end-cursor r) w-now) same (o .read)
 
   -- the same after other numbers
-  pub among : (front : List ℕ) →
-      read-by bytes (operation-below width q m b) (scan (drop at bs) at front none-given) ≡
+  pub among : (front : List ℕ) → read-by bytes (operation-below width q m b) (scan (drop at bs) at front none-given) ≡
       scan (drop (r .at) bs) (r .at) (front ++ take (r .got) w-now) (fault-of (end-cursor r))
   unfolding after scan here end-cursor
   among front =
-      ap (λ (l : List ℕ). read-by bytes (operation-below width q m b) (scan (drop at bs) at l none-given))
-      (sym (append-nil front))
+      ap (λ (l : List ℕ). op (scan (drop at bs) at l none-given)) (sym (append-nil front))
       ∙ blind-read bytes front (operation-blind width q m b) (scan (drop at bs) at [] none-given)
       ∙ ap (after front) in-window
 
@@ -87,8 +82,7 @@ module _ (width q m b : ℕ) (bs : List ℕ) (at : ℕ) (w-now : List ℕ) (r : 
   pub whole-block : r .number ≡ 0 → Block q m b (take (r .got) w-now)
   unfolding here scan none-given end-cursor
   whole-block z =
-      block-read width q m b (drop at bs)
-      at (here bs (end-cursor r) w-now) in-window
+      block-read width q m b (drop at bs) at (here bs (end-cursor r) w-now) in-window
       (ap (λ (s : Scan). s .fault .number) (here-clean bs (end-cursor r) w-now z))
 
 pub clean-fault : (r : End) → r .number ≡ 0 → fault-of (end-cursor r) ≡ none-given
@@ -108,7 +102,8 @@ module _ (width : ℕ) (bs : List ℕ) (h : Head) (nums : List ℕ) (cs₀ : Col
   unfolding times head-cursor
   load-none z inside = record {
     blocks = [];
-    read = here-clean bs (head-cursor h) nums z
+    read =
+        here-clean bs (head-cursor h) nums z
         ∙ ap (λ (l : List ℕ). scan (drop (h .at) bs) (h .at) l none-given) (sym (append-nil heading));
     inside = inside;
     few = omega arith;
@@ -121,13 +116,14 @@ module _ (width : ℕ) (bs : List ℕ) (h : Head) (nums : List ℕ) (cs₀ : Col
       (l : Load width bs h nums cs₀ cs i at signals marks) (on : i < h .operations)
       (w-now : List ℕ) (r : End) (o : Operation-read width (h .queues) (h .semaphores) (h .buffers) bs at r w-now) where
     -- one more is read, or refused
-    pub read-next : times (i + 1) (step width h) (here bs (head-cursor h) nums) ≡
+    pub read-next : operations-after width h (i + 1) (here bs (head-cursor h) nums) ≡
         scan (drop (r .at) bs) (r .at) ((heading ++ l .blocks) ++ take (r .got) w-now) (fault-of (end-cursor r))
     unfolding times
     read-next =
-        ap (λ (k : ℕ). times k (step width h) (here bs (head-cursor h) nums)) (add-one i)
-        ∙ times-last i (step width h) (here bs (head-cursor h) nums)
-        ∙ ap (step width h) (l .read)
+        let op : Scan → Scan = λ s. read-by bytes (operation-below width (h .queues) (h .semaphores) (h .buffers)) s in
+        ap (λ (k : ℕ). operations-after width h k (here bs (head-cursor h) nums)) (add-one i)
+        ∙ times-last i op (here bs (head-cursor h) nums)
+        ∙ ap op (l .read)
         ∙ among width (h .queues) (h .semaphores) (h .buffers) bs at w-now r o (l .inside) (heading ++ l .blocks)
 
     pub load-next : {cs′ : Columns} {signals′ marks′ : ℕ} → r .number ≡ 0 →
@@ -141,7 +137,9 @@ module _ (width : ℕ) (bs : List ℕ) (h : Head) (nums : List ℕ) (cs₀ : Col
         let same : front ++ block ≡ heading ++ (l .blocks ++ block) = append-assoc heading (l .blocks) block in
         record {
           blocks = l .blocks ++ block;
-          read = read-next ∙ ap (λ (f : Refusal). scan (drop (r .at) bs) (r .at) (front ++ block) f) (clean-fault r z)
+          read =
+              read-next
+              ∙ ap (λ (f : Refusal). scan (drop (r .at) bs) (r .at) (front ++ block) f) (clean-fault r z)
               ∙ ap (λ (x : List ℕ). scan (drop (r .at) bs) (r .at) x none-given) same;
           inside = goes-on width (h .queues) (h .semaphores) (h .buffers) bs at w-now r o (l .inside);
           few = omega (
@@ -154,11 +152,10 @@ module _ (width : ℕ) (bs : List ℕ) (h : Head) (nums : List ℕ) (cs₀ : Col
           filled = λ small more.
               let window = subst (λ (x : List ℕ). Added x i 0 signals marks cs cs′ (next-at x 0) signals′ marks′)
               (sym (take-append-drop (r .got) w-now)) a in
-              let next = filling-next (l .filled small (block ++ more)) on
-              (added-among small front block more junk k window) in
+              let added = added-among small front block more junk k window in
+              let next = filling-next (l .filled small (block ++ more)) on added in
               subst (λ (x : List ℕ). Filled x more cs′ (i + 1) (length x) signals′ marks′) same
-              (subst
-              (λ (x : List ℕ). Filling x (h .operations) (length heading) cs₀ cs′ (i + 1)
+              (subst (λ (x : List ℕ). Filling x (h .operations) (length heading) cs₀ cs′ (i + 1)
               (length (front ++ block)) signals′ marks′)
               (sym (append-assoc front block more)) next);
         }

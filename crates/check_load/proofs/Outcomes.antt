@@ -10,13 +10,12 @@ use lib.Seq.{take-append-seam, drop-append-seam, take-at, getD-at, getD-append-a
 use Rattle.plan_format.specs.Sizes.{head-numbers, block-numbers, plan-numbers}
 use Rattle.plan_format.specs.Refusal.{none-given, given}
 use Rattle.plan_format.specs.Grammar.{bytes, Scan, scan, times}
-use Rattle.plan_format.specs.Form.{first-form}
+use Rattle.plan_format.specs.Form.{Form}
 use Rattle.plan_format.specs.Plan.{Plan, count, queues, operations-in, plan-of}
 use Rattle.plan_format.specs.Sections.{operation-below}
 use Rattle.plan_format.specs.Stored.{scanned, plan-in}
 use Rattle.plan_format.proofs.HandedBack.{answer-long}
 use Rattle.plan_format.proofs.Judged.{zero-not-given, other-given}
-use Rattle.plan_format.proofs.Faults.{times-stays, read-stays}
 use Rattle.plan_format.proofs.Operations.{operations-long}
 use Rattle.plan_format.proofs.Repeats.{read-repeat, repeat-stops}
 use Rattle.plan_format.proofs.Seams.{after-seam}
@@ -27,20 +26,19 @@ use Rattle.check_columns.proofs.Plans.{filling-end}
 use Rattle.stored_numbers.specs.declared.Head.{Head}
 use Rattle.stored_numbers.specs.declared.End.{End}
 use Rattle.stored_numbers.specs.declared.cursor.Cursor.{Cursor}
-use Rattle.stored_numbers.specs.Reading.{fault-of, here, head-cursor, front-numbers, Plan-read, Numbers-read, Heading}
-use Rattle.stored_numbers.specs.Reading.{Head-read, end-cursor, Operation-read}
-use Rattle.stored_numbers.proofs.ReadingEnds.{read-refused, read-more, read-whole}
+use Rattle.stored_numbers.specs.Reading.{fault-of, here, head-cursor, operations-after, Plan-read, Numbers-read}
+use Rattle.stored_numbers.specs.Reading.{Heading, Head-read, end-cursor, Operation-read}
+use Rattle.stored_numbers.proofs.ReadingEnds.{Read-in, read-refused, read-more, read-whole}
 use Rattle.stored_numbers.proofs.Fields.{here-given}
+use Rattle.check_load.specs.declared.Loaded.{Loaded}
 use Rattle.check_load.specs.Loading.{Loads}
 use Rattle.check_load.proofs.Blocks.{Small}
-use Rattle.check_load.proofs.Loading.{step, Load, read-next, goes-on, few-numbers}
+use Rattle.check_load.proofs.Loading.{Load, read-next, goes-on, few-numbers}
 
 -- the operations of a head, wherever their numbers go, make the plan
-plan-by : {bs : List ℕ} {h : Head} {nums : List ℕ} → Head-read bs h nums → (r : Cursor) (all : List ℕ) →
-    times (h .operations) (step 1 h) (here bs (head-cursor h) nums) ≡ here bs r all → r .at ≤ length bs →
-    r .got ≤ h .got + block-numbers * h .operations →
-    Plan-read first-form bs r all
-unfolding front-numbers first-form
+plan-by : {F : Form} {bs : List ℕ} {h : Head} {nums : List ℕ} → Head-read F bs h nums → (r : Cursor) (all : List ℕ) →
+    operations-after (F .semaphore-width) h (h .operations) (here bs (head-cursor h) nums) ≡ here bs r all →
+    r .at ≤ length bs → r .got ≤ h .got + block-numbers * h .operations → Plan-read F bs r all
 plan-by head r all e inside few =
     record { read = head .plan ∙ e; inside = inside; few = omega (arith, head .few, head .few-operations, few) }
 
@@ -52,7 +50,8 @@ abbrev padded : List ℕ → List ℕ
 padded all = all ++ replicate (plan-numbers - length all) 0
 
 padded-long : (all : List ℕ) → length all ≤ plan-numbers → length (padded all) ≡ plan-numbers
-padded-long all l = length-append all (replicate (plan-numbers - length all) 0)
+padded-long all l =
+    length-append all (replicate (plan-numbers - length all) 0)
     ∙ omega (arith, length-replicate {A = ℕ} (plan-numbers - length all) 0)
 
 here-after : (bs : List ℕ) (r : Cursor) (all : List ℕ) →
@@ -70,15 +69,19 @@ here-clean-after bs at all =
     (take-append-seam all (replicate (plan-numbers - length all) 0))
 
 -- after a refusal no more operations are read
-times-stops : (width : ℕ) (h : Head) (s : Scan) (i n : ℕ) → given (times i (step width h) s .fault) ≡ true → i ≤ n →
-    times n (step width h) s ≡ times i (step width h) s
-times-stops width h s i n g l =
+operations-stop : (width : ℕ) (h : Head) (s : Scan) (i n : ℕ) → given (operations-after width h i s .fault) ≡ true →
+    i ≤ n → operations-after width h n s ≡ operations-after width h i s
+operations-stop width h s i n g l =
     let op = operation-below width (h .queues) (h .semaphores) (h .buffers) in
     sym (read-repeat bytes n op s)
     ∙ repeat-stops bytes op s i n (ap (λ (z : Scan). given (z .fault)) (read-repeat bytes i op s) ∙ g) l
     ∙ read-repeat bytes i op s
 
-module _ (bs : List ℕ) (h : Head) (nums : List ℕ) (cs₀ : Columns) (head : Head-read bs h nums) where
+module _ {F : Form} (bs : List ℕ) (form : Read-in F bs) (h : Head) (nums : List ℕ) (cs₀ : Columns)
+    (head : Head-read F bs h nums) where
+  abbrev width : ℕ
+  width = F .semaphore-width
+
   abbrev heading : List ℕ
   heading = take (h .got) nums
 
@@ -86,42 +89,42 @@ module _ (bs : List ℕ) (h : Head) (nums : List ℕ) (cs₀ : Columns) (head : 
   few-heading = omega (arith, length-take (h .got) nums)
 
   module _ {cs : Columns} {i at signals marks : ℕ}
-      (l : Load 1 bs h nums cs₀ cs i at signals marks) where
+      (l : Load width bs h nums cs₀ cs i at signals marks) where
     -- ---- an operation that is refused
     module _ (on : i < h .operations) (w-now : List ℕ) (r : End)
-        (o : Operation-read 1 (h .queues) (h .semaphores) (h .buffers) bs at r w-now) (z : r .number ≡ 0 → ⊥) where
+        (o : Operation-read width (h .queues) (h .semaphores) (h .buffers) bs at r w-now) (z : r .number ≡ 0 → ⊥) where
       abbrev all-read : List ℕ
       all-read = (heading ++ l .blocks) ++ take (r .got) w-now
 
-      stopped : times (i + 1) (step 1 h) (here bs (head-cursor h) nums) ≡
-          here bs (cursor-after (r .number) (r .at) all-read) (padded all-read)
+      abbrev stop : Cursor
+      stop = cursor-after (r .number) (r .at) all-read
+
+      stopped : operations-after width h (i + 1) (here bs (head-cursor h) nums) ≡ here bs stop (padded all-read)
       unfolding end-cursor
-      stopped = read-next 1 bs h nums cs₀ l on w-now r o ∙ sym (here-after bs (end-cursor r) all-read)
+      stopped = read-next width bs h nums cs₀ l on w-now r o ∙ sym (here-after bs (end-cursor r) all-read)
 
       few-read : length all-read ≤ h .got + block-numbers * h .operations
-      few-read =
-          omega (
-            arith,
-            l .few,
-            few-heading,
-            length-append (heading ++ l .blocks) (take (r .got) w-now),
-            length-append heading (l .blocks),
-            few-numbers 1 (h .queues) (h .semaphores) (h .buffers) bs at w-now r o (l .inside),
-          )
+      few-read = omega (
+        arith,
+        l .few,
+        few-heading,
+        length-append (heading ++ l .blocks) (take (r .got) w-now),
+        length-append heading (l .blocks),
+        few-numbers width (h .queues) (h .semaphores) (h .buffers) bs at w-now r o (l .inside),
+      )
 
-      refused-plan : Plan-read first-form bs (cursor-after (r .number) (r .at) all-read) (padded all-read)
+      refused-plan : Plan-read F bs stop (padded all-read)
       refused-plan =
-          plan-by head (cursor-after (r .number) (r .at) all-read) (padded all-read)
-          (times-stops 1 h (here bs (head-cursor h) nums) (i + 1) (h .operations)
-          (ap (λ (s : Scan). given (s .fault)) stopped
-          ∙ here-given bs (cursor-after (r .number) (r .at) all-read) (padded all-read) z) (omega arith) ∙ stopped)
-          (goes-on 1 (h .queues) (h .semaphores) (h .buffers) bs at w-now r o (l .inside))
+          let met = ap (λ (s : Scan). given (s .fault)) stopped ∙ here-given bs stop (padded all-read) z in
+          plan-by head stop (padded all-read)
+          (operations-stop width h (here bs (head-cursor h) nums) (i + 1) (h .operations) met (omega arith) ∙ stopped)
+          (goes-on width (h .queues) (h .semaphores) (h .buffers) bs at w-now r o (l .inside))
           few-read
 
       pub load-refused : (r .number ≡ scanned bs .fault .number) × (r .at ≡ scanned bs .fault .place)
       load-refused =
-          let t = read-refused refused-plan
-          (padded-long all-read (omega (arith, few-read, head .few, head .few-operations))) z .told in
+          let long = padded-long all-read (omega (arith, few-read, head .few, head .few-operations)) in
+          let t = read-refused form refused-plan long z .told in
           (t .number, t .place)
 
     -- ---- all operations
@@ -135,21 +138,21 @@ module _ (bs : List ℕ) (h : Head) (nums : List ℕ) (cs₀ : Columns) (head : 
       long : length (padded all) ≡ plan-numbers
       long = padded-long all (omega (arith, few-all, head .few, head .few-operations))
 
-      whole-plan : Plan-read first-form bs (cursor-after 0 at all) (padded all)
+      whole-plan : Plan-read F bs (cursor-after 0 at all) (padded all)
       whole-plan =
           let e : h .operations ≡ i = omega arith in
           plan-by head (cursor-after 0 at all) (padded all)
-          (ap (λ (k : ℕ). times k (step 1 h) (here bs (head-cursor h) nums)) e ∙ l .read
-          ∙ sym (here-clean-after bs at all))
+          (ap (λ (k : ℕ). operations-after width h k (here bs (head-cursor h) nums)) e
+          ∙ l .read ∙ sym (here-clean-after bs at all))
           (l .inside)
           few-all
 
       pub load-more : at < length bs → (3 ≡ scanned bs .fault .number) × (at ≡ scanned bs .fault .place)
-      load-more u = let t = read-more whole-plan long refl u .told in (t .number, t .place)
+      load-more u = let t = read-more form whole-plan long refl u .told in (t .number, t .place)
 
       module _ (end : length bs ≤ at) (z : h .number ≡ 0) where
         numbers : Numbers-read bs (record { number = 0; place = 0; answer = length all }) (padded all)
-        numbers = read-whole whole-plan long refl end
+        numbers = read-whole form whole-plan long refl end
 
         clean : scanned bs .fault .number ≡ 0
         clean = sym (numbers .told .number)
@@ -164,11 +167,8 @@ module _ (bs : List ℕ) (h : Head) (nums : List ℕ) (cs₀ : Columns) (head : 
         front : Heading (h .queues) (h .semaphores) (h .buffers) (h .operations) heading
         front = head .heading z
 
-        all-are :
-            all ≡
-            h .queues
-            ∷ (front .axes
-            ++ (h .semaphores ∷ (front .owners ++ (h .buffers ∷ (front .sizes ++ (h .operations ∷ l .blocks))))))
+        all-are : all ≡ h .queues ∷ (front .axes ++ (h .semaphores ∷ (front .owners ++ (h .buffers ∷ (front .sizes
+            ++ (h .operations ∷ l .blocks))))))
         all-are = ap (λ (x : List ℕ). x ++ l .blocks) (front .numbers-are) ∙ simp append-assoc
 
         plan-is : plan-in bs ≡ record {
@@ -201,8 +201,7 @@ module _ (bs : List ℕ) (h : Head) (nums : List ℕ) (cs₀ : Columns) (head : 
           few-buffers = omega (
             arith,
             scanned-limits bs clean .few-buffers,
-            ap
-                (λ (p : Plan). length (p .sizes)) plan-is,
+            ap (λ (p : Plan). length (p .sizes)) plan-is,
             front .sizes-long,
           );
         }
@@ -211,14 +210,17 @@ module _ (bs : List ℕ) (h : Head) (nums : List ℕ) (cs₀ : Columns) (head : 
         operations-are =
             ap (λ (p : Plan). p .operations) plan-is
             ∙ ap (operations-in (h .operations))
-            (sym (ap (λ (x : List ℕ). drop (length heading) x) (append-nil all) ∙ drop-append-seam heading (l .blocks)))
+            (sym (ap (λ (x : List ℕ). drop (length heading) x) (append-nil all)
+            ∙ drop-append-seam heading (l .blocks)))
 
         -- the numbers in front of the operations, and what comes after them
-        split : nums ≡ (h .queues ∷ front .axes)
-            ++ (h .semaphores
-            ∷ (front .owners ++ ((h .buffers ∷ (front .sizes ++ (h .operations ∷ []))) ++ drop (h .got) nums)))
+        abbrev after-owners : List ℕ
+        after-owners = (h .buffers ∷ (front .sizes ++ (h .operations ∷ []))) ++ drop (h .got) nums
+
+        split : nums ≡ (h .queues ∷ front .axes) ++ (h .semaphores ∷ (front .owners ++ after-owners))
         split =
-            sym (take-append-drop (h .got) nums) ∙ ap (λ (x : List ℕ). x ++ drop (h .got) nums) (front .numbers-are)
+            sym (take-append-drop (h .got) nums)
+            ∙ ap (λ (x : List ℕ). x ++ drop (h .got) nums) (front .numbers-are)
             ∙ simp append-assoc
 
         not-refused : {n m : ℕ} → n ≡ m → n ≡ cond (given (scanned bs .fault)) 0 m
@@ -230,9 +232,6 @@ module _ (bs : List ℕ) (h : Head) (nums : List ℕ) (cs₀ : Columns) (head : 
 
         abbrev after-sizes : List ℕ
         after-sizes = (h .operations ∷ []) ++ drop (h .got) nums
-
-        abbrev after-owners : List ℕ
-        after-owners = (h .buffers ∷ (front .sizes ++ (h .operations ∷ []))) ++ drop (h .got) nums
 
         split-sizes : nums ≡ before-sizes ++ (front .sizes ++ after-sizes)
         split-sizes = split ∙ simp append-assoc
@@ -260,8 +259,7 @@ module _ (bs : List ℕ) (h : Head) (nums : List ℕ) (cs₀ : Columns) (head : 
         at-seam part rest v n e long = ap (λ (x : List ℕ). getD x n 0) e ∙ getD-at part v rest 0 n long
 
         after-part : (part list rest : List ℕ) (n k : ℕ) → nums ≡ part ++ (list ++ rest) → length part ≡ n →
-            k < length list →
-            getD nums (n + k) 0 ≡ getD list k 0
+            k < length list → getD nums (n + k) 0 ≡ getD list k 0
         after-part part list rest n k e long b =
             ap (λ (i : ℕ). getD nums (i + k) 0) (sym long)
             ∙ ap (λ (x : List ℕ). getD x (length part + k) 0) e
@@ -274,20 +272,17 @@ module _ (bs : List ℕ) (h : Head) (nums : List ℕ) (cs₀ : Columns) (head : 
           queues-shown = ap (λ (x : List ℕ). getD x 0 0) split ∙ sym queues-are;
           semaphores-shown =
               at-seam (h .queues ∷ front .axes) (front .owners ++ after-owners) (h .semaphores)
-              (1 + queues (plan-in bs)) split
-              (omega (arith, front .axes-long, queues-are)) ∙ sym owners-are;
+              (1 + queues (plan-in bs)) split (omega (arith, front .axes-long, queues-are)) ∙ sym owners-are;
           owners-shown = λ s b.
-              after-part ((h .queues ∷ front .axes) ++ (h .semaphores ∷ [])) (front .owners) after-owners
-              (2 + queues (plan-in bs)) s
-              (split
-              ∙ sym (append-assoc (h .queues ∷ front .axes) (h .semaphores ∷ []) (front .owners ++ after-owners)))
+              let own = h .semaphores ∷ [] in
+              after-part ((h .queues ∷ front .axes) ++ own) (front .owners) after-owners (2 + queues (plan-in bs)) s
+              (split ∙ sym (append-assoc (h .queues ∷ front .axes) own (front .owners ++ after-owners)))
               (simp length-append (omega (arith, front .axes-long, queues-are)))
               (omega (arith, owners-are, front .owners-long))
               ∙ ap (λ (p : Plan). getD (p .owners) s 0) (sym plan-is);
           buffers-shown =
-              at-seam ((h .queues ∷ front .axes) ++ (h .semaphores ∷ front .owners))
-              (front .sizes ++ after-sizes) (h .buffers)
-              (2 + queues (plan-in bs) + length (plan-in bs .owners)) (split ∙ simp append-assoc)
+              at-seam ((h .queues ∷ front .axes) ++ (h .semaphores ∷ front .owners)) (front .sizes ++ after-sizes)
+              (h .buffers) (2 + queues (plan-in bs) + length (plan-in bs .owners)) (split ∙ simp append-assoc)
               (simp length-append (omega (arith, front .axes-long, front .owners-long, queues-are, owners-are)))
               ∙ sym sizes-are;
           operations-shown =
@@ -300,8 +295,7 @@ module _ (bs : List ℕ) (h : Head) (nums : List ℕ) (cs₀ : Columns) (head : 
           axes-shown = λ q l.
               let long : q < length (front .axes) = omega (arith, ap (λ (p : Plan). length (p .axes)) plan-is) in
               let second : 1 + q ≡ suc q = omega arith in
-              let rest = h .semaphores
-              ∷ (front .owners ++ ((h .buffers ∷ (front .sizes ++ (h .operations ∷ []))) ++ drop (h .got) nums)) in
+              let rest = h .semaphores ∷ (front .owners ++ after-owners) in
               ap (λ (x : List ℕ). getD x (1 + q) 0) split
               ∙ ap (λ (k : ℕ). getD ((h .queues ∷ front .axes) ++ rest) k 0) second
               ∙ List·getD-append (front .axes) rest 0 q long
@@ -324,7 +318,8 @@ module _ (bs : List ℕ) (h : Head) (nums : List ℕ) (cs₀ : Columns) (head : 
               ∙ ap (λ (p : Plan). getD (p .sizes) b 0) (sym plan-is);
         }
 
-        pub load-columns : Loads bs (record {
+        abbrev pub loaded : Loaded
+        loaded = record {
           number = 0;
           place = 0;
           queues = h .queues;
@@ -333,18 +328,18 @@ module _ (bs : List ℕ) (h : Head) (nums : List ℕ) (cs₀ : Columns) (head : 
           operations = h .operations;
           signals = signals;
           marks = marks;
-        }) nums cs
-        unfolding count
+        }
+
+        pub load-columns : Loads bs loaded nums cs
+        unfolding queues
         load-columns = record {
           number = numbers .told .number;
           place = numbers .told .place;
           sizes = record {
-            queues = not-refused (sym (ap (λ (p : Plan). length (p .axes)) plan-is ∙ front .axes-long));
-            semaphores = not-refused (sym (ap (λ (p : Plan). length (p .owners)) plan-is ∙ front .owners-long));
-            buffers = not-refused (sym (ap (λ (p : Plan). length (p .sizes)) plan-is ∙ front .sizes-long));
-            operations =
-                not-refused (sym
-                (ap (λ (p : Plan). length (p .operations)) plan-is ∙ operations-long (h .operations) (l .blocks)));
+            queues = not-refused (sym queues-are);
+            semaphores = not-refused (sym owners-are);
+            buffers = not-refused (sym sizes-are);
+            operations = not-refused (sym count-is);
           };
           none = λ z. absurd (z refl);
           head-shown = λ _. load-head;
@@ -355,26 +350,27 @@ module _ (bs : List ℕ) (h : Head) (nums : List ℕ) (cs₀ : Columns) (head : 
         pub load-owners : plan-in bs .owners ≡ take (h .semaphores) (drop (2 + h .queues) nums)
         load-owners =
             ap (λ (p : Plan). p .owners) plan-is
-            ∙ sym
-            (ap (λ (x : List ℕ). take (h .semaphores) x) (after-seam nums (h .queues ∷ front .axes)
-            (front .owners ++ ((h .buffers ∷ (front .sizes ++ (h .operations ∷ []))) ++ drop (h .got) nums))
-            (h .semaphores) (2 + h .queues) split (omega (arith, front .axes-long)))
-            ∙ take-at (front .owners) ((h .buffers ∷ (front .sizes ++ (h .operations ∷ []))) ++ drop (h .got) nums)
-            (h .semaphores) (front .owners-long))
+            ∙ sym (ap (λ (x : List ℕ). take (h .semaphores) x)
+            (after-seam nums (h .queues ∷ front .axes) (front .owners ++ after-owners) (h .semaphores) (2 + h .queues)
+            split (omega (arith, front .axes-long)))
+            ∙ take-at (front .owners) after-owners (h .semaphores) (front .owners-long))
 
 -- a refusal shows nothing
+abbrev pub refused-at : (number place : ℕ) → Loaded
+refused-at number place = record {
+  number = number;
+  place = place;
+  queues = 0;
+  semaphores = 0;
+  buffers = 0;
+  operations = 0;
+  signals = 0;
+  marks = 0;
+}
+
 pub refused-loads : {bs head : List ℕ} {cs : Columns} {number place : ℕ} →
     (number ≡ scanned bs .fault .number) × (place ≡ scanned bs .fault .place) → (number ≡ 0 → ⊥) →
-    Loads bs (record {
-      number = number;
-      place = place;
-      queues = 0;
-      semaphores = 0;
-      buffers = 0;
-      operations = 0;
-      signals = 0;
-      marks = 0;
-    }) head cs
+    Loads bs (refused-at number place) head cs
 refused-loads {bs} (n, p) z =
     let nothing : (m : ℕ) → 0 ≡ cond (given (scanned bs .fault)) 0 m =
     λ m. rw (other-given (scanned bs .fault) (λ e. z (n ∙ e))) in
@@ -388,19 +384,20 @@ refused-loads {bs} (n, p) z =
     }
 
 -- ---- the head
-module _ {bs : List ℕ} {h : Head} {nums : List ℕ} (head : Head-read bs h nums) where
-  pub head-refused : (h .number ≡ 0 → ⊥) → (h .number ≡ scanned bs .fault .number) × (h .at ≡ scanned bs .fault .place)
-  unfolding head-cursor here
-  head-refused z =
+module _ {F : Form} {bs : List ℕ} {h : Head} {nums : List ℕ} (head : Head-read F bs h nums) where
+  pub head-refused : Read-in F bs → (h .number ≡ 0 → ⊥) →
+      (h .number ≡ scanned bs .fault .number) × (h .at ≡ scanned bs .fault .place)
+  unfolding head-cursor here times scan
+  head-refused form z =
       let s = here bs (head-cursor h) nums in
-      let stays = read-stays bytes (operation-below 1 (h .queues) (h .semaphores) (h .buffers)) s
-      (here-given bs (head-cursor h) nums z) in
+      let met = here-given bs (head-cursor h) nums z in
       let all = take (h .got) nums in
-      let e = times-stays (h .operations) (step 1 h) s stays ∙ sym (here-after bs (head-cursor h) all) in
+      let stop = cursor-after (h .number) (h .at) all in
+      let e = operations-stop (F .semaphore-width) h s 0 (h .operations) met (omega arith)
+      ∙ sym (here-after bs (head-cursor h) all) in
       let few : length all ≤ h .got = omega (arith, length-take (h .got) nums) in
-      let t =
-      read-refused (plan-by head (cursor-after (h .number) (h .at) all) (padded all) e (head .inside) (omega arith))
-      (padded-long all (omega (arith, head .few))) z .told in
+      let plan = plan-by head stop (padded all) e (head .inside) (omega arith) in
+      let t = read-refused form plan (padded-long all (omega (arith, head .few))) z .told in
       (t .number, t .place)
 
   head-long : h .number ≡ 0 → (h .queues ≤ head-numbers) × (2 + h .queues + h .semaphores ≤ length nums)
@@ -418,13 +415,9 @@ module _ {bs : List ℕ} {h : Head} {nums : List ℕ} (head : Head-read bs h num
   pub head-few : h .number ≡ 0 → h .queues ≤ head-numbers
   head-few z = head-long z .0
 
-  pub head-semaphores : h .number ≡ 0 → {owners : List ℕ} → owners ≡ take (h .semaphores) (drop (2 + h .queues) nums) →
-      length owners ≡ h .semaphores
+  pub head-semaphores : h .number ≡ 0 → {owners : List ℕ} →
+      owners ≡ take (h .semaphores) (drop (2 + h .queues) nums) → length owners ≡ h .semaphores
   head-semaphores z e =
+      let after = drop (2 + h .queues) nums in
       ap (λ (x : List ℕ). length x) e
-      ∙ omega (
-        arith,
-        head-long z .1,
-        length-take (h .semaphores) (drop (2 + h .queues) nums),
-        length-drop (2 + h .queues) nums,
-      )
+      ∙ omega (arith, head-long z .1, length-take (h .semaphores) after, length-drop (2 + h .queues) nums)

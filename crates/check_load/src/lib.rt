@@ -16,6 +16,7 @@ ghost use Prim.Native.Nat.{ℕ, _+_, _≤_, min};
 ghost use lib.ListN.{take, drop};
 ghost use lib.Seq.{sets};
 ghost use Rattle.plan_format.specs.Sizes.{most-semaphores, most-operations, plan-numbers};
+ghost use Rattle.plan_format.specs.Form.{first-form};
 ghost use Rattle.plan_format.specs.Stored.{plan-in};
 ghost use Rattle.check_columns.specs.Columns.{columns, Owner-column};
 ghost use Rattle.check_columns.specs.Filling.{owner-numbers};
@@ -147,7 +148,7 @@ fn columns(
     mark: &mut MarkColumn,
     mop: &mut MarkColumn,
 ) -> Loaded
-    requires { ⌜ Head-read (now plan) h (now head) × (h .number ≡ 0) ⌝ }
+    requires { ⌜ Head-read first-form (now plan) h (now head) × (h .number ≡ 0) ⌝ }
     ensures loads { λ r. ⌜ Loads (now (plan .entry)) r (now (head .exit))
         (columns (now (queue .exit)) (now (wsem .exit)) (now (wval .exit)) (now (ssem .exit)) (now (sval .exit))
         (now (sop .exit)) (now (mark .exit)) (now (mop .exit))) ⌝ }
@@ -179,7 +180,7 @@ fn operations(
     mop: &mut MarkColumn,
 ) -> Loaded
     requires { ⌜ h .operations ≤ most-operations ⌝ }
-    ensures { λ r. ⌜ ((nums : List ℕ) → Head-read (now (plan .entry)) h nums → h .number ≡ 0 →
+    ensures { λ r. ⌜ ((nums : List ℕ) → Head-read first-form (now (plan .entry)) h nums → h .number ≡ 0 →
         Loads (now (plan .entry)) r nums (columns (now (queue .exit)) (now (wsem .exit)) (now (wval .exit))
         (now (ssem .exit)) (now (sval .exit)) (now (sop .exit)) (now (mark .exit)) (now (mop .exit))) ×
         (r .number ≡ 0 → plan-in (now (plan .entry)) .owners ≡ take (h .semaphores) (drop (2 + h .queues) nums))

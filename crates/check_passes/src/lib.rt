@@ -87,11 +87,7 @@ fn rules(
 {
     let signalled = check_signals::judge(signals, owner, queue, ssem, sval, sop);
     if signalled.number != 0 {
-        return Told {
-            number: signalled.number,
-            place: signalled.place,
-            answer: 0,
-        };
+        return plan_format::forwarded(signalled.number, signalled.place);
     }
     check_waits::resolve(n, signals, ssem, sval, sop, wait, wval, &signalled.last)
 }

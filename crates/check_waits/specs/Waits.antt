@@ -14,7 +14,6 @@ use Rattle.plan_format.specs.Sound.{signals-refusal, waits-refusal, In-range}
 use Rattle.plan_format.specs.declared.Told.{Told}
 use Rattle.check_columns.specs.Columns.{Wait-columns, Signal-columns, Source-column}
 use Rattle.check_signals.specs.Walks.{Highest-column}
-use Rattle.check_waits.specs.Groups.{Low}
 
 -- the columns show a plan with neither refusal 6 nor 7, and the highest value of each semaphore
 pub record Waits-given (p : Plan) (n signals : ℕ) (ssem sval sop wsem wval last : List ℕ) : Type 0 where
@@ -65,8 +64,7 @@ Rests-within signals sop r = (r ≡ no-operation) ⊎ ((j : ℕ) × (j < signals
 -- the column of the waits afterwards, whatever the columns show: as long as before; past the places of n operations as
 -- before, and all of it where the columns have no places for the plan. Where nothing is refused a wait for 0 rests on
 -- nothing, and so does one of a semaphore that has no signal; any other rests on nothing or on the operation of a
--- signal, and, where each signal is of one of the 64 semaphores, on the first signal that reaches it if those after it
--- do. Beside a signal of another semaphore, which no plan has, it is unspecified which
+-- signal, and on the first signal of its semaphore that reaches it if those after it do
 pub record Sources (n signals number : ℕ) (ssem sval sop wsem wval source : List ℕ) : Type 0 where
   pub long : length source ≡ length wsem
   pub past : (k : ℕ) → most-waits * n ≤ k → getD source k 0 ≡ getD wsem k 0
@@ -77,7 +75,6 @@ pub record Sources (n signals number : ℕ) (ssem sval sop wsem wval source : Li
       ((j : ℕ) → j < signals → getD ssem j 0 ≡ getD wsem k 0 % most-semaphores → ⊥) → getD source k 0 ≡ no-operation
   pub within : has-places n signals ≡ true → number ≡ 0 → (k : ℕ) → k < most-waits * n →
       Rests-within signals sop (getD source k 0)
-  pub found : has-places n signals ≡ true → number ≡ 0 → Low most-semaphores ssem signals → (k j : ℕ) →
-      k < most-waits * n →
+  pub found : has-places n signals ≡ true → number ≡ 0 → (k j : ℕ) → k < most-waits * n →
       Rests-on-signal ssem sval signals (getD wsem k 0 % most-semaphores) (getD wval k 0) j →
       getD source k 0 ≡ getD sop j 0

@@ -10,12 +10,12 @@ use Rattle.base_lists.specs.Lists.{member}
 use Rattle.base_lists.proofs.Tests.{either}
 use Rattle.plan_format.specs.Refusal.{Refusal, refusal, none-given, given, or-else}
 use Rattle.plan_format.specs.RefusalNumbers.{None-or, reading-numbers, rule-numbers, plan-gives}
-use Rattle.plan_format.specs.Grammar.{Grammar, field, seq, counted, nothing, Source, Scan, bytes, numbers, scan}
-use Rattle.plan_format.specs.Grammar.{refused, field-number, read-field, last-got, times, count-check, read-by}
-use Rattle.plan_format.specs.Grammar.{ended}
-use Rattle.plan_format.specs.Form.{first-form, queue-count, semaphore-count, buffer-count, any-number, below}
-use Rattle.plan_format.specs.Form.{new-axis, a-queue, a-semaphore, a-buffer, a-kind, point, mark, operation}
-use Rattle.plan_format.specs.Form.{plan-grammar, scanned-by}
+use Rattle.plan_format.specs.Grammar.{Grammar, field, seq, counted, nothing, Source, Scan, bytes, numbers}
+use Rattle.plan_format.specs.Grammar.{scan, refused, field-number, read-field, last-got, times, count-check}
+use Rattle.plan_format.specs.Grammar.{read-by, ended}
+use Rattle.plan_format.specs.Form.{Form, first-form, queue-count, semaphore-count, buffer-count, any-number}
+use Rattle.plan_format.specs.Form.{below, new-axis, a-queue, a-semaphore, a-buffer, a-kind, point, mark}
+use Rattle.plan_format.specs.Form.{operation, plan-grammar, scanned-by}
 use Rattle.plan_format.specs.Stored.{scanned, listed, plan-in, plan-refusal}
 use Rattle.plan_format.specs.Sound.{rules-refusal}
 use Rattle.plan_format.specs.Meaning.{Fields-answer, first-of, rest-of, Sections-answer}
@@ -87,13 +87,13 @@ any-none : (g : List ℕ) (v : ℕ) → Or-none 4 (any-number g v)
 unfolding any-number
 any-none g v = inl refl
 
-point-four : Fields-answer (Or-none 4) (point first-form)
+point-four : (F : Form) → Fields-answer (Or-none 4) (point F)
 unfolding point a-semaphore
-point-four = ((λ g v. below-four (semaphore-count g) v), any-none)
+point-four F = ((λ g v. below-four (semaphore-count g) v), any-none)
 
-pub sections-answer : Sections-answer
-unfolding plan-grammar operation mark first-form new-axis a-queue a-buffer a-kind
-sections-answer =
+pub sections-answer : (F : Form) → Sections-answer F
+unfolding plan-grammar operation mark new-axis a-queue a-buffer a-kind
+sections-answer F =
     let queue : (g : List ℕ) (v : ℕ) → Or-none 4 (below (queue-count g) v) = λ g v. below-four (queue-count g) v in
     record {
       axes = λ g v. cond-has (Or-none 5) (member v (drop 1 g)) 5 0 (inr refl) (inl refl);
@@ -103,7 +103,7 @@ sections-answer =
           any-none,
           (
             queue,
-            (point-four, (point-four, ((λ g v. below-four (buffer-count g) v), (λ g v. below-four 2 v)))),
+            (point-four F, (point-four F, ((λ g v. below-four (buffer-count g) v), (λ g v. below-four 2 v)))),
           ),
         ),
       );
@@ -112,32 +112,33 @@ sections-answer =
 abbrev Of-a-reading : ℕ → Type 0
 Of-a-reading n = None-or reading-numbers n
 
-grammar-numbers : Fields-answer Of-a-reading (plan-grammar first-form)
-unfolding plan-grammar first-form member
-grammar-numbers =
-    let g = plan-grammar first-form in (
+grammar-numbers : (F : Form) → Fields-answer Of-a-reading (plan-grammar F)
+unfolding plan-grammar member
+grammar-numbers F =
+    let g = plan-grammar F in (
       fields-mono (Or-none 5) Of-a-reading (λ n h. either h (λ e. rw e) (λ e. rw e)) (first-of g)
-          (sections-answer .axes),
+          (sections-answer F .axes),
       fields-mono (Or-none 4) Of-a-reading (λ n h. either h (λ e. rw e) (λ e. rw e)) (rest-of g)
-          (sections-answer .others),
+          (sections-answer F .others),
     )
 
 -- of a reader's fault, and of a writer's
-pub fault-number : (S : Source) (xs : List ℕ) → None-or reading-numbers (scanned-by S first-form xs .fault .number)
+pub fault-number : (S : Source) (F : Form) (xs : List ℕ) →
+    None-or reading-numbers (scanned-by S F xs .fault .number)
 unfolding scanned-by none-given scan member
-fault-number S xs =
-    let k = S .leads * length (first-form .lead) in
+fault-number S F xs =
+    let k = S .leads * length (F .lead) in
     let s = scan (drop k xs) k [] none-given in
-    ended-has Of-a-reading refl refl refl refl S refl (read-by S (plan-grammar first-form) s)
-    (read-has Of-a-reading refl refl refl refl S (plan-grammar first-form) grammar-numbers s refl)
+    ended-has Of-a-reading refl refl refl refl S refl (read-by S (plan-grammar F) s)
+    (read-has Of-a-reading refl refl refl refl S (plan-grammar F) (grammar-numbers F) s refl)
 
 pub scanned-number : (bs : List ℕ) → None-or reading-numbers (scanned bs .fault .number)
 unfolding scanned
-scanned-number bs = fault-number bytes bs
+scanned-number bs = fault-number bytes first-form bs
 
 pub listed-number : (xs : List ℕ) → None-or reading-numbers (listed xs .fault .number)
 unfolding listed
-listed-number xs = fault-number numbers xs
+listed-number xs = fault-number numbers first-form xs
 
 -- ---- those of a stored plan
 pub plan-number : (bs : List ℕ) → None-or plan-gives (plan-refusal bs .number)

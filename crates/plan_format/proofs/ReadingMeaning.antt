@@ -3,27 +3,26 @@
 use mathlib.Core.Path.{_≡_, refl, sym, ap, _∙_, subst}
 use mathlib.Core.Logic.{_⊎_, inl, inr}
 use mathlib.Core.List.{List}
-use Prim.Native.Nat.{ℕ, _≤_, _<_}
+use Prim.Native.Nat.{ℕ, _*_, _≤_, _<_}
 use native.Mathlib.Omega.{arith}
 use lib.Dec.{eqb}
-use lib.ListN.{length}
+use lib.ListN.{length, length-drop}
 use borrow.Author.Tests.{eqb-true, eqb-false, eq-eqb, ne-eqb}
 use Rattle.base_lists.proofs.Tests.{by-cases, either}
 use Rattle.plan_format.specs.Refusal.{refusal, none-given, given}
 use Rattle.plan_format.specs.RefusalNumbers.{None-or, reading-numbers}
 use Rattle.plan_format.specs.Grammar.{Grammar, Source, Scan, bytes, numbers, scan, refused, read-by, ended}
-use Rattle.plan_format.specs.Form.{first-form, plan-grammar, scanned-by}
+use Rattle.plan_format.specs.Form.{Form, first-form, plan-grammar, scanned-by}
 use Rattle.plan_format.specs.Stored.{scanned, listed, plan-in, plan-refusal}
 use Rattle.plan_format.specs.Sound.{rules-refusal}
 use Rattle.plan_format.specs.Meaning.{Refuses, Cursor, Reads, Stops, start, Reading-means, Bytes-mean}
-use Rattle.plan_format.specs.Meaning.{Numbers-mean}
-use Rattle.plan_format.specs.Meaning.{Plan-refusal-means}
+use Rattle.plan_format.specs.Meaning.{Numbers-mean, Plan-refusal-means}
 use Rattle.plan_format.proofs.Judged.{refusal-given, other-given, or-else-first, or-else-second}
 use Rattle.plan_format.proofs.Faults.{ended-stays}
 use Rattle.plan_format.proofs.Numbers.{scanned-number, listed-number, plan-number}
 use Rattle.plan_format.proofs.RulesMeaning.{rules-mean}
-use Rattle.plan_format.proofs.Stopping.{at, through, reads-back, stops-back, stops-given, reads-level}
-use Rattle.plan_format.proofs.Stopping.{stops-level}
+use Rattle.plan_format.proofs.Stopping.{at, through, reads-back, stops-back, stops-given}
+use Rattle.plan_format.proofs.Stopping.{reads-level, stops-level}
 
 -- ---- the end of a reading
 module _ (b : Cursor) where
@@ -48,42 +47,44 @@ module _ (b : Cursor) where
   none-at s e =
       ((ap (λ (z : Scan). z .fault .number) e, ap (λ (z : Scan). z .fault .place) e), ap (λ (z : Scan). z .got) e)
 
-module _ (S : Source) (xs : List ℕ) where
+module _ (S : Source) (F : Form) (xs : List ℕ) where
   abbrev G : Grammar
-  G = plan-grammar first-form
+  G = plan-grammar F
+
+  abbrev a : Cursor
+  a = start S F xs
 
   abbrev read : Scan
-  read = ended (read-by S G (at (start xs) none-given))
+  read = ended (read-by S G (at a none-given))
 
   none-begun : none-given .number ≡ 0
   unfolding none-given
   none-begun = refl
 
-  whole-is : (b : Cursor) → Reads S G (start xs) b → length (b .rest) ≡ 0 → read ≡ at b none-given
-  whole-is b r e = ap ended (reads-back S none-given none-begun G (start xs) b r) ∙ ended-whole b e
+  whole-is : (b : Cursor) → Reads S G a b → length (b .rest) ≡ 0 → read ≡ at b none-given
+  whole-is b r e = ap ended (reads-back S none-given none-begun G a b r) ∙ ended-whole b e
 
-  more-is : (b : Cursor) → Reads S G (start xs) b → 0 < length (b .rest) → read ≡ at b (refusal 3 (b .place))
-  more-is b r l = ap ended (reads-back S none-given none-begun G (start xs) b r) ∙ ended-more b l
+  more-is : (b : Cursor) → Reads S G a b → 0 < length (b .rest) → read ≡ at b (refusal 3 (b .place))
+  more-is b r l = ap ended (reads-back S none-given none-begun G a b r) ∙ ended-more b l
 
-  stop-is : (b : Cursor) (n : ℕ) → Stops S G (start xs) b n → read ≡ at b (refusal n (b .place))
-  stop-is b n t = ap ended (stops-back S none-given none-begun G (start xs) b n t)
-      ∙ ended-stopped b n (stops-given S G (start xs) b n t)
+  stop-is : (b : Cursor) (n : ℕ) → Stops S G a b n → read ≡ at b (refusal n (b .place))
+  stop-is b n t = ap ended (stops-back S none-given none-begun G a b n t)
+      ∙ ended-stopped b n (stops-given S G a b n t)
 
   data Read-case : Type 0 where
-    whole : (b : Cursor) → Reads S G (start xs) b → length (b .rest) ≡ 0 → Read-case
-    more : (b : Cursor) → Reads S G (start xs) b → 0 < length (b .rest) → Read-case
-    stop : (b : Cursor) (n : ℕ) → Stops S G (start xs) b n → Read-case
+    whole : (b : Cursor) → Reads S G a b → length (b .rest) ≡ 0 → Read-case
+    more : (b : Cursor) → Reads S G a b → 0 < length (b .rest) → Read-case
+    stop : (b : Cursor) (n : ℕ) → Stops S G a b n → Read-case
 
   read-case : Read-case
   read-case =
-      either (through S G (start xs))
+      either (through S G a)
       (λ x. by-cases (eqb (length (x .0 .rest)) 0) (λ t. whole (x .0) (x .1) (eqb-true (length (x .0 .rest)) 0 t))
       (λ f. let ne = eqb-false (length (x .0 .rest)) 0 f in more (x .0) (x .1) (omega arith)))
       (λ x. stop (x .0) (x .1) (x .2))
 
   abbrev Stopped : (n i : ℕ) → Type 0
-  Stopped n i = (b : Cursor) × (b .place ≡ i) ×
-      (Stops S G (start xs) b n ⊎ ((n ≡ 3) × Reads S G (start xs) b × (0 < length (b .rest))))
+  Stopped n i = (b : Cursor) × (b .place ≡ i) × (Stops S G a b n ⊎ ((n ≡ 3) × Reads S G a b × (0 < length (b .rest))))
 
   fault-stops : Read-case → (n i : ℕ) → (n ≡ 0 → ⊥) → Refuses (read .fault) n i → Stopped n i
   fault-stops (whole b r e) n i h f = absurd (h (sym (f .0) ∙ none-at b read (whole-is b r e) .0 .0))
@@ -91,42 +92,54 @@ module _ (S : Source) (xs : List ℕ) where
       let w = refuses-at b read 3 (b .place) (more-is b r l) in (b, sym (w .1) ∙ f .1, inr (sym (f .0) ∙ w .0, r, l))
   fault-stops (stop b m t) n i h f =
       let w = refuses-at b read m (b .place) (stop-is b m t) in
-      (b, sym (w .1) ∙ f .1, inl (subst (λ (z : ℕ). Stops S G (start xs) b z) (sym (w .0) ∙ f .0) t))
+      (b, sym (w .1) ∙ f .1, inl (subst (λ (z : ℕ). Stops S G a b z) (sym (w .0) ∙ f .0) t))
 
   stops-fault : (n i : ℕ) → Stopped n i → Refuses (read .fault) n i
   stops-fault n i (b, e, inl t) = let w = refuses-at b read n (b .place) (stop-is b n t) in (w .0, w .1 ∙ e)
-  stops-fault n i (b, e, inr t) = let w = refuses-at b read 3 (b .place) (more-is b (t .1) (t .2)) in
-      (w .0 ∙ sym (t .0), w .1 ∙ e)
+  stops-fault n i (b, e, inr t) =
+      let w = refuses-at b read 3 (b .place) (more-is b (t .1) (t .2)) in (w .0 ∙ sym (t .0), w .1 ∙ e)
 
   none-reads : Read-case → Refuses (read .fault) 0 0 →
-      (b : Cursor) × Reads S G (start xs) b × (length (b .rest) ≡ 0) × (read .got ≡ b .got)
+      (b : Cursor) × Reads S G a b × (length (b .rest) ≡ 0) × (read .got ≡ b .got)
   none-reads (whole b r e) f = (b, r, e, none-at b read (whole-is b r e) .1)
   none-reads (more b r l) f = absurd (omega (arith, f .0, refuses-at b read 3 (b .place) (more-is b r l) .0))
   none-reads (stop b m t) f =
-      absurd (stops-given S G (start xs) b m t (sym (refuses-at b read m (b .place) (stop-is b m t) .0) ∙ f .0))
+      absurd (stops-given S G a b m t (sym (refuses-at b read m (b .place) (stop-is b m t) .0) ∙ f .0))
 
-  place-inside : Read-case → read .fault .place ≤ length xs
-  place-inside (whole b r e) = omega (arith, none-at b read (whole-is b r e) .0 .1)
-  place-inside (more b r l) =
-      omega (arith, refuses-at b read 3 (b .place) (more-is b r l) .1, reads-level S G (start xs) b r)
-  place-inside (stop b m t) =
-      omega (arith, refuses-at b read m (b .place) (stop-is b m t) .1, stops-level S G (start xs) b m t)
+  -- the input has the lead byte
+  abbrev Led : Type 0
+  Led = S .leads * length (F .lead) ≤ length xs
 
-  reading-means : None-or reading-numbers (read .fault .number) → Reading-means S xs read
-  reading-means number = record {
+  place-inside : Led → Read-case → read .fault .place ≤ length xs
+  place-inside led (whole b r e) = omega (arith, none-at b read (whole-is b r e) .0 .1)
+  place-inside led (more b r l) = omega (
+    arith,
+    refuses-at b read 3 (b .place) (more-is b r l) .1,
+    reads-level S G a b r,
+    length-drop (S .leads * length (F .lead)) xs,
+  )
+  place-inside led (stop b m t) = omega (
+    arith,
+    refuses-at b read m (b .place) (stop-is b m t) .1,
+    stops-level S G a b m t,
+    length-drop (S .leads * length (F .lead)) xs,
+  )
+
+  reading-means : Led → None-or reading-numbers (read .fault .number) → Reading-means S F xs read
+  reading-means led number = record {
     fault = λ n i h. (fault-stops read-case n i h, stops-fault n i);
     none = (none-reads read-case, (λ w. none-at (w .0) read (whole-is (w .0) (w .1) (w .2)) .0));
     only = number;
-    inside = place-inside read-case;
+    inside = place-inside led read-case;
   }
 
 pub scanned-means : (bs : List ℕ) → Bytes-mean bs
 unfolding scanned scanned-by first-form bytes
-scanned-means bs = reading-means bytes bs (scanned-number bs)
+scanned-means bs = reading-means bytes first-form bs (omega arith) (scanned-number bs)
 
 pub listed-means : (xs : List ℕ) → Numbers-mean xs
 unfolding listed scanned-by first-form numbers
-listed-means xs = reading-means numbers xs (listed-number xs)
+listed-means xs = reading-means numbers first-form xs (omega arith) (listed-number xs)
 
 -- 1 to 5 first, then 6 to 8
 pub plan-refusal-means : (bs : List ℕ) → Plan-refusal-means bs (plan-refusal bs)

@@ -4,15 +4,15 @@ use mathlib.Core.Path.{_≡_}
 use mathlib.Core.Bool.{true, false}
 use mathlib.Core.Logic.{_⊎_, _↔_}
 use mathlib.Core.List.{List, [], _∷_, _++_}
-use Prim.Native.Nat.{ℕ, zero, suc, _+_, _≤_, _<_}
+use Prim.Native.Nat.{ℕ, zero, suc, _+_, _*_, _≤_, _<_}
 use lib.ListN.{length, getD, take, drop}
 use Rattle.plan_format.specs.Refusal.{Refusal, refusal, none-given}
 use Rattle.plan_format.specs.RefusalNumbers.{None-or, reading-numbers, rule-numbers, plan-gives, reader-gives}
 use Rattle.plan_format.specs.RefusalNumbers.{writer-gives}
 use Rattle.plan_format.specs.Grammar.{Grammar, field, seq, counted, nothing, Source, bytes, numbers, Scan, scan}
 use Rattle.plan_format.specs.Grammar.{count-check}
-use Rattle.plan_format.specs.Form.{first-form, plan-grammar, any-number, new-axis, a-queue, a-semaphore, a-buffer}
-use Rattle.plan_format.specs.Form.{a-kind, queue-count, semaphore-count, buffer-count}
+use Rattle.plan_format.specs.Form.{Form, first-form, plan-grammar, any-number, new-axis, a-queue}
+use Rattle.plan_format.specs.Form.{a-semaphore, a-buffer, a-kind, queue-count, semaphore-count, buffer-count}
 use Rattle.plan_format.specs.Plan.{Point, Plan, op, plan-of}
 use Rattle.plan_format.specs.Limits.{Within, numbers-of, bytes-of}
 use Rattle.plan_format.specs.Stored.{scanned, listed, plan-in, spelled}
@@ -75,9 +75,9 @@ rest-of (counted l m w g) = nothing
 rest-of nothing = nothing
 
 -- which sections give which number: axes 5 and no other, every other field 4 and no other; 2 is for counts alone
-pub record Sections-answer : Type 0 where
-  pub axes : Fields-answer (λ n. (n ≡ 0) ⊎ (n ≡ 5)) (first-of (plan-grammar first-form))
-  pub others : Fields-answer (λ n. (n ≡ 0) ⊎ (n ≡ 4)) (rest-of (plan-grammar first-form))
+pub record Sections-answer (F : Form) : Type 0 where
+  pub axes : Fields-answer (λ n. (n ≡ 0) ⊎ (n ≡ 5)) (first-of (plan-grammar F))
+  pub others : Fields-answer (λ n. (n ≡ 0) ⊎ (n ≡ 4)) (rest-of (plan-grammar F))
 
 -- R53, reading order, of one field: 1 if it is cut short, else what its check says, else 4 if it is too wide (R11)
 pub record Field-means (S : Source) (width : ℕ) (check : ℕ → ℕ) (rest : List ℕ) (n : ℕ) : Type 0 where
@@ -136,26 +136,27 @@ Stops S (counted l m w g) a b n =
     Stops S g d b n)
 Stops S nothing a b n = ⊥
 
-abbrev pub start : List ℕ → Cursor
-start xs = record { rest = xs; place = 0; got = [] }
+-- a reading at its start: from after the lead byte on
+abbrev pub start : Source → Form → List ℕ → Cursor
+start S F xs = let k = S .leads * length (F .lead) in record { rest = drop k xs; place = k; got = [] }
 
 -- R53, R40: the refusal is that of the first field at which the reading stops, or 3 where input is left over
-pub record Reading-means (S : Source) (xs : List ℕ) (s : Scan) : Type 0 where
+pub record Reading-means (S : Source) (F : Form) (xs : List ℕ) (s : Scan) : Type 0 where
   pub fault :
       (n i : ℕ) → (n ≡ 0 → ⊥) → Refuses (s .fault) n i ↔ ((b : Cursor) × (b .place ≡ i) ×
-      (Stops S (plan-grammar first-form) (start xs) b n ⊎
-      ((n ≡ 3) × Reads S (plan-grammar first-form) (start xs) b × (0 < length (b .rest)))))
+      (Stops S (plan-grammar F) (start S F xs) b n ⊎
+      ((n ≡ 3) × Reads S (plan-grammar F) (start S F xs) b × (0 < length (b .rest)))))
   pub none : Refuses (s .fault) 0 0 ↔
-      ((b : Cursor) × Reads S (plan-grammar first-form) (start xs) b × (length (b .rest) ≡ 0) × (s .got ≡ b .got))
+      ((b : Cursor) × Reads S (plan-grammar F) (start S F xs) b × (length (b .rest) ≡ 0) × (s .got ≡ b .got))
   pub only : None-or reading-numbers (s .fault .number)
   pub inside : s .fault .place ≤ length xs
 
 -- what 1 to 5 mean of bytes, and of a list of numbers
 abbrev pub Bytes-mean : List ℕ → Type 0
-Bytes-mean bs = Reading-means bytes bs (scanned bs)
+Bytes-mean bs = Reading-means bytes first-form bs (scanned bs)
 
 abbrev pub Numbers-mean : List ℕ → Type 0
-Numbers-mean xs = Reading-means numbers xs (listed xs)
+Numbers-mean xs = Reading-means numbers first-form xs (listed xs)
 
 -- ---- 6 to 8
 abbrev pub signal-at : Plan → (i k : ℕ) → Point
@@ -252,8 +253,8 @@ refusal-of r = refusal (r .number) (r .place)
 -- very bytes; or why not
 pub record Read-means (bytes : List ℕ) (r : Told) (room room-now : List ℕ) : Type 0 where
   pub reading : Bytes-mean bytes
-  pub refuses : Room-after reader-gives (scanned bytes .fault) (length (scanned bytes .got))
-      (length room) (refusal-of r)
+  pub refuses : Room-after reader-gives (scanned bytes .fault) (length (scanned bytes .got)) (length room)
+      (refusal-of r)
   pub filled : Filled (scanned bytes .got) r room room-now
   pub within : r .number ≡ 0 → Within (plan-in bytes)
   pub numbers : r .number ≡ 0 → take (r .answer) room-now ≡ numbers-of (plan-in bytes)

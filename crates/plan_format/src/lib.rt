@@ -17,9 +17,16 @@ pub struct Told {
 pub fn refused(number: u32, place: usize) -> Told
     ensures { λ r. ⌜ r ≡ record { number = number; place = place; answer = 0 } ⌝ }
 {
+    forwarded(number, place as u64)
+}
+
+// The number and the place that another call told, with nothing to answer.
+pub fn forwarded(number: u32, place: u64) -> Told
+    ensures { λ r. ⌜ r ≡ record { number = number; place = place; answer = 0 } ⌝ }
+{
     Told {
         number,
-        place: place as u64,
+        place,
         answer: 0,
     }
 }

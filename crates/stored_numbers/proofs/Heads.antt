@@ -10,10 +10,10 @@ use lib.Seq.{length-take-le}
 use borrow.Author.Tests.{eqb-true, eqb-false}
 use Rattle.base_lists.specs.Lists.{in-front}
 use Rattle.base_lists.proofs.Tests.{by-cases}
-use Rattle.plan_format.specs.Sizes.{most-operations, block-numbers}
+use Rattle.plan_format.specs.Sizes.{most-semaphores, most-operations, block-numbers}
 use Rattle.plan_format.specs.Refusal.{none-given}
 use Rattle.plan_format.specs.Grammar.{field, bytes, Scan, scan, last-got, times, count-check, read-by}
-use Rattle.plan_format.specs.Form.{first-form, queue-count, semaphore-count, buffer-count}
+use Rattle.plan_format.specs.Form.{Form, queue-count, semaphore-count, buffer-count}
 use Rattle.plan_format.specs.Sections.{repeat, limited, operation-below}
 use Rattle.plan_format.proofs.Blocks.{Counts-given, kept-now}
 use Rattle.plan_format.proofs.Counts.{count-limited}
@@ -27,9 +27,9 @@ use Rattle.stored_numbers.specs.declared.End.{End}
 use Rattle.stored_numbers.specs.declared.Head.{Head}
 use Rattle.stored_numbers.specs.declared.cursor.Cursor.{Cursor}
 use Rattle.stored_numbers.specs.Reading.{fault-of, here, Past, Reads, Limited, begun, front-numbers, Stopped}
-use Rattle.stored_numbers.specs.Reading.{unless-refused, Heading, Front-read, head-grammar, head-scan, Head-told}
-use Rattle.stored_numbers.specs.Reading.{Head-read, head-cursor, operation-scan, Operation-told, end-cursor}
-use Rattle.stored_numbers.specs.Reading.{Operation-read}
+use Rattle.stored_numbers.specs.Reading.{unless-refused, Heading, Front-read, head-grammar, head-scan-by}
+use Rattle.stored_numbers.specs.Reading.{Head-told, Head-read, head-cursor, operation-scan}
+use Rattle.stored_numbers.specs.Reading.{Operation-told, end-cursor, Operation-read}
 use Rattle.stored_numbers.proofs.Fields.{here-clean, here-given, fault-number, fault-none, value-last}
 use Rattle.stored_numbers.proofs.Cursors.{past-then, reads-past, counted-read}
 
@@ -75,21 +75,20 @@ heading-counts {q} {m} {b} {n} h =
     (kept-now q m b all (sections-kept q m b (h .axes) (h .owners) (h .sizes) (h .axes-long) (h .owners-long)
     (h .sizes-long) v₁ v₂ v₃ n refl refl refl))
 
-module _ {bs : List ℕ} {c r : Cursor} {q m b : ℕ} {nums₀ nums nums-now : List ℕ}
-    (front : Front-read first-form bs c q m b nums)
+module _ {F : Form} {bs : List ℕ} {c r : Cursor} {q m b : ℕ} {nums₀ nums nums-now : List ℕ}
+    (front : Front-read F bs c q m b nums)
     (kept : Past (c .got) nums₀ nums) (roomy : r .got ≤ length nums-now)
     (count : Limited 2 (most-operations + 1) 2 bs c nums r nums-now) where
   abbrev head : Head
-  head =
-      record {
-        number = r .number;
-        at = r .at;
-        got = r .got;
-        queues = q;
-        semaphores = m;
-        buffers = b;
-        operations = r .value;
-      }
+  head = record {
+    number = r .number;
+    at = r .at;
+    got = r .got;
+    queues = q;
+    semaphores = m;
+    buffers = b;
+    operations = r .value;
+  }
 
   abbrev refused : Head
   refused = record {
@@ -99,8 +98,7 @@ module _ {bs : List ℕ} {c r : Cursor} {q m b : ℕ} {nums₀ nums nums-now : L
     queues = 0;
     semaphores = 0;
     buffers = 0;
-    operations =
-        0;
+    operations = 0;
   }
 
   -- a count that was read comes after the three sections
@@ -120,8 +118,8 @@ module _ {bs : List ℕ} {c r : Cursor} {q m b : ℕ} {nums₀ nums nums-now : L
       (fault-none c (d .begun), got ∙ ap (λ (x : ℕ). take (c .got) nums ++ (x ∷ [])) same)
 
   -- the count is that of the form
-  head-is : head-scan bs ≡ here bs r nums-now
-  unfolding head-scan head-grammar read-by here scan fault-of limited
+  head-is : head-scan-by F bs ≡ here bs r nums-now
+  unfolding head-scan-by head-grammar read-by here scan fault-of limited
   head-is =
       front .read (field 2 (λ g v. count-check 0 most-operations v))
       ∙ field-same bytes 2 (λ v. count-check 0 most-operations v)
@@ -129,8 +127,8 @@ module _ {bs : List ℕ} {c r : Cursor} {q m b : ℕ} {nums₀ nums nums-now : L
       (count-limited most-operations (bytes .front 2 (drop (c .at) bs)))
       ∙ count .reads .read
 
-  stopped : Stopped (head-scan bs) (r .number) (r .at) (r .got) nums₀ nums-now
-  stopped = stopped-here bs (head-scan bs) r head-is roomy
+  stopped : Stopped (head-scan-by F bs) (r .number) (r .at) (r .got) nums₀ nums-now
+  stopped = stopped-here bs (head-scan-by F bs) r head-is roomy
       (past-then (count .reads .more) kept (reads-past (count .reads)))
 
   head-heading : r .number ≡ 0 → Heading q m b (r .value) (take (r .got) nums-now)
@@ -138,10 +136,10 @@ module _ {bs : List ℕ} {c r : Cursor} {q m b : ℕ} {nums₀ nums nums-now : L
       let (clean, got) = counted-after z in subst (λ (l : List ℕ). Heading q m b (r .value) l) (sym got)
       (front .heading (r .value) clean)
 
-  pub head-told : r .number ≡ 0 → Head-told bs nums₀ head nums-now
+  pub head-told : r .number ≡ 0 → Head-told (head-scan-by F bs) nums₀ head nums-now
   unfolding here scan
   head-told z =
-      let s = head-scan bs in
+      let s = head-scan-by F bs in
       let counts = heading-counts (head-heading z) in
       let clean = sym (stopped .number-is) ∙ z in
       let at : (f : List ℕ → ℕ) (n : ℕ) → f (take (r .got) nums-now) ≡ n → n ≡ unless-refused s (f (s .got)) =
@@ -154,66 +152,65 @@ module _ {bs : List ℕ} {c r : Cursor} {q m b : ℕ} {nums₀ nums nums-now : L
         operations = sym (ap last-got head-is ∙ value-last count z) ∙ unless-clean s (last-got s) clean;
       }
 
-  pub head-read : r .number ≡ 0 → Head-read bs head nums-now
-  unfolding head-cursor here fault-of front-numbers first-form
-  head-read z = record {
+  pub head-read : F .semaphores-most ≤ most-semaphores → r .number ≡ 0 → Head-read F bs head nums-now
+  unfolding head-cursor here fault-of front-numbers
+  head-read fits z = record {
     plan =
-        front .plan ∙ counted-read (operation-below 1 q m b) most-operations count (r .value) refl
-        ∙ read-repeat bytes (r .value) (operation-below 1 q m b) (here bs r nums-now);
+        front .plan ∙ counted-read (operation-below (F .semaphore-width) q m b) most-operations count (r .value) refl
+        ∙ read-repeat bytes (r .value) (operation-below (F .semaphore-width) q m b) (here bs r nums-now);
     heading = head-heading;
     inside = count .reads .inside;
-    few = omega (arith, front .few, count .reads .few);
+    few = omega (arith, fits, front .few, count .reads .few);
     few-operations = omega (arith, count .value-below);
   }
 
   -- a refusal before the operations is the plan's
-  refused-none : (r .number ≡ 0 → ⊥) → (n : ℕ) → 0 ≡ unless-refused (head-scan bs) n
+  refused-none : (r .number ≡ 0 → ⊥) → (n : ℕ) → 0 ≡ unless-refused (head-scan-by F bs) n
   unfolding unless-refused
   refused-none z n = rw (head-is, here-given bs r nums-now z)
 
-  pub refused-told : (r .number ≡ 0 → ⊥) → Head-told bs nums₀ refused nums-now
+  pub refused-told : (r .number ≡ 0 → ⊥) → Head-told (head-scan-by F bs) nums₀ refused nums-now
   refused-told z =
       record {
         stopped = stopped;
         queues = refused-none z _;
         semaphores = refused-none z _;
-        buffers =
-            refused-none z _;
+        buffers = refused-none z _;
         operations = refused-none z _;
       }
 
-  pub refused-read : (r .number ≡ 0 → ⊥) → Head-read bs refused nums-now
-  unfolding head-cursor here fault-of times front-numbers first-form
-  refused-read z = record {
+  pub refused-read : F .semaphores-most ≤ most-semaphores → (r .number ≡ 0 → ⊥) → Head-read F bs refused nums-now
+  unfolding head-cursor here fault-of times front-numbers
+  refused-read fits z = record {
     plan =
-        front .plan ∙ counted-read (operation-below 1 q m b) most-operations count (r .value) refl
-        ∙ read-stays bytes (repeat (r .value) (operation-below 1 q m b)) (here bs r nums-now)
+        front .plan ∙ counted-read (operation-below (F .semaphore-width) q m b) most-operations count (r .value) refl
+        ∙ read-stays bytes (repeat (r .value) (operation-below (F .semaphore-width) q m b)) (here bs r nums-now)
         (here-given bs r nums-now z);
     heading = λ e. absurd (z e);
     inside = count .reads .inside;
-    few = omega (arith, front .few, count .reads .few);
+    few = omega (arith, fits, front .few, count .reads .few);
     few-operations = omega arith;
   }
 
 -- ---- an operation read at the place, or at the end of the bytes
-module _ (q m b : ℕ) {a : ℕ} (at : ℕ) {bs w w-now : List ℕ} {r : Cursor} (place : a ≡ min at (length bs))
+module _ (width q m b : ℕ) {a : ℕ} (at : ℕ) {bs w w-now : List ℕ} {r : Cursor} (place : a ≡ min at (length bs))
     (roomy : block-numbers ≤ length w-now)
-    (p : Reads (operation-below 1 q m b) block-numbers bs (record { number = 0; at = a; got = 0; value = 0 }) w r w-now)
+    (p : Reads (operation-below width q m b) block-numbers bs (record { number = 0; at = a; got = 0; value = 0 }) w r
+    w-now)
   where
-    operation-is : operation-scan 1 q m b bs at ≡ here bs r w-now
+    operation-is : operation-scan width q m b bs at ≡ here bs r w-now
     unfolding operation-scan here fault-of
-    operation-is =
-        subst (λ (z : ℕ). read-by bytes (operation-below 1 q m b) (scan (drop z bs) z [] none-given) ≡ here bs
-        r w-now) place (p .read)
+    operation-is = subst (λ (z : ℕ). read-by bytes (operation-below width q m b) (scan (drop z bs) z [] none-given) ≡
+        here bs r w-now) place (p .read)
 
     abbrev end : End
     end = record { number = r .number; at = r .at; got = r .got }
 
-    pub operation-told : Operation-told 1 q m b bs at w end w-now
+    pub operation-told : Operation-told width q m b bs at w end w-now
     unfolding Operation-told
     operation-told =
-        stopped-here bs (operation-scan 1 q m b bs at) r operation-is (omega (arith, p .few)) (reads-past p)
+        stopped-here bs (operation-scan width q m b bs at) r operation-is (omega (arith, p .few)) (reads-past p)
 
-    pub operation-read : Operation-read 1 q m b bs at end w-now
+    pub operation-read : Operation-read width q m b bs at end w-now
     unfolding end-cursor here fault-of
     operation-read = record { read = operation-is; inside = p .inside; few = p .few }

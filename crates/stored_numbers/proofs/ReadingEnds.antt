@@ -11,15 +11,14 @@ use Rattle.base_lists.specs.Lists.{in-front}
 use Rattle.base_lists.proofs.Tests.{by-cases}
 use Rattle.plan_format.specs.Sizes.{plan-numbers}
 use Rattle.plan_format.specs.Refusal.{Refusal, refusal, none-given, given}
-use Rattle.plan_format.specs.Grammar.{bytes, Scan, scan, ended}
-use Rattle.plan_format.specs.Form.{first-form, scanned-by}
+use Rattle.plan_format.specs.Grammar.{bytes, Scan, scan, read-by, ended}
+use Rattle.plan_format.specs.Form.{Form, first-form, plan-grammar, scanned-by}
 use Rattle.plan_format.specs.Stored.{scanned, Tells}
 use Rattle.plan_format.specs.declared.Told.{Told}
 use Rattle.plan_format.proofs.HandedBack.{ended-none, ended-more, ended-got}
 use Rattle.plan_format.proofs.Faults.{ended-stays}
 use Rattle.stored_numbers.specs.declared.cursor.Cursor.{Cursor}
-use Rattle.stored_numbers.specs.Reading.{fault-of, here, Past, begun, front-numbers, Plan-read, Ends}
-use Rattle.stored_numbers.specs.Reading.{Numbers-read}
+use Rattle.stored_numbers.specs.Reading.{fault-of, here, Past, begun, Plan-read, Ends, Numbers-read}
 use Rattle.stored_numbers.proofs.Fields.{here-given, here-clean, fault-number}
 
 fault-place : (c : Cursor) → (c .number ≡ 0 → ⊥) → fault-of c .place ≡ c .at
@@ -83,15 +82,18 @@ module _ (bs : List ℕ) (c : Cursor) (nums : List ℕ) where
       ∙ ap (λ (l : List ℕ). take (c .got) nums ++ l) (past .past)
       ∙ sym (ap (λ (k : ℕ). end .got ++ drop k nums₀) long ∙ ap (λ (l : List ℕ). l ++ drop (c .got) nums₀) ends-front)
 
--- ---- what is told of a whole plan
-module _ {bs : List ℕ} {c : Cursor} {nums : List ℕ} (p : Plan-read first-form bs c nums) where
-  pub scanned-is : scanned bs ≡ ended (here bs c nums)
-  unfolding scanned scanned-by begun first-form bytes
-  scanned-is = ap ended (p .read)
+-- ---- the form in which some bytes are read
+abbrev pub Read-in : Form → (bs : List ℕ) → Type 0
+Read-in F bs = scanned bs ≡ ended (read-by bytes (plan-grammar F) (begun F bs))
 
-  pub few-read : c .got ≤ plan-numbers
-  unfolding front-numbers first-form
-  few-read = omega (arith, p .few)
+pub read-in-first : (bs : List ℕ) → Read-in first-form bs
+unfolding scanned scanned-by begun first-form bytes
+read-in-first bs = refl
+
+-- ---- what is told of a whole plan
+module _ {F : Form} {bs : List ℕ} (form : Read-in F bs) {c : Cursor} {nums : List ℕ} (p : Plan-read F bs c nums) where
+  scanned-is : scanned bs ≡ ended (here bs c nums)
+  scanned-is = form ∙ ap ended (p .read)
 
   module _ (long : length nums ≡ plan-numbers) where
     pub numbers-read : {r : Told} → Ends (ended (here bs c nums)) r → Numbers-read bs r nums
@@ -100,12 +102,12 @@ module _ {bs : List ℕ} {c : Cursor} {nums : List ℕ} (p : Plan-read first-for
         let told = subst (λ (s : Scan). Tells (s .fault) (length (s .got)) r) (sym scanned-is) t in
         let got : scanned bs .got ≡ take (c .got) nums = ap (λ (s : Scan). s .got) scanned-is ∙ ends-front bs c nums in
         let many : length (scanned bs .got) ≡ c .got = ap length got
-        ∙ length-take-le (c .got) nums (omega (arith, few-read)) in
+        ∙ length-take-le (c .got) nums (omega (arith, p .few)) in
         record {
           told = told;
           numbers = λ z. ap (λ (k : ℕ). take k nums) many ∙ sym got;
           few = answer-few (scanned bs .fault) (length (scanned bs .got)) plan-numbers told
-              (omega (arith, many, few-read));
+              (omega (arith, many, p .few));
           long = long;
         }
 
@@ -119,9 +121,9 @@ module _ {bs : List ℕ} {c : Cursor} {nums : List ℕ} (p : Plan-read first-for
 
     pub read-whole : c .number ≡ 0 → length bs ≤ c .at →
         Numbers-read bs (record { number = 0; place = 0; answer = c .got }) nums
-    read-whole z h = numbers-read (ends-whole bs c nums z h (omega (arith, few-read)))
+    read-whole z h = numbers-read (ends-whole bs c nums z h (omega (arith, p .few)))
 
     pub read-array : {nums₀ : List ℕ} → Past (c .got) nums₀ nums → nums ≡ in-front (scanned bs .got) nums₀
     read-array {nums₀} past =
-        ends-array bs c nums (omega (arith, few-read)) past
+        ends-array bs c nums (omega (arith, p .few)) past
         ∙ ap (λ (s : Scan). in-front (s .got) nums₀) (sym scanned-is)

@@ -3,7 +3,7 @@
 use mathlib.Core.Path.{_≡_}
 use mathlib.Core.Bool.{cond}
 use mathlib.Core.List.{List, [], _∷_, _++_}
-use Prim.Native.Nat.{ℕ, _+_, _-_, _*_, _≤_, _<_, _^_, min}
+use Prim.Native.Nat.{ℕ, _+_, _-_, _≤_, _<_, _^_, min}
 use lib.Dec.{eqb}
 use lib.ListN.{length, take, drop}
 use Rattle.base_lists.specs.Lists.{in-front}
@@ -72,11 +72,10 @@ front-numbers F = 3 + most-queues + F .semaphores-most + most-buffers
 pub record Plan-read (F : Form) (bs : List ℕ) (r : Cursor) (nums-now : List ℕ) : Type 0 where
   pub read : read-by bytes (plan-grammar F) (begun F bs) ≡ here bs r nums-now
   pub inside : r .at ≤ length bs
-  pub few : r .got ≤ front-numbers F + (1 + most-operations * block-numbers)
+  pub few : r .got ≤ plan-numbers
 
 -- ---- what is handed back of a reading: its refusal's number, the place where it stopped and how many numbers it got;
--- these are in front
--- of the array, which stays past them
+-- these are in front of the array, which stays past them
 pub record Stopped (s : Scan) (number at got : ℕ) (nums nums-now : List ℕ) : Type 0 where
   pub number-is : number ≡ s .fault .number
   pub place-is : at ≡ s .place
@@ -100,16 +99,19 @@ unfoldable pub head-grammar : Form → Grammar
 head-grammar F = fronted F (field 2 (λ g v. count-check 0 most-operations v))
 
 -- its reading: no operation is read, so that no refusal of one is met
-unfoldable pub head-scan : (bs : List ℕ) → Scan
-head-scan bs = read-by bytes (head-grammar first-form) (begun first-form bs)
+unfoldable pub head-scan-by : Form → (bs : List ℕ) → Scan
+head-scan-by F bs = read-by bytes (head-grammar F) (begun F bs)
 
--- what `read_head` hands back, and the array
-pub record Head-told (bs nums : List ℕ) (h : Head) (nums-now : List ℕ) : Type 0 where
-  pub stopped : Stopped (head-scan bs) (h .number) (h .at) (h .got) nums nums-now
-  pub queues : h .queues ≡ unless-refused (head-scan bs) (queue-count (head-scan bs .got))
-  pub semaphores : h .semaphores ≡ unless-refused (head-scan bs) (semaphore-count (head-scan bs .got))
-  pub buffers : h .buffers ≡ unless-refused (head-scan bs) (buffer-count (head-scan bs .got))
-  pub operations : h .operations ≡ unless-refused (head-scan bs) (last-got (head-scan bs))
+unfoldable pub head-scan : (bs : List ℕ) → Scan
+head-scan bs = head-scan-by first-form bs
+
+-- what `read_head` hands back of that reading, and the array
+pub record Head-told (s : Scan) (nums : List ℕ) (h : Head) (nums-now : List ℕ) : Type 0 where
+  pub stopped : Stopped s (h .number) (h .at) (h .got) nums nums-now
+  pub queues : h .queues ≡ unless-refused s (queue-count (s .got))
+  pub semaphores : h .semaphores ≡ unless-refused s (semaphore-count (s .got))
+  pub buffers : h .buffers ≡ unless-refused s (buffer-count (s .got))
+  pub operations : h .operations ≡ unless-refused s (last-got s)
 
 -- the numbers before the operations, their count being the last
 pub record Heading (q m b n : ℕ) (nums : List ℕ) : Type 0 where
@@ -134,11 +136,15 @@ pub record Front-read (F : Form) (bs : List ℕ) (c : Cursor) (q m b : ℕ) (num
 unfoldable pub head-cursor : Head → Cursor
 head-cursor h = record { number = h .number; at = h .at; got = h .got; value = h .operations }
 
+-- so many operations are read after a head, a semaphore's position having so many bytes
+abbrev pub operations-after : (width : ℕ) → Head → (many : ℕ) → Scan → Scan
+operations-after width h many s =
+    times many (λ t. read-by bytes (operation-below width (h .queues) (h .semaphores) (h .buffers)) t) s
+
 -- what a head means: with so many operations it makes the plan
-pub record Head-read (bs : List ℕ) (h : Head) (nums-now : List ℕ) : Type 0 where
-  pub plan : read-by bytes (plan-grammar first-form) (begun first-form bs) ≡
-      times (h .operations) (λ s. read-by bytes (operation-below 1 (h .queues) (h .semaphores) (h .buffers)) s)
-      (here bs (head-cursor h) nums-now)
+pub record Head-read (F : Form) (bs : List ℕ) (h : Head) (nums-now : List ℕ) : Type 0 where
+  pub plan : read-by bytes (plan-grammar F) (begun F bs) ≡
+      operations-after (F .semaphore-width) h (h .operations) (here bs (head-cursor h) nums-now)
   pub heading : h .number ≡ 0 →
       Heading (h .queues) (h .semaphores) (h .buffers) (h .operations) (take (h .got) nums-now)
   pub inside : h .at ≤ length bs
@@ -180,13 +186,10 @@ pub record Numbers-read (bs : List ℕ) (r : Told) (nums-now : List ℕ) : Type 
   pub long : length nums-now ≡ plan-numbers
 
 -- a plan from its head on: after the head's numbers its operations are read at a place, to the end of the bytes; beside
--- a refusal of the head
--- nothing is read, and it is told at that place
+-- a refusal of the head nothing is read, and it is told at that place
 unfoldable pub rest-cursor : (bs : List ℕ) → (at : ℕ) → Head → Cursor
 rest-cursor bs at h = record { number = h .number; at = min at (length bs); got = min (h .got) head-numbers; value = 0 }
 
-unfoldable pub rest-scan : (bs : List ℕ) → (at : ℕ) → Head → (nums : List ℕ) → Scan
-rest-scan bs at h nums =
-    ended (times (min (h .operations) most-operations)
-    (λ s. read-by bytes (operation-below 1 (h .queues) (h .semaphores) (h .buffers)) s)
-    (here bs (rest-cursor bs at h) nums))
+unfoldable pub rest-scan : (width : ℕ) → (bs : List ℕ) → (at : ℕ) → Head → (nums : List ℕ) → Scan
+rest-scan width bs at h nums =
+    ended (operations-after width h (min (h .operations) most-operations) (here bs (rest-cursor bs at h) nums))

@@ -19,11 +19,12 @@ ghost use mathlib.Core.List.{List};
 ghost use Prim.Native.Nat.{ℕ, _≤_, min};
 ghost use lib.ListN.{length, take};
 ghost use Rattle.base_lists.specs.Lists.{in-front};
+ghost use Rattle.plan_format.specs.Form.{first-form};
 ghost use Rattle.plan_format.specs.Grammar.{ended};
 ghost use Rattle.plan_format.specs.Sizes.{most-operations, plan-numbers};
 ghost use Rattle.plan_format.specs.Stored.{scanned};
-ghost use Rattle.stored_numbers.specs.Reading.{here, Head-told, Head-read, Operation-told, Operation-read, Ends};
-ghost use Rattle.stored_numbers.specs.Reading.{Numbers-read, rest-scan};
+ghost use Rattle.stored_numbers.specs.Reading.{here, head-scan, Head-told, Head-read, Operation-told};
+ghost use Rattle.stored_numbers.specs.Reading.{Operation-read, Ends, Numbers-read, rest-scan};
 
 // The most operations, and the least number of them that is too many.
 const OPERATIONS: u64 = MOST_OPERATIONS as u64;
@@ -52,8 +53,8 @@ pub struct End {
 // The numbers before the operations, in front of the array, with the four counts; or the first of refusals 1, 2, 4 and
 // 5 that is met there, and no counts. Past the numbers read the array stays.
 pub fn read_head(plan: &[u8], numbers: &mut [u64; HEAD_NUMBERS]) -> Head
-    ensures told { λ r. ⌜ Head-told (now (plan .entry)) (now (numbers .entry)) r (now (numbers .exit)) ⌝ }
-    ensures means { λ r. ⌜ Head-read (now (plan .entry)) r (now (numbers .exit)) ⌝ }
+    ensures told { λ r. ⌜ Head-told (head-scan (now (plan .entry))) (now (numbers .entry)) r (now (numbers .exit)) ⌝ }
+    ensures means { λ r. ⌜ Head-read first-form (now (plan .entry)) r (now (numbers .exit)) ⌝ }
 {
     let f = section::first_sections(plan, numbers);
     let before = f.cursor;
@@ -162,9 +163,9 @@ pub fn read_rest(
     head: &[u64; HEAD_NUMBERS],
     numbers: &mut [u64; PLAN_NUMBERS],
 ) -> Told
-    ensures told { λ r. ⌜ Ends (rest-scan (now (plan .entry)) at h (now (head .entry))) r ⌝ }
+    ensures told { λ r. ⌜ Ends (rest-scan 1 (now (plan .entry)) at h (now (head .entry))) r ⌝ }
     ensures array { λ _. ⌜ now (numbers .exit) ≡
-        in-front (rest-scan (now (plan .entry)) at h (now (head .entry)) .got) (now (numbers .entry)) ⌝ }
+        in-front (rest-scan 1 (now (plan .entry)) at h (now (head .entry)) .got) (now (numbers .entry)) ⌝ }
     ensures few { λ r. ⌜ r .answer ≤ plan-numbers ⌝ }
 {
     let before = base_numbers::min_usize(h.got, HEAD_NUMBERS);

@@ -8,6 +8,9 @@ use Rattle.ask_reuse.proofs.reuse_question.Tie as tie
 check-opened-requires : tie.Need-check-opened-requires
 check-opened-requires c κs = search needs
 
+forwarded-requires : tie.Need-forwarded-requires
+forwarded-requires c κs = search needs
+
 same-length : tie.Need-same-length
 same-length c = search needs
 
@@ -16,8 +19,9 @@ same-length-2 c = search needs
 
 returns : tie.Need-returns
 returns c =
-    let earlier = c .before .before .before .before .before .before in
-    asked _ _ _ _ _ _ _ _ (plan-refused _ _ (earlier .check-opened .ensures .0) (c .if1 .taken))
+    let check = c .before .before .before .before in
+    let told = check .before .before .before .check-opened .ensures .0 in
+    rw (c .forwarded .ensures) (asked _ _ _ _ _ _ _ _ (plan-refused _ _ told (c .before .if1 .taken)))
 
 answer-requires : tie.Need-answer-requires
 answer-requires c κs = search needs
@@ -41,6 +45,7 @@ reuse-question-spec =
     tie.close
     (tie.spec
     check-opened-requires
+    forwarded-requires
     same-length
     same-length-2
     returns

@@ -5,8 +5,11 @@ use borrow.Author.Needs.{needs}
 use Rattle.ask_trace.proofs.refusal.Statement.{statement}
 use Rattle.ask_trace.proofs.refusal.Tie as tie
 
+forwarded-requires : tie.Need-forwarded-requires
+forwarded-requires c κs = search needs
+
 returns : tie.Need-returns
-returns c = check-tells _ _ _ (c .if1 .taken)
+returns c = rw (c .forwarded .ensures) (check-tells _ _ _ (c .before .if1 .taken))
 
 refused-requires : tie.Need-refused-requires
 refused-requires c κs = search needs
@@ -39,6 +42,7 @@ pub refusal-spec : {M : Type 1} → statement M
 refusal-spec =
     tie.close
     (tie.spec
+    forwarded-requires
     returns
     refused-requires
     returns-2

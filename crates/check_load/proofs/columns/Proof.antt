@@ -20,11 +20,11 @@ operations-requires c κs = search needs
 
 returns : tie.Need-returns
 returns c =
-    let midway = c .before .before .before .before .before .before in
-    let start = midway .before .before .before .before .before .before .before in
-    let (head, z) = start .pre in
+    let lent = c .before .before .before .before in
+    let owned = lent .before .before .before .before .before in
+    let (head, z) = owned .before .before .before .before .pre in
     let o = c .operations .ensures _ head z in
-    let stored = c .before .before .before .before .before .before .before .before .before .owners .ensures in (
+    let stored = owned .owners .ensures in (
       o .0,
       (
         λ e.

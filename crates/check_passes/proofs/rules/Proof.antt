@@ -10,10 +10,14 @@ use Rattle.check_passes.proofs.rules.Tie as tie
 judge-requires : tie.Need-judge-requires
 judge-requires c κs = search needs
 
+forwarded-requires : tie.Need-forwarded-requires
+forwarded-requires c κs = search needs
+
 returns : tie.Need-returns
 returns c =
-    let found = c .before .judge .ensures in
-    let taken = c .if1 .taken in (
+    let found = c .before .before .judge .ensures in
+    let taken = c .before .if1 .taken in
+    rw (c .forwarded .ensures) (
       rules-first _ _ _ _ _ _ _ _ _ _ _ (found .0) taken,
       (
         sources-refused _ _ _ _ _ _ _ _ _ _ _ (found .0) taken,
@@ -39,4 +43,4 @@ returns-2 c =
     )
 
 pub rules-spec : {M : Type 1} → statement M
-rules-spec = tie.close (tie.spec judge-requires returns resolve-requires returns-2)
+rules-spec = tie.close (tie.spec judge-requires forwarded-requires returns resolve-requires returns-2)

@@ -1,7 +1,7 @@
 -- `read_numbers` meets its contract: what the sections read, and how it ends.
 use native.Mathlib.Omega.{arith}
 use borrow.Author.Needs.{needs}
-use Rattle.stored_numbers.proofs.ReadingEnds.{few-read, numbers-read, read-array}
+use Rattle.stored_numbers.proofs.ReadingEnds.{read-in-first, numbers-read, read-array}
 use Rattle.stored_numbers.proofs.read_numbers.Statement.{statement}
 use Rattle.stored_numbers.proofs.read_numbers.Tie as tie
 
@@ -13,10 +13,10 @@ finished-requires c κs = search needs
 
 returns : tie.Need-returns
 returns c =
-    let s = c .before .sections .ensures in (
-      numbers-read (s .0) (omega arith) (c .finished .ensures _ (omega (arith, few-read (s .0)))),
-      read-array (s .0)
-          (omega arith) (s .1),
+    let s = c .before .sections .ensures in
+    let form = read-in-first _ in (
+      numbers-read form (s .0) (omega arith) (c .finished .ensures _ (omega (arith, s .0 .few))),
+      read-array form (s .0) (omega arith) (s .1),
     )
 
 pub read-numbers-spec : {M : Type 1} → statement M

@@ -15,8 +15,8 @@ returns : tie.Need-returns
 returns c =
     let s = c .before .before .before .before .args in
     let place = c .before .before .min-usize .ensures in (
-      operation-told (s .queues) (s .semaphores) (s .buffers) (s .at) place (omega arith) (c .operation .ensures),
-      operation-read (s .queues) (s .semaphores) (s .buffers) (s .at) place (omega arith) (c .operation .ensures),
+      operation-told 1 (s .queues) (s .semaphores) (s .buffers) (s .at) place (omega arith) (c .operation .ensures),
+      operation-read 1 (s .queues) (s .semaphores) (s .buffers) (s .at) place (omega arith) (c .operation .ensures),
     )
 
 pub read-operation-spec : {M : Type 1} → statement M

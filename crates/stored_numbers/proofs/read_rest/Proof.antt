@@ -34,14 +34,14 @@ returns c =
     let p = several .several .ensures in
     let asked = copy-requires (copied .before) (copied .copy .lifetimes) in
     let room = several-requires (several .before) (several .several .lifetimes) .room in
-    let law = rest-told (a .plan .now) (a .head .now) (a .numbers .now) (a .at) (a .h) (place .min-usize2 .ensures)
+    let law = rest-told 1 (a .plan .now) (a .head .now) (a .numbers .now) (a .at) (a .h) (place .min-usize2 .ensures)
     (before .min-usize .ensures)
     (few .few .ensures) (copied .copy .ensures) (asked .0) (asked .1) room p in
     let told = law .0 (c .finished .result) (c .finished .ensures) in (
       told,
       (
         law .1,
-        rest-few (a .plan .now) (a .head .now) (a .numbers .now) (a .at) (a .h) (place .min-usize2 .ensures)
+        rest-few 1 (a .plan .now) (a .head .now) (a .numbers .now) (a .at) (a .h) (place .min-usize2 .ensures)
             (before .min-usize .ensures) (few .few .ensures)
             (copied .copy .ensures) (asked .0) (asked .1) room p (c .finished .result) told,
       ),

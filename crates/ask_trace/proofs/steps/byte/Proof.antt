@@ -5,11 +5,11 @@ use borrow.Author.Needs.{needs}
 use Rattle.ask_trace.proofs.steps.byte.Statement.{statement}
 use Rattle.ask_trace.proofs.steps.byte.Tie as tie
 
-shared-slice-read-wide : tie.Need-shared-slice-read-wide
-shared-slice-read-wide c = search needs
+shared-slice-read-u8-to-usize : tie.Need-shared-slice-read-u8-to-usize
+shared-slice-read-u8-to-usize c = search needs
 
-wide-requires : tie.Need-wide-requires
-wide-requires c κs = search needs
+u8-to-usize-requires : tie.Need-u8-to-usize-requires
+u8-to-usize-requires c κs = search needs
 
 returns : tie.Need-returns
 returns c = search needs
@@ -19,4 +19,4 @@ returns-2 c = let here = c .before .before .args in
     (byte-past (here .bytes .now) (here .at) (c .if1 .left), omega arith)
 
 pub byte-spec : {M : Type 1} → statement M
-byte-spec = tie.close (tie.spec shared-slice-read-wide wide-requires returns returns-2)
+byte-spec = tie.close (tie.spec shared-slice-read-u8-to-usize u8-to-usize-requires returns returns-2)
