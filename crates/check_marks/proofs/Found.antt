@@ -13,7 +13,7 @@ use lib.Seq.{getD-set-same, getD-set-other}
 use borrow.Author.Tests.{ltb-true, ltb-false, eqb-true, eqb-false, eq-eqb, ne-eqb}
 use Rattle.base_lists.specs.Lists.{place-or}
 use Rattle.base_lists.proofs.Tests.{by-cases, by-option, clash, either}
-use Rattle.plan_format.specs.Sizes.{no-operation, mark-places}
+use Rattle.plan_format.specs.Sizes.{most-buffers, no-operation, mark-places}
 use Rattle.plan_format.specs.Plan.{Plan, count}
 use Rattle.plan_format.specs.Sound.{Sound}
 use Rattle.plan_order.specs.Precedence.{before, at-or-before}
@@ -74,15 +74,14 @@ code none = no-operation
 code (some g) = g
 
 record Shows (table : List ℕ) (last : ℕ → Option ℕ) : Type 0 where
-  size : length table ≡ 512
-  frees : (b : ℕ) → b < 256 → free-in table b ≡ code (last b)
+  size : length table ≡ most-buffers
+  frees : (b : ℕ) → b < most-buffers → free-in table b ≡ code (last b)
 
 shows-none : Shows none-noted (λ b. none)
 unfolding code
 shows-none = record {
-  size = length-replicate {A = ℕ} 512 no-operation;
-  frees = λ b l. getD-replicate 512
-      (b * 2 + 1) no-operation 0 (omega arith);
+  size = length-replicate {A = ℕ} most-buffers no-operation;
+  frees = λ b l. getD-replicate most-buffers b no-operation 0 l;
 }
 
 module _ (last : ℕ → Option ℕ) (m : Marked) where
@@ -99,23 +98,21 @@ module _ (last : ℕ → Option ℕ) (m : Marked) where
   after-other b q = rw q
 
   -- a free is noted as its buffer's free; nothing else changes a free
-  shows-noted : (table : List ℕ) → m .buffer < 256 → m .kind < 2 → Shows table last →
-      Shows (noted m table) (after last m)
+  shows-noted : (table : List ℕ) → m .buffer < most-buffers → Shows table last → Shows (noted m table) (after last m)
   unfolding noted code
-  shows-noted table l u s =
-      let at = m .buffer * 2 + m .kind in
+  shows-noted table l s =
+      let at = m .buffer in
+      let new = cond (eqb (m .kind) 1) (m .by) (free-in table at) in
+      let own : free-in (noted m table) at ≡ code (after last m at) =
+      getD-set-same table at new 0 (omega (arith, s .size))
+      ∙ by-cases (eqb (m .kind) 1) (λ t. rw (t, after-free at (eq-eqb at at refl) t))
+      (λ f. rw (f, after-use at f) (s .frees at l)) in
       record {
-        size = length-set table at (m .by) ∙ s .size;
-        frees = λ b k.
-            let other : (b * 2 + 1 ≡ at → ⊥) → after last m b ≡ last b →
-            free-in (noted m table) b ≡ code (after last m b) =
-            λ n e. getD-set-other table at (b * 2 + 1) (m .by) 0 n ∙ s .frees b k ∙ rw e in
-            by-cases (eqb (m .kind) 1)
-            (λ t. by-cases (eqb (m .buffer) b)
-            (λ q. let e : b * 2 + 1 ≡ at = omega (arith, eqb-true (m .kind) 1 t, eqb-true (m .buffer) b q) in
-            rw (e, after-free b q t) (getD-set-same table at (m .by) 0 (omega (arith, s .size))))
-            (λ q. other (omega (arith, eqb-true (m .kind) 1 t, eqb-false (m .buffer) b q)) (after-other b q)))
-            (λ f. other (omega (arith, eqb-false (m .kind) 1 f)) (after-use b f));
+        size = length-set table at new ∙ s .size;
+        frees = λ b k. by-cases (eqb at b)
+            (λ q. subst (λ (z : ℕ). free-in (noted m table) z ≡ code (after last m z)) (eqb-true at b q) own)
+            (λ q. getD-set-other table at b new 0 (omega (arith, eqb-false at b q)) ∙ s .frees b k
+            ∙ rw (after-other b q));
       }
 
 -- the next free of each buffer is the free of the holding of its next mark
@@ -174,7 +171,7 @@ module _ (p : Plan) (sound : Sound p) (few : length (p .sizes) ≤ 256) (f : Lis
   unfolding noted-back of-buffer freed-by
   frees-shown [] k = shows-none
   frees-shown (m ∷ ms) k =
-      let s = shows-noted (λ b. freed-by (of-buffer b ms)) m (noted-back ms) (omega (arith, k .0 .buffer)) (k .0 .kind)
+      let s = shows-noted (λ b. freed-by (of-buffer b ms)) m (noted-back ms) (omega (arith, k .0 .buffer))
       (frees-shown ms (k .1)) in
       record { size = s .size; frees = λ b l. s .frees b l ∙ ap (λ (o : Option ℕ). code o) (sym (freed-after m ms b)) }
 
@@ -213,7 +210,7 @@ module _ (p : Plan) (sound : Sound p) (few : length (p .sizes) ≤ 256) (f : Lis
       let low : m .buffer < 256 = omega (arith, k .0 .buffer) in
       rw (
         s .frees (m .buffer) low,
-        reuses-found n ms (noted m table) (after last m) (shows-noted last m table low (k .0 .kind) s)
+        reuses-found n ms (noted m table) (after last m) (shows-noted last m table low s)
             (inside-after last m (k .0 .by) h) (k .1),
       )
       (sym (unmet-append forced n (later-asks (place m) (last (m .buffer))) (of-reuses (after last m) ms)

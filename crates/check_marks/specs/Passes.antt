@@ -1,30 +1,38 @@
--- R32, R33: two passes over the marks of a plan, with a table by mark: uses against the free of their own holding, from
--- the last mark to the first, and marks against the free before their holding. Assumes nothing: these are definitions.
+-- R32, R33: two passes over the marks of a plan, with a table by buffer: uses against the free of their own holding,
+-- from the last mark to the first, and marks against the free before their holding. Assumes nothing: these are
+-- definitions.
+use mathlib.Core.Path.{_≡_}
 use mathlib.Core.Bool.{Bool, _&&_, _||_, not, cond}
 use mathlib.Core.List.{List, [], _∷_}
-use Prim.Native.Nat.{ℕ, _+_, _*_, min}
+use Prim.Native.Nat.{ℕ, _/_, _%_, _<_, min}
 use lib.Dec.{ltb, eqb}
 use lib.ListN.{getD, set, replicate}
-use Rattle.plan_format.specs.Sizes.{mark-places, no-operation}
+use Rattle.plan_format.specs.Sizes.{most-buffers, mark-places, row-width, no-operation}
 use Rattle.check_columns.specs.Columns.{Marked}
-use Rattle.check_columns.specs.Shown.{mark-codes, shown-from, ordered}
+use Rattle.check_columns.specs.Shown.{shown-from, ordered}
 
--- a table by mark, twice its buffer and one more for a free: the operation that had the mark last; 1,024 means
--- none
+-- a table by buffer: the operation that freed it; 1,024 means none
 abbrev pub none-noted : List ℕ
-none-noted = replicate mark-codes no-operation
-
-unfoldable pub noted : Marked → (last : List ℕ) → List ℕ
-noted m last = set last (m .buffer * 2 + m .kind) (m .by)
+none-noted = replicate most-buffers no-operation
 
 -- a buffer's free
-abbrev pub free-in : (last : List ℕ) → (b : ℕ) → ℕ
-free-in last b = getD last (b * 2 + 1) 0
+abbrev pub free-in : (frees : List ℕ) → (b : ℕ) → ℕ
+free-in frees b = getD frees b 0
+
+-- a free is noted, and a use leaves its buffer's free in the table
+unfoldable pub noted : Marked → (frees : List ℕ) → List ℕ
+noted m frees = set frees (m .buffer) (cond (eqb (m .kind) 1) (m .by) (free-in frees (m .buffer)))
 
 -- the table after marks passed from the last to the first
 unfoldable pub noted-back : List Marked → List ℕ
 noted-back [] = none-noted
 noted-back (m ∷ ms) = noted m (noted-back ms)
+
+-- an operation's place in the rows, in its own row and the column of its queue; for 1,024 any place of the row after
+-- the last
+pub record Own-place (queue : List ℕ) (i place : ℕ) : Type 0 where
+  pub row : place / row-width ≡ i
+  pub column : i < no-operation → place % row-width ≡ getD queue i 0 % row-width
 
 module _ (queue rows : List ℕ) where
   -- a use by i is not forced to come no later than a free
@@ -41,10 +49,10 @@ module _ (queue rows : List ℕ) where
   first-late n (m ∷ ms) =
       cond (eqb (m .kind) 0 && late (m .by) (free-in (noted-back ms) (m .buffer))) (m .by) (first-late n ms)
 
-  unfoldable pub first-early : (n : ℕ) → (last : List ℕ) → List Marked → ℕ
-  first-early n last [] = n
-  first-early n last (m ∷ ms) =
-      cond (early (free-in last (m .buffer)) (m .by)) (m .by) (first-early n (noted m last) ms)
+  unfoldable pub first-early : (n : ℕ) → (frees : List ℕ) → List Marked → ℕ
+  first-early n frees [] = n
+  first-early n frees (m ∷ ms) =
+      cond (early (free-in frees (m .buffer)) (m .by)) (m .by) (first-early n (noted m frees) ms)
 
   -- the lower of the two, by the first `many` marks of columns with 4,096 places; n where there is neither
   unfoldable pub first-broken : (n many : ℕ) → (mark operation : List ℕ) → ℕ

@@ -1,27 +1,34 @@
 // R35 and R48, broken marks: those of which keeping asks what "before" does not force. Two passes over the marks: a use
-// against the next free of its buffer, a mark against the last free before it. Each has a table by mark, 2 * buffer for
-// a use and one more for a free: the operation that had the mark last, and 1,024 for none. What is done for a mark does
-// not branch on it.
+// against the next free of its buffer, a mark against the last free before it. Each has a table by buffer: where the
+// row of its free begins, or the free's own place in that row; and the zero row, after the last, for none. What is done
+// for a mark does not branch on it.
 use check_columns::MARK_CODES;
 use check_columns::MarkColumn;
 use check_columns::QueueColumn;
 use check_columns::Rows;
 use plan_format::limits::MARK_PLACES;
+use plan_format::limits::MOST_BUFFERS;
 use plan_format::limits::MOST_OPERATIONS;
 use plan_format::limits::NO_OPERATION;
-use plan_format::limits::NO_OPERATION_STORED;
 use plan_format::limits::ROW_WIDTH;
 ghost use mathlib.Core.Path.{_≡_};
 ghost use mathlib.Core.Bool.{cond};
-ghost use Prim.Native.Nat.{_/_, _<_, _≤_};
-ghost use Rattle.plan_format.specs.Sizes.{most-operations, mark-places, no-operation};
+ghost use mathlib.Core.List.{List};
+ghost use Prim.Native.Nat.{ℕ, _+_, _*_, _%_, _<_, _≤_};
+ghost use lib.Dec.{eqb};
+ghost use Rattle.plan_format.specs.Sizes.{most-operations, mark-places, row-width, no-operation};
 ghost use Rattle.plan_format.specs.Plan.{Plan};
 ghost use Rattle.plan_order.specs.Holdings.{broken as broken-mark};
 ghost use Rattle.base_lists.specs.Lists.{place-or};
 ghost use Rattle.check_marks.specs.Given.{Marks-given};
-ghost use Rattle.check_columns.specs.Shown.{mark-codes, mark-of, shown-from, ordered as is-ordered};
-ghost use Rattle.check_marks.specs.Passes.{none-noted, noted, free-in, late as is-late, early as is-early};
+ghost use Rattle.check_columns.specs.Shown.{shown-from};
+ghost use Rattle.check_marks.specs.Passes.{none-noted, Own-place, late as is-late, early as is-early};
 ghost use Rattle.check_marks.specs.Passes.{first-late, first-early, first-broken};
+
+// Where the zero row begins.
+const NO_ROW: usize = ROW_WIDTH * NO_OPERATION;
+
+const NO_ROW_STORED: u16 = NO_ROW as u16;
 
 // The lower of what the two passes find; n where they find nothing. By the columns of a plan it is the lowest operation
 // with a broken mark.
@@ -60,16 +67,16 @@ fn uses(
     ensures { λ r. ⌜ r ≡ first-late (now (queue .entry)) (now (rows .entry)) n
         (shown-from (now (mark .entry)) (now (mop .entry)) marks 0) ⌝ }
 {
-    let mut last = [NO_OPERATION_STORED; MARK_CODES];
+    let mut frees = [NO_ROW_STORED; MOST_BUFFERS];
     let mut lowest = n;
     let mut k = marks;
     while 0 < k {
         k -= 1;
         let m = base_numbers::u16_to_usize(mark[k]) % MARK_CODES;
         let i = base_numbers::u16_to_usize(mop[k]) % MOST_OPERATIONS;
-        let free = freed(&last, m);
+        let free = base_numbers::u16_to_usize(frees[m / 2]);
         lowest = pick((m % 2 == 0) & late(queue, rows, i, free), i, lowest);
-        note(&mut last, m, i);
+        frees[m / 2] = noted(m, ROW_WIDTH * i, free);
     }
     lowest
 }
@@ -87,64 +94,63 @@ fn reuses(
     ensures { λ r. ⌜ r ≡ first-early (now (queue .entry)) (now (rows .entry)) n none-noted
         (shown-from (now (mark .entry)) (now (mop .entry)) marks 0) ⌝ }
 {
-    let mut last = [NO_OPERATION_STORED; MARK_CODES];
+    let mut frees = [NO_ROW_STORED; MOST_BUFFERS];
     let mut k = 0;
     while k < marks {
         let m = base_numbers::u16_to_usize(mark[k]) % MARK_CODES;
         let i = base_numbers::u16_to_usize(mop[k]) % MOST_OPERATIONS;
-        let free = freed(&last, m);
-        if early(queue, rows, free, i) {
+        let own = own_place(queue, i);
+        let free = base_numbers::u16_to_usize(frees[m / 2]);
+        if early(rows, free, i, own) {
             return i;
         }
-        note(&mut last, m, i);
+        frees[m / 2] = noted(m, own, free);
         k += 1;
     }
     n
 }
 
-// Whether a use by i isn't forced to come no later than a free.
+// Whether a use by i isn't forced to come no later than a free, whose row begins at `free`.
 fn late(queue: &QueueColumn, rows: &Rows, i: usize, free: usize) -> bool
-    requires { ⌜ (i < most-operations) × (free ≤ no-operation) ⌝ }
-    ensures { λ r. ⌜ r ≡ is-late (now (queue .entry)) (now (rows .entry)) i free ⌝ }
+    requires { ⌜ (i < most-operations) × (free ≤ row-width * no-operation) ⌝ }
+    ensures { λ r. ⌜ ((g : ℕ) → free ≡ row-width * g → r ≡ is-late (now (queue .entry)) (now (rows .entry)) i g) ⌝ }
 {
-    (free < NO_OPERATION) & !ordered(queue, rows, i, free)
-}
-
-// Whether a mark by i isn't forced to come after a free. Neither side of the `|` is true of a mark that isn't broken,
-// so that a jump on either is easy to foretell.
-fn early(queue: &QueueColumn, rows: &Rows, free: usize, i: usize) -> bool
-    requires { ⌜ (free ≤ no-operation) × (i < most-operations) ⌝ }
-    ensures { λ r. ⌜ r ≡ is-early (now (queue .entry)) (now (rows .entry)) free i ⌝ }
-{
-    (free == i) | ((free < NO_OPERATION) & !ordered(queue, rows, free, i))
-}
-
-// Whether i is j or before j, by the column of i's queue in their rows. Where i is no operation the answer is
-// unspecified.
-fn ordered(queue: &QueueColumn, rows: &Rows, i: usize, j: usize) -> bool
-    requires { ⌜ (i ≤ no-operation) × (j ≤ no-operation) ⌝ }
-    ensures { λ r. ⌜ (i < most-operations → r ≡ is-ordered (now (queue .entry)) (now (rows .entry)) i j) ⌝ }
-{
-    let q = base_numbers::u16_to_usize(queue[i % MOST_OPERATIONS]) % ROW_WIDTH;
+    let q = base_numbers::u16_to_usize(queue[i]) % ROW_WIDTH;
     let own = base_numbers::u16_to_usize(rows[ROW_WIDTH * i + q]);
-    let other = base_numbers::u16_to_usize(rows[ROW_WIDTH * j + q]);
-    own <= other
+    let other = base_numbers::u16_to_usize(rows[free + q]);
+    (free < NO_ROW) & (other < own)
 }
 
-// The free of a mark's buffer.
-fn freed(last: &[u16; MARK_CODES], m: usize) -> usize
-    requires { ⌜ m < mark-codes ⌝ }
-    ensures { λ r. ⌜ r ≡ free-in (now (last .entry)) (m / 2) ⌝ }
+// Whether a mark by i isn't forced to come after a free; `free` and `own` are their own places. Neither side of the `|`
+// is true of a mark that isn't broken, so that a jump on either is easy to foretell.
+fn early(rows: &Rows, free: usize, i: usize, own: usize) -> bool
+    requires { ⌜ (free < row-width * (no-operation + 1)) × (i < most-operations) ⌝ }
+    ensures { λ r. ⌜ ((queue : List ℕ) (g : ℕ) → Own-place queue g free → Own-place queue i own →
+        r ≡ is-early queue (now (rows .entry)) g i) ⌝ }
 {
-    base_numbers::u16_to_usize(last[m / 2 * 2 + 1])
+    let freed = base_numbers::u16_to_usize(rows[free]);
+    let marked = base_numbers::u16_to_usize(rows[ROW_WIDTH * i + free % ROW_WIDTH]);
+    (free == own) | ((free < NO_ROW) & (marked < freed))
 }
 
-// Notes that i has a mark.
-fn note(last: &mut [u16; MARK_CODES], m: usize, i: usize)
-    requires { ⌜ (m < mark-codes) × (i < most-operations) ⌝ }
-    ensures { λ _. ⌜ now (last .exit) ≡ noted (mark-of m i) (now (last .entry)) ⌝ }
+// An operation's own place in the rows.
+fn own_place(queue: &QueueColumn, i: usize) -> usize
+    requires { ⌜ i < most-operations ⌝ }
+    ensures { λ r. ⌜ Own-place (now (queue .entry)) i r × (r < row-width * no-operation) ⌝ }
 {
-    last[m] = i as u16;
+    ROW_WIDTH * i + base_numbers::u16_to_usize(queue[i]) % ROW_WIDTH
+}
+
+// What the table has for the buffer of a mark after it: the mark's place where it is a free, else what it had.
+fn noted(m: usize, place: usize, free: usize) -> u16
+    requires { ⌜ (place < 65536) × (free < 65536) ⌝ }
+    ensures { λ r. ⌜ r ≡ cond (eqb (m % 2) 1) place free ⌝ }
+{
+    if m % 2 == 1 {
+        place as u16
+    } else {
+        free as u16
+    }
 }
 
 // One of two.

@@ -4,15 +4,17 @@ use mathlib.Core.Path.{ap}
 use Prim.Native.Nat.{ℕ, _-_, _%_}
 use borrow.Author.Needs.{needs}
 use Rattle.plan_format.specs.Sizes.{most-operations}
-use Rattle.check_marks.proofs.Turns.{Forward, forward-none, forward-end, forward-early, forward-fine}
+use Rattle.check_columns.specs.Shown.{mark-codes}
+use Rattle.check_marks.proofs.Turns.{Forward, forward-none, forward-low, forward-end}
+use Rattle.check_marks.proofs.Turns.{forward-early, forward-fine}
 use Rattle.check_marks.proofs.reuses.Statement.{statement}
 use Rattle.check_marks.proofs.reuses.Tie as tie
 
 abbrev Inv-loop : tie.InvT-loop
-Inv-loop n marks queue mark mop rows last₀ k₀ last k = Forward queue rows mark mop n marks last k
+Inv-loop n marks queue mark mop rows frees₀ k₀ frees k = Forward queue rows mark mop n marks frees k
 
 abbrev μ-loop : tie.MeasureT-loop
-μ-loop n marks queue mark mop rows last₀ k₀ last k = marks - k
+μ-loop n marks queue mark mop rows frees₀ k₀ frees k = marks - k
 
 loop-holds : tie.Need-loop-holds Inv-loop μ-loop
 loop-holds c = forward-none
@@ -35,25 +37,45 @@ element-copy-out-u16-to-usize-2 c = search needs
 u16-to-usize-requires-2 : tie.Need-u16-to-usize-requires-2 Inv-loop μ-loop
 u16-to-usize-requires-2 c κs = search needs
 
-freed-requires : tie.Need-freed-requires Inv-loop μ-loop
-freed-requires c κs = search needs
+own-place-requires : tie.Need-own-place-requires Inv-loop μ-loop
+own-place-requires c κs = search needs
+
+mul-u16-to-usize-3 : tie.Need-mul-u16-to-usize-3 Inv-loop μ-loop
+mul-u16-to-usize-3 c = search needs
+
+array-read-u16-to-usize : tie.Need-array-read-u16-to-usize Inv-loop μ-loop
+array-read-u16-to-usize c = search needs
+
+u16-to-usize-requires-3 : tie.Need-u16-to-usize-requires-3 Inv-loop μ-loop
+u16-to-usize-requires-3 c κs = search needs
 
 early-requires : tie.Need-early-requires Inv-loop μ-loop
 early-requires c κs =
-    let turn = c .before .before .before .before .before .before .before in
-    (rw (c .freed .ensures) (turn .loop .inv .low _), search needs)
+    let turn = c .before .before .before .before .before in (
+      forward-low (turn .before .before .loop .inv) (turn .before .loop-test .taken)
+          (ap (λ (z : ℕ). z % mark-codes) (c .before .before .before .before .u16-to-usize .ensures .0))
+          (ap (λ (z : ℕ). z % most-operations) (c .before .before .u16-to-usize2 .ensures .0))
+          (c .before .own-place .ensures .0) (c .u16-to-usize3 .ensures .0),
+      search needs,
+    )
 
 returns : tie.Need-returns Inv-loop μ-loop
 returns c =
-    let earlier = c .before .before .before .before .before .before in
-    forward-early (earlier .before .before .before .loop .inv)
-    (earlier .before .before .loop-test .taken)
-    (ap (λ (z : ℕ). z % 512) (earlier .u16-to-usize .ensures .0))
-    (ap (λ (z : ℕ). z % most-operations) (c .before .before .before .before .u16-to-usize2 .ensures .0))
-    (c .before .before .freed .ensures) (c .before .early .ensures) (c .if1 .taken)
+    let read = c .before .before in
+    let turn = read .before .before .before .before .before in
+    forward-early (turn .before .before .loop .inv) (turn .before .loop-test .taken)
+    (ap (λ (z : ℕ). z % mark-codes) (read .before .before .before .before .u16-to-usize .ensures .0))
+    (ap (λ (z : ℕ). z % most-operations) (read .before .before .u16-to-usize2 .ensures .0))
+    (read .before .own-place .ensures .0) (read .u16-to-usize3 .ensures .0) (c .before .early .ensures) (c .if1 .taken)
 
-note-requires : tie.Need-note-requires Inv-loop μ-loop
-note-requires c κs = search needs
+noted-requires : tie.Need-noted-requires Inv-loop μ-loop
+noted-requires c κs = search needs
+
+mul-frees : tie.Need-mul-frees Inv-loop μ-loop
+mul-frees c = search needs
+
+array-write-frees : tie.Need-array-write-frees Inv-loop μ-loop
+array-write-frees c = search needs
 
 add-k : tie.Need-add-k Inv-loop μ-loop
 add-k c = search needs
@@ -63,16 +85,13 @@ loop-less c = search needs
 
 loop-again : tie.Need-loop-again Inv-loop μ-loop
 loop-again c =
-    let earlier = c .before .before .before .before .before .before in
-    forward-fine
-    (earlier .before .before .before .before .before .loop .inv)
-    (earlier .before .before .before .before .loop-test .taken)
-    (ap (λ (z : ℕ). z % 512)
-    (earlier .before .before .u16-to-usize .ensures .0))
-    (ap (λ (z : ℕ). z % most-operations)
-    (earlier .u16-to-usize2 .ensures .0))
-    (c .before .before .before .before .freed .ensures) (c .before .before .before .early .ensures)
-    (c .before .before .if1 .left) (c .note .ensures)
+    let read = c .before .before .before in
+    let turn = read .before .before .before .before .before in
+    forward-fine (turn .before .before .loop .inv) (turn .before .loop-test .taken)
+    (ap (λ (z : ℕ). z % mark-codes) (read .before .before .before .before .u16-to-usize .ensures .0))
+    (ap (λ (z : ℕ). z % most-operations) (read .before .before .u16-to-usize2 .ensures .0))
+    (read .before .own-place .ensures .0) (read .u16-to-usize3 .ensures .0) (c .before .before .early .ensures)
+    (c .before .if1 .left) (c .noted .ensures)
 
 returns-2 : tie.Need-returns-2 Inv-loop μ-loop
 returns-2 c = forward-end (c .loop-test .left) (c .before .loop .inv)
@@ -90,10 +109,15 @@ reuses-spec =
     mul-u16-to-usize-2
     element-copy-out-u16-to-usize-2
     u16-to-usize-requires-2
-    freed-requires
+    own-place-requires
+    mul-u16-to-usize-3
+    array-read-u16-to-usize
+    u16-to-usize-requires-3
     early-requires
     returns
-    note-requires
+    noted-requires
+    mul-frees
+    array-write-frees
     add-k
     loop-less
     loop-again

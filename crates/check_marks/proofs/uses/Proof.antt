@@ -4,15 +4,17 @@ use mathlib.Core.Path.{ap}
 use Prim.Native.Nat.{ℕ, _%_}
 use borrow.Author.Needs.{needs}
 use Rattle.plan_format.specs.Sizes.{most-operations}
-use Rattle.check_marks.proofs.Turns.{Backward, backward-none, backward-end, backward-more}
+use Rattle.check_columns.specs.Shown.{mark-codes}
+use Rattle.check_marks.proofs.Turns.{Backward, backward-none, backward-low, backward-end, backward-more}
 use Rattle.check_marks.proofs.uses.Statement.{statement}
 use Rattle.check_marks.proofs.uses.Tie as tie
 
 abbrev Inv-loop : tie.InvT-loop
-Inv-loop n marks queue mark mop rows last₀ lowest₀ k₀ last lowest k = Backward queue rows mark mop n marks last lowest k
+Inv-loop n marks queue mark mop rows frees₀ lowest₀ k₀ frees lowest k =
+    Backward queue rows mark mop n marks frees lowest k
 
 abbrev μ-loop : tie.MeasureT-loop
-μ-loop n marks queue mark mop rows last₀ lowest₀ k₀ last lowest k = k
+μ-loop n marks queue mark mop rows frees₀ lowest₀ k₀ frees lowest k = k
 
 loop-holds : tie.Need-loop-holds Inv-loop μ-loop
 loop-holds c = backward-none
@@ -38,35 +40,50 @@ element-copy-out-u16-to-usize-2 c = search needs
 u16-to-usize-requires-2 : tie.Need-u16-to-usize-requires-2 Inv-loop μ-loop
 u16-to-usize-requires-2 c κs = search needs
 
-freed-requires : tie.Need-freed-requires Inv-loop μ-loop
-freed-requires c κs = search needs
+mul-u16-to-usize-3 : tie.Need-mul-u16-to-usize-3 Inv-loop μ-loop
+mul-u16-to-usize-3 c = search needs
+
+array-read-u16-to-usize : tie.Need-array-read-u16-to-usize Inv-loop μ-loop
+array-read-u16-to-usize c = search needs
+
+u16-to-usize-requires-3 : tie.Need-u16-to-usize-requires-3 Inv-loop μ-loop
+u16-to-usize-requires-3 c κs = search needs
 
 late-requires : tie.Need-late-requires Inv-loop μ-loop
 late-requires c κs =
-    let turn = c .before .before .before .before .before .before .before in
-    (search needs, rw (c .freed .ensures) (turn .loop .inv .low _))
+    let turn = c .before .before .before .before .before in (
+      search needs,
+      backward-low (turn .before .loop .inv) (turn .loop-test .taken)
+          (ap (λ (z : ℕ). z % mark-codes) (c .before .before .before .u16-to-usize .ensures .0))
+          (ap (λ (z : ℕ). z % most-operations) (c .before .u16-to-usize2 .ensures .0)) (c .u16-to-usize3 .ensures .0),
+    )
 
 pick-requires : tie.Need-pick-requires Inv-loop μ-loop
 pick-requires c κs = search needs
 
-note-requires : tie.Need-note-requires Inv-loop μ-loop
-note-requires c κs = search needs
+mul-noted : tie.Need-mul-noted Inv-loop μ-loop
+mul-noted c = search needs
+
+noted-requires : tie.Need-noted-requires Inv-loop μ-loop
+noted-requires c κs = search needs
+
+mul-frees : tie.Need-mul-frees Inv-loop μ-loop
+mul-frees c = search needs
+
+array-write-frees : tie.Need-array-write-frees Inv-loop μ-loop
+array-write-frees c = search needs
 
 loop-less : tie.Need-loop-less Inv-loop μ-loop
 loop-less c = search needs
 
 loop-again : tie.Need-loop-again Inv-loop μ-loop
 loop-again c =
-    let earlier = c .before .before .before .before .before .before in
-    backward-more
-    (earlier .before .before .before .before .before .loop .inv)
-    (earlier .before .before .before .before .loop-test .taken)
-    (ap (λ (z : ℕ). z % 512)
-    (earlier .before .before .u16-to-usize .ensures .0))
-    (ap (λ (z : ℕ). z % most-operations)
-    (earlier .u16-to-usize2 .ensures .0))
-    (c .before .before .before .before .freed .ensures) (c .before .before .before .late .ensures)
-    (c .before .before .pick .ensures) (c .note .ensures)
+    let read = c .before .before .before in
+    let turn = read .before .before .before .before .before in
+    backward-more (turn .before .loop .inv) (turn .loop-test .taken)
+    (ap (λ (z : ℕ). z % mark-codes) (read .before .before .before .u16-to-usize .ensures .0))
+    (ap (λ (z : ℕ). z % most-operations) (read .before .u16-to-usize2 .ensures .0)) (read .u16-to-usize3 .ensures .0)
+    (c .before .before .late .ensures) (c .before .pick .ensures) (c .noted .ensures)
 
 returns : tie.Need-returns Inv-loop μ-loop
 returns c = backward-end (c .loop-test .left) (c .before .loop .inv)
@@ -85,10 +102,15 @@ uses-spec =
     mul-u16-to-usize-2
     element-copy-out-u16-to-usize-2
     u16-to-usize-requires-2
-    freed-requires
+    mul-u16-to-usize-3
+    array-read-u16-to-usize
+    u16-to-usize-requires-3
     late-requires
     pick-requires
-    note-requires
+    mul-noted
+    noted-requires
+    mul-frees
+    array-write-frees
     loop-less
     loop-again
     returns)
