@@ -63,8 +63,7 @@ module _ (width q m b : ℕ) (bs : List ℕ) (at : ℕ) (w-now : List ℕ) (r : 
   unfolding operation-scan here fault-of
   in-window =
       let same : min at (length bs) ≡ at = omega arith in
-      subst
-      (λ (a : ℕ). read-by bytes (operation-below width q m b) (scan (drop a bs) a [] none-given) ≡
+      subst (λ (a : ℕ). read-by bytes (operation-below width q m b) (scan (drop a bs) a [] none-given) ≡
       here bs (end-cursor r) w-now) same (o .read)
 
   -- the same after other numbers
@@ -157,8 +156,7 @@ module _ (width : ℕ) (bs : List ℕ) (h : Head) (nums : List ℕ) (cs₀ : Col
               let next = filling-next (l .filled small (block ++ more)) on
               (added-among small front block more junk k window) in
               subst (λ (x : List ℕ). Filled x more cs′ (i + 1) (length x) signals′ marks′) same
-              (subst
-              (λ (x : List ℕ). Filling x (h .operations) (length heading) cs₀ cs′ (i + 1)
+              (subst (λ (x : List ℕ). Filling x (h .operations) (length heading) cs₀ cs′ (i + 1)
               (length (front ++ block)) signals′ marks′)
               (sym (append-assoc front block more)) next);
         }

@@ -355,8 +355,7 @@ module _ (bs : List ℕ) (h : Head) (nums : List ℕ) (cs₀ : Columns) (head : 
         pub load-owners : plan-in bs .owners ≡ take (h .semaphores) (drop (2 + h .queues) nums)
         load-owners =
             ap (λ (p : Plan). p .owners) plan-is
-            ∙ sym
-            (ap (λ (x : List ℕ). take (h .semaphores) x) (after-seam nums (h .queues ∷ front .axes)
+            ∙ sym (ap (λ (x : List ℕ). take (h .semaphores) x) (after-seam nums (h .queues ∷ front .axes)
             (front .owners ++ ((h .buffers ∷ (front .sizes ++ (h .operations ∷ []))) ++ drop (h .got) nums))
             (h .semaphores) (2 + h .queues) split (omega (arith, front .axes-long)))
             ∙ take-at (front .owners) ((h .buffers ∷ (front .sizes ++ (h .operations ∷ []))) ++ drop (h .got) nums)

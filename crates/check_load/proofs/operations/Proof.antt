@@ -19,8 +19,7 @@ abbrev Inv-loop : tie.InvT-loop
 Inv-loop plan h queue₀ wsem₀ wval₀ ssem₀ sval₀ sop₀ mark₀ mop₀ many window₀ at₀ signals₀ marks₀ i₀ queue wsem wval ssem
     sval sop mark mop window at signals marks i =
     (many ≡ h .operations) × (many ≤ most-operations) × (i ≤ many) × (signals ≤ 3 * i) × (marks ≤ 7 * i)
-    ×
-    ((nums : List ℕ) → Head-read plan h nums → h .number ≡ 0 →
+    × ((nums : List ℕ) → Head-read plan h nums → h .number ≡ 0 →
     Load 1 plan h nums (columns queue₀ wsem₀ wval₀ ssem₀ sval₀ sop₀ mark₀ mop₀)
     (columns queue wsem wval ssem sval sop mark mop) i at signals marks)
 
