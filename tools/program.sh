@@ -11,8 +11,7 @@ fresh() {
     . "$built"
     [ -n "$made" ] || return 1
     for part in $made; do
-        part=$home/$part
-        [ "$built" -nt "$part" ] || { [ -e "$part" ] && ! [ "$part" -nt "$built" ]; } || return 1
+        [ "$built" -nt "$home/$part" ] || { [ -e "$home/$part" ] && ! [ "$home/$part" -nt "$built" ]; } || return 1
     done
 }
 

@@ -78,8 +78,13 @@ module _ (p : Plan) where
         let known : q < queues p = sound .in-range i inside .queue in
         let few : q < 16 = omega (arith, sound .few-queues) in
         row-epoch p i j inside few .1
-        (omega
-        (arith, row-epoch p i i inside few .0 (inl refl), over (getD (p .axes) q 0), m .own q known, n .own q known))
+        (omega (
+          arith,
+          row-epoch p i i inside few .0 (inl refl),
+          over (getD (p .axes) q 0),
+          m .own q known,
+          n .own q known,
+        ))
 
     pub order-over : (i ≡ j) ⊎ Before p i j → Over full other
     order-over w axis =

@@ -77,8 +77,7 @@ module _ {bs : List ℕ} (q b : ℕ) {n i : ℕ} {t x l y : List ℕ}
       let s = checked .says in
       let o = check-outcome bs (length t) (length l) in
       let bad : o .refusal .number ≡ 0 → ⊥ = λ z. h (s .tells .number ∙ z) in
-      subst
-      (λ (z : Outcome). Says z (number-of (verdict (plan-in bs) q b)) (plan-in bs)
+      subst (λ (z : Outcome). Says z (number-of (verdict (plan-in bs) q b)) (plan-in bs)
       (record { number = n; place = i; answer = 0 }) t x l y)
       (sym (question-means bs q b (length t) (length l) .plan-first bad))
       (record {

@@ -96,8 +96,8 @@ module _ (p : Plan) (limits : Limits p) (X : List ℕ) (n first : ℕ)
         (says (queue-part X) (λ o. o .queue) of (λ i at f. queue-same X i at f)) refl
         (omega (arith, long, few-operations limits)) j (omega (arith, long))
         ∙ ap (λ (o : Operation). o .queue)
-        (subst
-        (λ (z : ℕ). getD (joined of 0 (p .operations)) z empty-operation ≡ getD (p .operations) j empty-operation) e
+        (subst (λ (z : ℕ). getD (joined of 0 (p .operations)) z empty-operation ≡
+        getD (p .operations) j empty-operation) e
         (joined-at of 1 (λ i o. refl) 0 (p .operations) j 0 empty-operation l (omega arith)))
 
     -- a number of a wait

@@ -61,8 +61,8 @@ module _ (p : Plan) (bs : List Operation) where
     values = λ s l. by-cases (eqb (x .semaphore) s)
         (λ e. let same = eqb-true (x .semaphore) s e in
         rw e
-        (subst
-        (λ (z : ℕ). getD (set t (x .semaphore) (x .value)) z 0 ≡ max (highest z bs) (max (x .value) (highest-in z own)))
+        (subst (λ (z : ℕ). getD (set t (x .semaphore) (x .value)) z 0 ≡
+        max (highest z bs) (max (x .value) (highest-in z own)))
         same
         (getD-set-same t (x .semaphore) (x .value) 0 (omega (arith, h .room))
         ∙ omega (arith, leb-false (x .value) (so-far own (x .semaphore)) high))))

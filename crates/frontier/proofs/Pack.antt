@@ -171,8 +171,8 @@ unfolding entries
 judged f r l a b s z e =
     by-cases (all-zero (drop (f .len) (f .epochs)))
     (λ t. e ∙ t
-    ∙ sym
-    (well f (record { short = l; rises = s; sixteen-axes = a; sixteen-epochs = b; zero-axes = z; zero-epochs = t })))
+    ∙ sym (well f
+    (record { short = l; rises = s; sixteen-axes = a; sixteen-epochs = b; zero-axes = z; zero-epochs = t })))
     (λ t. e ∙ t ∙ sym (is-false (well-formed f) (λ u. clash _ (formed f u .zero-epochs) t)))
 
 -- two frontiers that the walks take

@@ -141,8 +141,7 @@ from-every i b zero n (o ∷ os) l e =
     (let q : i ≡ i + 0 = omega arith in q) (zero-add n) (of-every i b 0 n (o .marks) l e))
 from-every i b (suc j) n (o ∷ os) l e =
     Memᴰ·append-right (located-of i b 0 (o .marks))
-    (subst
-    (λ (z : ℕ). List·Memᴰ (located z n (mark-in (getD os j empty-operation .marks) n .kind))
+    (subst (λ (z : ℕ). List·Memᴰ (located z n (mark-in (getD os j empty-operation .marks) n .kind))
     (located-from (suc i) b os)) (let q : suc i + j ≡ i + suc j = omega arith in q) (from-every (suc i) b j n os l e))
 
 -- ---- R30: by operation, then by place in its list

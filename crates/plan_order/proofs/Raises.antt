@@ -46,8 +46,11 @@ rise-own p q bs f (x ∷ xs) ys own got e b above rest =
     let h = number-head p q bs own x xs e in
     and-both (ltb (highest-in (x .semaphore) got) (x .value)) (points-rise (x ∷ got) (xs ++ ys))
     (lt-ltb (highest-in (x .semaphore) got) (x .value)
-    (omega
-    (arith, b (x .semaphore), above (x .semaphore) (x .value) (value-here (x .semaphore) (x .value) x xs refl refl))))
+    (omega (
+      arith,
+      b (x .semaphore),
+      above (x .semaphore) (x .value) (value-here (x .semaphore) (x .value) x xs refl refl),
+    )))
     (rise-own p q bs f xs ys (x ∷ own) (x ∷ got) (h .1) (λ s. omega (arith, b s))
     (λ s v t. above s v (value-there s v x xs t))
     (λ got′ c. rest got′ (λ s. omega (arith, c s))))

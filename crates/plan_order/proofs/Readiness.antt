@@ -212,8 +212,7 @@ module _ (p : Plan) where
         (one-queue p signals-good i (g .0) (w .semaphore) (x .value) (g .1) (t .inside) kb (t .signalled) (g .4)))
         (λ f. by-cases (eqb i (g .0)) (λ u. subst (λ (z : ℕ). member z r ≡ true) (sym (eqb-true i (g .0) u)) (g .2))
         (λ n.
-        absurd
-        (let up = rises p signals-good (g .0) i (w .semaphore) (g .1) (x .value)
+        absurd (let up = rises p signals-good (g .0) i (w .semaphore) (g .1) (x .value)
         (omega (arith, ltb-false i (g .0) f, eqb-false i (g .0) n)) (t .inside) (g .4) (t .signalled) in omega arith)))
 
     pub predecessors-run : (r : List ℕ) (i j : ℕ) → runs (count p) (enabled p) [] r ≡ true → enabled p r j ≡ true →

@@ -105,8 +105,11 @@ number-none p q bs own (x ∷ xs) e s v h =
       subst (λ (z : ℕ). owns p q z ≡ true) (d .0) t,
       subst (λ (z : ℕ). highest z bs <
           v) (d .0)
-          (omega
-          (arith, d .1, leb-false (x .value) (max (highest (x .semaphore) bs) (highest-in (x .semaphore) own)) u)),
+          (omega (
+            arith,
+            d .1,
+            leb-false (x .value) (max (highest (x .semaphore) bs) (highest-in (x .semaphore) own)) u,
+          )),
     ))
     (λ d. number-none p q bs (x ∷ own) xs (rw (t, u) at e) s v d)))
     (λ f. absurd (let z : 6 ≡ 0 = rw f at e in omega arith))

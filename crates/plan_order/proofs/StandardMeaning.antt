@@ -49,8 +49,7 @@ module _ (p : Plan) where
             ∙ sym (take-suc s k 0 short),
       ))
       (λ f.
-      absurd
-      (b .ends (getD r k 0) (subst (λ (z : List ℕ). Run-means p (z ++ (getD r k 0 ∷ [])))
+      absurd (b .ends (getD r k 0) (subst (λ (z : List ℕ). Run-means p (z ++ (getD r k 0 ∷ [])))
       (w .1 ∙ take-all k s (ltb-false k (length s) f)) (t .ready))))
     where
       same : (r s : List ℕ) (k : ℕ) → take k r ≡ take k s → getD r k 0 ≡ getD s k 0 →

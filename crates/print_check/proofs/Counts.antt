@@ -21,6 +21,5 @@ few-counts bs c s =
     (λ n.
     let within = scanned-limits bs (not-given-zero (scanned bs .fault) n) in (
       omega (arith, rw n at (s .operations), within .few-operations),
-      omega
-          (arith, rw n at (s .queues), within .few-queues),
+      omega (arith, rw n at (s .queues), within .few-queues),
     ))

@@ -100,8 +100,12 @@ writes-counted {g} {xs} {c} {start} {bytes = bytes} {bytes₁} {w = w} {most} m 
       inside = q .inside;
       more = omega (arith, p .writes .more, q .more);
       few =
-          omega
-          (arith, mul-le-mul-left m (let h : n ≤ most = omega (arith, p .value-below) in h), p .writes .few, q .few);
+          omega (
+            arith,
+            mul-le-mul-left m (let h : n ≤ most = omega (arith, p .value-below) in h),
+            p .writes .few,
+            q .few,
+          );
       by-eight = omega (arith, p .writes .by-eight, q .by-eight);
       as-long = q .as-long ∙ p .writes .as-long;
       past = q .past ∙ past-later _ _ bytes₁ bytes (q .more) (p .writes .past);

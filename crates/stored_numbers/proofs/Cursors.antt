@@ -73,8 +73,12 @@ reads-counted {g} {most = most} m p n e q =
       read = counted-read g most p n e ∙ q .read;
       inside = q .inside;
       few =
-          omega
-          (arith, mul-le-mul-left m (let h : n ≤ most = omega (arith, p .value-below) in h), p .reads .few, q .few);
+          omega (
+            arith,
+            mul-le-mul-left m (let h : n ≤ most = omega (arith, p .value-below) in h),
+            p .reads .few,
+            q .few,
+          );
       more = omega (arith, p .reads .more, q .more);
       as-long = q .as-long ∙ p .reads .as-long;
       past = past-then (q .more) (reads-past (p .reads)) (reads-past q) .past;

@@ -14,8 +14,7 @@ use Rattle.check_run.proofs.Looks.{unit-shifted, looked-lowest, looked-
 abbrev Inv-loop : tie.InvT-loop
 Inv-loop mask ready head source ran waiter₀ left₀ r₀ waiter left r =
     (left < 65536) × (r < 65536)
-    ×
-    ((x : ℕ) (w : List ℕ) → Heads-looked left r head source ran waiter x w →
+    × ((x : ℕ) (w : List ℕ) → Heads-looked left r head source ran waiter x w →
     Heads-looked mask ready head source ran waiter₀ x w)
 
 abbrev μ-loop : tie.MeasureT-loop

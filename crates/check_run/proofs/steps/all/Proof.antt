@@ -19,8 +19,7 @@ Inv-loop n ready source next head₀ ran₀ waiter₀ rows₀ list₀ prev₀ un
     (i ≤ n) × (word < 65536) × (length list ≡ length list₀)
     × ((queue : List ℕ) → Prepared queue n source head₀ next ran₀ waiter₀ ready →
     Bounds queue n i head word rows₀ rows list₀ list)
-    ×
-    ((p : Plan) (queue : List ℕ) → Run-given p n queue source → Cleared rows₀ → 2 * n ≤ length list₀ →
+    × ((p : Plan) (queue : List ℕ) → Run-given p n queue source → Cleared rows₀ → 2 * n ≤ length list₀ →
     Prepared queue n source head₀ next ran₀ waiter₀ ready →
     Going p n i source head prev ran waiter word rows list₀ list)
 
