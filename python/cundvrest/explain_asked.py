@@ -59,7 +59,7 @@ def explain_trace(plan, trace):
     speaker, order = Speaker(plan), Order(plan)
     word, step, j = TRACE_WORDS[followed.answer], followed.step, followed.operation
     if not followed.departs:
-        return _of_run(followed, speaker, order, f'trace {word} {step}')
+        return _of_run(followed, speaker, order, f'trace {word}' + (f' {step}' if followed.answer == UNFINISHED else ''))
     known = followed.answer != UNKNOWN
     verdict = f'trace departs {step} {word} {j}' + (f' {followed.wait}' if followed.answer == WAIT_NOT_MET else '')
     said = Explanation(0, 0, '', speaker.where(j) if known else '', verdict, order=order, focus=[j] if known else [])
