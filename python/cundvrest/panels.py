@@ -295,7 +295,10 @@ def legend(picture, svg, y):
     if 'unmet' in drawn:
         arrow('wait that is not met', RED, 2.4, '2 4')
     if 'ran' in drawn:
-        box('has run, with its step', '✓', fill, edge)
+        x, y = item(34, 'has run, with its step')
+        svg.rect(x, y - 10, 34, 20, fill, edge, 1.2, 4)
+        svg.text(x + 3, y + 3, '✓', 9, '#3e4c59')
+        svg.text(x + 31, y + 2, '12', 8, '#3e4c59', 'end')
     if 'cut' in drawn:
         x, y = item(6, 'how far the queue came')
         svg.rect(x + 1, y - 10, 3.2, 20, INK)

@@ -12,12 +12,14 @@ IDLE = ('#fff', GREY)                   # what cannot run, or has not run
 DARK, LIGHT = '#4a5563', '#9aa5b1'      # waits on operations without a mark; waits that order nothing more
 BOX, LANE, ROW = 34, 60, 24             # how high a box, a lane and the row of a buffer are
 HATCH = 'url(#cv-hatch)'
-NARROW, WIDE = set("ijlI.,:;|!'()[] "), set('mwMW@%&≥⋯●✕✓…→')
+# how wide a character is, in units of the size, in the widest of the fonts
+WIDTHS = {**dict.fromkeys("ijlI.,:;|!' ", 0.31), **dict.fromkeys('frt()[]-', 0.42), **dict.fromkeys('csz', 0.55),
+          **dict.fromkeys('mwMW@%&≥⋯✕✓…→', 0.95)}
 
 
 def wide(text, size, bold=False):
     """How wide a text is at most, in any of the usual fonts."""
-    units = sum(0.4 if c in NARROW else 0.98 if c in WIDE else 0.72 if c.isupper() else 0.64 for c in text)
+    units = sum(WIDTHS.get(c) or (0.71 if c.isupper() else 0.63) for c in text)
     return units * size * (1.1 if bold else 1)
 
 
