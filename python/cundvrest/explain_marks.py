@@ -17,8 +17,9 @@ def broken(refused, speaker):
     order = Order(refused.plan)
     marks = faults.broken_marks(order)
     mark = next(m for m in marks if m.operation == refused.place)
-    said = Explanation(11, refused.place, '', speaker.where(mark.operation, ('operation', mark.operation, 'mark', mark.item)),
-                       order=order, broken=mark, focus=list(dict.fromkeys((mark.first, mark.then))))
+    where = speaker.where(mark.operation, ('operation', mark.operation, 'mark', mark.item))
+    said = Explanation(11, refused.place, '', where, order=order, broken=mark,
+                       focus=list(dict.fromkeys((mark.first, mark.then))))
     said.claim(PROVED, 'the row, by the proved check of the plan without its marks')
     _what_is_asked(said, order, speaker, mark)
     _why_not(said, order, speaker, mark)
@@ -27,8 +28,8 @@ def broken(refused, speaker):
     others = sorted({m.operation for m in marks} - {mark.operation})
     if others and not any(change.number == 0 for change in said.changes):
         few = ', '.join(map(str, others[:6])) + (' ..' if len(others) > 6 else '')
-        said.last.append(f'{count(len(others), "more operation")} {"has" if len(others) == 1 else "have"} a broken mark: '
-                         f'{few}.')
+        have = 'has' if len(others) == 1 else 'have'
+        said.last.append(f'{count(len(others), "more operation")} {have} a broken mark: {few}.')
     said.claim(FOUND, 'which mark and which two operations; the run and the change; the words')
     return said
 
@@ -44,21 +45,21 @@ def _what_is_asked(said, order, speaker, mark):
         again = 'frees' if plan.operations[then].marks[mark.item].free else 'uses'
         said.headline = f'{of_then} frees {name} and then {again} it again in the same operation'
         said.lines(speaker.show(then, ('mark', mark.other_item), ('mark', mark.item)))
-        said.says(f'The free ends a holding of {name}. What is marked after it belongs to the next holding, which needs a '
-                  'later step.')
+        said.says(f'The free ends a holding of {name}. What is marked after it belongs to the next holding, which needs '
+                  'a later step.')
     elif mark.kind == 'early':
         verb = 'free' if plan.operations[then].marks[mark.item].free else 'use'
         said.headline = f'{of_then} {may}{verb}{s} {name} again before {of_first} has freed it'
         said.lines(speaker.show(first, ('mark', at_first), remark=f'{of_first} frees {name}'),
                    speaker.show(then, ('mark', at_then), remark=f'{of_then} {verb}s it again'))
-        said.says(f'Operation {first} ends a holding of {name}. Operation {then} belongs to the next holding, so it must '
-                  f'come later than operation {first} in every run.')
+        said.says(f'Operation {first} ends a holding of {name}. Operation {then} belongs to the next holding, so it '
+                  f'must come later than operation {first} in every run.')
     else:
         said.headline = f'{of_first} {may}use{s} {name} after {of_then} has freed it'
         said.lines(speaker.show(first, ('mark', at_first), remark=f'{of_first} uses {name}'),
                    speaker.show(then, ('mark', at_then), remark=f'{of_then} frees it'))
-        said.says(f'Operation {then} ends the holding that operation {first} belongs to, so operation {first} must come '
-                  'first in every run.')
+        said.says(f'Operation {then} ends the holding that operation {first} belongs to, so operation {first} must '
+                  'come first in every run.')
 
 
 def _why_not(said, order, speaker, mark):
@@ -72,12 +73,12 @@ def _why_not(said, order, speaker, mark):
             f'only the first operation of {queue} is sure to have run' if known == 1 else
             f'only the first {known} operations of {queue} are sure to have run')
     if order.before(then, first):
-        said.says(f'It is always the other way round. Which holding a mark belongs to goes by the order of the plan, but '
-                  f'operation {then} comes before operation {first}, by this chain:', PROVED)
+        said.says('It is always the other way round. Which holding a mark belongs to goes by the order of the plan, '
+                  f'but operation {then} comes before operation {first}, by this chain:', PROVED)
         said.steps([_chain_row(link, speaker) for link in order.chain(then, first)], FOUND)
     else:
-        said.says(f'Nothing orders the two. When operation {then} starts, {sure}; operation {first} is number {mine} of that '
-                  f'queue. (Row of operation {then}: {row}.)', PROVED)
+        said.says(f'Nothing orders the two. When operation {then} starts, {sure}; operation {first} is number {mine} '
+                  f'of that queue. (Row of operation {then}: {row}.)', PROVED)
 
 
 def _chain_row(link, speaker):
@@ -104,8 +105,11 @@ def _run(said, order, speaker, mark):
         remark = {mark.first: 'freed only now', mark.then: 'too early'} if mark.kind == 'early' else {
             mark.first: 'used when it is free already', mark.then: 'freed too early'}
         marked = {j for j, _, _ in faults.holding_of(order, mark)} | {mark.first, mark.then}
-        said.steps([[f'step {step[j]}', f'operation {j}', *speaker.line(j), speaker.queue(j), _marks(order.plan, j, mark, name),
-                     '<-- ' + remark[j] if j in remark else ''] for j in sorted(marked, key=step.get)])
+        said.steps([[f'step {step[j]}', f'operation {j}', *speaker.line(j), speaker.queue(j),
+                     _marks(order.plan, j, mark, name), '<-- ' + remark[j] if j in remark else '']
+                    for j in sorted(marked, key=step.get)])
+        if len(marked) == order.n:
+            return                                      # the table has the whole run
         said.says('The whole run:')
     said.lines(*_run_lines(run, {mark.first, mark.then}))
 
@@ -136,7 +140,7 @@ def _run_lines(run, marked, per_line=16):
 # ---- the change
 
 def _change(said, order, speaker, mark):
-    """The first change that was tried and helps: the plan passes, or else this mark is whole and no lower one is not."""
+    """The first change that was tried and helps: the plan passes, or else this mark is kept and no lower one breaks."""
     best = None
     for (words, lines, new), _ in zip(_candidates(order, speaker, mark), range(MOST_TRIES)):
         number, place = tried(new)
@@ -173,8 +177,8 @@ def _candidates(order, speaker, mark):
 
 
 def _waits(order, speaker, mark, furthest=4, signals=8):
-    """A wait for a signal that there is, at the operation or at one before it on its queue. The signals of the operation
-    to wait for come first, then those after it, by step of the standard run."""
+    """A wait for a signal that there is, at the operation or at one before it on its queue. The signals of the
+    operation to wait for come first, then those after it, by step of the standard run."""
     plan = order.plan
     useful = sorted((r != mark.first, order.step[r], r, s, v) for r in range(order.n) if order.reaches(mark.first, r)
                     for s, v in plan.operations[r].signals)
@@ -226,7 +230,8 @@ def _new_signal(order, speaker, mark):
             return
         new = plan.with_operation(then, waits=waits)
         new.semaphore(name, owner=queue)
-        new.operations[r] = dataclasses.replace(plan.operations[r], signals=plan.operations[r].signals + (Signal(s, 1),))
+        signals = plan.operations[r].signals + (Signal(s, 1),)
+        new.operations[r] = dataclasses.replace(plan.operations[r], signals=signals)
         lines = [Shown('', f'semaphore {name} owner {speaker.queue(r)}', sign='+')]
         for j in sorted((r, then)):
             lines += speaker.change(new, j)

@@ -11,8 +11,9 @@ MOST_CHANGES = 4
 def stuck(refused, speaker):
     order = Order(refused.plan)
     lowest, lead, circle = faults.stuck(order)
+    focus = sorted({lowest, *(j for link in circle for j in (link.head, link.signaller))})
     said = Explanation(10, refused.place, _headline(circle, speaker), speaker.where(refused.place), order=order,
-                       circle=circle, focus=sorted({lowest, *(j for link in circle for j in (link.head, link.signaller))}))
+                       circle=circle, focus=focus)
     if not order.run:
         said.says('Nothing can start.', FOUND)
     elif order.run_is_confirmed():
@@ -71,7 +72,8 @@ def _changes(said, order, speaker):
             found.append(Change(f'{words}, {then(number, place)}:', speaker.change(new, link.head), new, number, place))
     passing = [change for change in found if change.number == 0]
     best = passing or sorted(found, key=lambda change: (change.number != 11, -change.place))[:1]
-    said.says('One wait of the circle has to go or to ask for less. Which one, only the maker of the plan can say: a wait '
-              'that goes no longer protects anything.' + (' Each of these changes alone is enough:' if len(best) > 1 else ''))
+    said.says('One wait of the circle has to go or to ask for less. Which one, only the maker of the plan can say: '
+              'a wait that goes no longer protects anything.'
+              + (' Each of these changes alone is enough:' if len(best) > 1 else ''))
     for change in best[:MOST_CHANGES]:
         said.try_change(change)

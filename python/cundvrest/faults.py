@@ -7,9 +7,9 @@ from dataclasses import dataclass
 
 @dataclass(frozen=True)
 class Broken:
-    """A broken mark, the one at `item` of `operation`: keeping asks that `first` comes before `then`, and nothing forces
-    it. `kind` is early for a mark of the next holding that may come before the free, late for a use that may come after
-    its own holding's free. `other_item` is the mark of the other operation."""
+    """A broken mark, the one at `item` of `operation`: keeping asks that `first` comes before `then`, and nothing
+    forces it. `kind` is early for a mark of the next holding that may come before the free, late for a use that may
+    come after its own holding's free. `other_item` is the mark of the other operation."""
     kind: str
     first: int
     then: int
@@ -59,8 +59,8 @@ def wrong_run(order, broken):
 
 @dataclass(frozen=True)
 class Link:
-    """The first operation of a queue that cannot run, `head`, waits by its wait `wait` for `signaller`, which is `after`
-    or comes after it on its queue; `after` is the first one there that cannot run."""
+    """The first operation of a queue that cannot run, `head`, waits by its wait `wait` for `signaller`, which is
+    `after` or comes after it on its queue; `after` is the first one there that cannot run."""
     head: int
     wait: int
     signaller: int

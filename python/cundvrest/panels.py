@@ -35,7 +35,7 @@ def heading(picture, svg):
         y += 24
     said = picture.traced or picture.said
     word = verdict(picture).capitalize()
-    good = said is None or picture.traced and not picture.followed.departs
+    good = said is None or picture.trace
     words = said.headline if said else 'some full run exists, and every full run keeps every buffer'
     svg.text(18, y, word, 18, GREEN if good else RED, bold=True)
     x = 18 + wide(word, 18, True) + 14
@@ -75,8 +75,9 @@ def overview(picture, svg, y):
 
 def folded(picture, svg, y, low, high):
     count = sum(low <= x < high for x in picture.levels)
-    svg.text(picture.left, y + 16, f'⋯  columns {low} to {high - 1}, {count} operation{"" if count == 1 else "s"}, not drawn  ⋯',
-             11, PALE, italic=True)
+    operations = 'operation' if count == 1 else 'operations'
+    words = f'⋯  columns {low} to {high - 1}, {count} {operations}, not drawn  ⋯'
+    svg.text(picture.left, y + 16, words, 11, PALE, italic=True)
     return y + 28
 
 
@@ -90,15 +91,15 @@ def _title(picture, svg, y, words, more):
 # ---- the run that goes wrong
 
 def wrong_run(picture, svg, y):
-    """The operations that mark the buffer, by step of the run that goes wrong, and the two holdings one over the other."""
+    """The operations that mark the buffer, by step of the run that goes wrong, and the two holdings over each other."""
     m, plan, order, run = picture.named, picture.plan, picture.order, picture.said.run
     step, name = {j: k for k, j in enumerate(run)}, plan.buffers[m.buffer].name
     held = [j for j, _, _ in faults.holding_of(order, m)]
     shown = sorted({*held, m.first, m.then}, key=step.get)
     if len(shown) > 12:
         shown = [j for k, j in enumerate(shown) if k < 4 or k >= len(shown) - 4 or j in (m.first, m.then)]
-    y = _title(picture, svg, y, 'One run in which it goes wrong',
-               f'the operations that mark {name}, by step of that run; the proved trace function confirms that it is a full run')
+    y = _title(picture, svg, y, 'One run in which it goes wrong', f'the operations that mark {name}, by step of that '
+               'run; the proved trace function confirms that it is a full run')
     places, end = _run_boxes(picture, svg, y, shown, step, m)
     middle = {j: x + w / 2 for j, (x, w) in places.items()}
     y += 82
@@ -166,13 +167,14 @@ def _holdings(svg, y, m, name, start, middle, end, left):
 # ---- the circle of a stuck plan
 
 def circle(picture, svg, y):
-    """Only what waits in the circle: for each queue its first operation that cannot run and, after it, the one that would
-    signal."""
+    """Only what waits in the circle: for each queue its first operation that cannot run and, after it, the one that
+    would signal."""
     plan, links, done = picture.plan, picture.said.circle, len(picture.done)
-    y = _title(picture, svg, y, 'The circle', f'after {done} of {picture.n} operations each of these queues is at its first '
-               'box; an arrow leads from a signal to what waits for it')
+    y = _title(picture, svg, y, 'The circle', f'after {done} of {picture.n} operations each of these queues is at its '
+               'first box; an arrow leads from a signal to what waits for it')
     names = [short(plan.queues[plan.operations[link.head].queue].name, 22) for link in links]
-    labels = [f'{plan.semaphores[s].name}≥{v}' for s, v in (plan.operations[link.head].waits[link.wait] for link in links)]
+    waits = [plan.operations[link.head].waits[link.wait] for link in links]
+    labels = [f'{plan.semaphores[s].name}≥{v}' for s, v in waits]
     left, gap = max(wide(name, 12, True) for name in names) + 36, max(wide(label, 10.5, True) for label in labels) + 44
     x1, w = left + gap, 64
     x2 = x1 + w + 110
@@ -191,8 +193,8 @@ def circle(picture, svg, y):
         _circle_box(picture, svg, link.head, x1, ty, w)
         if link.signaller != link.after:
             between = picture.order.epochs[link.signaller] - picture.order.epochs[link.after] - 1
-            svg.text((x1 + w + x2) / 2, sy + BOX / 2 + 4, f'⋯ {between} between ⋯' if between else 'then', 10, PALE, 'middle',
-                     halo=True)
+            words = f'⋯ {between} between ⋯' if between else 'then'
+            svg.text((x1 + w + x2) / 2, sy + BOX / 2 + 4, words, 10, PALE, 'middle', halo=True)
             _circle_box(picture, svg, link.signaller, x2, sy, w)
     return y + len(links) * LANE + 12
 
@@ -208,12 +210,14 @@ def _circle_box(picture, svg, j, x, y, w):
 
 def state(picture, svg, y):
     """How far each queue and each semaphore had come before the step that departs, or at the end."""
-    f, plan = picture.followed, picture.plan
-    y = _title(picture, svg, y, f'Before step {f.step}' if f.departs else 'At the end of the trace',
-               'how many operations of each queue have run, and how far each semaphore has come; said by the proved trace function')
-    cells = [(q.name, f'{ran} of {len(picture.order.queued[k])}') for k, (q, ran) in enumerate(zip(plan.queues, f.ran))]
+    trace, plan = picture.trace, picture.plan
+    y = _title(picture, svg, y, f'Before step {trace.step}' if trace.departs else 'At the end of the trace',
+               'how many operations of each queue have run, and how far each semaphore has come; said by the proved '
+               'trace function')
+    cells = [(queue.name, f'{ran} of {len(queued)}')
+             for queue, ran, queued in zip(plan.queues, trace.queues, picture.order.queued)]
     y = _cells(picture, svg, y - 6, cells)
-    return _cells(picture, svg, y, [(s.name, str(v)) for s, v in zip(plan.semaphores, f.signalled)]) + 6
+    return _cells(picture, svg, y, [(s.name, str(v)) for s, v in zip(plan.semaphores, trace.semaphores)]) + 6
 
 
 def _cells(picture, svg, y, cells):
@@ -259,7 +263,8 @@ def legend(picture, svg, y):
         x, y = item(34, words)
         svg.arrow([(x, y), (x + 34, y)], colour, width, dash)
     if picture.n:
-        box('operation' + (', in the colour of the buffer it marks first' if picture.plan.buffers else ''), '7', fill, edge)
+        colour = ', in the colour of the buffer it marks first' if picture.plan.buffers else ''
+        box('operation' + colour, '7', fill, edge)
     if 'wait' in drawn:
         arrow('wait: from the operation it rests on', DARK)
     if 'extra' in drawn:
@@ -303,7 +308,7 @@ def legend(picture, svg, y):
         x, y = item(6, 'how far the queue came')
         svg.rect(x + 1, y - 10, 3.2, 20, INK)
     if 'idle' in drawn:
-        box('has not run' if picture.followed else 'cannot run', '7', IDLE[0], GREY, 1.2, '4 3')
+        box('has not run' if picture.trace is not None else 'cannot run', '7', IDLE[0], GREY, 1.2, '4 3')
     if picture.n:
         item(-8, 'column: as early as waits allow; one column may run at the same time')
     return place[1] + 14

@@ -78,7 +78,8 @@ class Svg:
         d += f'L{points[-1][0]:.1f} {points[-1][1]:.1f}'
         head = self.heads.setdefault((colour, width > 2), f'cv-{colour[1:]}{"-large" if width > 2 else ""}')
         more = f' stroke-dasharray="{dash}"' if dash else ''
-        self.add(f'<path d="{d}" fill="none" stroke="{colour}" stroke-width="{width}" marker-end="url(#{head})"{more}/>',
+        self.add(f'<path d="{d}" fill="none" stroke="{colour}" stroke-width="{width}" '
+                 f'marker-end="url(#{head})"{more}/>',
                  *[(x + s * width, y + s * width) for x, y in points for s in (-1, 1)])
 
     def shape(self, d, fill, *corners):
@@ -104,7 +105,8 @@ class Svg:
         w, h = self.right - x + 8, self.bottom - y + 8
         return (f'<svg xmlns="http://www.w3.org/2000/svg" viewBox="{x:.0f} {y:.0f} {w:.0f} {h:.0f}" width="{w:.0f}" '
                 f'height="{h:.0f}" font-family="{FONT}" role="img"><title>{html.escape(title)}</title>'
-                f'<defs>{heads}{hatch}</defs><rect x="{x:.0f}" y="{y:.0f}" width="{w:.0f}" height="{h:.0f}" fill="#fff"/>\n'
+                f'<defs>{heads}{hatch}</defs>\n'
+                f'<rect x="{x:.0f}" y="{y:.0f}" width="{w:.0f}" height="{h:.0f}" fill="#fff"/>\n'
                 + '\n'.join(self.parts) + '</svg>\n')
 
 
