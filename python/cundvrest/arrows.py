@@ -44,8 +44,8 @@ class Arrows:
         self.laid.append((j, k, y, wire))
 
     def _wire(self, r, j, y, net, y_from):
-        picture = self.picture
-        return self.router.add(net, picture.levels[r], picture.lane_of(r), picture.levels[j], picture.lane_of(j), y_from, y)
+        at, lane = self.picture.levels, self.picture.lane_of
+        return self.router.add(net, at[r], lane(r), at[j], lane(j), y_from, y)
 
     def _are_beside(self, i, j):
         """Are two boxes in one column, in neighbouring lanes?"""
@@ -102,8 +102,8 @@ class Arrows:
         if picture.labels:
             turns = [self.router.in_x(w) - 4 for w in self.into[j] if w.channel is not None]
             end = min(turns, default=picture.x(picture.levels[j]) - 10)
-            svg.text(end, y - 3, self._name(j, k) + ' not met' * (what == 'unmet'), 9.5, RED if red else '#46525e', 'end',
-                     red, halo=True)
+            words = self._name(j, k) + ' not met' * (what == 'unmet')
+            svg.text(end, y - 3, words, 9.5, RED if red else '#46525e', 'end', red, halo=True)
 
     def _unordered(self, svg, j, k, y):
         """A wait that rests on nothing: for 0, or for what never comes."""

@@ -45,8 +45,8 @@ def _what_is_asked(said, order, speaker, mark):
         again = 'frees' if plan.operations[then].marks[mark.item].free else 'uses'
         said.headline = f'{of_then} frees {name} and then {again} it again in the same operation'
         said.lines(speaker.show(then, ('mark', mark.other_item), ('mark', mark.item)))
-        said.says(f'The free ends a holding of {name}. What is marked after it belongs to the next holding, which needs '
-                  'a later step.')
+        said.says(f'The free ends a holding of {name}. What is marked after it belongs to the next holding, which '
+                  'needs a later step.')
     elif mark.kind == 'early':
         verb = 'free' if plan.operations[then].marks[mark.item].free else 'use'
         said.headline = f'{of_then} {may}{verb}{s} {name} again before {of_first} has freed it'
