@@ -9,7 +9,7 @@ from .speaker import count
 from .trying import then as then_words
 from .trying import tried
 
-MOST_TRIES = 24             # changes that are tried before the search is given up
+MOST_TRIES = 12             # changes that are tried before the search is given up
 MOST_STEPS = 200            # of a longer run only a part is told at a terminal
 
 
