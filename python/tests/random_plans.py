@@ -88,7 +88,7 @@ def _other_wait(rng, plan):
     high, j = _highest(plan), rng.randrange(len(plan.operations))
     if plan.semaphores:
         s = rng.randrange(len(plan.semaphores))
-        value = rng.randint(0, high.get(s, 0)) + (rng.random() < 0.3)
+        value = rng.randint(0, high.get(s, 0)) + (rng.random() < 0.5)
         _change(plan, j, waits=plan.operations[j].waits[:2] + (Wait(s, value),))
 
 
