@@ -1,6 +1,6 @@
 """The arrows of a band of a picture: one for each wait, the order that is missing, and where a trace departs."""
 from .route import Router
-from .svg import BOX, DARK, HUES, INK, LANE, LIGHT, PALE, RED, wide
+from .svg import BOX, DARK, HUES, INK, LANE, LIGHT, PALE, RED, short, wide
 
 MISSING = (RED, 2.6, '7 5')
 MUCH = 400              # waits above which an arrow over many columns is only begun
@@ -101,8 +101,9 @@ class Arrows:
         svg.arrow(self._clear(self.router.points(wire), r, j), *style)
         if picture.labels:
             turns = [self.router.in_x(w) - 4 for w in self.into[j] if w.channel is not None]
-            end = min(turns, default=picture.x(picture.levels[j]) - 10)
-            words = self._name(j, k) + ' not met' * (what == 'unmet')
+            bare = len(self.into[j]) < len(self.plan.operations[j].waits)       # beside it is one without a way
+            end = min([picture.x(picture.levels[j]) - (34 if bare else 10)] + turns)
+            words = short(self._name(j, k), int((picture.gap - 34) / 5.5)) + ' not met' * (what == 'unmet')
             svg.text(end, y - 3, words, 9.5, RED if red else '#46525e', 'end', red, halo=True)
 
     def _unordered(self, svg, j, k, y):

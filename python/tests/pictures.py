@@ -342,6 +342,21 @@ class Drawn(unittest.TestCase):
                 if k % 10 == 0:
                     Page(self, page.page(plan, f'<plan {k} & more>'))
 
+    def test_long_names(self):
+        """Names of any length and alphabet, and the largest numbers: cut where there is no room, never over a box."""
+        largest, long = 2**64 - 1, 'größter-ρυθμός.' * 6
+        plan = Plan()
+        for k in range(3):
+            plan.queue(f'{long}q{k}', axis=largest - k)
+            plan.semaphore(f'{long}s{k}', owner=k)
+            plan.buffer(f'{long}b{k}', size=2**32 - 1)
+        for k in range(9):
+            plan.add(k % 3, {(k + 2) % 3: largest - 9 + k} if k else (), [0, k % 3], [k % 3], {k % 3: largest - 8 + k})
+        for tried in (plan, plan.with_operation(4, waits=()), plan.with_operation(0, waits=[(2, largest)])):
+            Drawing(self, picture.draw(tried, title=long)).holds(tried, range(9))
+            Page(self, page.page(tried, long))
+            explained(tried)
+
     def test_larger_plans(self):
         """Above 60 operations there is an overview; above 200 what is near the fault, or what is asked for."""
         rng = random.Random(22)
