@@ -70,8 +70,8 @@ class RoundTrips(unittest.TestCase):
         self.assertEqual(Plan.parse(made).text(), made)
         self.assertEqual(Plan.read(Plan.parse(made).bytes()).text(), made)
         self.assertEqual(text.tidy(Plan.parse(made).source), made)
-        self.assertEqual(Plan.read(stored, names=plan).text(), Plan.parse(plan.text()).renamed(plan).text()
-                         if not any(o.note for o in plan.operations) else Plan.read(stored, names=plan).text())
+        named = Plan.read(stored, names=plan)
+        self.assertEqual((named.queues, named.semaphores, named.buffers), (plan.queues, plan.semaphores, plan.buffers))
 
     def test_stored_plans(self):
         self.assertGreater(len(STORED), 20)
