@@ -169,7 +169,7 @@ class Arrows:
                     if s >= len(self.plan.semaphores):
                         return 'missing: a signal and a wait'
                     if (s, v) not in waits:
-                        return f'missing: wait {self.plan.semaphores[s].name}≥{v}'
+                        return f'missing: wait {short(self.plan.semaphores[s].name, 30)}≥{v}'
         return 'missing'
 
     # ---- a trace

@@ -172,4 +172,4 @@ def _code_html(shown):
 
 def _table(rows):
     widths = [max(len(str(row[k])) for row in rows) for k in range(len(rows[0]))]
-    return ['  '.join(f'{str(cell):{width}}' for cell, width in zip(row, widths)).rstrip() for row in rows]
+    return ['  '.join(str(cell).ljust(width) for cell, width in zip(row, widths)).rstrip() for row in rows]
