@@ -19,7 +19,7 @@ from xml.etree import ElementTree
 
 ROOT = os.path.dirname(os.path.dirname(os.path.dirname(os.path.abspath(__file__))))
 LIBRARY = os.environ.setdefault('CUNDVREST_LIBRARY', os.path.join(ROOT, 'target', 'lib', 'libcundvrest.so'))
-sys.path.insert(0, os.path.join(ROOT, 'python'))
+sys.path[:0] = [os.path.join(ROOT, 'python'), os.path.join(ROOT, 'python', 'tests')]
 from cundvrest import Operation, Passed, Plan, Refused, library, page, picture  # noqa: E402
 from cundvrest.explain_asked import explain_reuse, explain_trace  # noqa: E402
 from random_plans import random_plan  # noqa: E402
