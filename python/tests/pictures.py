@@ -140,8 +140,11 @@ class Explained(unittest.TestCase):
             return 'refused 11, ' + ('a change passes' if passes else 'a change helps' if said.changes else 'no change')
         if number == 10:
             self.assertTrue(closes(plan, said.circle))
-            self.assertTrue(said.order.run_is_confirmed())
-            self.assertNotIn(place, said.order.run)
+            ran = sorted(said.order.run)
+            less = plan.copy()
+            less.operations = [plan.operations[j] for j in ran]
+            self.assertEqual(follow(without_marks(less), [ran.index(j) for j in said.order.run])[:2], (0, 0))
+            self.assertNotIn(place, ran)
             return f'refused 10, circle of {len(said.circle)}'
         self.assertIn(place, said.focus)
         return f'refused {number}'
