@@ -15,7 +15,7 @@ class Arrows:
         self.router = Router(picture.x, picture.top, picture.box, picture.gap)
         much = sum(len(o.waits) for o in self.plan.operations) > MUCH
         self.far = FAR if much else picture.depth
-        self.into, self.laid = {}, []
+        self.into, self.laid, self.never = {}, [], {}
         for j in range(picture.n):
             if picture.inside(j):
                 for k, y in self._entries(j):
@@ -118,11 +118,22 @@ class Arrows:
         picture.drawn.add('never')
         svg.arrow([(x - 20, y), (x, y)], RED, 2.2, '4 3')
         svg.cross(x - 23, y, RED)
-        if not any(self.order.never(j, i) for i in range(k)):
-            svg.text(x - 26, picture.y(j) - 7, f'{self._name(j, k)} never comes', 10, RED, bold=True, halo=True)
+        self.never.setdefault(j, k)
+
+    def over(self, svg):
+        """What is drawn over the boxes: labels, and what they belong to."""
+        for j, k in self.never.items():
+            with svg.group(f'no signal reaches {self._name(j, k)}', 'never', f'{j}.{k}'):
+                self._label_above(svg, j, f'{short(self._name(j, k), 40)} never comes')
+        self._missing(svg)
+        self._departure(svg)
+
+    def _label_above(self, svg, j, words):
+        picture = self.picture
+        _label(svg, picture.x(picture.levels[j]) + picture.box / 2, picture.y(j) - 13, words)
 
     # ---- the missing order
-    def missing(self, svg):
+    def _missing(self, svg):
         """The order that keeping asks for and that nothing forces: a dashed line from what must come first."""
         m, inside = self.picture.named, self.picture.inside
         if not m or m.first == m.then or not (inside(m.first) or inside(m.then)):
@@ -148,7 +159,7 @@ class Arrows:
         x, y = picture.x(picture.levels[here]), picture.y(here)
         if comes:
             svg.arrow([(x - 34, y + BOX / 2 + 6), (x - 4, y + BOX / 2 + 6)], *MISSING)
-            _label(svg, x + picture.box / 2, y - 13, f'{self._missing_words(m)}, from operation {m.first}')
+            self._label_above(svg, here, f'{self._missing_words(m)}, from operation {m.first}')
         else:
             svg.arrow([(x + picture.box + 4, y + BOX / 2 + 6), (x + picture.box + 34, y + BOX / 2 + 6)], *MISSING)
 
@@ -173,7 +184,7 @@ class Arrows:
         return 'missing'
 
     # ---- a trace
-    def departure(self, svg):
+    def _departure(self, svg):
         """How far the trace came on each queue, and the step that departs."""
         picture, trace = self.picture, self.picture.trace
         if trace is None:
@@ -184,8 +195,8 @@ class Arrows:
             words = f'step {trace.step} departs here'
             if trace.wait is not None:
                 words = f'step {trace.step} departs: {self._name(trace.operation, trace.wait)} is not met'
-            x = picture.x(picture.levels[trace.operation]) + picture.box / 2
-            _label(svg, x, picture.y(trace.operation) - 13, words)
+            with svg.group('the first step that is not as the plan says', 'departs', trace.operation):
+                self._label_above(svg, trace.operation, words)
 
     def _cut(self, svg, q, lane):
         """A bar after the last operation of a queue that ran."""

@@ -20,7 +20,6 @@ def broken(refused, speaker):
     where = speaker.where(mark.operation, ('operation', mark.operation, 'mark', mark.item))
     said = Explanation(11, refused.place, '', where, order=order, broken=mark,
                        focus=list(dict.fromkeys((mark.first, mark.then))))
-    said.claim(PROVED, 'the row, by the proved check of the plan without its marks')
     _what_is_asked(said, order, speaker, mark)
     _why_not(said, order, speaker, mark)
     _run(said, order, speaker, mark)
@@ -67,6 +66,7 @@ def _why_not(said, order, speaker, mark):
     plan, first, then = order.plan, mark.first, mark.then
     if first == then:
         return
+    said.claim(PROVED, 'what comes before what, by the rows of the plan without its marks')
     row = ', '.join(f'{q.name} {reached}' for q, reached in zip(plan.queues, order.rows[then]))
     queue, known, mine = speaker.queue(first), order.rows[then][order.queue[first]], order.epochs[first]
     sure = (f'no operation of {queue} is sure to have run' if known == 0 else

@@ -6,9 +6,9 @@ from dataclasses import dataclass, field
 # who says so
 PROVED = 'proved'               # a proved function said it
 CONFIRMED = 'confirmed'         # found by search, and a proved function said yes to it
-FOUND = 'found'                 # worked out or chosen by this package
+FOUND = 'found'                 # found by search, worded by this package
 MEANING = {PROVED: 'said by a proved function', CONFIRMED: 'found by search, then confirmed by a proved function',
-           FOUND: 'chosen and worded by this package'}
+           FOUND: 'found by search and worded by this package, not proved'}
 WIDTH = 100
 
 

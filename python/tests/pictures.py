@@ -1,4 +1,5 @@
-"""Explanations and pictures: 2,000 random plans, every stored plan and trace, and how long it takes at 1,024 operations.
+"""Explanations and pictures: 2,000 random plans, every stored plan and trace, and the time it takes at 1,024
+operations.
 
   python3 python/tests/pictures.py
 
@@ -178,7 +179,8 @@ class Explained(unittest.TestCase):
 
     def test_trace_that_is_none(self):
         plan = Plan.load(os.path.join(PLANS, 'camera.plan'))
-        for recorded, words in ((b'', 'no byte'), (b'\x01', '1 byte'), (b'\x02\x00\x00\x00\x00', '2 steps, and has 1 step')):
+        for recorded, words in ((b'', 'no byte'), (b'\x01', '1 byte'),
+                                (b'\x02\x00\x00\x00\x00', '2 steps, and has 1 step and a byte more')):
             said = explain_trace(plan, recorded)
             self.assertEqual(said.verdict, 'refused 22 0')
             self.assertIn(words, said.headline)
@@ -195,7 +197,8 @@ class Explained(unittest.TestCase):
                         number, place, verdict = library.reuse(plan.bytes(), q, b)
                         self.assertTrue(said.verdict.startswith(f'verdict {verdict} '))
                         verdicts[said.verdict] += 1
-                        for line in (shown for block in said.blocks if block.kind == 'lines' for shown in block.content):
+                        lines = [shown for block in said.blocks if block.kind == 'lines' for shown in block.content]
+                        for line in lines:
                             if line.sign == '+':
                                 verdicts['with a wait'] += 1
                                 self.assertEqual(self.with_line(plan, line.text, q, b), (0, 0, 1))
@@ -256,7 +259,7 @@ class Drawing:
             self.boxes[of].append(self.corners(node))
         if tag == 'path' and node.get('marker-end') and kind == 'wait':
             self.arrows[of].append(points(node.get('d')))
-        if tag == 'rect' and kind == 'missing':
+        if tag == 'rect' and kind in ('missing', 'never', 'departs'):
             self.labels.append(self.corners(node))
         if tag == 'text' and node.text == '✓' and kind == 'operation':
             self.ran.append(of)
@@ -464,8 +467,8 @@ class Speed(unittest.TestCase):
         for name, plan in plans.items():
             self.assertEqual(len(plan.operations), 1024)
             text = plan.text()
-            tried = [lambda: Plan.parse(text), lambda: explained(Plan.parse(text)), lambda: picture.draw(Plan.parse(text)),
-                     lambda: page.page(Plan.parse(text))]
+            tried = [lambda: Plan.parse(text), lambda: explained(Plan.parse(text)),
+                     lambda: picture.draw(Plan.parse(text)), lambda: page.page(Plan.parse(text))]
             took = [best(function) for function in tried]
             took[1:] = [max(0.0, seconds - took[0]) for seconds in took[1:]]
             print(f'{name:38}' + ''.join(f'{1000 * seconds:{width}.0f}' for seconds, width in zip(took, (7, 9, 6, 6))))

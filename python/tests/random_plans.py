@@ -37,7 +37,8 @@ def _loose(rng, operations):
         for s in rng.sample(mine, min(len(mine), rng.choice([0, 1, 1, 2]))):
             last[s] += rng.choice([1, 1, 2, 5])
             signals.append(Signal(s, last[s]))
-        marks = [Mark(rng.randrange(buffers), rng.random() < 0.3) for _ in range(rng.choice([0, 1, 1, 2]) * (buffers > 0))]
+        marks = [Mark(rng.randrange(buffers), rng.random() < 0.3)
+                 for _ in range(rng.choice([0, 1, 1, 2]) * (buffers > 0))]
         plan.operations.append(Operation(q, tuple(waits), tuple(signals), tuple(marks)))
     return plan
 
