@@ -148,6 +148,7 @@ def explain_reuse(plan, queue, buffer):
         said.focus = [marked[-1][0]]
         _why_not_ordered(said, speaker, order, queue, marked[-1][0])
         _suggestion(said, plan, speaker, queue, buffer)
+        said.claim(FOUND, 'the words')
     return said
 
 
