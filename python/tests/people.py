@@ -4,6 +4,7 @@ truth, and 2,000 damaged plans and texts. The command line is tested by tests/pe
   python3 python/tests/people.py
 """
 import collections
+import concurrent.futures
 import glob
 import os
 import random
@@ -299,6 +300,7 @@ class Answers(unittest.TestCase):
                 except Refused as refused:
                     judged = refused
                 if isinstance(judged, Refused):
+                    self.assertEqual(repr(judged), f'Refused({judged.number}, {judged.place})')
                     self.assertEqual(lines, [f'refused {judged.number} {judged.place}'])
                     self.assertTrue(str(judged).startswith(lines[0] + ': ') and judged.words)
                     judged.explain(strict=True)
@@ -335,6 +337,11 @@ class Answers(unittest.TestCase):
             self.assertIs(plan.reuse(queue, buffer), verdict)
             self.assertIs(bool(plan.reuse(queue, buffer)), truth)
         self.assertEqual(f'{Verdict.NOT_ORDERED} {Followed.WAIT_NOT_MET}', 'not-ordered wait-not-met')
+        self.assertTrue(plan.judge())
+        self.assertFalse(load('deadlock.plan').judge())
+        with concurrent.futures.ThreadPoolExecutor(2) as pool:
+            self.assertTrue(pool.submit(plan.check).result())
+            self.assertRaises(Refused, pool.submit(load('deadlock.plan').check).result)
         for left, right, answer in ((Frontier({1: 2}), Frontier({1: 1}), Dominance.YES),
                                     (Frontier({1: 2}), Frontier({2: 1}), Dominance.NO),
                                     (Frontier({1: 2}, tainted=True), Frontier({2: 1}), Dominance.UNKNOWN)):
