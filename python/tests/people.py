@@ -4,6 +4,7 @@ truth, and 2,000 damaged plans and texts. The command line is tested by tests/pe
   python3 python/tests/people.py
 """
 import collections
+import concurrent.futures
 import glob
 import os
 import random
@@ -16,7 +17,7 @@ import warnings
 ROOT = os.path.dirname(os.path.dirname(os.path.dirname(os.path.abspath(__file__))))
 sys.path.insert(0, os.path.join(ROOT, 'python'))
 from cundvrest import (Advice, Dominance, Followed, Frontier, LibraryError, Operation, Passed, Plan,  # noqa: E402
-                       Refused, TextError, Trace, Verdict, __version__, library, text)
+                       Refused, TextError, Trace, Verdict, __version__, files, library, text)
 
 PLANS = os.path.join(ROOT, 'plans')
 STORED = sorted(glob.glob(os.path.join(glob.escape(PLANS), '*.plan')))
@@ -109,8 +110,8 @@ class RoundTrips(unittest.TestCase):
         made = load('camera.plan').text()
         for data in (made.replace('\n', '\r\n').encode(), b'\xef\xbb\xbf' + made.encode(),
                      b'\n# \xc3\xa4\n' + made.encode()):
-            self.assertTrue(text.is_text(data))
-            self.assertEqual(Plan.parse(text.decoded(data, 'x')).bytes(), content(os.path.join(PLANS, 'camera.plan')))
+            self.assertTrue(files.is_text(data))
+            self.assertEqual(Plan.parse(files.decoded(data, 'x')).bytes(), content(os.path.join(PLANS, 'camera.plan')))
 
     def test_a_note_is_one_line(self):
         plan = load('t2-one-operation.plan')
@@ -124,9 +125,9 @@ class RoundTrips(unittest.TestCase):
         for _ in range(9):
             plan.queue()
         self.assertTrue(plan.bytes().startswith(b'\nplan\n'))
-        self.assertFalse(text.is_text(plan.bytes()))
+        self.assertFalse(files.is_text(plan.bytes()))
         for path in STORED:
-            self.assertFalse(text.is_text(content(path)))
+            self.assertFalse(files.is_text(content(path)))
 
 
 # text, line, column, a part of the message
@@ -212,10 +213,10 @@ class Errors(unittest.TestCase):
 
     def test_bytes_that_are_no_text(self):
         for data, line, column in ((b'plan\nqueue \xff axis 1\nend', 2, 7), (b'\xef\xbb\xbfplan\n# \xc3\nend', 2, 3),
-                                   ('plan'.encode('utf-16'), 1, 1), (b'plan\n' + bytes(text.MOST_BYTES), 1, 1)):
-            self.assertTrue(text.is_text(data))
+                                   ('plan'.encode('utf-16'), 1, 1), (b'plan\n' + bytes(files.MOST_BYTES), 1, 1)):
+            self.assertTrue(files.is_text(data))
             with self.assertRaises(TextError) as caught:
-                text.decoded(data, 'x')
+                files.decoded(data, 'x')
             self.assertEqual((caught.exception.problems[0].line, caught.exception.problems[0].column), (line, column))
             self.assertTrue(str(caught.exception))
 
@@ -299,6 +300,7 @@ class Answers(unittest.TestCase):
                 except Refused as refused:
                     judged = refused
                 if isinstance(judged, Refused):
+                    self.assertEqual(repr(judged), f'Refused({judged.number}, {judged.place})')
                     self.assertEqual(lines, [f'refused {judged.number} {judged.place}'])
                     self.assertTrue(str(judged).startswith(lines[0] + ': ') and judged.words)
                     judged.explain(strict=True)
@@ -335,6 +337,11 @@ class Answers(unittest.TestCase):
             self.assertIs(plan.reuse(queue, buffer), verdict)
             self.assertIs(bool(plan.reuse(queue, buffer)), truth)
         self.assertEqual(f'{Verdict.NOT_ORDERED} {Followed.WAIT_NOT_MET}', 'not-ordered wait-not-met')
+        self.assertTrue(plan.judge())
+        self.assertFalse(load('deadlock.plan').judge())
+        with concurrent.futures.ThreadPoolExecutor(2) as pool:
+            self.assertTrue(pool.submit(plan.check).result())
+            self.assertRaises(Refused, pool.submit(load('deadlock.plan').check).result)
         for left, right, answer in ((Frontier({1: 2}), Frontier({1: 1}), Dominance.YES),
                                     (Frontier({1: 2}), Frontier({2: 1}), Dominance.NO),
                                     (Frontier({1: 2}, tainted=True), Frontier({2: 1}), Dominance.UNKNOWN)):
@@ -493,7 +500,7 @@ class Damage(unittest.TestCase):
             self.assertEqual((refused.number, refused.place), library.read(data)[:2])
             judged = refused
         else:
-            if not text.is_text(data):
+            if not files.is_text(data):
                 self.assertEqual(plan.bytes(), data)
         if isinstance(judged, Passed):
             self.assertEqual(library.check(judged.plan.bytes())[0], 0)
