@@ -61,10 +61,9 @@ class Arrows:
     def waits(self, svg):
         """An arrow for each wait of each box of the band."""
         for j, k, y, wire in self.laid:
-            s, v = self.plan.operations[j].waits[k]
             r = self.order.rests[j][k]
-            why = (f'signalled by operation {r}' if r is not None else 'which no signal reaches' if v else
-                   'which is met at once')
+            why = (f'signalled by operation {r}' if r is not None else 'which no signal reaches'
+                   if self.order.never(j, k) else 'which is met at once')
             with svg.group(f'operation {j} waits for {self._name(j, k)}, {why}', 'wait', f'{j}.{k}'):
                 if r is None:
                     self._unordered(svg, j, k, y)

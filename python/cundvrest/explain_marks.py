@@ -4,7 +4,7 @@ import dataclasses
 from . import faults
 from .explanation import CONFIRMED, FOUND, PROVED, Change, Explanation, Shown
 from .order import Order, is_full_run
-from .plan import LIMITS, Semaphore, Signal, Wait
+from .plan import LIMITS, Signal, Wait
 from .speaker import count
 from .trying import then as then_words
 from .trying import tried

@@ -1,12 +1,10 @@
-"""What a picture has around its bands: heading, overview, the run that goes wrong, the circle, the state, the legend.
+"""What a picture has around its bands: heading, overview, the run that goes wrong, the circle, the state.
 
 Each function draws at `y` and hands back where the next may begin."""
 import textwrap
 
 from . import faults
-from .svg import BOX, DARK, GREEN, GREY, HATCH, HUES, IDLE, INK, LANE, LIGHT, PALE, PLAIN, RED, short, wide
-
-RULE = '#dde3e9'
+from .svg import BOX, GREEN, HATCH, HUES, INK, LANE, LIGHT, PALE, RED, RULE, short, wide
 
 
 def amount(size):
@@ -232,83 +230,3 @@ def _cells(picture, svg, y, cells):
         svg.text(x + w - 14, y + 15, value, 11, INK, 'end', bold=True)
         x += w
     return y + (high + 8 if cells else 0)
-
-
-# ---- the legend
-
-def legend(picture, svg, y):
-    """What the picture has drawn, in words."""
-    drawn, (fill, edge) = picture.drawn, HUES[0] if picture.plan.buffers else PLAIN
-    place = [18, y + 24]
-    svg.line(18, y + 2, picture.width - 10, y + 2, RULE, 1)
-
-    def item(w, words):
-        """Where the next sign goes, after its words are written."""
-        need = w + 8 + wide(words, 10.5) + 18
-        if place[0] > 18 and place[0] + need > picture.width:
-            place[:] = [18, place[1] + 23]
-        x, y = place
-        svg.text(x + w + 8, y + 4, words, 10.5, '#46525e')
-        place[0] += need
-        return x, y
-
-    def box(words, number, fill, edge, width=1.2, dash='', double=False):
-        x, y = item(34, words)
-        if double:
-            svg.rect(x, y - 10, 34, 20, '#fff', edge, 1.6, 6)
-        svg.rect(x + 2 * double, y - 10 + 2 * double, 34 - 4 * double, 20 - 4 * double, fill, edge, width, 4, dash)
-        svg.text(x + 17, y + 4, number, 10, RED if double else INK, 'middle', bold=True)
-
-    def arrow(words, colour, width=1.3, dash=''):
-        x, y = item(34, words)
-        svg.arrow([(x, y), (x + 34, y)], colour, width, dash)
-    if picture.n:
-        colour = ', in the colour of the buffer it marks first' if picture.plan.buffers else ''
-        box('operation' + colour, '7', fill, edge)
-    if 'wait' in drawn:
-        arrow('wait: from the operation it rests on', DARK)
-    if 'extra' in drawn:
-        arrow('wait that orders nothing more', LIGHT, 1.2, '1.5 3')
-    if 'stub' in drawn:
-        x, y = item(34, 'wait for an operation that is not near: its number')
-        svg.text(x + 18, y + 3, '12', 8, PALE, 'end')
-        svg.arrow([(x + 20, y), (x + 34, y)], DARK)
-    if 'zero' in drawn:
-        x, y = item(18, 'wait for 0: met at once')
-        svg.arrow([(x + 5, y), (x + 18, y)], LIGHT)
-        svg.circle(x + 3, y, 2.2, '#fff', LIGHT, 1.2)
-    if picture.plan.buffers:
-        x, y = item(46, 'holding: ● use, ✕ free')
-        svg.rect(x, y - 6, 46, 12, fill, edge, 1, 5)
-        svg.circle(x + 10, y, 3.4, edge)
-        svg.cross(x + 36, y, edge)
-    if 'open' in drawn:
-        x, y = item(34, 'held to the end')
-        svg.rect(x, y - 6, 34, 12, fill, edge, 1, 5, '5 3')
-    if 'broken' in drawn:
-        x, y = item(18, 'broken mark')
-        svg.circle(x + 9, y, 4.2, RED)
-        svg.circle(x + 9, y, 8, edge=RED, width=1.8)
-    if 'bad' in drawn:
-        box('where to look', '7', '#fff', RED, 2, double=True)
-    if picture.named and picture.named.first != picture.named.then:
-        arrow('order that is missing', RED, 2.6, '7 5')
-    if 'circle' in drawn:
-        arrow('wait of the circle', RED, 2.6)
-    if 'never' in drawn:
-        arrow('signal that never comes', RED, 2.2, '4 3')
-    if 'unmet' in drawn:
-        arrow('wait that is not met', RED, 2.4, '2 4')
-    if 'ran' in drawn:
-        x, y = item(34, 'has run, with its step')
-        svg.rect(x, y - 10, 34, 20, fill, edge, 1.2, 4)
-        svg.text(x + 3, y + 3, '✓', 9, '#3e4c59')
-        svg.text(x + 31, y + 2, '12', 8, '#3e4c59', 'end')
-    if 'cut' in drawn:
-        x, y = item(6, 'how far the queue came')
-        svg.rect(x + 1, y - 10, 3.2, 20, INK)
-    if 'idle' in drawn:
-        box('has not run' if picture.trace is not None else 'cannot run', '7', IDLE[0], GREY, 1.2, '4 3')
-    if picture.n:
-        item(-8, 'column: as early as waits allow; one column may run at the same time')
-    return place[1] + 14

@@ -11,6 +11,7 @@ PLAIN = ('#f1f3f5', '#7b8896')
 IDLE = ('#fff', GREY)                   # what cannot run, or has not run
 DARK, LIGHT = '#4a5563', '#9aa5b1'      # waits on operations without a mark; waits that order nothing more
 BOX, LANE, ROW = 34, 60, 24             # how high a box, a lane and the row of a buffer are
+RULE = '#dde3e9'                        # lines between panels
 HATCH = 'url(#cv-hatch)'
 # how wide a character is, in units of the size, in the widest of the fonts
 WIDTHS = {**dict.fromkeys("ijlI.,:;|!' ", 0.31), **dict.fromkeys('frt()[]-', 0.42), **dict.fromkeys('csz', 0.55),

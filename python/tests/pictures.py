@@ -194,7 +194,7 @@ class Explained(unittest.TestCase):
                 for q in range(len(plan.queues)):
                     for b in range(len(plan.buffers)):
                         said = explain_reuse(plan, q, b)
-                        number, place, verdict = library.reuse(plan.bytes(), q, b)
+                        _, _, verdict = library.reuse(plan.bytes(), q, b)
                         self.assertTrue(said.verdict.startswith(f'verdict {verdict} '))
                         verdicts[said.verdict] += 1
                         lines = [shown for block in said.blocks if block.kind == 'lines' for shown in block.content]
