@@ -9,8 +9,9 @@ from .speaker import count
 from .trying import then as then_words
 from .trying import tried
 
-MOST_TRIES = 12             # changes that are tried before the search is given up
+MOST_TRIES = 8              # changes that are tried before the search is given up
 MOST_STEPS = 200            # of a longer run only a part is told at a terminal
+MOST_LINES = 40             # of a longer plan that is put in another order only the numbers are shown
 
 
 def broken(refused, speaker):
@@ -23,7 +24,7 @@ def broken(refused, speaker):
     _what_is_asked(said, order, speaker, mark)
     _why_not(said, order, speaker, mark)
     _run(said, order, speaker, mark)
-    _change(said, order, speaker, mark)
+    _change(said, order, speaker, mark, len(marks))
     others = sorted({m.operation for m in marks} - {mark.operation})
     if others and not any(change.number == 0 for change in said.changes):
         few = ', '.join(map(str, others[:6])) + (' ..' if len(others) > 6 else '')
@@ -119,8 +120,8 @@ def _marks(plan, j, mark, name):
 
 
 def _run_lines(run, marked, per_line=16):
-    """A run, so many steps to a line, with marks under the operations of the fault. Of a long one only lines with a
-    mark and those beside them."""
+    """A run, so many steps to a line, with marks under the operations of the fault. Of a long one that has such marks
+    only the lines with a mark and those beside them."""
     lines = []
     for start in range(0, len(run), per_line):
         words, marks, column = [], [], 1
@@ -130,7 +131,7 @@ def _run_lines(run, marked, per_line=16):
                 marks.append((column, len(words[-1])))
             column += len(words[-1]) + 1
         lines.append(Shown(f'step {start}', ' '.join(words), marks))
-    if len(run) <= MOST_STEPS:
+    if len(run) <= MOST_STEPS or not marked:
         return lines
     near = {k + d for k, line in enumerate(lines) if line.marks for d in (-1, 0, 1)}
     kept = [line for k, line in enumerate(lines) if k in near]
@@ -139,8 +140,8 @@ def _run_lines(run, marked, per_line=16):
 
 # ---- the change
 
-def _change(said, order, speaker, mark):
-    """The first change that was tried and helps: the plan passes, or else this mark is kept and no lower one breaks."""
+def _change(said, order, speaker, mark, broken_before):
+    """The first change that was tried and after which the plan passes; else the first that helps."""
     best = None
     for (words, lines, new), _ in zip(_candidates(order, speaker, mark), range(MOST_TRIES)):
         number, place = tried(new)
@@ -148,13 +149,21 @@ def _change(said, order, speaker, mark):
         if number == 0:
             best = change
             break
-        if best is None and number == 11 and (place > mark.operation or place == mark.operation
-                                              and mark not in faults.broken_marks(Order(new))):
+        if best is None and number == 11 and _helps(order, mark, broken_before, change):
             best = change
     if best:
         said.try_change(best)
     else:
         said.says('No single change that was tried helps.', FOUND)
+
+
+def _helps(order, mark, broken_before, change):
+    """Is this mark whole after the change, with no lower operation's broken? Where operations have moved, are fewer
+    marks broken?"""
+    if [o.queue for o in change.plan.operations] != order.queue:
+        return len(faults.broken_marks(Order(change.plan))) < broken_before
+    return change.place > mark.operation or (change.place == mark.operation
+                                             and mark not in faults.broken_marks(Order(change.plan)))
 
 
 def _candidates(order, speaker, mark):
@@ -171,12 +180,13 @@ def _candidates(order, speaker, mark):
         return
     if order.before(then, mark.first):
         yield from _moved(order, speaker, mark)
+        yield _as_it_runs(order, speaker)
     else:
         yield from _waits(order, speaker, mark)
         yield from _new_signal(order, speaker, mark)
 
 
-def _waits(order, speaker, mark, furthest=4, signals=8):
+def _waits(order, speaker, mark, furthest=2, signals=3):
     """A wait for a signal that there is, at the operation or at one before it on its queue. The signals of the
     operation to wait for come first, then those after it, by step of the standard run."""
     plan = order.plan
@@ -251,3 +261,13 @@ def _moved(order, speaker, mark):
             lines = [Shown(speaker.label(j), line, sign='-'), Shown(speaker.label(to), line, sign='+')]
             yield (f'With operation {j} moved {"above" if to < j else "below"} operation {to}',
                    lines if j < to else lines[::-1], new)
+
+
+def _as_it_runs(order, speaker):
+    """All operations in the order of the standard run: what comes before what stays, and holdings go by it."""
+    new = order.plan.copy()
+    new.operations = [order.plan.operations[j] for j in order.run]
+    lines = [Shown(speaker.label(j), speaker.show(j).text, sign='+') for j in order.run]
+    if len(lines) > MOST_LINES:
+        lines = _run_lines(order.run, set())
+    return 'With all operations in the order of the standard run', lines, new

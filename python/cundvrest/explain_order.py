@@ -28,7 +28,7 @@ def stuck(refused, speaker):
         said.says('The circle:')
     said.lines(*[shown for link in circle for shown in _link(link, speaker)], by=FOUND)
     _changes(said, order, speaker)
-    said.claim(FOUND, 'the circle, a shortest one among the first operations of each queue that cannot run; the words')
+    said.claim(FOUND, f'the circle, a shortest one that operation {lowest} leads to; the words')
     return said
 
 
