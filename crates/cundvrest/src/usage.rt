@@ -18,7 +18,7 @@ pub fn help(out: &mut [u8]) -> usize {
   cundvrest write < NUMBERS > PLAN              the stored plan of such numbers
   cundvrest help                                this text
 
-It prints one of these; N is the refusal and P its place.
+It prints one of these, numbers in decimal; N is the refusal and P its place.
   passed 0, then size QUEUES SEMAPHORES BUFFERS OPERATIONS, run, ready, and a row for each operation
   verdict N WORD        fresh, reusable, held or not-ordered
   frontier whole|tainted AXIS:EPOCH ..
@@ -28,7 +28,7 @@ It prints one of these; N is the refusal and P its place.
      6 not the owner   7 signal not higher        8 wait for no signal   10 stuck              11 broken mark
     12 no such queue  13 no such buffer          15 capacity not 1..16   21 no such operation  22 bad trace
 
-All numbers are decimal. The launcher ./cundvrest also knows --help, -h and --version. Its exit status:
+Over files: check, explain, draw, text, store, rows (cundvrest check --help). Exit status of the launcher ./cundvrest:
   0 yes, go on    passed; fresh or reusable; a frontier, numbers or a plan; a full trace
   1 no            refused; held or not-ordered; a trace that is unfinished or departs
   2 not judged    wrong words, or input or output that fails: a line on standard error says what

@@ -1,0 +1,232 @@
+"""What a picture has around its bands: heading, overview, the run that goes wrong, the circle, the state.
+
+Each function draws at `y` and hands back where the next may begin."""
+import textwrap
+
+from . import faults
+from .svg import BOX, GREEN, HATCH, HUES, INK, LANE, LIGHT, PALE, RED, RULE, short, wide
+
+
+def amount(size):
+    for unit, power in (('GB', 10**9), ('MB', 10**6), ('kB', 10**3)):
+        if size >= power:
+            return f'{size / power:.3g} {unit}'
+    return f'{size} B'
+
+
+def verdict(picture):
+    if picture.traced:
+        return picture.traced.verdict
+    return 'passed' if picture.said is None else picture.said.verdict
+
+
+def counts(plan):
+    of = [(len(plan.operations), 'operation'), (len(plan.queues), 'queue'), (len(plan.semaphores), 'semaphore'),
+          (len(plan.buffers), 'buffer')]
+    return ' · '.join(f'{c} {w}{"" if c == 1 else "s"}' for c, w in of)
+
+
+def heading(picture, svg):
+    y = 30
+    if picture.title:
+        svg.text(18, y, short(picture.title, 80), 12, PALE)
+        y += 24
+    said = picture.traced or picture.said
+    word = verdict(picture).capitalize()
+    good = said is None or picture.trace
+    words = said.headline if said else 'some full run exists, and every full run keeps every buffer'
+    svg.text(18, y, word, 18, GREEN if good else RED, bold=True)
+    x = 18 + wide(word, 18, True) + 14
+    lines = textwrap.wrap(words, max(int((picture.width - x - 20) / 8), 40)) or ['']
+    for k, line in enumerate(lines):
+        svg.text(x, y + 17 * k, line, 13, INK)
+    y += 17 * (len(lines) - 1) + 20
+    svg.text(18, y, counts(picture.plan), 11, PALE)
+    return y + 18
+
+
+def overview(picture, svg, y):
+    """All of the plan, small: which columns are drawn below, and where the fault is."""
+    plan, lanes, left = picture.plan, len(picture.plan.queues), picture.left
+    step, height = (picture.width - left - 12) / max(picture.depth, 1), max(3, min(6, 60 // max(lanes, 1)))
+    tall = lanes * height + 8
+    svg.text(picture.names, y + tall / 2 + 4, 'overview', 10, PALE, 'end')
+    svg.rect(left, y, picture.depth * step, tall, '#fafafa', '#d5dde5', 0.8, 2)
+    for low, high in picture.bands:
+        svg.rect(left + low * step, y, (high - low) * step, tall, '#e6eef6', '#7f97ad', 1, 2)
+    wide_ = max(step - 0.6, 0.7)
+    cells = {}
+    for j, o in enumerate(plan.operations):
+        colour = picture.hue(o)[1] if j in picture.done else LIGHT
+        high = height - 1 if j in picture.done else 1
+        cells.setdefault(colour, []).append(f'M{left + picture.levels[j] * step:.1f} {y + 4 + o.queue * height:.1f}'
+                                            f'h{wide_:.1f}v{high}h-{wide_:.1f}z')
+    with svg.group('all operations, by queue and column', 'overview'):
+        for colour, paths in cells.items():
+            svg.add(f'<path d="{"".join(paths)}" fill="{colour}" fill-opacity="0.7"/>')
+        for j in picture.bad:
+            x, at = left + picture.levels[j] * step, y + 4 + plan.operations[j].queue * height
+            svg.rect(x - 1, at - 1, max(step, 3) + 1, height + 1, RED)
+            svg.shape(f'M{x + step / 2 - 4:.1f} {y - 7:.1f}h8l-4 6z', RED)
+    return y + tall + 12
+
+
+def folded(picture, svg, y, low, high):
+    count = sum(low <= x < high for x in picture.levels)
+    operations = 'operation' if count == 1 else 'operations'
+    words = f'⋯  columns {low} to {high - 1}, {count} {operations}, not drawn  ⋯'
+    svg.text(picture.left, y + 16, words, 11, PALE, italic=True)
+    return y + 28
+
+
+def _title(picture, svg, y, words, more):
+    svg.line(18, y + 2, picture.width - 10, y + 2, RULE, 1)
+    svg.text(18, y + 26, words, 14, INK, bold=True)
+    svg.text(18, y + 43, more, 11, PALE)
+    return y + 64
+
+
+# ---- the run that goes wrong
+
+def wrong_run(picture, svg, y):
+    """The operations that mark the buffer, by step of the run that goes wrong, and the two holdings over each other."""
+    m, plan, order, run = picture.named, picture.plan, picture.order, picture.said.run
+    step, name = {j: k for k, j in enumerate(run)}, plan.buffers[m.buffer].name
+    held = [j for j, _, _ in faults.holding_of(order, m)]
+    shown = sorted({*held, m.first, m.then}, key=step.get)
+    if len(shown) > 12:
+        shown = [j for k, j in enumerate(shown) if k < 4 or k >= len(shown) - 4 or j in (m.first, m.then)]
+    y = _title(picture, svg, y, 'One run in which it goes wrong', f'the operations that mark {name}, by step of that '
+               'run; the proved trace function confirms that it is a full run')
+    places, end = _run_boxes(picture, svg, y, shown, step, m)
+    middle = {j: x + w / 2 for j, (x, w) in places.items()}
+    y += 82
+    seen = [middle[j] for j in held if j in middle and (m.kind == 'early' or step[j] <= step[m.then])]
+    start = min(seen + [middle[m.first] if m.kind == 'early' else middle[m.then]])
+    return _holdings(svg, y, m, name, start, middle, end, max(picture.left, 150)) + 12
+
+
+def _run_boxes(picture, svg, y, shown, step, m):
+    """({operation: (x, width)}, where the run ends)."""
+    plan, (fill, edge) = picture.plan, HUES[m.buffer % len(HUES)]
+    x, places, last = max(picture.left, 150), {}, -1
+    names = {j: short(plan.queues[plan.operations[j].queue].name, 22) for j in shown}
+    w = max(picture.box, max(wide(name, 10.5) for name in names.values()) + 12)
+    for j in shown:
+        skipped = step[j] - last - 1
+        if skipped:
+            svg.text(x + 24, y + 44, f'⋯ {skipped}', 10, PALE, 'middle')
+        x += 52 if skipped else 16 if last >= 0 else 0
+        places[j], last, bad = (x, w), step[j], j in (m.first, m.then)
+        with svg.group(picture.tip(j), 'step', j):
+            svg.text(x + w / 2, y + 6, f'step {step[j]}', 9, PALE, 'middle')
+            if bad:
+                svg.rect(x - 3, y + 11, w + 6, 60, '#fff', RED, 1.6, 7)
+            svg.rect(x, y + 14, w, 54, fill, RED if bad else edge, 2 if bad else 1.2, 5)
+            svg.text(x + w / 2, y + 30, str(j), 12, RED if bad else INK, 'middle', bold=True)
+            svg.text(x + w / 2, y + 45, names[j], 10.5, '#3e4c59', 'middle')
+            marks = [free for b, free in plan.operations[j].marks if b == m.buffer]
+            for k, free in enumerate(marks):
+                at = x + w / 2 + (k - (len(marks) - 1) / 2) * 14
+                if free:
+                    svg.cross(at, y + 58, edge)
+                else:
+                    svg.circle(at, y + 58, 3.6, edge)
+        x += w
+    rest = picture.n - 1 - last
+    if rest:
+        svg.text(x + 26, y + 44, f'⋯ {rest}', 10, PALE, 'middle')
+    return places, x + (52 if rest else 20)
+
+
+def _holdings(svg, y, m, name, start, middle, end, left):
+    """The holding and what comes into it too early, or the holding and the use that comes too late; hatched where both
+    are."""
+    fill, edge = HUES[m.buffer % len(HUES)]
+    first, then = middle[m.first], middle[m.then]
+    if m.kind == 'early':
+        bars = [('this holding', start - 10, first + 10, ''), ('the next one', then - 10, end, '5 3')]
+        clash = (max(start, then) - 10, first + 10)
+        words = f'{name} is in both holdings: two parts are mixed'
+    else:
+        bars = [('the holding', start - 10, then + 10, ''), ('still used', then - 10, first + 10, '5 3')]
+        clash = (then + 10, first + 10)
+        words = f'{name} is used when it is free already'
+    for k, (label, x1, x2, dash) in enumerate(bars):
+        svg.text(left - 16, y + 11, label, 10.5, INK, 'end')
+        svg.rect(x1, y, x2 - x1, 14, fill, edge, 1.2, 6, dash)
+        if m.kind == 'early' or k:
+            svg.rect(clash[0], y, clash[1] - clash[0], 14, HATCH, RED, 1)
+        y += 20
+    svg.text(max(clash[0], 18), y + 11, words, 11, RED, bold=True)
+    return y + 16
+
+
+# ---- the circle of a stuck plan
+
+def circle(picture, svg, y):
+    """Only what waits in the circle: for each queue its first operation that cannot run and, after it, the one that
+    would signal."""
+    plan, links, done = picture.plan, picture.said.circle, len(picture.done)
+    y = _title(picture, svg, y, 'The circle', f'after {done} of {picture.n} operations each of these queues is at its '
+               'first box; an arrow leads from a signal to what waits for it')
+    names = [short(plan.queues[plan.operations[link.head].queue].name, 22) for link in links]
+    waits = [plan.operations[link.head].waits[link.wait] for link in links]
+    labels = [f'{plan.semaphores[s].name}≥{v}' for s, v in waits]
+    left, gap = max(wide(name, 12, True) for name in names) + 36, max(wide(label, 10.5, True) for label in labels) + 44
+    x1, w = left + gap, 64
+    x2 = x1 + w + 110
+    tops = {link.head: y + lane * LANE + (LANE - BOX) / 2 for lane, link in enumerate(links)}
+    for lane, name in enumerate(names):
+        svg.rect(10, y + lane * LANE + 3, x2 + w + 40 + 5 * len(links), LANE - 6, '#f6f8fa', round_=6)
+        svg.text(left - 16, y + lane * LANE + LANE / 2 + 4, name, 12, INK, 'end', bold=True)
+    for lane, link in enumerate(links):
+        ty, sy, same = tops[link.head], tops[link.after], link.signaller == link.after
+        sx, out, channel = (x1 if same else x2) + w, x2 + w + 14 + 5 * lane, tops[link.head] + BOX + 7
+        svg.arrow([(sx, sy + BOX / 2), (out, sy + BOX / 2), (out, channel), (x1 - 16, channel), (x1 - 16, ty + BOX / 2),
+                   (x1 - 1, ty + BOX / 2)], RED, 2.6)
+        svg.text(x1 - 22, ty + BOX / 2 - 4, labels[lane], 10.5, RED, 'end', bold=True, halo=True)
+    for link in links:
+        ty, sy = tops[link.head], tops[link.after]
+        _circle_box(picture, svg, link.head, x1, ty, w)
+        if link.signaller != link.after:
+            between = picture.order.epochs[link.signaller] - picture.order.epochs[link.after] - 1
+            words = f'⋯ {between} between ⋯' if between else 'then'
+            svg.text((x1 + w + x2) / 2, sy + BOX / 2 + 4, words, 10, PALE, 'middle', halo=True)
+            _circle_box(picture, svg, link.signaller, x2, sy, w)
+    return y + len(links) * LANE + 12
+
+
+def _circle_box(picture, svg, j, x, y, w):
+    with svg.group(picture.tip(j), 'stuck', j):
+        svg.rect(x - 3, y - 3, w + 6, BOX + 6, '#fff', RED, 1.6, 7)
+        svg.rect(x, y, w, BOX, '#fff', RED, 2, 5, '4 3')
+        svg.text(x + w / 2, y + BOX / 2 + 4, str(j), 12, RED, 'middle', bold=True)
+
+
+# ---- the state of a trace
+
+def state(picture, svg, y):
+    """How far each queue and each semaphore had come before the step that departs, or at the end."""
+    trace, plan = picture.trace, picture.plan
+    y = _title(picture, svg, y, f'Before step {trace.step}' if trace.departs else 'At the end of the trace',
+               'how many operations of each queue have run, and how far each semaphore has come; said by the proved '
+               'trace function')
+    cells = [(queue.name, f'{ran} of {len(queued)}')
+             for queue, ran, queued in zip(plan.queues, trace.queues, picture.order.queued)]
+    y = _cells(picture, svg, y - 6, cells)
+    return _cells(picture, svg, y, [(s.name, str(v)) for s, v in zip(plan.semaphores, trace.semaphores)]) + 6
+
+
+def _cells(picture, svg, y, cells):
+    x, high = 18, 22
+    for name, value in cells:
+        name = short(name, 22)
+        w = wide(name, 11) + wide(value, 11, True) + 30
+        if x > 18 and x + w > picture.width - 10:
+            x, y = 18, y + high + 4
+        svg.rect(x, y, w - 6, high, '#f6f8fa', RULE, 1, 4)
+        svg.text(x + 8, y + 15, name, 11, PALE)
+        svg.text(x + w - 14, y + 15, value, 11, INK, 'end', bold=True)
+        x += w
+    return y + (high + 8 if cells else 0)

@@ -1,0 +1,516 @@
+"""The text form and the package: round trips, errors and their places, numbers that do not fit, answers and their
+truth, and 2,000 damaged plans and texts. The command line is tested by tests/people, which runs this.
+
+  python3 python/tests/people.py
+"""
+import collections
+import concurrent.futures
+import glob
+import os
+import random
+import sys
+import tempfile
+import threading
+import unittest
+import warnings
+
+ROOT = os.path.dirname(os.path.dirname(os.path.dirname(os.path.abspath(__file__))))
+sys.path.insert(0, os.path.join(ROOT, 'python'))
+from cundvrest import (Advice, Dominance, Followed, Frontier, LibraryError, Operation, Passed, Plan,  # noqa: E402
+                       Refused, TextError, Trace, Verdict, __version__, files, library, text)
+
+PLANS = os.path.join(ROOT, 'plans')
+STORED = sorted(glob.glob(os.path.join(glob.escape(PLANS), '*.plan')))
+GREATEST = 2**64 - 1
+
+
+def content(path):
+    with open(path, 'rb') as file:
+        return file.read()
+
+
+def load(name):
+    return Plan.load(os.path.join(PLANS, name))
+
+
+def printed(name):
+    """What the program prints for a plan, by the text beside it."""
+    with open(os.path.join(PLANS, name + '.txt'), encoding='utf-8') as file:
+        return file.read().split('\nprints:\n')[1].splitlines()
+
+
+def random_plan(rng):
+    """A plan within the limits and else anything, with numbers from one end of their range to the other."""
+    def some(most):
+        return rng.choice([0, 1, 2, most, rng.randint(0, most)])
+
+    def value():
+        return rng.choice([0, 1, GREATEST, rng.randrange(2**64), rng.randrange(100)])
+    plan = Plan()
+    for axis in rng.sample([*range(20), *(GREATEST - k for k in range(20))], some(16)):
+        plan.queue(axis=axis)
+    for _ in range(some(64) if plan.queues else 0):
+        plan.semaphore(owner=rng.randrange(len(plan.queues)))
+    for _ in range(some(256)):
+        plan.buffer(size=rng.choice([0, 64, 2**32 - 1]))
+    for _ in range(rng.choice([0, 1, 5, 40, 1024]) if plan.queues else 0):
+        pairs = [[(rng.randrange(len(plan.semaphores)), value()) for _ in range(rng.randint(0, most))]
+                 if plan.semaphores else [] for most in (3, 2)]
+        marks = [(rng.randrange(len(plan.buffers)), rng.random() < 0.5) for _ in range(rng.randint(0, 4))
+                 ] if plan.buffers else []
+        plan.operations.append(Operation(rng.randrange(len(plan.queues)), *pairs, marks, rng.choice(['', 'a # note'])))
+    return plan
+
+
+class RoundTrips(unittest.TestCase):
+    def exact(self, plan):
+        stored = plan.bytes()
+        for made in (plan.text(), plan.text(number=True), plan.text(columns=False)):
+            self.assertEqual(Plan.parse(made).bytes(), stored)
+        made = Plan.read(stored).text()
+        self.assertEqual(Plan.parse(made).text(), made)
+        self.assertEqual(Plan.read(Plan.parse(made).bytes()).text(), made)
+        self.assertEqual(text.tidy(Plan.parse(made).source), made)
+        named = Plan.read(stored, names=plan)
+        self.assertEqual((named.queues, named.semaphores, named.buffers), (plan.queues, plan.semaphores, plan.buffers))
+
+    def test_stored_plans(self):
+        self.assertGreater(len(STORED), 20)
+        texts = 0
+        for path in STORED:
+            with self.subTest(os.path.basename(path)):
+                stored = content(path)
+                if library.read(stored)[0]:
+                    with self.assertRaises(Refused):
+                        Plan.load(path)
+                    self.assertFalse(os.path.exists(path + '.txt'))
+                    continue
+                texts += 1
+                plan = Plan.load(path)
+                self.assertEqual(plan.bytes(), stored)
+                self.assertEqual(plan.source.path, path + '.txt')
+                self.assertEqual(text.tidy(plan.source), content(path + '.txt').decode())
+                self.exact(plan)
+                self.exact(Plan.read(stored))
+        self.assertGreater(texts, 15)
+
+    def test_random_plans(self):
+        rng = random.Random(3)
+        for _ in range(60):
+            self.exact(random_plan(rng))
+
+    def test_numbers_and_names(self):
+        plan = Plan.parse('plan\nqueue ä.b-c_1 axis 0xffff_ffff_ffff_ffff\nqueue q axis 18_446_744_073_709_551_614\n'
+                          'buffer B b size 0\nä.b-c_1: use B b free B use B\nend')
+        self.assertEqual([q.axis for q in plan.queues], [GREATEST, GREATEST - 1])
+        self.assertEqual(plan.operations[0].marks, ((0, False), (1, False), (0, True), (0, False)))
+        self.exact(plan)
+
+    def test_windows(self):
+        made = load('camera.plan').text()
+        for data in (made.replace('\n', '\r\n').encode(), b'\xef\xbb\xbf' + made.encode(),
+                     b'\n# \xc3\xa4\n' + made.encode()):
+            self.assertTrue(files.is_text(data))
+            self.assertEqual(Plan.parse(files.decoded(data, 'x')).bytes(), content(os.path.join(PLANS, 'camera.plan')))
+
+    def test_a_note_is_one_line(self):
+        plan = load('t2-one-operation.plan')
+        plan.operations[0] = Operation(0, note='one\nend\r\nplan')
+        self.assertEqual(Plan.parse(plan.text()), plan)
+
+    def test_a_stored_plan_is_no_text(self):
+        """Ten queues, a line's end; the first axis reads as the word plan."""
+        plan = Plan()
+        plan.queue(axis=int.from_bytes(b'plan\n# ;', 'little'))
+        for _ in range(9):
+            plan.queue()
+        self.assertTrue(plan.bytes().startswith(b'\nplan\n'))
+        self.assertFalse(files.is_text(plan.bytes()))
+        for path in STORED:
+            self.assertFalse(files.is_text(content(path)))
+
+
+# text, line, column, a part of the message
+WRONG = [
+    ('', 1, 1, 'a first line with the word plan'),
+    ('# nothing\n\n', 1, 1, 'a first line with the word plan'),
+    ('queue a axis 1\nend', 1, 1, 'begins with "queue"; right: a first line with the word plan'),
+    ('plan\nqueue a axis 1\n', 2, 15, 'cut short; right: a last line with the word end'),
+    ('plan\nend\nplan', 3, 1, 'end is the last line'),
+    ('plan x\nend', 1, 6, 'nothing more in this line'),
+    ('plan\nend x', 2, 5, 'nothing more in this line'),
+    ('plan\nqueue axis 1\nend', 2, 7, '"axis" is a word of the language'),
+    ('plan\nqueue part axis 1\nend', 2, 7, '"part" is a word of the language'),
+    ('plan\nqueue outside axis 1\nend', 2, 7, '"outside" is a word of the language'),
+    ('plan\nqueue 1a axis 1\nend', 2, 7, 'right: a name for the queue: a letter'),
+    ('plan\nqueue a axs 1\nend', 2, 9, 'right: "axis", as in queue capture axis 1'),
+    ('plan\nqueue a\nend', 2, 8, 'the end of the line; right: "axis"'),
+    ('plan\nqueue a axis\nend', 2, 13, 'the end of the line; right: a number'),
+    ('plan\nqueue a axis x\nend', 2, 14, 'right: a number, as in queue capture axis 1'),
+    ('plan\nqueue a axis -1\nend', 2, 14, 'here is "-"; right: a number'),
+    ('plan\nqueue a axis 01\nend', 2, 14, '"01" is no number; right: decimal digits'),
+    ('plan\nqueue a axis 1_\nend', 2, 14, '"1_" is no number'),
+    ('plan\nqueue a axis 1__0\nend', 2, 14, '"1__0" is no number'),
+    ('plan\nqueue a axis 0x\nend', 2, 14, '"0x" is no number'),
+    ('plan\nqueue a axis 1.5\nend', 2, 14, '"1.5" is no number'),
+    ('plan\nqueue a axis ٣\nend', 2, 14, 'is no number'),
+    ('plan\nqueue a axis 18446744073709551616\nend', 2, 14, 'too large; right: at most 18446744073709551615'),
+    ('plan\nqueue a axis 0x1_0000_0000_0000_0000\nend', 2, 14, 'too large; right: at most 18446744073709551615'),
+    ('plan\nqueue a axis ' + 10000 * '9' + '\nend', 2, 14, 'too large; right: at most 18446744073709551615'),
+    ('plan\nqueue a axis 1 2\nend', 2, 16, 'nothing more in this line'),
+    ('plan\nqueue a b axis 1\nend', 2, 9, 'here is "b"; right: "axis"'),
+    ('plan\nqueue a axis 1\nqueue a axis 2\nend', 3, 7, 'is declared already, in line 2; right: another name'),
+    ('plan\nqueue a axis 1\nsemaphore s t owner b\nend', 3, 21, 'no queue is called "b"; right: one of a'),
+    ('plan\nsemaphore s owner b\nend', 2, 19, 'no queue is called "b"; right: declare it first, as in queue'),
+    ('plan\nqueue capture axis 1\nsemaphore s owner captur\nend', 3, 19, 'did you mean "capture"?'),
+    ('plan\nbuffer b c sice 4\nend', 2, 12, 'here is "sice"; right: "size"'),
+    ('plan\nqueue a axis 1\na:\nbuffer b size 4\nend', 4, 1, 'before the first, which is line 3'),
+    ('plan\nqueue a axis 1\na\nend', 3, 2, 'right: ":" after the queue'),
+    ('plan\nqueue a axis 1\nb: use c\nend', 3, 1, 'no queue is called "b"; right: one of a'),
+    ('plan\nquue a axis 1\nend', 2, 1, 'begins with "quue"; did you mean "queue"?'),
+    ('plan\nwait s>=1\nend', 2, 1, 'right: a line begins with queue, semaphore, buffer, the name of a queue and ":"'),
+    ('plan\n: use b\nend', 2, 1, 'right: a line begins with'),
+    ('plan\nqueue a axis 1\nbuffer b size 1\na: use b, free b\nend', 4, 9, 'here is ","; right: a blank alone'),
+    ('plan\nqueue a axis 1\nbuffer b size 1\na: use\nend', 4, 7, 'right: the name of a buffer, as in use BUFFER'),
+    ('plan\nqueue a axis 1\nbuffer b size 1\na: use free b\nend', 4, 8, 'here is "free"; right: use BUFFER'),
+    ('plan\nqueue a axis 1\nbuffer b size 1\na: b\nend', 4, 4, 'right: wait, use, free or signal'),
+    ('plan\nqueue a axis 1\nbuffer b size 1\na: uses b\nend', 4, 4, 'did you mean "use"?'),
+    ('plan\nqueue a axis 1\nbuffer b size 1\na: use a\nend', 4, 8, '"a" is a queue; right: the name of a buffer'),
+    ('plan\nqueue a axis 1\nsemaphore s owner a\na: wait s=1\nend', 4, 10, 'right: wait s>=NUMBER; a wait asks for'),
+    ('plan\nqueue a axis 1\nsemaphore s owner a\na: wait s≥1\nend', 4, 10, 'here is "≥"; right: wait s>=NUMBER'),
+    ('plan\nqueue a axis 1\nsemaphore s owner a\na: signal s>=1\nend', 4, 12, 'right: signal s=NUMBER; a signal sets'),
+    ('plan\nqueue a axis 1\nsemaphore s owner a\na: signal s=\nend', 4, 13, 'right: a number, as in signal s=1'),
+    ('plan\nqueue a axis 1\nsemaphore s owner a\na: signal s=1 wait s>=1\nend', 4, 15,
+     '"wait" comes too late; right: waits, then uses and frees, then signals'),
+    ('plan\nqueue a axis 1\x00\nend', 2, 15, r'here is "\x00"; right: nothing more'),
+    ('plan\nqueue a axis 1\x1b[31m\nend', 2, 15, r'here is "\x1b"; right: nothing more'),
+    ('plan\nqueue a axis\u00a01\nend', 2, 13, r'here is "\xa0"; right: a number'),
+]
+
+
+class Errors(unittest.TestCase):
+    def test_each(self):
+        for wrong, line, column, words in WRONG:
+            with self.subTest(wrong[:80]):
+                with self.assertRaises(TextError) as caught:
+                    Plan.parse(wrong, 'x.plan.txt')
+                problem = caught.exception.problems[0]
+                self.assertEqual((problem.line, problem.column), (line, column), problem.message)
+                self.assertIn(words, problem.message)
+                self.assertRegex(problem.message, 'right: |did you mean ')
+                shown = str(caught.exception).splitlines()
+                self.assertTrue(shown[0].startswith(f'x.plan.txt:{line}:{column}: error: '), shown[0])
+                self.assertTrue(all(line.isprintable() and len(line) < 400 for line in shown))
+
+    def test_all_lines_are_told(self):
+        with self.assertRaises(TextError) as caught:
+            Plan.parse('plan\nqueue a axis x\na: use b\na: wait s>=1\nb:\na:\n')
+        self.assertEqual([(problem.line, problem.column) for problem in caught.exception.problems],
+                         [(2, 14), (3, 8), (4, 9), (5, 1), (6, 3)])
+        with self.assertRaises(TextError) as caught:
+            Plan.parse('plan\n' + 100000 * 'x\n' + 'end')
+        self.assertEqual(len(caught.exception.problems), text.MOST_PROBLEMS)
+
+    def test_bytes_that_are_no_text(self):
+        for data, line, column in ((b'plan\nqueue \xff axis 1\nend', 2, 7), (b'\xef\xbb\xbfplan\n# \xc3\nend', 2, 3),
+                                   ('plan'.encode('utf-16'), 1, 1), (b'plan\n' + bytes(files.MOST_BYTES), 1, 1)):
+            self.assertTrue(files.is_text(data))
+            with self.assertRaises(TextError) as caught:
+                files.decoded(data, 'x')
+            self.assertEqual((caught.exception.problems[0].line, caught.exception.problems[0].column), (line, column))
+            self.assertTrue(str(caught.exception))
+
+    def test_limits_are_the_writers(self):
+        """Each limit of a text: the proved writer's number, and the line and column of what is too much."""
+        def queues(n):
+            return ''.join(f'queue q{k} axis {k}\n' for k in range(n))
+        cases = [
+            ('plan\n' + queues(17) + 'end', 2, '18:7'),
+            ('plan\n' + queues(1) + 'semaphore ' + ' '.join(f's{k}' for k in range(65)) + ' owner q0\nend', 2, '3:257'),
+            ('plan\nbuffer ' + ' '.join(f'b{k}' for k in range(257)) + ' size 1\nend', 2, '2:1178'),
+            ('plan\n' + queues(1) + 1025 * 'q0:\n' + 'end', 2, '1027:1'),
+            ('plan\n' + queues(1) + 'semaphore s owner q0\nq0: wait s>=1 s>=2 s>=3 s>=4\nend', 2, '4:25'),
+            ('plan\n' + queues(1) + 'semaphore s owner q0\nq0: signal s=1 s=2 s=3\nend', 2, '4:20'),
+            ('plan\n' + queues(1) + 'buffer b size 1\nq0: use b b b b free b\nend', 2, '4:17'),
+            ('plan\nbuffer b c size 0x1_0000_0000\nend', 4, '2:17'),
+            ('plan\nqueue a axis 7\nqueue b axis 8\nqueue c axis 7\nend', 5, '4:14'),
+        ]
+        for made, number, place in cases:
+            with self.subTest(place):
+                plan = Plan.parse(made, 'x.plan.txt')
+                with self.assertRaises(Refused) as caught:
+                    plan.check()
+                self.assertEqual(caught.exception.number, number)
+                self.assertEqual((number, caught.exception.place), library.write(plan.numbers())[:2])
+                self.assertEqual(caught.exception.explain(strict=True).where, f'x.plan.txt:{place}')
+
+
+class Numbers(unittest.TestCase):
+    def test_none_is_cut(self):
+        plan, frontier = load('two-frames.plan'), Frontier({1: 1})
+        for call in (
+            lambda wrong: plan.reuse(wrong, 0), lambda wrong: plan.reuse(0, wrong), lambda wrong: plan.frontier(wrong),
+            lambda wrong: plan.frontier(0, wrong), lambda wrong: frontier.merge(frontier, wrong),
+            lambda wrong: frontier.raised(0, 1, wrong),
+        ):
+            for wrong in (-1, 2**32, 2**64, 2**100):
+                self.assertRaises(OverflowError, call, wrong)
+            for wrong in (1.5, None, b'0'):
+                self.assertRaises(TypeError, call, wrong)
+        for call in (
+            lambda wrong: frontier.raised(wrong, 1), lambda wrong: frontier.raised(1, wrong),
+            lambda wrong: Frontier({wrong: 1}).dominates(frontier), lambda wrong: Frontier({1: wrong}) | frontier,
+            lambda wrong: plan.with_operation(0, signals=[(0, wrong)]).check(),
+            lambda wrong: plan.with_operation(0, queue=wrong).check(),
+            lambda wrong: plan.with_operation(0, marks=[(0, wrong)]).check(),
+        ):
+            for wrong in (-1, 2**64):
+                self.assertRaises(OverflowError, call, wrong)
+            self.assertRaises(TypeError, call, 1.5)
+        for wrong in (-1, 2**16):
+            self.assertRaises(OverflowError, plan.trace, [wrong])
+        self.assertRaises(OverflowError, plan.trace, 2**16 * [0])
+        self.assertRaises(TypeError, library.check, 6)
+        self.assertRaises(ValueError, library.merge, [0] * 33, [0] * 34, 1)
+
+    def test_words_of_a_misfit(self):
+        with self.assertRaisesRegex(OverflowError, r'operation 1, wait 0: its value: -1 is not from 0 to 1844'):
+            load('two-frames.plan').with_operation(1, waits=[(0, -1)]).bytes()
+
+    def test_a_position_that_is_not_there_is_refused(self):
+        plan = load('two-frames.plan')
+        for changed, number in ((plan.with_operation(0, queue=3), 4), (plan.with_operation(0, marks=[(4, True)]), 4),
+                                (plan.with_operation(0, marks=[(0, 2)]), 4), (plan.with_operation(0, queue=256), 4)):
+            with self.assertRaises(Refused) as caught:
+                changed.text()
+            self.assertEqual(caught.exception.number, number)
+        self.assertRaises(ValueError, plan.reuse, 'camra', 0)
+
+
+class Answers(unittest.TestCase):
+    def test_stored_plans(self):
+        """Number, place, run, ready numbers and rows are those that the program prints."""
+        for path in STORED:
+            name = os.path.basename(path)[:-5]
+            with self.subTest(name):
+                lines = printed(name)
+                try:
+                    plan = Plan.load(path)
+                    judged = plan.judge()
+                except Refused as refused:
+                    judged = refused
+                if isinstance(judged, Refused):
+                    self.assertEqual(repr(judged), f'Refused({judged.number}, {judged.place})')
+                    self.assertEqual(lines, [f'refused {judged.number} {judged.place}'])
+                    self.assertTrue(str(judged).startswith(lines[0] + ': ') and judged.words)
+                    judged.explain(strict=True)
+                    continue
+                self.assertTrue(judged)
+                self.assertEqual(lines[2].split()[1:], [str(j) for j in judged.run])
+                self.assertEqual(lines[3].split()[1:], [str(n) for n in judged.ready])
+                self.assertEqual(lines[4:], [f'{j}: ' + ' '.join(map(str, row)) for j, row in enumerate(judged.rows)])
+                self.assertEqual([row['operation'] for row in judged.table()], list(range(len(plan.operations))))
+
+    def test_recorded_traces(self):
+        for path in sorted(glob.glob(os.path.join(glob.escape(PLANS), '*.trace'))):
+            lines = printed(os.path.basename(path)[:-6])
+            try:
+                told = load('camera.plan').trace(content(path))
+            except Refused as refused:
+                self.assertEqual(lines, [f'refused {refused.number} {refused.place}'])
+                continue
+            self.assertEqual(bool(told), lines[0] == 'trace full')
+            self.assertEqual(told.departs, lines[0].startswith('trace departs'))
+            words = {Followed.FULL: 'full', Followed.UNFINISHED: f'unfinished {told.step}'}.get(
+                told.followed, f'departs {told.step} {told.followed} {told.operation}')
+            self.assertEqual(lines[0], f'trace {words}' + (f' {told.wait}' if told.wait is not None else ''))
+            self.assertEqual(lines[1].split()[1:], [str(n) for n in told.queues])
+            self.assertEqual(lines[2].split()[1:], [str(n) for n in told.semaphores])
+            again = load('camera.plan').trace(told.steps)
+            self.assertEqual((again.followed, again.step), (told.followed, told.step))
+            self.assertIsInstance(again, Trace)
+
+    def test_truth(self):
+        plan = load('two-frames.plan')
+        for queue, buffer, verdict, truth in ((0, 3, Verdict.FRESH, True), ('copy', 'shot', Verdict.REUSABLE, True),
+                                              (0, 2, Verdict.HELD, False), ('camera', 0, Verdict.NOT_ORDERED, False)):
+            self.assertIs(plan.reuse(queue, buffer), verdict)
+            self.assertIs(bool(plan.reuse(queue, buffer)), truth)
+        self.assertEqual(f'{Verdict.NOT_ORDERED} {Followed.WAIT_NOT_MET}', 'not-ordered wait-not-met')
+        self.assertTrue(plan.judge())
+        self.assertFalse(load('deadlock.plan').judge())
+        with concurrent.futures.ThreadPoolExecutor(2) as pool:
+            self.assertTrue(pool.submit(plan.check).result())
+            self.assertRaises(Refused, pool.submit(load('deadlock.plan').check).result)
+        for left, right, answer in ((Frontier({1: 2}), Frontier({1: 1}), Dominance.YES),
+                                    (Frontier({1: 2}), Frontier({2: 1}), Dominance.NO),
+                                    (Frontier({1: 2}, tainted=True), Frontier({2: 1}), Dominance.UNKNOWN)):
+            self.assertIs(left.dominates(right), answer)
+            self.assertIs(bool(left.dominates(right)), answer is Dominance.YES)
+
+    def test_suggestions(self):
+        plan = load('camera.plan')
+        try:
+            told = plan.suggest('capture', 'frame0')
+        except LibraryError as error:
+            self.assertIn('has no cundvrest_suggest', str(error))
+            print('people.py: the library has no cundvrest_suggest; it is not tried', file=sys.stderr)
+            return
+        self.assertEqual((told.advice, bool(told)), (Advice.WAIT, True))
+        more = plan.copy()
+        more.operations.append(Operation(0, [told.wait]))
+        self.assertIs(more.reuse('capture', 'frame0'), Verdict.REUSABLE)
+        plan = load('t3-three-queues.plan')
+        self.assertEqual((plan.suggest(0, 0).advice, bool(plan.suggest(0, 0))), (Advice.NONE_WOULD_HELP, False))
+        self.assertIs(load('two-frames.plan').suggest(0, 'spare').advice, Advice.NONE_NEEDED)
+
+    def test_frontiers(self):
+        left, right = Frontier({1: 5, 2: 3}), Frontier({2: 7, 3: 4})
+        self.assertEqual(left | right, Frontier({1: 5, 2: 7, 3: 4}))
+        self.assertEqual(left.merge(right, 2), Frontier({1: 5, 2: 7}, tainted=True))
+        self.assertEqual(left.raised(9, 1), Frontier({1: 5, 2: 3, 9: 1}))
+        self.assertEqual(load('two-frames.plan').frontier(3), Frontier({1: 1, 2: 1, 3: 1}))
+        for wrong, number in ((lambda: Frontier({1: 0}) | left, 14), (lambda: left.merge(right, 17), 15),
+                              (lambda: Frontier(dict.fromkeys(range(17), 1)) | left, 14),
+                              (lambda: load('two-frames.plan').frontier(5), 21)):
+            with self.assertRaises(Refused) as caught:
+                wrong()
+            self.assertEqual(caught.exception.number, number)
+            self.assertTrue(str(caught.exception).startswith(f'refused {number} '))
+
+    def test_a_plan_that_is_changed_is_judged_anew(self):
+        plan = load('camera.plan')
+        self.assertTrue(plan.check())
+        line = plan.line(36)
+        changed = plan.operations[36]
+        plan.operations[36] = Operation(changed.queue, (), changed.signals, changed.marks)
+        self.assertIsNone(plan.source)
+        with self.assertRaises(Refused) as caught:
+            plan.check()
+        self.assertEqual((caught.exception.number, caught.exception.place), (11, 36))
+        waits = [[3, 6]]
+        plan.operations[36] = Operation(changed.queue, waits, changed.signals, changed.marks)
+        self.assertTrue(plan.check())
+        waits[0][1] = 99
+        self.assertTrue(plan.check())
+        plan.operations[36] = changed
+        self.assertEqual(plan.line(36), line)
+
+    def test_a_small_stack_is_enough(self):
+        """On a thread of 64 KiB, where a call of its own would not have its stack."""
+        said = []
+        before = threading.stack_size(64 * 1024)
+        try:
+            thread = threading.Thread(target=lambda: said.append(library.read(content(STORED[0]))))
+            thread.start()
+        finally:
+            threading.stack_size(before)
+        thread.join()
+        self.assertEqual(said[0][:2], (0, 0))
+
+    def test_names_beside(self):
+        """The text beside is used only if it stores as the very same bytes."""
+        with tempfile.TemporaryDirectory() as room:
+            path = os.path.join(room, 'x.plan')
+            plan = load('t3-three-queues.plan')
+            plan.store(path)
+            self.assertEqual(Plan.load(path).queues[0].name, 'q0')
+            for beside, used in ((plan.text(), True), (plan.text().replace('4096', '4095'), False), ('plan', False),
+                                 ('\0', False)):
+                with open(path + '.txt', 'w', encoding='utf-8') as file:
+                    file.write(beside)
+                with warnings.catch_warnings(record=True) as told:
+                    warnings.simplefilter('always')
+                    self.assertEqual(Plan.load(path).queues[0].name, 'fill' if used else 'q0')
+                self.assertEqual(len(told), 0 if used else 1)
+            self.assertEqual(sorted(os.listdir(room)), ['x.plan', 'x.plan.txt'])
+            self.assertEqual(Plan.load(path, names=plan).queues[0].name, 'fill')
+            with self.assertRaises(Refused):
+                load('deadlock.plan').store(path)
+            self.assertEqual(content(path), plan.bytes())
+            load('deadlock.plan').store(path, unchecked=True)
+            self.assertEqual(content(path), load('deadlock.plan').bytes())
+
+    def test_one_version(self):
+        self.assertEqual(content(os.path.join(ROOT, 'VERSION')).decode().strip(), __version__)
+
+
+PIECES = ['wait', 'use', 'free', 'signal', 'queue', 'buffer', 'end', 'plan', '>=', '=', ':', '#', ',', '0', 'axis', 'x',
+          str(GREATEST), str(GREATEST + 1), '\n', '\t', ' ', '\r', '\0', '\u00e9', '≥', '\U0001f600', 'size', 'owner']
+
+
+def damaged_bytes(rng, data):
+    data = bytearray(data)
+    for _ in range(rng.choice([1, 1, 1, 2, 4])):
+        at = rng.randrange(len(data) + 1)
+        kind = rng.randrange(5)
+        if kind == 0:
+            del data[at:]
+        elif kind == 1:
+            del data[at:at + rng.choice([1, 2, 8])]
+        elif kind == 2:
+            data[at:at] = bytes(rng.randrange(256) for _ in range(rng.choice([1, 2, 8])))
+        elif data:
+            data[at % len(data)] = rng.choice([0, 1, 2, 255, rng.randrange(256)])
+    return bytes(data)
+
+
+def damaged_text(rng, made):
+    for _ in range(rng.choice([1, 1, 2])):
+        at = rng.randrange(len(made) + 1)
+        made = made[:at] + rng.choice(['', rng.choice(PIECES)]) + made[at + rng.choice([0, 1, 5]):]
+    return made
+
+
+class Damage(unittest.TestCase):
+    """Whatever the file, the answer is a pass, a refusal with words, or an error with a line and a column."""
+    HOW_MANY = 2000
+
+    def test_damage(self):
+        rng, counts = random.Random(1), collections.Counter()
+        plans = [Plan.load(path) for path in STORED if not library.read(content(path))[0]]
+        with tempfile.TemporaryDirectory() as room:
+            path = os.path.join(room, 'x.plan')
+            for k in range(self.HOW_MANY):
+                plan = rng.choice(plans)
+                data = damaged_bytes(rng, plan.bytes()) if k % 2 else damaged_text(rng, plan.text()).encode()
+                with open(path, 'wb') as file:
+                    file.write(data)
+                kind = 'bytes' if k % 2 else 'text'
+                with self.subTest(kind=kind, data=data):
+                    counts[kind, self.one(path, data)] += 1
+        for kind, least in ((('bytes', 'passed'), 50), (('text', 'passed'), 50), (('text', 'no plan'), 200),
+                            (('bytes', 1), 50), (('bytes', 2), 5), (('bytes', 3), 50), (('bytes', 4), 50),
+                            (('bytes', 8), 5), (('bytes', 10), 20), (('bytes', 11), 10), (('text', 11), 20)):
+            self.assertGreaterEqual(counts[kind], least, kind)
+
+    def one(self, path, data):
+        """What is said of the file, which must be what the library says."""
+        try:
+            plan = Plan.load(path)
+            judged = plan.judge()
+        except TextError as error:
+            for problem in error.problems:
+                self.assertTrue(1 <= problem.line <= len(error.lines) and problem.column >= 1 and problem.message)
+            first = error.problems[0]
+            self.assertTrue(str(error).startswith(f'{path}:{first.line}:{first.column}: error: '))
+            self.assertNotEqual(library.check(data)[0], 0)
+            return 'no plan'
+        except Refused as refused:
+            self.assertEqual((refused.number, refused.place), library.read(data)[:2])
+            judged = refused
+        else:
+            if not files.is_text(data):
+                self.assertEqual(plan.bytes(), data)
+        if isinstance(judged, Passed):
+            self.assertEqual(library.check(judged.plan.bytes())[0], 0)
+            return 'passed'
+        if judged.plan and judged.numbers is None:
+            self.assertEqual((judged.number, judged.place), library.check(judged.plan.bytes())[:2])
+        said = judged.explain(strict=True)
+        self.assertTrue(said.headline and said.text() and said.html())
+        return judged.number
+
+
+if __name__ == '__main__':
+    unittest.main()

@@ -1,0 +1,496 @@
+"""Explanations and pictures: 2,000 random plans, every stored plan and trace, and the time it takes at 1,024
+operations.
+
+  python3 python/tests/pictures.py
+
+What the proved functions say is asked here once more, by calls of the shared library that go past the package; what a
+run breaks and whether a circle closes is judged here by the rules' words.
+"""
+import collections
+import ctypes
+import glob
+import os
+import random
+import re
+import sys
+import time
+import unittest
+from html.parser import HTMLParser
+from xml.etree import ElementTree
+
+ROOT = os.path.dirname(os.path.dirname(os.path.dirname(os.path.abspath(__file__))))
+LIBRARY = os.environ.setdefault('CUNDVREST_LIBRARY', os.path.join(ROOT, 'target', 'lib', 'libcundvrest.so'))
+sys.path[:0] = [os.path.join(ROOT, 'python'), os.path.join(ROOT, 'python', 'tests')]
+from cundvrest import Operation, Passed, Plan, Refused, library, page, picture  # noqa: E402
+from cundvrest.explain_asked import explain_reuse, explain_trace  # noqa: E402
+from random_plans import random_plan  # noqa: E402
+
+PLANS = os.path.join(ROOT, 'plans')
+MANY = 2000
+LIMIT = 0.5             # seconds of processor time for each of parse, explain and draw at 1,024 operations
+
+
+# ---- the library, past the package
+
+so = ctypes.CDLL(LIBRARY)
+
+
+def rooms():
+    table, list_ = (ctypes.c_uint32 * (16 * 1024))(), (ctypes.c_uint32 * 2048)()
+    return table, ctypes.c_size_t(len(table)), list_, ctypes.c_size_t(len(list_))
+
+
+def check(stored):
+    told = (ctypes.c_uint64 * 3)()
+    so.cundvrest_check(stored, ctypes.c_size_t(len(stored)), *rooms(), told)
+    return told[0], told[1]
+
+
+def follow(stored, run):
+    """(number, answer, found) of the trace function."""
+    trace = b''.join(number.to_bytes(2, 'little') for number in (len(run), *run))
+    told, found, state = (ctypes.c_uint64 * 3)(), (ctypes.c_uint64 * 6)(), (ctypes.c_uint64 * 80)()
+    so.cundvrest_trace(stored, ctypes.c_size_t(len(stored)), trace, ctypes.c_size_t(len(trace)), *rooms(), state,
+                       ctypes.c_size_t(80), found, told)
+    return told[0], told[2], found[:3]
+
+
+def without_marks(plan):
+    bare = plan.copy()
+    bare.operations = [Operation(o.queue, o.waits, o.signals) for o in plan.operations]
+    return bare.bytes()
+
+
+# ---- the rules' words
+
+def broken_by(plan, run, buffer):
+    """The marks of a buffer, (operation, item), of which a full run does not do what keeping asks."""
+    step, found = {j: k for k, j in enumerate(run)}, set()
+    holdings = [[]]
+    for j, o in enumerate(plan.operations):
+        for k, mark in enumerate(o.marks):
+            if mark.buffer == buffer:
+                holdings[-1].append((j, k))
+                if mark.free:
+                    holdings.append([])
+    for at, holding in enumerate(holdings):
+        freed_before = step[holdings[at - 1][-1][0]] if at else -1
+        ends = at + 1 < len(holdings)
+        for j, k in holding:
+            if step[j] <= freed_before and at:
+                found.add((j, k))
+            if ends and not plan.operations[j].marks[k].free and step[j] > step[holding[-1][0]]:
+                found.add((j, k))
+    return found
+
+
+def closes(plan, circle):
+    """Does each operation of the circle wait for one that is not before the next?"""
+    for link, after in zip(circle, circle[1:] + circle[:1]):
+        s, v = plan.operations[link.head].waits[link.wait]
+        enough = [(x, j) for j, o in enumerate(plan.operations) for t, x in o.signals if t == s and x >= v]
+        if not v or min(enough)[1] != link.signaller or after.head != link.after:
+            return False
+        if plan.operations[link.signaller].queue != plan.operations[after.head].queue or link.signaller < after.head:
+            return False
+    return True
+
+
+# ---- explanations
+
+class Explained(unittest.TestCase):
+    @classmethod
+    def setUpClass(cls):
+        rng = random.Random(19)
+        cls.plans = [random_plan(rng) for _ in range(MANY)]
+
+    def test_random_plans(self):
+        """The verdict is the library's; what is shown for 10 and 11 is so, and each change does what is said of it."""
+        kinds = collections.Counter()
+        for k, plan in enumerate(self.plans):
+            with self.subTest(plan=k):
+                judged, (number, place) = plan.judge(), check(plan.bytes())
+                if isinstance(judged, Passed):
+                    self.assertEqual((number, place), (0, 0))
+                    kinds['passed'] += 1
+                    continue
+                self.assertEqual((judged.number, judged.place), (number, place))
+                said = judged.explain(strict=True)
+                kinds[self.explained(plan, said, number, place)] += 1
+                for change in said.changes:
+                    self.assertEqual(check(change.plan.bytes()), (change.number, change.place))
+                    self.assertEqual('the plan passes' in change.words, change.number == 0)
+                self.assertIn(f'refused {number} {place}: {said.headline}', said.text())
+                self.assertIn(said.verdict.capitalize(), said.html())
+        print('\n'.join(f'{count:6}  {kind}' for kind, count in sorted(kinds.items())))
+        for number in (6, 7, 8, 10, 11):
+            self.assertGreater(sum(c for kind, c in kinds.items() if kind.startswith(f'refused {number}')), 20)
+        self.assertGreater(sum(c for kind, c in kinds.items() if 'circle of' in kind and kind[-1] > '1'), 50)
+
+    def explained(self, plan, said, number, place):
+        if number == 11:
+            mark = said.broken
+            self.assertEqual(mark.operation, place)
+            self.assertTrue(said.confirmed)
+            self.assertEqual(follow(without_marks(plan), said.run)[:2], (0, 0))
+            self.assertIn((mark.operation, mark.item), broken_by(plan, said.run, mark.buffer))
+            self.assertEqual(sorted(said.run), list(range(len(plan.operations))))
+            for change in said.changes:
+                moved = [o.queue for o in change.plan.operations] != [o.queue for o in plan.operations]
+                self.assertTrue(change.number == 0 or change.number == 11 and (moved or change.place >= place))
+            passes = any(change.number == 0 for change in said.changes)
+            return 'refused 11, ' + ('a change passes' if passes else 'a change helps' if said.changes else 'no change')
+        if number == 10:
+            self.assertTrue(closes(plan, said.circle))
+            ran = sorted(said.order.run)
+            less = plan.copy()
+            less.operations = [plan.operations[j] for j in ran]
+            self.assertEqual(follow(without_marks(less), [ran.index(j) for j in said.order.run])[:2], (0, 0))
+            self.assertNotIn(place, ran)
+            return f'refused 10, circle of {len(said.circle)}'
+        self.assertIn(place, said.focus)
+        return f'refused {number}'
+
+    def test_traces(self):
+        """What is said of a trace is what the library says: a full run, an unfinished one, and each way to depart."""
+        rng, kinds = random.Random(20), collections.Counter()
+        for k, plan in enumerate(self.plans):
+            judged = plan.judge()
+            if not isinstance(judged, Passed) or not plan.operations:
+                continue
+            with self.subTest(plan=k):
+                steps = list(judged.run)
+                at = rng.randrange(len(steps))
+                steps = rng.choice([steps, steps[:at], steps[:at] + [rng.randrange(len(steps) + 1)] + steps[at:],
+                                    rng.sample(steps, len(steps))])
+                number, answer, (step, j, wait) = follow(plan.bytes(), steps)
+                self.assertEqual(number, 0)
+                said = explain_trace(plan, steps)
+                word = ('full', 'unfinished', 'unknown', 'repeated', 'not-first', 'wait-not-met')[answer]
+                verdict = {0: 'trace full', 1: f'trace unfinished {step}'}.get(
+                    answer, f'trace departs {step} {word} {j}' + (f' {wait}' if answer == 5 else ''))
+                self.assertEqual(said.verdict, verdict)
+                self.assertIn(said.headline, said.text())
+                kinds[word] += 1
+                if not k % 3:
+                    drawn = Drawing(self, picture.draw(plan, trace=steps))
+                    self.assertEqual(len(drawn.ran), step)
+        print('\n'.join(f'{count:6}  trace {kind}' for kind, count in sorted(kinds.items())))
+        self.assertEqual(len(kinds), 6)
+
+    def test_trace_that_is_none(self):
+        plan = Plan.load(os.path.join(PLANS, 'camera.plan'))
+        for recorded, words in ((b'', 'no byte'), (b'\x01', '1 byte'),
+                                (b'\x02\x00\x00\x00\x00', '2 steps, and has 1 step and a byte more')):
+            said = explain_trace(plan, recorded)
+            self.assertEqual(said.verdict, 'refused 22 0')
+            self.assertIn(words, said.headline)
+            self.assertIn('refused 22 0', page.page(plan, trace=recorded).lower())
+
+    def test_reuse(self):
+        """Every verdict of the reuse question has words; a wait that is shown makes the buffer reusable."""
+        verdicts = collections.Counter()
+        for plan in self.plans[:300]:
+            if isinstance(plan.judge(), Passed):
+                for q in range(len(plan.queues)):
+                    for b in range(len(plan.buffers)):
+                        said = explain_reuse(plan, q, b)
+                        _, _, verdict = library.reuse(plan.bytes(), q, b)
+                        self.assertTrue(said.verdict.startswith(f'verdict {verdict} '))
+                        verdicts[said.verdict] += 1
+                        lines = [shown for block in said.blocks if block.kind == 'lines' for shown in block.content]
+                        for line in lines:
+                            if line.sign == '+':
+                                verdicts['with a wait'] += 1
+                                self.assertEqual(self.with_line(plan, line.text, q, b), (0, 0, 1))
+        self.assertGreaterEqual(len(verdicts), 4)
+
+    @staticmethod
+    def with_line(plan, line, q, b):
+        lines = plan.text().rstrip().split('\n')
+        return library.reuse(Plan.parse('\n'.join(lines[:-1] + [line, 'end']) + '\n').bytes(), q, b)
+
+
+# ---- pictures
+
+def points(d):
+    """The points of a path, and whether each is a corner that the line goes to."""
+    out, x, y = [], 0.0, 0.0
+    for letter, rest in re.findall(r'([A-Za-z])([^A-Za-z]*)', d):
+        n = [float(number) for number in re.findall(r'-?\d*\.?\d+', rest)]
+        if letter in 'MLQ':
+            pairs = list(zip(n[0::2], n[1::2]))
+            x, y = pairs[-1]
+            out += pairs
+        elif letter in 'ml':
+            for dx, dy in zip(n[0::2], n[1::2]):
+                x, y = x + dx, y + dy
+                out.append((x, y))
+        elif letter in 'hv':
+            x, y = (x + n[0], y) if letter == 'h' else (x, y + n[0])
+            out.append((x, y))
+        elif letter != 'z':
+            raise AssertionError(f'a path with {letter}')
+    return out
+
+
+class Drawing:
+    """A picture read back: its boxes, arrows and signs; every piece of it is on the page."""
+
+    def __init__(self, test, svg):
+        self.test, self.root = test, ElementTree.fromstring(svg)
+        x, y, w, h = map(float, self.root.get('viewBox').split())
+        self.page = (x, y, x + w, y + h)
+        self.boxes, self.arrows, self.labels, self.ran = {}, {}, [], []
+        self.walk(self.root, None)
+
+    def walk(self, node, group):
+        tag = node.tag.split('}')[1]
+        if tag in ('defs', 'title'):
+            return
+        if tag == 'g':
+            group = (node.get('class'), node.get('data-of'))
+            kept = {'operation': self.boxes, 'wait': self.arrows}.get(group[0])
+            if kept is not None:
+                self.test.assertNotIn(group[1], kept)
+                kept[group[1]] = []
+        self.on_page(tag, node)
+        kind, of = group or (None, None)
+        if tag == 'rect' and node.get('class') == 'box':
+            self.boxes[of].append(self.corners(node))
+        if tag == 'path' and node.get('marker-end') and kind == 'wait':
+            self.arrows[of].append(points(node.get('d')))
+        if tag == 'rect' and kind in ('missing', 'never', 'departs'):
+            self.labels.append(self.corners(node))
+        if tag == 'text' and node.text == '✓' and kind == 'operation':
+            self.ran.append(of)
+        for child in node:
+            self.walk(child, group)
+
+    @staticmethod
+    def corners(rect):
+        x, y, w, h = (float(rect.get(name)) for name in ('x', 'y', 'width', 'height'))
+        return x, y, x + w, y + h
+
+    def on_page(self, tag, node):
+        def number(name):
+            return float(node.get(name))
+        if tag == 'rect':
+            x1, y1, x2, y2 = self.corners(node)
+            reached = [(x1, y1), (x2, y2)]
+        elif tag == 'line':
+            reached = [(number('x1'), number('y1')), (number('x2'), number('y2'))]
+        elif tag == 'circle':
+            reached = [(number('cx') + s * number('r'), number('cy') + s * number('r')) for s in (-1, 1)]
+        elif tag == 'path':
+            reached = points(node.get('d'))
+        elif tag == 'text':
+            wide = 0.5 * number('font-size') * len(node.text or '')
+            start = number('x') - {'start': 0, 'middle': wide / 2, 'end': wide}[node.get('text-anchor')]
+            reached = [(start, number('y') - number('font-size')), (start + wide, number('y'))]
+        else:
+            self.test.assertIn(tag, ('svg', 'g'))
+            return
+        left, top, right, bottom = self.page
+        for x, y in reached:
+            self.test.assertTrue(left <= x <= right and top <= y <= bottom, f'{tag} at {x}, {y} is outside the page')
+
+    def holds(self, plan, operations):
+        """One box for each operation, one arrow for each of its waits, no arrow and no label over another box."""
+        self.test.assertEqual(sorted(map(int, self.boxes)), sorted(operations))
+        self.test.assertEqual(sorted(self.arrows), sorted(f'{j}.{k}' for j in operations
+                                                          for k in range(len(plan.operations[j].waits))))
+        for of, found in (*self.boxes.items(), *self.arrows.items()):
+            self.test.assertEqual(len(found), 1, of)
+        boxes = {of: box for of, (box,) in self.boxes.items()}
+        for of, (line,) in self.arrows.items():
+            for (x1, y1), (x2, y2) in zip(line, line[1:]):
+                for j, (left, top, right, bottom) in boxes.items():
+                    crosses = (max(x1, x2) > left + 1 and min(x1, x2) < right - 1
+                               and max(y1, y2) > top + 1 and min(y1, y2) < bottom - 1)
+                    self.test.assertFalse(crosses, f'the arrow of wait {of} crosses the box of {j}')
+        for x1, y1, x2, y2 in self.labels:
+            for j, (left, top, right, bottom) in boxes.items():
+                covers = x2 > left and x1 < right and y2 > top and y1 < bottom
+                self.test.assertFalse(covers, f'a label covers the box of {j}')
+
+
+class Page(HTMLParser):
+    """A page read back: its tags are closed, it has no scripts and loads nothing."""
+    VOID = ('meta', '!doctype')
+
+    def __init__(self, test, text):
+        super().__init__()
+        self.test, self.open = test, []
+        self.feed(text)
+        test.assertEqual(self.open, [])
+
+    def handle_starttag(self, tag, attributes):
+        self.test.assertNotIn(tag, ('script', 'link', 'img', 'iframe', 'object'))
+        for name, _ in attributes:
+            self.test.assertFalse(name.startswith('on') or name in ('href', 'src'), name)
+        if tag not in self.VOID:
+            self.open.append(tag)
+
+    def handle_startendtag(self, tag, attributes):
+        pass
+
+    def handle_endtag(self, tag):
+        self.test.assertEqual(self.open.pop(), tag)
+
+
+class Drawn(unittest.TestCase):
+    def test_random_plans(self):
+        rng = random.Random(21)
+        for k in range(500):
+            plan = random_plan(rng)
+            with self.subTest(plan=k):
+                Drawing(self, picture.draw(plan, title=f'plan {k}')).holds(plan, range(len(plan.operations)))
+                if k % 10 == 0:
+                    Page(self, page.page(plan, f'<plan {k} & more>'))
+
+    def test_long_names(self):
+        """Names of any length and alphabet, and the largest numbers: cut where there is no room, never over a box."""
+        largest, long = 2**64 - 1, 'größter-ρυθμός.' * 6
+        plan = Plan()
+        for k in range(3):
+            plan.queue(f'{long}q{k}', axis=largest - k)
+            plan.semaphore(f'{long}s{k}', owner=k)
+            plan.buffer(f'{long}b{k}', size=2**32 - 1)
+        for k in range(9):
+            plan.add(k % 3, {(k + 2) % 3: largest - 9 + k} if k else (), [0, k % 3], [k % 3], {k % 3: largest - 8 + k})
+        for tried in (plan, plan.with_operation(4, waits=()), plan.with_operation(0, waits=[(2, largest)])):
+            Drawing(self, picture.draw(tried, title=long)).holds(tried, range(9))
+            Page(self, page.page(tried, long))
+            explained(tried)
+
+    def test_larger_plans(self):
+        """Above 60 operations there is an overview; above 200 what is near the fault, or what is asked for."""
+        rng = random.Random(22)
+        for operations in (61, 150, 200):
+            plan = many_queues(rng, operations)
+            svg = picture.draw(plan)
+            self.assertIn('class="overview"', svg)
+            Drawing(self, svg).holds(plan, range(operations))
+        for plan, near in ((camera(256), None), (camera(256, 200), 800), (many_queues(rng, 1024), None),
+                           (stuck(256), None)):
+            judged = plan.judge()
+            if isinstance(judged, Refused):
+                near = judged.place
+            shown = picture.Picture(plan)
+            drawn = Drawing(self, shown.svg())
+            drawn.holds(plan, [j for j, level in enumerate(shown.levels)
+                               if any(low <= level < high for low, high in shown.bands)])
+            self.assertLess(len(drawn.boxes), 400)
+            if near is not None:
+                self.assertIn(str(near), drawn.boxes)
+            self.assertIn('500', Drawing(self, picture.draw(plan, around=500)).boxes)
+            self.assertEqual(len(Drawing(self, picture.draw(plan, everything=True)).boxes), len(plan.operations))
+        with self.assertRaises(ValueError):
+            picture.draw(plan, around=len(plan.operations))
+
+    def test_stored_plans(self):
+        for path in sorted(glob.glob(os.path.join(glob.escape(PLANS), '*.plan'))):
+            name = os.path.basename(path)
+            with self.subTest(plan=name):
+                try:
+                    plan = Plan.load(path)
+                except Refused as refused:
+                    self.assertIn(f'refused {refused.number} {refused.place}', refused.explain(strict=True).text())
+                    Page(self, page.page(refused, name))
+                    continue
+                Drawing(self, picture.draw(plan, title=name)).holds(plan, range(len(plan.operations)))
+                Page(self, page.page(plan, name))
+
+    def test_stored_traces(self):
+        plan = Plan.load(os.path.join(PLANS, 'camera.plan'))
+        for path in sorted(glob.glob(os.path.join(glob.escape(PLANS), '*.trace'))):
+            with self.subTest(trace=os.path.basename(path)), open(path, 'rb') as file:
+                recorded = file.read()
+                Page(self, page.page(plan, trace=recorded))
+                said = explain_trace(plan, recorded)
+                with open(path[:-6] + '.txt', encoding='utf-8') as text:
+                    self.assertEqual(said.verdict, text.read().split('\nprints:\n')[1].split('\n')[0])
+                if not said.number:
+                    drawn = Drawing(self, picture.draw(plan, trace=recorded))
+                    drawn.holds(plan, range(len(plan.operations)))
+
+
+# ---- speed
+
+def camera(frames, missing=None):
+    plan = Plan()
+    for stage in ('capture', 'correct', 'measure', 'readout'):
+        plan.queue(stage)
+        plan.semaphore(stage + '-done', owner=stage)
+    for k in range(4):
+        plan.buffer(f'frame{k}', size=8294400)
+    for frame in range(frames):
+        buffer = f'frame{frame % 4}'
+        again = {'readout-done': frame - 3} if frame >= 4 and frame != missing else {}
+        plan.add('capture', again, buffer, (), {'capture-done': frame + 1})
+        plan.add('correct', {'capture-done': frame + 1}, buffer, (), {'correct-done': frame + 1})
+        plan.add('measure', {'correct-done': frame + 1}, buffer, (), {'measure-done': frame + 1})
+        plan.add('readout', {'measure-done': frame + 1}, buffer, buffer, {'readout-done': frame + 1})
+    return plan
+
+
+def stuck(frames):
+    """A camera whose first picture waits for the last one's readout."""
+    plan = camera(frames)
+    return plan.with_operation(len(plan.operations) // 2 // 4 * 4, waits=((3, frames),))
+
+
+def many_queues(rng, operations):
+    """Sixteen queues, three waits and four marks an operation, at random: nearly every mark is broken."""
+    plan = Plan()
+    for k in range(16):
+        plan.queue()
+        plan.semaphore(owner=k)
+    for _ in range(64):
+        plan.buffer(size=1 << 20)
+    last = [0] * 16
+    for _ in range(operations):
+        q = rng.randrange(16)
+        waits = [(s, rng.randint(1, last[s])) for s in rng.sample(range(16), 3) if last[s] and s != q]
+        last[q] += 1
+        plan.operations.append(Operation(q, waits, [(q, last[q])],
+                                         [(b, rng.random() < 0.3) for b in rng.sample(range(64), 4)]))
+    return plan
+
+
+class Speed(unittest.TestCase):
+    def test_largest_plans(self):
+        rng = random.Random(23)
+        plans = {'passed': camera(256), 'broken mark': camera(256, 200), 'stuck': stuck(256),
+                 'all marks broken': many_queues(rng, 1024)}
+        print(f'\n{"ms of processor time, 1,024 operations":38}  parse  explain  draw  page')
+        for name, plan in plans.items():
+            self.assertEqual(len(plan.operations), 1024)
+            text = plan.text()
+            tried = [lambda: Plan.parse(text), lambda: explained(Plan.parse(text)),
+                     lambda: picture.draw(Plan.parse(text)), lambda: page.page(Plan.parse(text))]
+            took = [best(function) for function in tried]
+            took[1:] = [max(0.0, seconds - took[0]) for seconds in took[1:]]
+            print(f'{name:38}' + ''.join(f'{1000 * seconds:{width}.0f}' for seconds, width in zip(took, (7, 9, 6, 6))))
+            for seconds in took[:3]:
+                self.assertLess(seconds, LIMIT)
+
+
+def explained(plan):
+    judged = plan.judge()
+    return judged.explain(strict=True).text() if isinstance(judged, Refused) else judged
+
+
+def best(function, times=3):
+    """Seconds of processor time: another program on the machine changes nothing."""
+    out = []
+    for _ in range(times):
+        start = time.process_time()
+        function()
+        out.append(time.process_time() - start)
+    return min(out)
+
+
+if __name__ == '__main__':
+    unittest.main()
