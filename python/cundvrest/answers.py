@@ -99,8 +99,9 @@ class Passed:
         return f'<p>{self!r}</p>' + picture.draw(self.plan)
 
 
-class Answer(enum.IntEnum):
-    """An answer of the library; as text it is the program's word for it."""
+class Answer(enum.Enum):
+    """An answer of the library, which is a number, its `value`; as text it is the program's word for it. It is no
+    number itself: its truth would be lost on the way."""
 
     def __str__(self):
         return self.name.lower().replace('_', '-')
@@ -121,6 +122,9 @@ class Advice(Answer):
     """Is there a wait that would free the buffer?"""
     NONE_NEEDED, WAIT, NONE_WOULD_HELP = range(3)
 
+    def __bool__(self):
+        return self is not Advice.NONE_WOULD_HELP
+
 
 @dataclass(frozen=True)
 class Suggestion:
@@ -130,12 +134,19 @@ class Suggestion:
     wait: Optional[Wait] = None
 
     def __bool__(self):
-        return self.advice is not Advice.NONE_WOULD_HELP
+        return bool(self.advice)
 
 
 class Followed(Answer):
     """What a recorded trace followed; from 2 on, why a step departs."""
     FULL, UNFINISHED, UNKNOWN, REPEATED, NOT_FIRST, WAIT_NOT_MET = range(6)
+
+    def __bool__(self):
+        return self is Followed.FULL
+
+    @property
+    def departs(self):
+        return self.value >= Followed.UNKNOWN.value
 
 
 @dataclass(frozen=True)
@@ -153,8 +164,8 @@ class Trace:
     semaphores: list
 
     def __bool__(self):
-        return self.followed is Followed.FULL
+        return bool(self.followed)
 
     @property
     def departs(self):
-        return self.followed >= Followed.UNKNOWN
+        return self.followed.departs

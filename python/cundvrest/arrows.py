@@ -1,6 +1,6 @@
 """The arrows of a band of a picture: one for each wait, the order that is missing, and where a trace departs."""
 from .route import Router
-from .svg import BOX, DARK, HUES, INK, LANE, LIGHT, PALE, RED, short, wide
+from .svg import BOX, DARK, HUES, INK, LANE, LIGHT, PALE, RED, awaited, wide
 
 MISSING = (RED, 2.6, '7 5')
 MUCH = 400              # waits above which an arrow over many columns is only begun
@@ -70,9 +70,9 @@ class Arrows:
                 else:
                     self._wait(svg, j, k, y, wire)
 
-    def _name(self, j, k):
+    def _name(self, j, k, most=1000):
         s, v = self.plan.operations[j].waits[k]
-        return f'{self.plan.semaphores[s].name}≥{v}'
+        return awaited(self.plan.semaphores[s].name, v, most)
 
     def _kind(self, j, k):
         """(what it is, colour, width, dashes)."""
@@ -102,7 +102,7 @@ class Arrows:
             turns = [self.router.in_x(w) - 4 for w in self.into[j] if w.channel is not None]
             bare = len(self.into[j]) < len(self.plan.operations[j].waits)       # beside it is one without a way
             end = min([picture.x(picture.levels[j]) - (34 if bare else 10)] + turns)
-            words = short(self._name(j, k), int((picture.gap - 34) / 5.5)) + ' not met' * (what == 'unmet')
+            words = self._name(j, k, int((picture.gap - 34) / 5.5)) + ' not met' * (what == 'unmet')
             svg.text(end, y - 3, words, 9.5, RED if red else '#46525e', 'end', red, halo=True)
 
     def _unordered(self, svg, j, k, y):
@@ -123,7 +123,7 @@ class Arrows:
         """What is drawn over the boxes: labels, and what they belong to."""
         for j, k in self.never.items():
             with svg.group(f'no signal reaches {self._name(j, k)}', 'never', f'{j}.{k}'):
-                self._label_above(svg, j, f'{short(self._name(j, k), 40)} never comes')
+                self._label_above(svg, j, f'{self._name(j, k, 40)} never comes')
         self._missing(svg)
         self._departure(svg)
 
@@ -179,7 +179,7 @@ class Arrows:
                     if s >= len(self.plan.semaphores):
                         return 'missing: a signal and a wait'
                     if (s, v) not in waits:
-                        return f'missing: wait {short(self.plan.semaphores[s].name, 30)}≥{v}'
+                        return f'missing: wait {awaited(self.plan.semaphores[s].name, v, 50)}'
         return 'missing'
 
     # ---- a trace
@@ -193,7 +193,7 @@ class Arrows:
         if picture.traced.focus and picture.inside(trace.operation):
             words = f'step {trace.step} departs here'
             if trace.wait is not None:
-                words = f'step {trace.step} departs: {self._name(trace.operation, trace.wait)} is not met'
+                words = f'step {trace.step} departs: {self._name(trace.operation, trace.wait, 40)} is not met'
             with svg.group('the first step that is not as the plan says', 'departs', trace.operation):
                 self._label_above(svg, trace.operation, words)
 

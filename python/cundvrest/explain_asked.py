@@ -3,7 +3,7 @@ what the wait waits for; why a buffer may not be filled again yet, and the wait 
 from .explanation import FOUND, PROVED, Explanation, Shown
 from .library import LibraryError
 from .order import Order
-from .plan import Advice, Followed, Refused, Trace, Verdict
+from .plan import LIMITS, Advice, Followed, Refused, Trace, Verdict
 from .speaker import Speaker, count
 
 
@@ -138,7 +138,7 @@ def explain_reuse(plan, queue, buffer):
                 Verdict.REUSABLE: f'{of} may fill {name} again: all that marks it comes before',
                 Verdict.HELD: f'{name} is held: its last mark is a use, and nothing frees it',
                 Verdict.NOT_ORDERED: f'{of} may be done before all that marks {name} has run'}[verdict]
-    said = Explanation(0, 0, headline, verdict=f'verdict {int(verdict)} {verdict}', order=order)
+    said = Explanation(0, 0, headline, verdict=f'verdict {verdict.value} {verdict}', order=order)
     marked = [(j, k) for j, o in enumerate(plan.operations) for k, mark in enumerate(o.marks) if mark.buffer == buffer]
     if marked:
         last, k = marked[-1]
@@ -183,6 +183,11 @@ def _suggestion(said, plan, speaker, queue, buffer):
         return
     if advice.advice is Advice.WAIT:
         semaphore, value = advice.wait
-        said.says('With one more operation at the end of the plan it may fill the buffer again:', PROVED)
-        said.lines(Shown('', f'{plan.queues[queue].name}: wait {speaker.semaphore(semaphore)}>={value}', sign='+'))
+        wait = f'wait {speaker.semaphore(semaphore)}>={value}'
+        if len(plan.operations) < LIMITS['operation']:
+            said.says('With one more operation at the end of the plan it may fill the buffer again:', PROVED)
+            said.lines(Shown('', f'{plan.queues[queue].name}: {wait}', sign='+'))
+        else:
+            said.says(f'One more operation of {plan.queues[queue].name} with {wait} would come after all that marks '
+                      f'the buffer; but the plan has {len(plan.operations)} operations, and takes no more.', PROVED)
         said.claim(PROVED, 'the wait, by the proved suggest function')

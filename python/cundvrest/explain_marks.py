@@ -100,7 +100,8 @@ def _run(said, order, speaker, mark):
     said.claim(CONFIRMED, 'that the run shown is a full run, by the proved trace function')
     name, step = speaker.buffer(mark.buffer), {j: k for k, j in enumerate(run)}
     if mark.first == mark.then:
-        said.says(f'Every full run breaks {name}. The standard run does, in step {step[mark.then]}:', CONFIRMED)
+        said.says(f'Both marks are in one step, so every full run breaks {name}.', FOUND)
+        said.says(f'The standard run does, in step {step[mark.then]}:', CONFIRMED)
     else:
         said.says(f'A full run in which it goes wrong, told by what marks {name}:', CONFIRMED)
         remark = {mark.first: 'freed only now', mark.then: 'too early'} if mark.kind == 'early' else {

@@ -3,6 +3,7 @@ from . import faults
 from .explanation import CONFIRMED, FOUND, Change, Explanation
 from .order import Order
 from .plan import Wait
+from .speaker import count
 from .trying import then, tried
 
 MOST_CHANGES = 4
@@ -13,17 +14,14 @@ def stuck(refused, speaker):
     lowest, lead, circle = faults.stuck(order)
     focus = sorted({lowest, *(j for link in circle for j in (link.head, link.signaller))})
     said = Explanation(10, refused.place, _headline(circle, speaker), speaker.where(refused.place), order=order,
-                       circle=circle, focus=focus)
+                       lead=lead, circle=circle, focus=focus)
     if not order.run:
         said.says('Nothing can start.', FOUND)
     elif order.run_is_confirmed():
         said.says(f'After {len(order.run)} of {order.n} operations nothing can go on.', CONFIRMED)
-        said.claim(CONFIRMED, f'that the other {len(order.run)} operations can run, by the proved trace function')
-    first = lead[0].head if lead else circle[0].head
-    if first != lowest:
-        said.says(f'Operation {lowest} comes after operation {first} on {speaker.queue(lowest)}, which cannot run.')
+        said.claim(CONFIRMED, f'that {count(len(order.run), "operation")} can run, by the proved trace function')
     if lead:
-        said.says('What it waits for leads to the circle:')
+        said.says(f'What operation {lowest} waits for leads to the circle:')
         said.lines(*[shown for link in lead for shown in _link(link, speaker)], by=FOUND)
         said.says('The circle:')
     said.lines(*[shown for link in circle for shown in _link(link, speaker)], by=FOUND)

@@ -1,7 +1,8 @@
 """An explanation: sentences, lines of the plan and tables, each with who says so, for a terminal and for a page."""
-import html
 import textwrap
 from dataclasses import dataclass, field
+
+from .shown import escaped
 
 # who says so
 PROVED = 'proved'               # a proved function said it
@@ -57,6 +58,7 @@ class Explanation:
     run: list = None
     confirmed: bool = False
     broken: object = None
+    lead: list = field(default_factory=list)        # links that lead to the circle
     circle: list = field(default_factory=list)
     order: object = field(default=None, repr=False)
 
@@ -113,14 +115,14 @@ class Explanation:
     # ---- a page
     def html(self):
         """A section for a page; the page has the style."""
-        e = html.escape
+        e = escaped
         out = [f'<h2>{e(self.verdict.capitalize())}</h2><p class="head">{e(self.headline)}</p>']
         for block in self.blocks:
             badge = f'<span class="by {block.by}" title="{MEANING[block.by]}">{block.by}</span>' if block.by else ''
             if block.kind == 'says':
                 out.append(f'<p>{e(block.content)}{" " + badge if badge else ""}</p>')
             elif block.kind == 'lines':
-                out.append(_code_html(block.content))
+                out.append(_code_html(block.content) + badge)
             else:
                 rows = ''.join('<tr>' + ''.join(f'<td>{e(str(cell))}</td>' for cell in row) + '</tr>'
                                for row in block.content)
@@ -156,7 +158,7 @@ def _code(shown, paint):
 
 
 def _code_html(shown):
-    e, out = html.escape, []
+    e, out = escaped, []
     width = max(len(s.label) for s in shown)
     for s in shown:
         text, at = '', 0

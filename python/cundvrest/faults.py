@@ -59,8 +59,8 @@ def wrong_run(order, broken):
 
 @dataclass(frozen=True)
 class Link:
-    """The first operation of a queue that cannot run, `head`, waits by its wait `wait` for `signaller`, which is
-    `after` or comes after it on its queue; `after` is the first one there that cannot run."""
+    """An operation that cannot run, `head`, waits by its wait `wait` for `signaller`, which is `after` or comes after
+    it on its queue; `after` is the head of the next link."""
     head: int
     wait: int
     signaller: int
@@ -69,32 +69,72 @@ class Link:
 
 def stuck(order):
     """(lowest, lead, circle) of a plan without a full run: the lowest operation that cannot run; links that lead from
-    the head of its queue to the circle, maybe none; and a shortest circle of links that it leads to."""
+    it to the circle, maybe none; and a circle with the fewest waits of all that it leads to."""
     done = set(order.run)
-    heads = {}
-    for q, queued in enumerate(order.queued):
-        head = next((j for j in queued if j not in done), None)
-        if head is not None:
-            heads[q] = head
-    links = {q: [Link(head, k, r, heads[order.queue[r]]) for k, r in enumerate(order.rests[head])
-                 if r is not None and r not in done] for q, head in heads.items()}
-
-    def path(start, goals, at_least=0):
-        """A shortest path of links from a queue to one of the goals."""
-        todo, seen = [(start, [])], set()
-        for q, taken in todo:
-            if q in goals and len(taken) >= at_least:
-                return taken
-            if q not in seen:
-                seen.add(q)
-                todo += [(order.queue[link.after], taken + [link]) for link in links[q]]
-        return None
-    lowest = min(set(range(order.n)) - done)
-    start = order.queue[lowest]
-    reached = [q for q in heads if path(start, {q}) is not None]
-    circles = [circle for circle in (path(q, {q}, 1) for q in reached) if circle]
-    circle = min(circles, key=lambda c: (len(c), min(link.head for link in c)))
-    lead = path(start, {order.queue[link.head] for link in circle})
-    entry = order.queue[lead[-1].after] if lead else start
-    turn = next(k for k, link in enumerate(circle) if order.queue[link.head] == entry)
+    waits = {j: [(k, r) for k, r in enumerate(rests) if r is not None and r not in done]
+             for j, rests in enumerate(order.rests) if j not in done}
+    lowest = min(waits)
+    start = _in_a_shortest_circle(order, waits, lowest)
+    circle = _links(order, waits, _by_waits(waits, start), {start})
+    heads = [link.head for link in circle]
+    lead = _links(order, waits, [(lowest, None)], set(heads))
+    turn = heads.index(lead[-1].after if lead else lowest)
     return lowest, lead, circle[turn:] + circle[:turn]
+
+
+def _leads_to(order, waits, start):
+    """Every operation that `start` cannot run before, itself too."""
+    todo, seen = [start], {start}
+    for j in todo:
+        for r in (order.previous(j), *(r for _, r in waits[j])):
+            if r in waits and r not in seen:
+                seen.add(r)
+                todo.append(r)
+    return seen
+
+
+def _in_a_shortest_circle(order, waits, lowest):
+    """The lowest operation whose wait is in a circle with the fewest waits of all that `lowest` leads to. Sets of
+    operations are bits of a number; a shortest circle has at most one wait for each queue."""
+    reached = sorted(_leads_to(order, waits, lowest))
+    near = {}                                           # what comes before it on its queue, and itself
+    for j in reached:
+        near[j] = near.get(order.previous(j), 0) | 1 << j
+    while True:
+        own, far = {}, {}                               # one wait further: by its own waits; or by one before it too
+        for j in reached:
+            own[j] = 0
+            for _, r in waits[j]:
+                own[j] |= near[r]
+            far[j] = own[j] | far.get(order.previous(j), 0)
+        found = next((j for j in reached if own[j] >> j & 1), None)
+        if found is not None:
+            return found
+        near = far
+
+
+def _links(order, waits, todo, goals):
+    """The fewest links that lead to a goal, or to an operation after it on its queue, and go on from those of `todo`:
+    (operation, the last link to it and those before, or None)."""
+    taken = set()
+    for at, before in todo:
+        while at in waits and at not in taken:
+            if at in goals:
+                return _joined(before, at)
+            taken.add(at)
+            todo += _by_waits(waits, at, before)
+            at = order.previous(at)
+
+
+def _by_waits(waits, head, before=None):
+    return [(r, ((head, k, r), before)) for k, r in waits[head]]
+
+
+def _joined(last, after):
+    """The links, in order, of which the last leads to `after`."""
+    links = []
+    while last is not None:
+        (head, wait, signaller), last = last
+        links.append(Link(head, wait, signaller, after))
+        after = head
+    return links[::-1]

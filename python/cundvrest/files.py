@@ -2,16 +2,32 @@
 import os
 import re
 import stat
+from contextlib import contextmanager
 
 from .text import Problem, TextError
 
 MOST_BYTES = 1 << 24        # of a text; a stored plan is far shorter
 
 
-def content(path):
+@contextmanager
+def named(path):
+    """What fails here names this file, as the user did."""
+    try:
+        yield
+    except OSError as error:
+        raise OSError(error.errno, error.strerror, path) from None
+
+
+def content(path, most=MOST_BYTES):
     """The bytes of a file, one more than are taken at most."""
-    with open(path, 'rb') as file:
-        return file.read(MOST_BYTES + 1)
+    with named(path), open(path, 'rb') as file:
+        return file.read(most + 1)
+
+
+def are_one(path, other):
+    """Are these two names of one file?"""
+    return os.path.realpath(path) == os.path.realpath(other) or (
+        os.path.exists(path) and os.path.exists(other) and os.path.samefile(path, other))
 
 
 def is_text(data, path=''):
@@ -49,7 +65,11 @@ def decoded(data, path):
 
 def write_whole(path, content):
     """Writes bytes into a file whole or not at all; what is no regular file, as a pipe, is written to."""
-    path = os.path.realpath(path)
+    with named(path):
+        _write_whole(os.path.realpath(path), content)
+
+
+def _write_whole(path, content):
     mode = os.stat(path).st_mode if os.path.exists(path) else None
     if mode is not None and not stat.S_ISREG(mode):
         with open(path, 'wb') as file:

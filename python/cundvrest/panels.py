@@ -4,7 +4,7 @@ Each function draws at `y` and hands back where the next may begin."""
 import textwrap
 
 from . import faults
-from .svg import BOX, GREEN, HATCH, HUES, INK, LANE, LIGHT, PALE, RED, RULE, short, wide
+from .svg import BOX, GREEN, HATCH, HUES, INK, LANE, LIGHT, PALE, RED, RULE, awaited, short, wide
 
 
 def amount(size):
@@ -165,14 +165,14 @@ def _holdings(svg, y, m, name, start, middle, end, left):
 # ---- the circle of a stuck plan
 
 def circle(picture, svg, y):
-    """Only what waits in the circle: for each queue its first operation that cannot run and, after it, the one that
-    would signal."""
+    """Only what waits in the circle: for each queue of it the operation that waits and, after it, the one that would
+    signal."""
     plan, links, done = picture.plan, picture.said.circle, len(picture.done)
-    y = _title(picture, svg, y, 'The circle', f'after {done} of {picture.n} operations each of these queues is at its '
-               'first box; an arrow leads from a signal to what waits for it')
+    y = _title(picture, svg, y, 'The circle', f'after {done} of {picture.n} operations none of these queues comes past '
+               'its first box; an arrow leads from a signal to what waits for it')
     names = [short(plan.queues[plan.operations[link.head].queue].name, 22) for link in links]
     waits = [plan.operations[link.head].waits[link.wait] for link in links]
-    labels = [f'{plan.semaphores[s].name}≥{v}' for s, v in waits]
+    labels = [awaited(plan.semaphores[s].name, v, 40) for s, v in waits]
     left, gap = max(wide(name, 12, True) for name in names) + 36, max(wide(label, 10.5, True) for label in labels) + 44
     x1, w = left + gap, 64
     x2 = x1 + w + 110

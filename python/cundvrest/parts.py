@@ -5,7 +5,6 @@ from typing import NamedTuple
 LIMITS = {'queue': 16, 'semaphore': 64, 'buffer': 256, 'operation': 1024, 'wait': 3, 'signal': 2, 'mark': 4}
 
 
-
 class Wait(NamedTuple):
     semaphore: int
     value: int

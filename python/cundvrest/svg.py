@@ -1,6 +1,7 @@
 """Pieces of SVG, and how far they reach: the page is made as large as what is drawn on it."""
-import html
 from contextlib import contextmanager
+
+from .shown import escaped
 
 FONT = 'Helvetica,Arial,DejaVu Sans,sans-serif'
 INK, PALE, GREY, RED, GREEN = '#1f2933', '#5f6b78', '#8d99a6', '#c40018', '#1b7f4d'
@@ -25,7 +26,17 @@ def wide(text, size, bold=False):
 
 
 def short(text, most):
-    return text if len(text) <= most else text[:most - 1] + '…'
+    """The text, or its first and its last characters: names that begin alike often differ at the end."""
+    if len(text) <= most:
+        return text
+    end = (most - 1) // 2
+    return text[:most - 1 - end] + '…' + text[len(text) - end:]
+
+
+def awaited(name, value, most):
+    """A semaphore and its value. The name is cut, the value never."""
+    sign = f'≥{value}'
+    return short(name, max(most - len(sign), 3)) + sign
 
 
 class Svg:
@@ -47,7 +58,7 @@ class Svg:
         more += ' font-style="italic"' if italic else ''
         more += ' stroke="#fff" stroke-width="3" stroke-linejoin="round" paint-order="stroke"' if halo else ''
         self.add(f'<text x="{x:.1f}" y="{y:.1f}" font-size="{size}" fill="{colour}" text-anchor="{anchor}"{more}>'
-                 f'{html.escape(text)}</text>', (start, y - size), (start + w, y + size * 0.3))
+                 f'{escaped(text)}</text>', (start, y - size), (start + w, y + size * 0.3))
 
     def rect(self, x, y, w, h, fill, edge='none', width=1.0, round_=0, dash='', name=''):
         more = f' stroke-dasharray="{dash}"' if dash else ''
@@ -90,7 +101,7 @@ class Svg:
     def group(self, title='', name='', of=''):
         """A group with a title that a browser shows; `name` says what it is and `of` of what, for those who read it."""
         more = (f' class="{name}"' if name else '') + (f' data-of="{of}"' if of != '' else '')
-        self.parts.append(f'<g{more}>' + (f'<title>{html.escape(title)}</title>' if title else ''))
+        self.parts.append(f'<g{more}>' + (f'<title>{escaped(title)}</title>' if title else ''))
         yield
         self.parts.append('</g>')
 
@@ -105,7 +116,7 @@ class Svg:
         x, y = self.left - (8 if self.left < 0 else 0), self.top - (8 if self.top < 0 else 0)
         w, h = self.right - x + 8, self.bottom - y + 8
         return (f'<svg xmlns="http://www.w3.org/2000/svg" viewBox="{x:.0f} {y:.0f} {w:.0f} {h:.0f}" width="{w:.0f}" '
-                f'height="{h:.0f}" font-family="{FONT}" role="img"><title>{html.escape(title)}</title>'
+                f'height="{h:.0f}" font-family="{FONT}" role="img"><title>{escaped(title)}</title>'
                 f'<defs>{heads}{hatch}</defs>\n'
                 f'<rect x="{x:.0f}" y="{y:.0f}" width="{w:.0f}" height="{h:.0f}" fill="#fff"/>\n'
                 + '\n'.join(self.parts) + '</svg>\n')

@@ -11,13 +11,16 @@ import random
 import sys
 import tempfile
 import threading
+import time
 import unittest
 import warnings
+from unittest import mock
 
 ROOT = os.path.dirname(os.path.dirname(os.path.dirname(os.path.abspath(__file__))))
 sys.path.insert(0, os.path.join(ROOT, 'python'))
 from cundvrest import (Advice, Dominance, Followed, Frontier, LibraryError, Operation, Passed, Plan,  # noqa: E402
-                       Refused, TextError, Trace, Verdict, __version__, files, library, text)
+                       Refused, TextError, Trace, Verdict, __main__ as command, __version__, files, library,
+                       text)
 
 PLANS = os.path.join(ROOT, 'plans')
 STORED = sorted(glob.glob(os.path.join(glob.escape(PLANS), '*.plan')))
@@ -114,9 +117,26 @@ class RoundTrips(unittest.TestCase):
             self.assertEqual(Plan.parse(files.decoded(data, 'x')).bytes(), content(os.path.join(PLANS, 'camera.plan')))
 
     def test_a_note_is_one_line(self):
+        """Whatever a program puts into a note: its plan has a text, which is the same plan."""
         plan = load('t2-one-operation.plan')
-        plan.operations[0] = Operation(0, note='one\nend\r\nplan')
-        self.assertEqual(Plan.parse(plan.text()), plan)
+        for note in ('one\nend\r\nplan', '\x1b[31m', '\x9b', '\0', '\ud800', '\uffff', '\x0c', '\u2028end'):
+            plan.operations[0] = Operation(0, note=note)
+            self.assertEqual(Plan.parse(plan.text()), plan)
+
+    def test_one_definition_of_a_name(self):
+        """What is a name for a program is one in a text, and the other way round."""
+        names = ['a', '_', 'é', 'ρ1', 'a.b-c', 'x٣', '²', '²x', 'x²', '½', 'Ⅷ', '٣', '1', '-', '.', '', 'a b', 'plan',
+                 'a:', 'ˆ', '\x1b', 'a\u0301', '名']
+        taken = []
+        for name in names:
+            plan = Plan()
+            try:
+                plan.queue(name or ' ', axis=1)
+                taken.append(name)
+                self.assertEqual(Plan.parse(plan.text()), plan)
+            except ValueError:
+                self.assertRaises(TextError, Plan.parse, f'plan\nqueue {name} axis 1\nend')
+        self.assertEqual(taken, ['a', '_', 'é', 'ρ1', 'a.b-c', 'x٣', 'ˆ', '名'])
 
     def test_a_stored_plan_is_no_text(self):
         """Ten queues, a line's end; the first axis reads as the word plan."""
@@ -185,6 +205,18 @@ WRONG = [
     ('plan\nqueue a axis 1\x00\nend', 2, 15, r'here is "\x00"; right: nothing more'),
     ('plan\nqueue a axis 1\x1b[31m\nend', 2, 15, r'here is "\x1b"; right: nothing more'),
     ('plan\nqueue a axis\u00a01\nend', 2, 13, r'here is "\xa0"; right: a number'),
+    ('plan\nqueue a axis 1  # \x1b[31m\nend', 2, 19, r'control character "\x1b"; right: one that can be shown'),
+    ('plan\n# a\x9b\nend', 2, 4, r'control character "\x9b"'),
+    ('plan\n# \r\nend\r', 3, 4, r'here is "\r"; right: nothing more'),
+    ('plan # \r plan\nend', 1, 8, r'control character "\r"'),
+    ('plan # \x7f\nend', 1, 8, r'control character "\x7f"'),
+    ('plan # \ufffe\nend', 1, 8, r'control character "\ufffe"'),
+    ('plan # \uffff\nend', 1, 8, r'control character "\uffff"'),
+    ('plan # \ud800\nend', 1, 8, r'control character "\ud800"'),
+    ('plan\nqueue a\udfff axis 1\nend', 2, 8, r'here is "\udfff"; right: "axis"'),
+    ('plan\nqueue ²x axis 1\nend', 2, 7, 'here is "²"; right: a name for the queue: a letter'),
+    ('plan\nqueue x² axis 1\nend', 2, 8, 'here is "²"; right: "axis"'),
+    ('plan\nqueue Ⅷ axis 1\nend', 2, 7, 'here is "Ⅷ"; right: a name for the queue: a letter'),
 ]
 
 
@@ -255,20 +287,25 @@ class Numbers(unittest.TestCase):
         ):
             for wrong in (-1, 2**32, 2**64, 2**100):
                 self.assertRaises(OverflowError, call, wrong)
-            for wrong in (1.5, None, b'0'):
+            for wrong in (1.5, None, b'0', True, False):
                 self.assertRaises(TypeError, call, wrong)
+        fresh = Plan.parse(plan.text())
         for call in (
             lambda wrong: frontier.raised(wrong, 1), lambda wrong: frontier.raised(1, wrong),
             lambda wrong: Frontier({wrong: 1}).dominates(frontier), lambda wrong: Frontier({1: wrong}) | frontier,
-            lambda wrong: plan.with_operation(0, signals=[(0, wrong)]).check(),
-            lambda wrong: plan.with_operation(0, queue=wrong).check(),
-            lambda wrong: plan.with_operation(0, marks=[(0, wrong)]).check(),
+            lambda wrong: fresh.with_operation(0, signals=[(0, wrong)]).check(),
+            lambda wrong: fresh.with_operation(0, queue=wrong).check(),
+            lambda wrong: fresh.with_operation(0, marks=[(wrong, False)]).check(),
         ):
             for wrong in (-1, 2**64):
                 self.assertRaises(OverflowError, call, wrong)
-            self.assertRaises(TypeError, call, 1.5)
+            for wrong in (1.5, True, False):
+                self.assertRaises(TypeError, call, wrong)
+        for wrong, error in ((-1, OverflowError), (2**64, OverflowError), (1.5, TypeError)):
+            self.assertRaises(error, plan.with_operation(0, marks=[(0, wrong)]).check)
         for wrong in (-1, 2**16):
             self.assertRaises(OverflowError, plan.trace, [wrong])
+        self.assertRaises(TypeError, plan.trace, [True])
         self.assertRaises(OverflowError, plan.trace, 2**16 * [0])
         self.assertRaises(TypeError, library.check, 6)
         self.assertRaises(ValueError, library.merge, [0] * 33, [0] * 34, 1)
@@ -337,6 +374,12 @@ class Answers(unittest.TestCase):
             self.assertIs(plan.reuse(queue, buffer), verdict)
             self.assertIs(bool(plan.reuse(queue, buffer)), truth)
         self.assertEqual(f'{Verdict.NOT_ORDERED} {Followed.WAIT_NOT_MET}', 'not-ordered wait-not-met')
+        yes = {Verdict.FRESH, Verdict.REUSABLE, Advice.NONE_NEEDED, Advice.WAIT, Followed.FULL, Dominance.YES}
+        for kind in (Verdict, Advice, Followed, Dominance):
+            for answer in kind:
+                self.assertIs(bool(answer), answer in yes, answer)
+                self.assertEqual(kind(answer.value), answer)
+                self.assertRaises(TypeError, int, answer)
         self.assertTrue(plan.judge())
         self.assertFalse(load('deadlock.plan').judge())
         with concurrent.futures.ThreadPoolExecutor(2) as pool:
@@ -408,6 +451,18 @@ class Answers(unittest.TestCase):
         thread.join()
         self.assertEqual(said[0][:2], (0, 0))
 
+    def test_the_stack_of_other_threads_is_as_it_was(self):
+        """While a call runs, too."""
+        def slow(*lent):
+            time.sleep(0.05)
+            sizes.append(threading.stack_size())
+            lent[-1][:] = (0, 0, 0)
+        sizes = []
+        with mock.patch.object(library, '_function', lambda name: slow):
+            library.dominates(Frontier().numbers(), Frontier().numbers())
+        self.assertEqual(sizes, [threading.stack_size()])
+        self.assertNotEqual(sizes, [library._STACK])
+
     def test_names_beside(self):
         """The text beside is used only if it stores as the very same bytes."""
         with tempfile.TemporaryDirectory() as room:
@@ -430,6 +485,42 @@ class Answers(unittest.TestCase):
             self.assertEqual(content(path), plan.bytes())
             load('deadlock.plan').store(path, unchecked=True)
             self.assertEqual(content(path), load('deadlock.plan').bytes())
+
+    def test_whole_or_not_at_all(self):
+        """Who has the file open still reads the old plan; what fails on the way leaves it, and nothing beside it."""
+        with tempfile.TemporaryDirectory() as room:
+            path = os.path.join(room, 'x.plan')
+            files.write_whole(path, b'old')
+            os.chmod(path, 0o640)
+            with open(path, 'rb') as file:
+                files.write_whole(path, b'new')
+                self.assertEqual(file.read(), b'old')
+            self.assertEqual(os.stat(path).st_mode & 0o777, 0o640)
+            for step in ('fsync', 'replace', 'fchmod'):
+                with mock.patch.object(files.os, step, side_effect=OSError(28, 'No space left on device')):
+                    with self.assertRaises(OSError) as caught:
+                        files.write_whole(path, b'newer')
+                self.assertEqual((caught.exception.errno, caught.exception.filename), (28, path))
+                self.assertEqual((content(path), os.listdir(room)), (b'new', ['x.plan']))
+
+    def test_a_plan_that_reads_back_as_another_is_not_stored(self):
+        plan = load('two-frames.plan')
+        number, place, numbers = library.read(plan.bytes())
+        for other in (numbers[:-1], [*numbers[:-1], numbers[-1] + 1], []):
+            with tempfile.TemporaryDirectory() as room, \
+                    mock.patch.object(library, 'read', lambda stored: (number, place, other)):
+                with self.assertRaisesRegex(RuntimeError, 'the stored plan reads as another'):
+                    plan.store(os.path.join(room, 'x.plan'))
+                self.assertEqual(os.listdir(room), [])
+
+    def test_a_text_that_tidies_to_another_plan_is_not_written(self):
+        path = os.path.join(PLANS, 'two-frames.plan.txt')
+        tidy = text.tidy
+        with tempfile.TemporaryDirectory() as room, \
+                mock.patch.object(text, 'tidy', lambda source: tidy(source).replace('taken>=2', 'taken>=1')):
+            with self.assertRaisesRegex(RuntimeError, 'the tidied text is another plan'):
+                command.text(command.parsed(['text', path, os.path.join(room, 'x.plan.txt')]))
+            self.assertEqual(os.listdir(room), [])
 
     def test_one_version(self):
         self.assertEqual(content(os.path.join(ROOT, 'VERSION')).decode().strip(), __version__)
@@ -481,7 +572,7 @@ class Damage(unittest.TestCase):
                     counts[kind, self.one(path, data)] += 1
         for kind, least in ((('bytes', 'passed'), 50), (('text', 'passed'), 50), (('text', 'no plan'), 200),
                             (('bytes', 1), 50), (('bytes', 2), 5), (('bytes', 3), 50), (('bytes', 4), 50),
-                            (('bytes', 8), 5), (('bytes', 10), 20), (('bytes', 11), 10), (('text', 11), 20)):
+                            (('bytes', 8), 5), (('bytes', 10), 10), (('bytes', 11), 10), (('text', 11), 20)):
             self.assertGreaterEqual(counts[kind], least, kind)
 
     def one(self, path, data):

@@ -16,13 +16,16 @@ import sys
 import time
 import unittest
 from html.parser import HTMLParser
+from unittest import mock
 from xml.etree import ElementTree
 
 ROOT = os.path.dirname(os.path.dirname(os.path.dirname(os.path.abspath(__file__))))
 LIBRARY = os.environ.setdefault('CUNDVREST_LIBRARY', os.path.join(ROOT, 'target', 'lib', 'libcundvrest.so'))
 sys.path[:0] = [os.path.join(ROOT, 'python'), os.path.join(ROOT, 'python', 'tests')]
-from cundvrest import Operation, Passed, Plan, Refused, library, page, picture  # noqa: E402
+from cundvrest import Operation, Passed, Plan, Refused, faults, library, page, picture  # noqa: E402
 from cundvrest.explain_asked import explain_reuse, explain_trace  # noqa: E402
+from cundvrest.explanation import MEANING, Change, Explanation, Shown  # noqa: E402
+from cundvrest.order import Order  # noqa: E402
 from random_plans import random_plan  # noqa: E402
 
 PLANS = os.path.join(ROOT, 'plans')
@@ -86,14 +89,40 @@ def broken_by(plan, run, buffer):
 
 def closes(plan, circle):
     """Does each operation of the circle wait for one that is not before the next?"""
-    for link, after in zip(circle, circle[1:] + circle[:1]):
+    return follows(plan, circle, circle[0].head)
+
+
+def follows(plan, links, to):
+    """Does each operation of the links wait for one that is not before the next, and the last for one not before
+    `to`?"""
+    for link, after in zip(links, [*(link.head for link in links[1:]), to]):
         s, v = plan.operations[link.head].waits[link.wait]
         enough = [(x, j) for j, o in enumerate(plan.operations) for t, x in o.signals if t == s and x >= v]
-        if not v or min(enough)[1] != link.signaller or after.head != link.after:
+        if not v or min(enough)[1] != link.signaller or after != link.after:
             return False
-        if plan.operations[link.signaller].queue != plan.operations[after.head].queue or link.signaller < after.head:
+        if plan.operations[link.signaller].queue != plan.operations[after].queue or link.signaller < after:
             return False
     return True
+
+
+def fewest_waits(plan, place, ran):
+    """How many waits the shortest circle has of those that an operation leads to; over each pair of operations that
+    cannot run, the fewest waits from one to the other by way of each third."""
+    stuck, fewest = [j for j in range(len(plan.operations)) if j not in ran], {}
+    for j in stuck:
+        for i in stuck:
+            if i < j and plan.operations[i].queue == plan.operations[j].queue:
+                fewest[j, i] = 0
+        for s, v in plan.operations[j].waits:
+            enough = [(x, i) for i, o in enumerate(plan.operations) for t, x in o.signals if t == s and x >= v]
+            if v and min(enough)[1] in stuck:
+                fewest.setdefault((j, min(enough)[1]), 1)
+    for by in stuck:
+        for j in stuck:
+            for i in stuck:
+                if (j, by) in fewest and (by, i) in fewest:
+                    fewest[j, i] = min(fewest.get((j, i), len(stuck)), fewest[j, by] + fewest[by, i])
+    return min(fewest[j, j] for j in stuck if (j, j) in fewest and (j == place or (place, j) in fewest))
 
 
 # ---- explanations
@@ -143,6 +172,9 @@ class Explained(unittest.TestCase):
         if number == 10:
             self.assertTrue(closes(plan, said.circle))
             ran = sorted(said.order.run)
+            self.assertEqual(len(said.circle), fewest_waits(plan, place, ran))
+            self.assertEqual((said.lead or said.circle)[0].head, place)
+            self.assertTrue(follows(plan, said.lead, said.circle[0].head))
             less = plan.copy()
             less.operations = [plan.operations[j] for j in ran]
             self.assertEqual(follow(without_marks(less), [ran.index(j) for j in said.order.run])[:2], (0, 0))
@@ -150,6 +182,98 @@ class Explained(unittest.TestCase):
             return f'refused 10, circle of {len(said.circle)}'
         self.assertIn(place, said.focus)
         return f'refused {number}'
+
+    def test_who_says_so(self):
+        """Each claim is where it belongs, and each sentence, list of lines and change that has a mark has it on the
+        page."""
+        seen = collections.Counter()
+        for plan in self.plans[:600]:
+            judged = plan.judge()
+            if not isinstance(judged, Refused):
+                continue
+            said = judged.explain(strict=True)
+            for by, claims in said.said_by.items():
+                for claim in claims:
+                    self.assertEqual(by, next(right for words, right in self.expected(said) if claim.startswith(words)))
+                    seen[by] += 1
+            self.assertEqual(sum(map(len, said.said_by.values())), len(self.expected(said)))
+            page_ = said.html()
+            for by in MEANING:
+                marked = sum(block.by == by for block in said.blocks) + len(said.changes) * (by == 'confirmed')
+                self.assertEqual(page_.count(f'<span class="by {by}" title="{MEANING[by]}">{by}</span>'), marked)
+            for block in said.blocks:
+                if 'so every full run breaks' in str(block.content):
+                    self.assertEqual(block.by, 'found')
+        self.assertEqual(set(seen), set(MEANING))
+        self.assertGreater(min(seen.values()), 100)
+
+    @staticmethod
+    def expected(said):
+        """(first words of a claim, who says so) of each claim of the explanation of a refusal."""
+        out = [(said.verdict, 'proved')]
+        if said.changes:
+            out.append(('what the plan with the change gets', 'confirmed'))
+        if said.number == 11:
+            out += [('that the run shown is a full run', 'confirmed'), ('which mark and which two', 'found')]
+            out += [('what comes before what', 'proved')] if said.broken.first != said.broken.then else []
+        elif said.number == 10:
+            out += [('the circle, a shortest one', 'found')]
+            out += [(f'that {len(said.order.run)} operation', 'confirmed')] if said.order.run else []
+        else:
+            out.append(('which wait' if said.number == 8 else 'which signal', 'found'))
+        return out
+
+    def test_only_what_is_confirmed_is_shown(self):
+        """A run that the trace function does not follow is no run: for 11 there are no words, for 10 no such claim."""
+        plan = camera(8, 6)
+        judged, good = plan.judge(), faults.wrong_run
+        for wrong in (lambda *of: good(*of)[::-1], lambda *of: good(*of)[:-1], lambda *of: []):
+            with mock.patch.object(faults, 'wrong_run', wrong):
+                self.assertRaises(RuntimeError, judged.explain, strict=True)
+                said = judged.explain()
+                self.assertTrue(said.headline.startswith('a broken mark (no more words: '))
+                self.assertEqual((said.run, said.confirmed, said.changes), (None, False, []))
+        judged = stuck(8).judge()
+        self.assertIn('confirmed: that 16 operations can run', ' '.join(judged.explain(strict=True).text().split()))
+        with mock.patch.object(Order, 'run_is_confirmed', lambda order: False):
+            self.assertNotIn('operations can run', judged.explain(strict=True).text())
+        for change in (lambda run: run[::-1], lambda run: run + [max(run)]):
+            order = Order(stuck(8))
+            self.assertTrue(order.run_is_confirmed())
+            order.run = change(order.run)
+            self.assertFalse(order.run_is_confirmed())
+
+    def test_nothing_of_an_explanation_is_markup(self):
+        """Whatever stands in it, as in a comment of the plan, is text on the page, and has no control character."""
+        def bad(what):
+            return f'<script>{what}&amp;</script>\x1b'
+        said = Explanation(11, 0, bad('headline'), verdict=bad('verdict'), last=[bad('last')])
+        said.says(bad('says'))
+        said.lines(Shown('1', bad('marked'), [(1, 3)], bad('remark')), Shown('2', bad('line'), sign='-'))
+        said.steps([[bad('cell'), 1]])
+        said.try_change(Change(bad('change'), [Shown('3', bad('new'), sign='+')], None, 0, 0))
+        said.claim('found', bad('claim'))
+        html = said.html()
+        Page(self, html)
+        self.assertNotIn('\x1b', html)
+        for what in ('headline', 'says', 'remark', 'line', 'cell', 'last', 'change', 'new', 'claim', 'verdict'):
+            self.assertIn(f'{what}&amp;amp;&lt;/script&gt;\ufffd', html.lower())
+        text = camera(4).with_operation(8, waits=()).text().replace(
+            '\n\ncapture:', '  # <img src=x> & "it"\n\ncapture:').replace('use frame2', 'use frame2  # <b>', 1)
+        made = page.page(Plan.parse(text, '<u>x</u>'), '<u>x</u>\x1b')
+        Page(self, made)
+        self.assertIn('# &lt;img src=x&gt; &amp; &quot;it&quot;', made)
+        self.assertNotIn('\x1b', made)
+
+    def test_notes_of_a_program(self):
+        """Whatever a program puts into a note, the picture is well-formed and the page has no control character."""
+        for note in ('\x1b[31m', '\0', '\x9b', '\ud800', '\ufffe', '\uffff', '<b>&', ']]>', '\r'):
+            for plan in (camera(4), camera(8, 6), stuck(4)):
+                noted = plan.with_operation(0, note=note)
+                Drawing(self, picture.draw(noted, title=note)).holds(noted, range(len(noted.operations)))
+                made = page.page(noted, note)
+                Page(self, made)
+                self.assertIsNone(re.search('[\x00-\x09\x0b-\x1f\x7f-\x9f\ud800-\udfff\ufffe\uffff]', made))
 
     def test_traces(self):
         """What is said of a trace is what the library says: a full run, an unfinished one, and each way to depart."""
@@ -204,6 +328,35 @@ class Explained(unittest.TestCase):
                                 verdicts['with a wait'] += 1
                                 self.assertEqual(self.with_line(plan, line.text, q, b), (0, 0, 1))
         self.assertGreaterEqual(len(verdicts), 4)
+
+    def test_reuse_of_a_full_plan(self):
+        """A plan of 1,024 operations takes none more: no such line is shown."""
+        for frames, more in ((255, True), (256, False)):
+            plan = camera(frames)
+            said = explain_reuse(plan, 'capture', 'frame0')
+            shown = [line.text for block in said.blocks if block.kind == 'lines' for line in block.content if line.sign]
+            self.assertEqual(len(shown), int(more))
+            self.assertEqual('takes no more' in said.text(), not more)
+
+    def test_owner(self):
+        """The change for refusal 6, put in the place of the line that it names, gives the plan that was tried."""
+        text = ('plan\nqueue a axis 1\nqueue b axis 2\n\tsemaphore r s t owner a  # three\n'
+                'a: signal r=1\nb: signal s=1\na: signal t=1\nend\n')
+        for name in 'rst':
+            made = text.replace('b: signal s', 'b: signal x').replace(f'a: signal {name}', 'a: signal s').replace(
+                'b: signal x', f'b: signal {name}')
+            plan = Plan.parse(made, 'x.plan.txt')
+            (change,) = plan.judge().explain(strict=True).changes
+            old, *new = change.lines
+            self.assertEqual({line.label for line in change.lines}, {'4'})
+            self.assertEqual(old.text, made.split('\n')[3].replace('\t', ' '))
+            changed = made.replace('\tsemaphore r s t owner a  # three', '\n'.join(line.text for line in new))
+            self.assertEqual(Plan.parse(changed).bytes(), change.plan.bytes())
+            self.assertIn('# three', new[0].text)
+            (change,) = Plan.read(plan.bytes()).judge().explain(strict=True).changes
+            s = 'rst'.index(name)
+            self.assertEqual([line.text for line in change.lines],
+                             [f'semaphore s{s} owner q0', f'semaphore s{s} owner q1'])
 
     @staticmethod
     def with_line(plan, line, q, b):
@@ -364,6 +517,26 @@ class Drawn(unittest.TestCase):
             Page(self, page.page(tried, long))
             explained(tried)
 
+    def test_what_tells_long_names_apart(self):
+        """Names that begin alike differ in the picture too, and no wait loses its value."""
+        plan, largest, same = Plan(), 2**64 - 1, 'the-measuring-cell-at-the-end-of-the-line-'
+        for k in range(3):
+            plan.queue(f'{same}q{k}')
+            plan.semaphore(f'{same}s{k}', owner=k)
+            plan.buffer(f'{same}b{k}')
+        for k in range(3):
+            plan.add(k, {k - 1: largest - k + 1} if k else (), [k, (k + 1) % 3][:1 + k % 2], (), {k: largest - k})
+        for tried in (plan, plan.with_operation(0, waits=[(2, largest - 2)])):
+            drawn = ElementTree.fromstring(picture.draw(tried))
+            texts = [node.text for node in drawn.iter() if node.tag.endswith('}text')]
+            for kind in 'qb':
+                for k in range(3):
+                    self.assertTrue(any(re.fullmatch(f'the.*….*{kind}{k}', text) for text in texts), f'{kind}{k}')
+            waits = [wait for o in tried.operations for wait in o.waits]
+            self.assertEqual(sum('≥' in text for text in texts), len(waits))
+            for s, value in waits:
+                self.assertTrue(any(re.fullmatch(f't.*….*{s}≥{value}', text) for text in texts), value)
+
     def test_larger_plans(self):
         """Above 60 operations there is an overview; above 200 what is near the fault, or what is asked for."""
         rng = random.Random(22)
@@ -373,7 +546,7 @@ class Drawn(unittest.TestCase):
             self.assertIn('class="overview"', svg)
             Drawing(self, svg).holds(plan, range(operations))
         for plan, near in ((camera(256), None), (camera(256, 200), 800), (many_queues(rng, 1024), None),
-                           (stuck(256), None)):
+                           (stuck(256), None), (long_circle(), None)):
             judged = plan.judge()
             if isinstance(judged, Refused):
                 near = judged.place
@@ -386,8 +559,9 @@ class Drawn(unittest.TestCase):
                 self.assertIn(str(near), drawn.boxes)
             self.assertIn('500', Drawing(self, picture.draw(plan, around=500)).boxes)
             self.assertEqual(len(Drawing(self, picture.draw(plan, everything=True)).boxes), len(plan.operations))
-        with self.assertRaises(ValueError):
-            picture.draw(plan, around=len(plan.operations))
+        for wrong in ({'around': len(plan.operations)}, {'around': -1}, {'columns': 0}, {'columns': -1}):
+            self.assertRaises(ValueError, picture.draw, plan, **wrong)
+        self.assertEqual(len(Drawing(self, picture.draw(camera(2), columns=1)).boxes), 8)
 
     def test_stored_plans(self):
         for path in sorted(glob.glob(os.path.join(glob.escape(PLANS), '*.plan'))):
@@ -441,6 +615,18 @@ def stuck(frames):
     return plan.with_operation(len(plan.operations) // 2 // 4 * 4, waits=((3, frames),))
 
 
+def long_circle():
+    """Sixteen queues; each operation waits for the next queue's, so that nothing starts and no circle is shorter."""
+    plan = Plan()
+    for k in range(16):
+        plan.queue()
+        plan.semaphore(owner=k)
+    for j in range(1024):
+        q, epoch = j % 16, j // 16 + 1
+        plan.add(q, [((q + 1) % 16, epoch), ((q + 1) % 16, min(epoch + 1, 64))], signal={q: epoch})
+    return plan
+
+
 def many_queues(rng, operations):
     """Sixteen queues, three waits and four marks an operation, at random: nearly every mark is broken."""
     plan = Plan()
@@ -463,7 +649,7 @@ class Speed(unittest.TestCase):
     def test_largest_plans(self):
         rng = random.Random(23)
         plans = {'passed': camera(256), 'broken mark': camera(256, 200), 'stuck': stuck(256),
-                 'all marks broken': many_queues(rng, 1024)}
+                 'stuck from the start': long_circle(), 'all marks broken': many_queues(rng, 1024)}
         print(f'\n{"ms of processor time, 1,024 operations":38}  parse  explain  draw  page')
         for name, plan in plans.items():
             self.assertEqual(len(plan.operations), 1024)
