@@ -14,7 +14,7 @@ use Rattle.plan_order.specs.Precedence.{Signal, signals-of, signals-from, plan-
 use Rattle.plan_order.specs.Precedence.{direct, Before}
 use Rattle.plan_order.proofs.Readiness.{Why, by-queue, by-wait, direct-why, direct-by, direct-below}
 use Rattle.plan_order.proofs.Resolution.{rests-gives}
-use Rattle.plan_change.specs.Longer.{with-last}
+use Rattle.plan_change.specs.Longer.{with-last, waiting}
 
 abbrev queue-of : Operation → ℕ
 queue-of o = o .queue
@@ -142,3 +142,12 @@ module _ (p : Plan) (o : Operation) (silent : o .signals ≡ []) where
 
   pub new-before : (i : ℕ) → Before grown i (count p) ↔ Before-last i
   new-before i = (new-to i (count p) refl, λ w. new-from i (w .0) (w .1) (w .2) (w .3))
+
+-- ---- an operation that only waits
+pub waiting-silent : (q : ℕ) (w : Point) → waiting q w .signals ≡ []
+unfolding waiting
+waiting-silent q w = refl
+
+pub waiting-unmarked : (q : ℕ) (w : Point) → waiting q w .marks ≡ []
+unfolding waiting
+waiting-unmarked q w = refl

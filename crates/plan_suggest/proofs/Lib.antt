@@ -1,0 +1,2 @@
+pub mod SignalPlaces
+pub mod Freeing
