@@ -69,7 +69,7 @@ module _ (p : Plan) (sound : Sound p) (i k : ℕ) (signal : Is-signal p i k) whe
   abbrev wait : Point
   wait = signal-at p i k
 
-  value-there : signals-value (wait .semaphore) (wait .value) (op p i .signals) ≡ true
+  pub value-there : signals-value (wait .semaphore) (wait .value) (op p i .signals) ≡ true
   value-there =
       signals-means p i (wait .semaphore) (wait .value) .1
       (wait, mem-at (op p i .signals) (record { semaphore = 0; value = 0 }) k signal, refl, refl)
