@@ -18,6 +18,7 @@ use Rattle.plan_order.specs.declared.Verdict.the-variants.{Fresh, Reusable, Hel
 use Rattle.check_columns.specs.Columns.{Queue-column, Mark-columns, Row-columns}
 use Rattle.check_columns.specs.Shown.{mark-codes, ordered}
 use Rattle.check_plan.specs.declared.Counted.{Counted}
+use Rattle.ask_reuse.specs.declared.Judged.{Judged}
 
 -- a sound plan without broken marks, shown by columns, and its rows
 pub record Verdict-given (p : Plan) (n marks : ℕ) (queue mark operation rows : List ℕ) : Type 0 where
@@ -56,3 +57,17 @@ unfoldable pub verdict-at : (seen : ℕ → Bool) → (mark operation : List ℕ
 verdict-at f mark operation none = Fresh
 verdict-at f mark operation (some k) =
     verdict-after (eqb (getD mark k 0 % mark-codes % 2) 1) (f (getD operation k 0 % most-operations))
+
+-- the operation of the last mark; 1,024 where there is none
+unfoldable pub marked-by : (operation : List ℕ) → (place : Option ℕ) → ℕ
+marked-by operation none = no-operation
+marked-by operation (some k) = getD operation k 0 % most-operations
+
+-- both
+unfoldable pub judged-at : (seen : ℕ → Bool) → (mark operation : List ℕ) → (place : Option ℕ) → Judged
+judged-at f mark operation k =
+    record { verdict = verdict-at f mark operation k; operation = marked-by operation k }
+
+unfoldable pub judged-by : (queue mark operation rows : List ℕ) → (q b n marks : ℕ) → Judged
+judged-by queue mark operation rows q b n marks =
+    judged-at (seen queue rows (last-shown queue q n)) mark operation (last-marked mark b marks)
