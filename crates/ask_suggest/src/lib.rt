@@ -16,7 +16,9 @@ use plan_suggest::Advice;
 ghost use mathlib.Core.Path.{_≡_};
 ghost use Rattle.plan_format.specs.Plan.{Plan};
 ghost use Rattle.plan_suggest.specs.Promise.{Suggest-right};
-ghost use Rattle.ask_suggest.specs.SuggestPass.{told, Suggest-given, suggested, refused as refused-of, first-after};
+ghost use Rattle.base_lists.specs.Lists.{place-or};
+ghost use Rattle.plan_suggest.specs.declared.Advice.the-variants.{NoneNeeded};
+ghost use Rattle.ask_suggest.specs.SuggestPass.{told, suggested, suggested-of, Suggest-given, first-after, at-signal};
 
 // An advice; or a refusal and its place, and no advice.
 pub struct Suggested {
@@ -72,4 +74,111 @@ pub fn suggest_question(
         &mop,
         table,
     )
+}
+
+// The question on a plan that passes, by its counts, its columns and its rows in the table.
+fn answer(
+    o: Opened,
+    q: usize,
+    b: usize,
+    queue: &QueueColumn,
+    ssem: &SignalColumn,
+    sval: &SignalValues,
+    sop: &SignalColumn,
+    mark: &MarkColumn,
+    mop: &MarkColumn,
+    table: &[u32],
+) -> Suggested
+    ensures { λ r. ⌜ ((p : Plan) → Suggest-given p o (now (queue .entry)) (now (ssem .entry)) (now (sval .entry)) (now (sop .entry)) (now (mark .entry)) (now (mop .entry)) (now (table .entry)) → r ≡ suggested-of p q b) ⌝ }
+{
+    let c = o.counted;
+    if c.queues <= q {
+        return refused(12, q as u64);
+    }
+    if c.buffers <= b {
+        return refused(13, b as u64);
+    }
+    let j = ask_reuse::judge(q, b, c.operations, o.marks, queue, mark, mop, table);
+    let v = j.verdict;
+    match v {
+        Verdict::Fresh => advised(Advice::NoneNeeded),
+        Verdict::Reusable => advised(Advice::NoneNeeded),
+        Verdict::Held => advised(Advice::NoneWouldHelp),
+        Verdict::NotOrdered => by_signals(
+            b,
+            j.operation,
+            o.signals,
+            queue,
+            ssem,
+            sval,
+            sop,
+            table,
+        ),
+    }
+}
+
+// Under verdict 3: the wait for the first signal of the operation of the last free, or of one after it; 19 where there
+// is none.
+fn by_signals(
+    b: usize,
+    i: usize,
+    signals: usize,
+    queue: &[u16],
+    ssem: &[u16],
+    sval: &[u64],
+    sop: &[u16],
+    table: &[u32],
+) -> Suggested
+    ensures { λ r. ⌜ r ≡ at-signal (now (ssem .entry)) (now (sval .entry)) b (first-after (now (queue .entry)) (now (table .entry)) (now (sop .entry)) i signals) ⌝ }
+{
+    let k = freeing(i, signals, queue, sop, table);
+    if signals <= k {
+        return refused(19, b as u64);
+    }
+    advised(Advice::Wait(
+        base_slices::get16(ssem, k),
+        base_slices::get64(sval, k),
+    ))
+}
+
+// The first signal of operation i or of one after it, by the column of i's queue in their rows; `signals` where there
+// is none.
+fn freeing(i: usize, signals: usize, queue: &[u16], sop: &[u16], table: &[u32]) -> usize
+    ensures { λ r. ⌜ r ≡ place-or signals (first-after (now (queue .entry)) (now (table .entry)) (now (sop .entry)) i signals) ⌝ }
+{
+    let free = i % MOST_OPERATIONS;
+    let q = base_slices::get16(queue, free) % ROW_WIDTH;
+    let own = base_slices::get32(table, ROW_WIDTH * free + q);
+    let mut k: usize = 0;
+    while k < signals {
+        let j = base_slices::get16(sop, k) % MOST_OPERATIONS;
+        let other = base_slices::get32(table, ROW_WIDTH * j + q);
+        if own <= other {
+            return k;
+        }
+        k += 1;
+    }
+    signals
+}
+
+// A refusal at a place, with nothing advised.
+fn refused(number: u32, place: u64) -> Suggested
+    ensures { λ r. ⌜ r ≡ suggested number place NoneNeeded ⌝ }
+{
+    Suggested {
+        number,
+        place,
+        advice: Advice::NoneNeeded,
+    }
+}
+
+// An advice, with no refusal.
+fn advised(advice: Advice) -> Suggested
+    ensures { λ r. ⌜ r ≡ suggested 0 0 advice ⌝ }
+{
+    Suggested {
+        number: 0,
+        place: 0,
+        advice,
+    }
 }

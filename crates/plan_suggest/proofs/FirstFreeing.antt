@@ -12,11 +12,18 @@ use Rattle.base_lists.proofs.Tests.{by-cases, by-option, clash, is-false, eithe
 use Rattle.base_lists.proofs.Searches.{Lowest, lowest-some, lowest-none, lowest-is}
 use Rattle.plan_format.specs.Plan.{Point, Plan}
 use Rattle.plan_format.specs.Meaning.{signal-at, Is-signal, Earlier}
-use Rattle.plan_order.specs.Precedence.{plan-signals}
+use Rattle.plan_format.specs.Sound.{Sound}
+use Rattle.plan_order.specs.Precedence.{plan-signals, at-or-before}
+use Rattle.plan_order.specs.Holdings.{Placed as Placed-mark, buffer-marks}
+use Rattle.plan_order.specs.Reuse.{last-mark, verdict}
+use Rattle.plan_order.specs.Meaning.{Forced}
+use Rattle.plan_order.specs.declared.Verdict.the-variants.{NotOrdered}
+use Rattle.plan_order.proofs.VerdictMeaning.{verdict-means, last-some}
+use Rattle.plan_order.proofs.LastFree.{unseen-free}
 use Rattle.plan_suggest.specs.Suggest.{frees, wait-for, first-freeing}
 use Rattle.plan_suggest.specs.Meaning.{Frees, First-freeing, None-frees}
 use Rattle.plan_suggest.proofs.SignalPlaces.{at, place-signal, signal-place, signals-rise}
-use Rattle.plan_suggest.proofs.Freeing.{frees-means}
+use Rattle.plan_suggest.proofs.Freeing.{frees-means, frees-same}
 
 -- no signal is earlier than itself, nor each of two than the other
 earlier-once : (i k j n : ℕ) → Earlier i k j n → Earlier j n i k → ⊥
@@ -129,3 +136,24 @@ module _ (p : Plan) (q b : ℕ) where
   none-has h =
       by-option (first-freeing p q b) (λ e. e)
       (λ n e. let f = first-gives n e in absurd (h (f .operation) (f .place) (f .signal) (f .frees)))
+
+-- ---- under verdict 3 of a plan without broken marks the last free decides: a signal frees exactly if that free is at or
+-- before the signal's operation
+pub record Last-decides (p : Plan) (q b : ℕ) : Type 0 where
+  pub free : Placed-mark
+  pub last : last-mark (buffer-marks p b) ≡ some free
+  pub decides : (n : ℕ) → n < length (plan-signals p) →
+      frees p q b (wait-for p n) ≡ at-or-before p (free .by) (at p n .operation)
+
+pub last-decides : (p : Plan) → Sound p → (q b : ℕ) → ((k : ℕ) → k < length (buffer-marks p b) → Forced p b k) →
+    verdict p q b ≡ NotOrdered → Last-decides p q b
+last-decides p sound q b forced not-ordered =
+    let w = unseen-free p b forced q .0 (verdict-means p q b NotOrdered .0 not-ordered) in
+    let last = w .1 in
+    record {
+      free = w .0;
+      last = ap last-mark (last .1) ∙ last-some (last .0) (w .0);
+      decides = λ n l. let s = place-signal p n l in
+          ap (frees p q b) (sym (s .1)) ∙
+          frees-same p sound q b forced (w .0) last (w .2) (w .3) (at p n .operation) (at p n .position) (s .0);
+    }

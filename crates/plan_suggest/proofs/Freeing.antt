@@ -11,20 +11,20 @@ use lib.Dec.{ltb, eqb}
 use lib.ListN.{length}
 use borrow.Author.Tests.{ltb-true, ltb-false, eqb-true, eqb-false}
 use Rattle.base_lists.specs.Lists.{all}
-use Rattle.base_lists.proofs.Tests.{by-cases, by-option, either}
+use Rattle.base_lists.proofs.Tests.{by-cases, by-option, clash, is-false, either}
 use Rattle.base_lists.proofs.Searches.{all-gives, all-by, highest-none}
 use Rattle.base_lists.proofs.Places.{mem-at}
 use Rattle.order.specs.Closure.{once}
 use Rattle.plan_format.specs.Plan.{Point, Plan, empty-operation, count, op}
 use Rattle.plan_format.specs.Sound.{Sound}
 use Rattle.plan_format.specs.Meaning.{signal-at, Is-signal}
-use Rattle.plan_order.specs.Precedence.{Resolution, at-once, on, never, resolve, rests-on, Before, before}
+use Rattle.plan_order.specs.Precedence.{Resolution, at-once, on, never, resolve, rests-on, Before, before, at-or-before}
 use Rattle.plan_order.specs.Holdings.{Placed, buffer-marks}
 use Rattle.plan_order.specs.Reuse.{last-on}
 use Rattle.plan_order.specs.Meaning.{Forced, Marked, Last-mark, Seen}
 use Rattle.plan_order.proofs.Signals.{signals-value, value-inside, signal-facts}
 use Rattle.plan_order.proofs.Readiness.{by-queue, direct-by}
-use Rattle.plan_order.proofs.Precedence.{before-chain, chain-before}
+use Rattle.plan_order.proofs.Precedence.{before-chain, chain-before, at-or-means}
 use Rattle.plan_order.proofs.OrderMeaning.{signals-means, rests-means}
 use Rattle.plan_order.proofs.MarksMeaning.{mark-marked, marked-mark}
 use Rattle.plan_order.proofs.VerdictMeaning.{last-means, last-in}
@@ -155,3 +155,12 @@ module _ (p : Plan) (sound : Sound p) (q b : ℕ)
 
   pub frees-exactly : Frees p q b point ↔ At p (m .by) i
   frees-exactly = (free-first, first-frees)
+
+  pub frees-same : frees p q b point ≡ at-or-before p (m .by) i
+  frees-same =
+      let means = frees-means p q b point in
+      let at = at-or-means p (m .by) i in
+      by-cases (frees p q b point)
+      (λ t. t ∙ sym (at .1 (frees-exactly .0 (means .0 t))))
+      (λ f. f ∙ sym (is-false (at-or-before p (m .by) i)
+      (λ t. clash (frees p q b point) (means .1 (frees-exactly .1 (at .0 t))) f)))

@@ -32,11 +32,11 @@ module _ (p : Plan) (q b : ℕ) where
   abbrev of-signals : Refusal
   of-signals = nineteen (verdict p q b) (first-freeing p q b) b
 
-  twelve-is : queues p ≤ q → Refuses (suggest-refusal p q b) 12 q
+  pub twelve-is : queues p ≤ q → Refuses (suggest-refusal p q b) 12 q
   unfolding suggest-refusal question-refusal or-else refusal given
   twelve-is h = rw (le-leb (queues p) q h) (refl, refl)
 
-  thirteen-is : q < queues p → length (p .sizes) ≤ b → Refuses (suggest-refusal p q b) 13 b
+  pub thirteen-is : q < queues p → length (p .sizes) ≤ b → Refuses (suggest-refusal p q b) 13 b
   unfolding suggest-refusal question-refusal or-else refusal given none-given
   thirteen-is h g = rw (lt-leb (queues p) q h, le-leb (length (p .sizes)) b g) (refl, refl)
 
