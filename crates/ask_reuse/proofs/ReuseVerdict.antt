@@ -1,5 +1,5 @@
 -- The verdict by columns and rows is the plan's. Assumes nothing.
-use mathlib.Core.Path.{_≡_, refl, sym, ap, _∙_}
+use mathlib.Core.Path.{_≡_, refl, sym, ap, _∙_, subst}
 use mathlib.Core.Bool.{Bool}
 use mathlib.Core.List.{List, [], _∷_, _++_, append-nil}
 use mathlib.Core.Option.{Option, none, some}
@@ -153,3 +153,14 @@ module _ {p : Plan} {n marks : ℕ} {queue mark operation rows : List ℕ}
   operation-right q b e m last =
       ap (λ (z : Judged). z .operation) e ∙
       operation-placed mark operation (last-marked mark b marks) m (sym (last-are b) ∙ last)
+
+  pub operation-inside : (q b : ℕ) {r : Judged} → r ≡ judged-by queue mark operation rows q b n marks → (m : Placed) →
+      last-mark (buffer-marks p b) ≡ some m → r .operation < count p
+  unfolding judged-by judged-at marked-by last-marked placed-at
+  operation-inside q b e m last =
+      by-option (last-marked mark b marks)
+      (λ none-there. absurd (let z : _≡_ {A = Option Placed} none (some m) =
+      sym (ap (placed-at mark operation) none-there) ∙ sym (last-are b) ∙ last in let y : _≡_ {A = ℕ} 0 1 = cc in omega arith))
+      (λ k is. let inside = highest-some marks (λ k. eqb (getD mark k 0 % mark-codes / 2) b) k is .inside in
+      subst (λ (z : ℕ). z < count p)
+      (sym (ap (λ (z : Judged). z .operation) e ∙ ap (marked-by operation) is)) (by-inside k inside))

@@ -104,16 +104,7 @@ fn answer(
         Verdict::Fresh => advised(Advice::NoneNeeded),
         Verdict::Reusable => advised(Advice::NoneNeeded),
         Verdict::Held => advised(Advice::NoneWouldHelp),
-        Verdict::NotOrdered => by_signals(
-            b,
-            j.operation,
-            o.signals,
-            queue,
-            ssem,
-            sval,
-            sop,
-            table,
-        ),
+        Verdict::NotOrdered => by_signals(b, j.operation, o.signals, queue, ssem, sval, sop, table),
     }
 }
 
@@ -135,10 +126,7 @@ fn by_signals(
     if signals <= k {
         return refused(19, b as u64);
     }
-    advised(Advice::Wait(
-        base_slices::get16(ssem, k),
-        base_slices::get64(sval, k),
-    ))
+    advised(Advice::Wait(base_slices::get16(ssem, k), base_slices::get64(sval, k)))
 }
 
 // The first signal of operation i or of one after it, by the column of i's queue in their rows; `signals` where there

@@ -56,9 +56,9 @@ module _ (p : Plan) (q b : ℕ) where
       of Fresh k e f z = record {
         none-needed = ((λ a. inl (verdict-means p q b Fresh .0 e)), (λ w. refl));
         wait = λ s v. (
-            (λ a. other-advice NoneNeeded (Wait s v) a (λ z. omega arith)),
-            (λ w. other-verdict Fresh NotOrdered e (w .0) (λ z. omega arith)),
-          );
+          (λ a. other-advice NoneNeeded (Wait s v) a (λ z. omega arith)),
+          (λ w. other-verdict Fresh NotOrdered e (w .0) (λ z. omega arith)),
+        );
         none-would-help = (
           (λ a. other-advice NoneNeeded NoneWouldHelp a (λ z. omega arith)),
           (λ w. other-verdict Fresh Held e w (λ z. omega arith)),
@@ -67,9 +67,9 @@ module _ (p : Plan) (q b : ℕ) where
       of Reusable k e f z = record {
         none-needed = ((λ a. inr (verdict-means p q b Reusable .0 e)), (λ w. refl));
         wait = λ s v. (
-            (λ a. other-advice NoneNeeded (Wait s v) a (λ z. omega arith)),
-            (λ w. other-verdict Reusable NotOrdered e (w .0) (λ z. omega arith)),
-          );
+          (λ a. other-advice NoneNeeded (Wait s v) a (λ z. omega arith)),
+          (λ w. other-verdict Reusable NotOrdered e (w .0) (λ z. omega arith)),
+        );
         none-would-help = (
           (λ a. other-advice NoneNeeded NoneWouldHelp a (λ z. omega arith)),
           (λ w. other-verdict Reusable Held e w (λ z. omega arith)),
@@ -82,9 +82,9 @@ module _ (p : Plan) (q b : ℕ) where
               (λ u. other-verdict Held Reusable e u (λ z. omega arith))),
         );
         wait = λ s v. (
-            (λ a. other-advice NoneWouldHelp (Wait s v) a (λ z. omega arith)),
-            (λ w. other-verdict Held NotOrdered e (w .0) (λ z. omega arith)),
-          );
+          (λ a. other-advice NoneWouldHelp (Wait s v) a (λ z. omega arith)),
+          (λ w. other-verdict Held NotOrdered e (w .0) (λ z. omega arith)),
+        );
         none-would-help = ((λ a. verdict-means p q b Held .0 e), (λ w. refl));
       }
       of NotOrdered none e f z = absurd (omega arith)
@@ -98,13 +98,16 @@ module _ (p : Plan) (q b : ℕ) where
                   (λ u. other-verdict NotOrdered Reusable e u (λ z. omega arith))),
             );
             wait = λ s v. (
-                (λ a. (verdict-means p q b NotOrdered .0 e, subst₂ (λ (y z : ℕ). First-freeing p q b y z)
-                    (ap semaphore-of a) (ap value-of a) (first-gives p q b k f))),
-                (λ w. let g = first-has p q b s v (w .1) in
-                    let same : k ≡ g .0 = let z : some k ≡ some (g .0) = sym f ∙ g .1 in cc in
-                    let point : x ≡ record { semaphore = s; value = v } = ap (wait-for p) same ∙ g .2 in
-                    ap (λ (y : Point). Wait (y .semaphore) (y .value)) point),
-              );
+              (λ a. (
+                verdict-means p q b NotOrdered .0 e,
+                subst₂ (λ (y z : ℕ). First-freeing p q b y z)
+                    (ap semaphore-of a) (ap value-of a) (first-gives p q b k f),
+              )),
+              (λ w. let g = first-has p q b s v (w .1) in
+                  let same : k ≡ g .0 = let z : some k ≡ some (g .0) = sym f ∙ g .1 in cc in
+                  let point : x ≡ record { semaphore = s; value = v } = ap (wait-for p) same ∙ g .2 in
+                  ap (λ (y : Point). Wait (y .semaphore) (y .value)) point),
+            );
             none-would-help = (
               (λ a. other-advice here NoneWouldHelp a (λ z. omega arith)),
               (λ w. other-verdict NotOrdered Held e w (λ z. omega arith)),

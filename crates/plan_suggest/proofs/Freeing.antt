@@ -101,11 +101,14 @@ unfolding last-on
 queue-sees p q k l e =
     by-option (last-on p q)
     (λ n. absurd (eqb-false (op p k .queue) q (highest-none (count p) (λ i. eqb (op p i .queue) q) n k l) e))
-    (λ j is. let last = last-means p q j .0 is in
-    (j, last, by-cases (ltb k j)
-    (λ t. inr (once k j (direct-by p k j l (last .operation) (by-queue (ltb-true k j t) (e ∙ sym (last .own))))))
-    (λ f. by-cases (ltb j k) (λ t. absurd (last .last k (ltb-true j k t) l e))
-    (λ g. inl (omega (arith, ltb-false k j f, ltb-false j k g))))))
+    (λ j is. let last = last-means p q j .0 is in (
+      j,
+      last,
+      by-cases (ltb k j)
+          (λ t. inr (once k j (direct-by p k j l (last .operation) (by-queue (ltb-true k j t) (e ∙ sym (last .own))))))
+          (λ f. by-cases (ltb j k) (λ t. absurd (last .last k (ltb-true j k t) l e))
+          (λ g. inl (omega (arith, ltb-false k j f, ltb-false j k g)))),
+    ))
 
 -- ---- the last free decides
 module _ (p : Plan) (sound : Sound p) (q b : ℕ)

@@ -31,9 +31,11 @@ of-only i n [] y m = absurd (List·Memᴰ·not-nil m)
 of-only i n (x ∷ xs) y m =
     either (List·Memᴰ·cases-cons m)
     (λ e. (0, omega arith, e ∙ ap (λ (z : ℕ). signal i z x) (let q : n ≡ n + 0 = omega arith in q)))
-    (λ t. let w = of-only i (suc n) xs y t in
-    (suc (w .0), omega (arith, w .1),
-    w .2 ∙ ap (λ (z : ℕ). signal i z (getD xs (w .0) no-point)) (let q : suc n + w .0 ≡ n + suc (w .0) = omega arith in q)))
+    (λ t. let w = of-only i (suc n) xs y t in (
+      suc (w .0),
+      omega (arith, w .1),
+      w .2 ∙ ap (λ (z : ℕ). signal i z (getD xs (w .0) no-point)) (let q : suc n + w .0 ≡ n + suc (w .0) = omega arith in q),
+    ))
 
 from-only : (i : ℕ) (os : List Operation) (y : Signal) → List·Memᴰ y (signals-from i os) →
     (j k : ℕ) × (k < length (getD os j empty-operation .signals)) ×
@@ -44,10 +46,13 @@ from-only i (o ∷ os) y m =
     either (List·Memᴰ·append-cases (signals-of i 0 (o .signals)) m)
     (λ t. let w = of-only i 0 (o .signals) y t in
     (0, w .0, w .1, w .2 ∙ same i (w .0) (getD (o .signals) (w .0) no-point)))
-    (λ t. let w = from-only (suc i) os y t in
-    (suc (w .0), w .1, w .2,
-    w .3 ∙ ap (λ (z : ℕ). signal z (w .1) (getD (getD os (w .0) empty-operation .signals) (w .1) no-point))
-    (let q : suc i + w .0 ≡ i + suc (w .0) = omega arith in q)))
+    (λ t. let w = from-only (suc i) os y t in (
+      suc (w .0),
+      w .1,
+      w .2,
+      w .3 ∙ ap (λ (z : ℕ). signal z (w .1) (getD (getD os (w .0) empty-operation .signals) (w .1) no-point))
+          (let q : suc i + w .0 ≡ i + suc (w .0) = omega arith in q),
+    ))
   where
     same : (i k : ℕ) (x : Point) → signal i (0 + k) x ≡ signal (i + 0) k x
     same i k x =
