@@ -347,7 +347,8 @@ impl Differ {
         self.check(rng, bytes, counts)?;
         self.brute_force(rng, bytes, &steps)?;
         self.reuse(rng, bytes, counts)?;
-        self.suggest(rng, bytes, &numbers, counts)?;
+        let plan = (!numbers.is_empty()).then(|| Plan::from_numbers(&numbers));
+        self.suggest(rng, bytes, plan.as_ref(), counts)?;
         self.sent_out(rng, bytes, counts)?;
         let mut trace = traces::stored(&steps);
         if rng.percent(15) {
@@ -427,24 +428,17 @@ impl Differ {
         &mut self,
         rng: &mut Rng,
         bytes: &[u8],
-        numbers: &[u64],
+        plan: Option<&Plan>,
         counts: Counts,
     ) -> Compared<()> {
-        let lengths = lent_to_check(rng, counts);
-        let plan = (!numbers.is_empty()).then(|| Plan::from_numbers(numbers));
-        let signals = plan.iter().flat_map(|plan| &plan.operations);
+        let signals = plan.into_iter().flat_map(|plan| &plan.operations);
         let signals: usize = signals.map(|operation| operation.signals.len()).sum();
         // The reference takes as many checks as there are signals.
         if signals > 200 && !rng.percent(15) {
             return Ok(());
         }
-        let (queue, buffer) = match &plan {
-            Some(plan) if rng.percent(80) => generate::question(rng, plan),
-            _ => (
-                some_position(rng, counts.queues),
-                some_position(rng, counts.buffers),
-            ),
-        };
+        let lengths = lent_to_check(rng, counts);
+        let (queue, buffer) = some_question(rng, plan, counts);
         let print = || {
             println!("queue {queue}, buffer {buffer}");
             print_plan(bytes);
@@ -460,17 +454,13 @@ impl Differ {
             print,
         )?;
         let longest = counts.operations == MOST_OPERATIONS;
+        self.tally.longest_asked[0] += u64::from(longest && told.answer == 1);
         self.tally.longest_asked[1] += u64::from(longest && told.number == 19);
         let Some(plan) = plan.filter(|_| told.answer == 1) else {
             return Ok(());
         };
-        self.tally.longest_asked[0] += u64::from(longest);
-        let [semaphore, value] = *self.theirs.wait.lend_wait();
-        let wait = Point {
-            semaphore: semaphore as u8,
-            value,
-        };
-        self.count_wait(&plan, wait);
+        let wait = as_point(self.theirs.wait.lend_wait());
+        self.count_wait(plan, wait);
         if !longest && !self.freed(plan, queue, buffer, wait) {
             print();
             return Err(Different);
@@ -491,13 +481,14 @@ impl Differ {
 
     /// R89 by the other side itself: with the operation added, the plan passes
     /// and the queue may take the buffer anew.
-    fn freed(&mut self, mut plan: Plan, queue: u32, buffer: u32, wait: Point) -> bool {
-        plan.operations.push(Operation {
+    fn freed(&mut self, plan: &Plan, queue: u32, buffer: u32, wait: Point) -> bool {
+        let mut longer = plan.clone();
+        longer.operations.push(Operation {
             queue: queue as u8,
             waits: vec![wait],
             ..Operation::default()
         });
-        let (bytes, operations) = (plan.bytes(), plan.operations.len());
+        let (bytes, operations) = (longer.bytes(), longer.operations.len());
         let (mut table, mut list) = (vec![0; 16 * operations], vec![0; 2 * operations]);
         let checked = self.other.check(&bytes, &mut table, &mut list);
         let asked = self
@@ -940,6 +931,23 @@ fn some_position(rng: &mut Rng, length: usize) -> u32 {
         2 => rng.below(256) as u32,
         _ => rng.below(length.max(1)) as u32,
     }
+}
+
+/// A queue and a buffer to ask about, mostly of a plan that can be read.
+fn some_question(rng: &mut Rng, plan: Option<&Plan>, counts: Counts) -> (u32, u32) {
+    match plan {
+        Some(plan) if rng.percent(80) => generate::question(rng, plan),
+        _ => (
+            some_position(rng, counts.queues),
+            some_position(rng, counts.buffers),
+        ),
+    }
+}
+
+/// A wait as a plan has it.
+fn as_point(&mut [semaphore, value]: &mut Wait) -> Point {
+    let semaphore = semaphore as u8;
+    Point { semaphore, value }
 }
 
 fn some_capacity(rng: &mut Rng) -> u32 {
