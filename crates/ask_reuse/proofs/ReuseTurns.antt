@@ -14,8 +14,8 @@ use Rattle.plan_order.specs.declared.Verdict.{Verdict}
 use Rattle.plan_order.specs.declared.Verdict.the-variants.{Fresh}
 use Rattle.check_columns.specs.Shown.{mark-codes}
 use Rattle.check_columns.proofs.Ordered.{ordered-is}
-use Rattle.ask_reuse.specs.ReusePass.{last-shown, last-marked, seen, verdict-after, verdict-at, marked-by, judged-at}
-use Rattle.ask_reuse.specs.ReusePass.{judged-by}
+use Rattle.ask_reuse.specs.ReusePass.{last-shown, last-marked, seen, verdict-after, verdict-at}
+use Rattle.ask_reuse.specs.ReusePass.{marked-by, judged-at, judged-by}
 use Rattle.ask_reuse.specs.declared.Judged.{Judged}
 
 -- ---- the highest that passes a test, from the last to the first: it is here, or it is lower

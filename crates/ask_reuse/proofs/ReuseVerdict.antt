@@ -132,8 +132,8 @@ module _ {p : Plan} {n marks : ℕ} {queue mark operation rows : List ℕ}
   last-are : (b : ℕ) → last-mark (buffer-marks p b) ≡ placed-at mark operation (last-marked mark b marks)
   last-are b = ap last-mark (sym (marks-are b)) ∙ last-placed mark operation b marks
 
-  pub verdict-right : (q b : ℕ) → b < length (p .sizes) → {r : Judged} → r ≡ judged-by queue mark operation rows q b n marks →
-      r .verdict ≡ verdict p q b
+  pub verdict-right : (q b : ℕ) → b < length (p .sizes) → {r : Judged} →
+      r ≡ judged-by queue mark operation rows q b n marks → r .verdict ≡ verdict p q b
   unfolding judged-by judged-at
   verdict-right q b known e =
       let sees : ℕ → Bool = seen-by p (last-on p q) in
@@ -159,8 +159,9 @@ module _ {p : Plan} {n marks : ℕ} {queue mark operation rows : List ℕ}
   unfolding judged-by judged-at marked-by last-marked placed-at
   operation-inside q b e m last =
       by-option (last-marked mark b marks)
-      (λ none-there. absurd (let z : _≡_ {A = Option Placed} none (some m) =
-      sym (ap (placed-at mark operation) none-there) ∙ sym (last-are b) ∙ last in let y : _≡_ {A = ℕ} 0 1 = cc in omega arith))
+      (λ nowhere. let z : _≡_ {A = Option Placed} none (some m) =
+      sym (ap (placed-at mark operation) nowhere) ∙ sym (last-are b) ∙ last in
+      absurd (let y : _≡_ {A = ℕ} 0 1 = cc in omega arith))
       (λ k is. let inside = highest-some marks (λ k. eqb (getD mark k 0 % mark-codes / 2) b) k is .inside in
       subst (λ (z : ℕ). z < count p)
       (sym (ap (λ (z : Judged). z .operation) e ∙ ap (marked-by operation) is)) (by-inside k inside))

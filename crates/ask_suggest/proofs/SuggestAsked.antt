@@ -1,9 +1,9 @@
 -- What the question for a wait hands back of a plan that is shown by columns and rows, and all that a caller gets with
 -- it. Assumes nothing.
-use mathlib.Core.Path.{_≡_, refl, sym, ap, ap₂, _∙_, subst}
-use mathlib.Core.Bool.{Bool, true, false, cond}
+use mathlib.Core.Path.{_≡_, sym, ap, ap₂, _∙_, subst}
+use mathlib.Core.Bool.{Bool, cond}
 use mathlib.Core.List.{List}
-use mathlib.Core.Option.{Option, none, some}
+use mathlib.Core.Option.{Option, some}
 use Prim.Native.Nat.{ℕ, _%_, _≤_, _<_}
 use native.Mathlib.Omega.{arith}
 use lib.ListN.{length, getD}
@@ -11,11 +11,11 @@ use Rattle.base_lists.specs.Lists.{lowest-below}
 use Rattle.base_lists.proofs.Tests.{by-cases, by-option, clash}
 use Rattle.base_lists.proofs.Searches.{lowest-some, lowest-none, lowest-is}
 use Rattle.plan_format.specs.Sizes.{most-operations}
-use Rattle.plan_format.specs.Plan.{Plan, count, queues}
+use Rattle.plan_format.specs.Plan.{Plan, queues}
 use Rattle.plan_format.specs.Refusal.{Refusal, refusal, none-given, given}
 use Rattle.plan_format.specs.Stored.{plan-in}
 use Rattle.plan_format.specs.Meaning.{Refuses}
-use Rattle.plan_format.proofs.Judged.{zero-not-given, other-given}
+use Rattle.plan_format.proofs.Judged.{other-given}
 use Rattle.plan_order.specs.Precedence.{plan-signals, at-or-before}
 use Rattle.plan_order.specs.Check.{Leaves, Outcome, outcome, check-outcome, table-left, list-left, Says, Check-says}
 use Rattle.plan_order.specs.Reuse.{verdict}
@@ -90,7 +90,8 @@ module _ {p : Plan} {o : Opened} {queue ssem sval sop mark mop rows : List ℕ}
 
     pub no-buffer : o .counted .buffers ≤ b → {r : Suggested} → r ≡ suggested 13 b NoneNeeded → r ≡ suggested-of p q b
     no-buffer h e =
-        e ∙ refused-as (thirteen-is p q b known-queue (omega (arith, given-plan .question .buffers-are))) (λ z. omega arith)
+        e ∙
+        refused-as (thirteen-is p q b known-queue (omega (arith, given-plan .question .buffers-are))) (λ z. omega arith)
 
     module _ (buffer-known : b < o .counted .buffers) {j : Judged}
         (judged : j ≡ judged-by queue mark mop rows q b (o .counted .operations) (o .marks)) where
@@ -143,8 +144,8 @@ module _ {p : Plan} {o : Opened} {queue ssem sval sop mark mop rows : List ℕ}
             let y : getD sop k 0 % most-operations ≡ after = omega (arith, shown-there, inside, few) in
             decided .decides k l
             ∙ ap (λ (z : ℕ). at-or-before p z after) (sym free)
-            ∙ sym (ordered-right p (shown .sound) queue rows (shown .queues-shown) (shown .rows-shown) (j .operation) after
-            low inside)
+            ∙ sym (ordered-right p (shown .sound) queue rows (shown .queues-shown) (shown .rows-shown) (j .operation)
+            after low inside)
             ∙ ap₂ (λ (i k : ℕ). ordered queue rows i k) (sym x) (sym y)
 
         first-is : first-freeing p q b ≡ there

@@ -1,6 +1,5 @@
 -- The question for a wait by the columns of a plan and its rows: under verdict 3 by the operation of the last free.
 -- Assumes nothing: these are definitions.
-use mathlib.Core.Bool.{cond}
 use mathlib.Core.List.{List}
 use mathlib.Core.Option.{Option, none, some}
 use Prim.Native.Nat.{ℕ, _%_}

@@ -9,7 +9,8 @@ use Rattle.plan_suggest.specs.Promise.{Suggest-right}
 use Rattle.c_lent.specs.Lent.{told-of}
 
 -- `told` is number, place and the number of the advice; `wait` has its semaphore and value, and zeros but for a wait
-pub record Suggest-handed (bytes : List ℕ) (queue buffer : ℕ) (told wait table table-now list list-now : List ℕ) : Type 0 where
+pub record Suggest-handed (bytes : List ℕ) (queue buffer : ℕ)
+    (told wait table table-now list list-now : List ℕ) : Type 0 where
   pub advice : Advice
   pub right : Suggest-right bytes queue buffer (told-of told) advice table table-now list list-now
   pub wait-is : wait ≡ wait-numbers advice

@@ -4,20 +4,20 @@ use mathlib.Core.Path.{_≡_, refl, sym, ap, _∙_, subst}
 use mathlib.Core.Bool.{true}
 use mathlib.Core.Logic.{_⊎_, inl, inr}
 use mathlib.Core.List.{List, [], _∷_, _++_}
-use mathlib.Core.Option.{Option, none, some}
+use mathlib.Core.Option.{none, some}
 use Prim.Native.Nat.{ℕ, suc, _*_, _≤_, _<_}
 use native.Mathlib.Omega.{arith}
 use lib.ListN.{length}
 use Rattle.base_lists.specs.Lists.{member}
 use Rattle.base_lists.proofs.Tests.{clash}
 use Rattle.plan_format.specs.Sizes.{row-width}
-use Rattle.plan_format.specs.Refusal.{Refusal, refusal, none-given}
+use Rattle.plan_format.specs.Refusal.{Refusal, none-given}
 use Rattle.plan_format.specs.Plan.{Operation, Plan, count, op, queues}
 use Rattle.plan_format.specs.Sound.{Sound, rules-refusal}
 use Rattle.plan_format.proofs.Judged.{zero-not-given}
 use Rattle.plan_order.specs.Precedence.{Before}
-use Rattle.plan_order.specs.Runs.{is-full, standard, missing}
-use Rattle.plan_order.specs.Holdings.{Placed, marks-of, marks-from, buffer-marks, broken}
+use Rattle.plan_order.specs.Runs.{is-full}
+use Rattle.plan_order.specs.Holdings.{Placed, marks-of, marks-from, buffer-marks}
 use Rattle.plan_order.specs.Check.{room-refusal, order-refusal, outcome, or-then, rows-and-run, plan-outcome}
 use Rattle.plan_order.specs.Meaning.{Asked, Forced}
 use Rattle.plan_order.proofs.Standard.{standard-lacks, missing-some, full-run, full-has}
@@ -46,7 +46,8 @@ runs-and-keeps p sound r full forced = of (order-refusal p) (order-cases p)
         let w = missing-some p known i m in
         clash (member i r) (full-has p r full i (w .0)) (standard-lacks p known i (w .1) r (full-run p r full .0))
     of f (broken-there i m e) =
-        absurd (let z : some i ≡ none = sym e ∙ unbroken-means p .1 forced in let y : _≡_ {A = ℕ} 0 1 = cc in omega arith)
+        let z : some i ≡ none = sym e ∙ unbroken-means p .1 forced in
+        absurd (let y : _≡_ {A = ℕ} 0 1 = cc in omega arith)
     of f (in-order m e) = refl
 
 -- a sound plan that is not refused for its order passes, wherever there is room for its rows and its run

@@ -4,14 +4,14 @@ use mathlib.Core.Bool.{true}
 use mathlib.Core.List.{List, [], _∷_, _++_, List·Memᴰ}
 use Prim.Native.Nat.{ℕ, _≤_, _<_, max}
 use native.Mathlib.Omega.{arith}
-use lib.ListN.{length, getD, take, length-append}
+use lib.ListN.{getD, take, length-append}
 use Rattle.base_lists.specs.Lists.{member}
 use Rattle.base_lists.proofs.Tests.{is-false}
 use Rattle.base_lists.proofs.Members.{member-here, member-there}
 use Rattle.order.specs.Runs.{runs}
 use Rattle.order.proofs.Runs.{can-below, can-fresh, can-enabled, can-by, run-below, runs-snoc}
 use Rattle.order.proofs.Turns.{run-turns, turns-run, run-take}
-use Rattle.plan_format.specs.Plan.{Point, Operation, Plan, count, op}
+use Rattle.plan_format.specs.Plan.{Point, Operation, Plan, count}
 use Rattle.plan_format.specs.Sound.{highest-in}
 use Rattle.plan_order.specs.Runs.{enabled, reached, is-run, is-full}
 use Rattle.plan_order.proofs.Readiness.{enabled-gives, enabled-by}

@@ -78,7 +78,8 @@ module _ (p : Plan) (o : Operation) (silent : o .signals ≡ []) where
       axes-distinct = sound .axes-distinct;
       in-range = λ i l. by-cases (ltb i (count p))
           (λ t. let old = ltb-true i (count p) t in
-          subst (λ (x : Operation). In-range grown x) (sym (last-same p o i old)) (in-longer (op p i) (sound .in-range i old)))
+          subst (λ (x : Operation). In-range grown x) (sym (last-same p o i old))
+          (in-longer (op p i) (sound .in-range i old)))
           (λ f. let new : count p ≡ i = omega (arith, l, last-count p o, ltb-false i (count p) f) in
           subst (λ (n : ℕ). In-range grown (op grown n)) new
           (subst (λ (x : Operation). In-range grown x) (sym (last-op p o)) (in-longer o known)));

@@ -1,15 +1,15 @@
 -- The first signal whose wait frees a buffer, by operation and place. Assumes nothing.
 use mathlib.Core.Path.{_≡_, refl, sym, ap, _∙_, subst, subst₂}
 use mathlib.Core.Bool.{Bool, true}
-use mathlib.Core.Logic.{_⊎_, inl, inr, _↔_}
+use mathlib.Core.Logic.{inl, inr, _↔_}
 use mathlib.Core.Option.{Option, none, some}
 use Prim.Native.Nat.{ℕ, _<_}
 use native.Mathlib.Omega.{arith}
 use lib.Dec.{ltb, eqb}
 use lib.ListN.{length}
 use borrow.Author.Tests.{ltb-true, ltb-false, eqb-true, eqb-false}
-use Rattle.base_lists.proofs.Tests.{by-cases, by-option, clash, is-false, either}
-use Rattle.base_lists.proofs.Searches.{Lowest, lowest-some, lowest-none, lowest-is}
+use Rattle.base_lists.proofs.Tests.{by-cases, by-option, clash, is-false}
+use Rattle.base_lists.proofs.Searches.{lowest-some, lowest-none, lowest-is}
 use Rattle.plan_format.specs.Plan.{Point, Plan}
 use Rattle.plan_format.specs.Meaning.{signal-at, Is-signal, Earlier}
 use Rattle.plan_format.specs.Sound.{Sound}
@@ -26,6 +26,10 @@ use Rattle.plan_suggest.proofs.SignalPlaces.{at, place-signal, signal-p
 use Rattle.plan_suggest.proofs.Freeing.{frees-means, frees-same}
 
 -- no signal is earlier than itself, nor each of two than the other
+earlier-other : (i k j n : ℕ) → Earlier i k j n → i ≡ j → k ≡ n → ⊥
+earlier-other i k j n (inl a) x y = omega arith
+earlier-other i k j n (inr a) x y = omega (arith, a .1)
+
 earlier-once : (i k j n : ℕ) → Earlier i k j n → Earlier j n i k → ⊥
 earlier-once i k j n (inl a) (inl b) = omega arith
 earlier-once i k j n (inl a) (inr b) = omega (arith, b .0)
@@ -70,11 +74,12 @@ module _ (p : Plan) (q b : ℕ) where
       (λ s. let same = eqb-true m n s in
       let x : i ≡ j = sym (a .operation-is) ∙ ap (λ (z : ℕ). at p z .operation) same ∙ c .operation-is in
       let y : k ≡ l = sym (a .position-is) ∙ ap (λ (z : ℕ). at p z .position) same ∙ c .position-is in
-      earlier-once i k j l e (subst₂ (λ (u v : ℕ). Earlier u v i k) x y (subst₂ (λ (u v : ℕ). Earlier i k u v) (sym x) (sym y) e)))
+      earlier-other i k j l e x y)
       (λ s. let after = signals-rise p n m (omega (arith, ltb-false m n f, eqb-false m n s)) (a .inside) in
       earlier-once i k j l e
       (subst₂ (λ (u v : ℕ). Earlier j l u v) (a .operation-is) (a .position-is)
-      (subst₂ (λ (u v : ℕ). Earlier u v (at p m .operation) (at p m .position)) (c .operation-is) (c .position-is) after)))))
+      (subst₂ (λ (u v : ℕ). Earlier u v (at p m .operation) (at p m .position)) (c .operation-is) (c .position-is)
+      after)))))
 
   before-place : (m n : ℕ) → m < n → n < many →
       Earlier (at p m .operation) (at p m .position) (at p n .operation) (at p n .position)
@@ -137,8 +142,8 @@ module _ (p : Plan) (q b : ℕ) where
       by-option (first-freeing p q b) (λ e. e)
       (λ n e. let f = first-gives n e in absurd (h (f .operation) (f .place) (f .signal) (f .frees)))
 
--- ---- under verdict 3 of a plan without broken marks the last free decides: a signal frees exactly if that free is at or
--- before the signal's operation
+-- ---- under verdict 3 of a plan without broken marks the last free decides: a signal frees exactly if that free is at
+-- or before the signal's operation
 pub record Last-decides (p : Plan) (q b : ℕ) : Type 0 where
   pub free : Placed-mark
   pub last : last-mark (buffer-marks p b) ≡ some free

@@ -1,6 +1,6 @@
 -- The longer plan with the wait that is advised: it is sound, has a full run and passes, and the queue may take the
 -- buffer anew. Assumes nothing.
-use mathlib.Core.Path.{_≡_, refl, sym, ap, _∙_, subst}
+use mathlib.Core.Path.{_≡_, sym, ap, _∙_, subst}
 use mathlib.Core.Bool.{true, false, _&&_}
 use mathlib.Core.Logic.{inr}
 use mathlib.Core.List.{List, [], _∷_, _++_, List·Memᴰ, List·Memᴰ·not-nil, List·Memᴰ·cases-cons}
@@ -79,7 +79,8 @@ module _ (p : Plan) (sound : Sound p) (q : ℕ) (known : q < queues p) (i k : �
         either (List·Memᴰ·cases-cons m)
         (λ e. subst (λ (z : Point). z .value ≤ reached p (z .semaphore) r) (sym e)
         (let value = value-under (wait .semaphore) (wait .value) (op p i .signals) (value-there p sound i k signal) in
-        omega (arith, value, reached-has p (wait .semaphore) r i (full-has p r full i (signal-inside p sound i k signal)))))
+        let has = full-has p r full i (signal-inside p sound i k signal) in
+        omega (arith, value, reached-has p (wait .semaphore) r i has)))
         (λ u. absurd (List·Memᴰ·not-nil u))
 
     there-full : is-full there (r ++ (count p ∷ [])) ≡ true

@@ -1,21 +1,20 @@
 -- Which waits free a buffer: by quantifiers; and, for a signal of a plan without broken marks whose last free is not
 -- seen, exactly those for signals of operations at or after that free. Assumes nothing.
-use mathlib.Core.Path.{_≡_, refl, sym, ap, _∙_, subst}
+use mathlib.Core.Path.{_≡_, refl, sym, _∙_, subst}
 use mathlib.Core.Bool.{Bool, true, false≢true}
-use mathlib.Core.Logic.{_⊎_, inl, inr, _↔_}
-use mathlib.Core.List.{List, [], _∷_, List·Memᴰ, List·Memᴰ·head, List·Memᴰ·not-nil, List·Memᴰ·cases-cons}
+use mathlib.Core.Logic.{inl, inr, _↔_}
+use mathlib.Core.List.{List, List·Memᴰ, List·Memᴰ·head, List·Memᴰ·not-nil, List·Memᴰ·cases-cons}
 use Prim.Native.Nat.{ℕ, _<_}
 use native.Mathlib.Nat.{le-refl}
 use native.Mathlib.Omega.{arith}
 use lib.Dec.{ltb, eqb}
 use lib.ListN.{length}
 use borrow.Author.Tests.{ltb-true, ltb-false, eqb-true, eqb-false}
-use Rattle.base_lists.specs.Lists.{all}
 use Rattle.base_lists.proofs.Tests.{by-cases, by-option, clash, is-false, either}
 use Rattle.base_lists.proofs.Searches.{all-gives, all-by, highest-none}
 use Rattle.base_lists.proofs.Places.{mem-at}
 use Rattle.order.specs.Closure.{once}
-use Rattle.plan_format.specs.Plan.{Point, Plan, empty-operation, count, op}
+use Rattle.plan_format.specs.Plan.{Point, Plan, count, op}
 use Rattle.plan_format.specs.Sound.{Sound}
 use Rattle.plan_format.specs.Meaning.{signal-at, Is-signal}
 use Rattle.plan_order.specs.Precedence.{Resolution, at-once, on, never, resolve, rests-on, Before, before, at-or-before}
@@ -31,7 +30,8 @@ use Rattle.plan_order.proofs.VerdictMeaning.{last-means, last-in}
 use Rattle.plan_order.proofs.LastFree.{At, at-join, marked-by-free}
 use Rattle.plan_order.proofs.Demand3.{rules-good}
 use Rattle.plan_change.specs.Longer.{waiting, longer}
-use Rattle.plan_change.proofs.Longer.{Because, same-queue, waited-for, Before-last, new-before, waiting-silent, waiting-unmarked}
+use Rattle.plan_change.proofs.Longer.{Because, same-queue, waited-for, Before-last, new-before, waiting-silent}
+use Rattle.plan_change.proofs.Longer.{waiting-unmarked}
 use Rattle.plan_change.proofs.LongerPasses.{last-marks}
 use Rattle.plan_suggest.specs.Suggest.{frees}
 use Rattle.plan_suggest.specs.Meaning.{Frees}
@@ -81,8 +81,8 @@ module _ (p : Plan) (sound : Sound p) (i k : ℕ) (signal : Is-signal p i k) whe
   -- R16: it is above 0
   pub signal-above : 0 < wait .value
   signal-above =
-      let fact = signal-facts p (rules-good p sound .0) i (wait .semaphore) (wait .value) signal-inside value-there .1 in
-      omega (arith, fact)
+      let good = rules-good p sound .0 in
+      omega (arith, signal-facts p good i (wait .semaphore) (wait .value) signal-inside value-there .1)
 
   -- R17: on the signal's operation
   pub rests-there : rests-on (resolve p wait) i ≡ true
@@ -132,13 +132,15 @@ module _ (p : Plan) (sound : Sound p) (q b : ℕ)
       let w = in-longer (m .by) .0 (h (m .by) marked) in
       of (w .0) (w .1) (w .2) (w .3)
     where
-      of : (n : ℕ) → n < count p → Because p (waiting q point) (waiting-silent q point) n → At p (m .by) n → At p (m .by) i
+      of : (n : ℕ) → n < count p → Because p (waiting q point) (waiting-silent q point) n → At p (m .by) n →
+          At p (m .by) i
       of n l (same-queue e) at =
           let s = queue-sees p q n l e in
           absurd (unseen (s .0, s .1, at-join p (m .by) n (s .0) at (s .2)))
       of n l (waited-for x t r) at =
           either (List·Memᴰ·cases-cons t)
-          (λ e. let r′ : rests-on (resolve p point) n ≡ true = subst (λ (z : Point). rests-on (resolve p z) n ≡ true) e r in
+          (λ e. let r′ : rests-on (resolve p point) n ≡ true =
+          subst (λ (z : Point). rests-on (resolve p z) n ≡ true) e r in
           subst (λ (z : ℕ). At p (m .by) z) (rests-one (resolve p point) n i r′ (rests-there p sound i k signal)) at)
           (λ u. absurd (List·Memᴰ·not-nil u))
 

@@ -1,6 +1,6 @@
 -- What a caller of the question for a wait gets, from what it says. Assumes nothing.
 use mathlib.Core.Path.{_≡_, sym, ap, _∙_}
-use mathlib.Core.Bool.{true, false}
+use mathlib.Core.Bool.{true}
 use mathlib.Core.List.{List}
 use Prim.Native.Nat.{ℕ, _<_}
 use native.Mathlib.Omega.{arith}
@@ -13,7 +13,6 @@ use Rattle.plan_format.specs.Stored.{plan-in}
 use Rattle.plan_format.specs.declared.Told.{Told}
 use Rattle.plan_format.proofs.Judged.{zero-not-given, other-given, not-given-zero}
 use Rattle.plan_format.proofs.Plans.{sound-in}
-use Rattle.plan_order.specs.Check.{check-outcome}
 use Rattle.plan_order.specs.Promise.{Demand-3-stored}
 use Rattle.plan_order.proofs.CheckMeaning.{passed-unrefused, check-means}
 use Rattle.plan_order.proofs.OutcomeMeaning.{passed-leaves}
@@ -63,8 +62,8 @@ module _ (bs : List ℕ) (q b : ℕ) (r : Told) (a : Advice) (t x l y : List ℕ
         let checked = check-means bs (length t) (length l) .passed .0 ((passes, place), leaves) in
         let run = checked .1 in
         let case = advised .wait v u .0 e in
-        freed plan (sound-in bs (checked .0 .0)) (run .0) (full-means plan (run .0) .1 (run .1)) (checked .2) few q b v u
-        (w .queue) (case .0) (case .1)
+        freed plan (sound-in bs (checked .0 .0)) (run .0) (full-means plan (run .0) .1 (run .1)) (checked .2) few q b
+        v u (w .queue) (case .0) (case .1)
 
   -- ---- beside a refusal
   nothing-is : given refused ≡ true → a ≡ NoneNeeded

@@ -47,7 +47,8 @@ module _ (p : Plan) (q b : ℕ) where
   module _ (h : q < queues p) (g : b < length (p .sizes)) where
     nineteen-is : When p q b NotOrdered → None-frees p q b → Refuses (suggest-refusal p q b) 19 b
     unfolding refusal
-    nineteen-is w n = subst (λ (f : Refusal). Refuses f 19 b) (sym (then-signals h g)) (of of-signals (signal-case p q b))
+    nineteen-is w n =
+        subst (λ (f : Refusal). Refuses f 19 b) (sym (then-signals h g)) (of of-signals (signal-case p q b))
       where
         of : (f : Refusal) → Signal-case p q b f → Refuses f 19 b
         of f (none-case w n e) = subst (λ (f : Refusal). Refuses f 19 b) (sym e) (refl, refl)
@@ -138,7 +139,8 @@ module _ (bs : List ℕ) (q b t l : ℕ) where
           (λ w. gives-asked bs t l own 12 q (w .0) (twelve-is plan q b (w .1)) .0 .0),
         );
         thirteen = (
-          (λ e. let w = asked-own bs t l own 13 refl e in let v = thirteen-if plan q b case (w .1) in (w .0, v .0, v .1)),
+          (λ e. let w = asked-own bs t l own 13 refl e in
+              let v = thirteen-if plan q b case (w .1) in (w .0, v .0, v .1)),
           (λ w. gives-asked bs t l own 13 b (w .0) (thirteen-is plan q b (w .1) (w .2)) .0 .0),
         );
         nineteen = (

@@ -1,8 +1,8 @@
 -- The signals of a plan in one list: each is where it says, every signal of every operation is there, and they are in
 -- plan order and then in list order. Assumes nothing.
-use mathlib.Core.Path.{_≡_, refl, sym, ap, _∙_, subst, subst₂}
-use mathlib.Core.Logic.{_⊎_, inl, inr}
-use mathlib.Core.List.{List, [], _∷_, _++_, List·Memᴰ, List·Memᴰ·head, List·Memᴰ·tail, List·Memᴰ·not-nil}
+use mathlib.Core.Path.{_≡_, sym, ap, _∙_, subst, subst₂}
+use mathlib.Core.Logic.{inl, inr}
+use mathlib.Core.List.{List, [], _∷_, List·Memᴰ, List·Memᴰ·head, List·Memᴰ·tail, List·Memᴰ·not-nil}
 use mathlib.Core.List.{List·Memᴰ·cases-cons, List·Memᴰ·append-cases, Memᴰ·append-left, Memᴰ·append-right}
 use Prim.Native.Nat.{ℕ, zero, suc, _+_, _<_}
 use native.Mathlib.Nat.{not-suc-le-zero, le-of-suc-le-suc, zero-add}
@@ -34,7 +34,8 @@ of-only i n (x ∷ xs) y m =
     (λ t. let w = of-only i (suc n) xs y t in (
       suc (w .0),
       omega (arith, w .1),
-      w .2 ∙ ap (λ (z : ℕ). signal i z (getD xs (w .0) no-point)) (let q : suc n + w .0 ≡ n + suc (w .0) = omega arith in q),
+      w .2 ∙ ap (λ (z : ℕ). signal i z (getD xs (w .0) no-point))
+          (let q : suc n + w .0 ≡ n + suc (w .0) = omega arith in q),
     ))
 
 from-only : (i : ℕ) (os : List Operation) (y : Signal) → List·Memᴰ y (signals-from i os) →

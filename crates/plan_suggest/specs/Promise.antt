@@ -20,7 +20,8 @@ use Rattle.plan_suggest.specs.Suggest.{suggest-outcome-in, Suggest-says}
 use Rattle.plan_suggest.specs.Meaning.{Outcome-means, Advice-means, Freed}
 
 -- what it hands back and leaves, by its definition, by quantifiers and by index
-pub record Suggest-right (bytes : List ℕ) (q b : ℕ) (r : Told) (a : Advice) (table table-now list list-now : List ℕ) : Type 0 where
+pub record Suggest-right (bytes : List ℕ) (q b : ℕ) (r : Told) (a : Advice)
+    (table table-now list list-now : List ℕ) : Type 0 where
   pub says : Suggest-says bytes q b r a table table-now list list-now
   -- the number and the place are those of the outcome of which `outcome` speaks
   pub number : r .number ≡ suggest-outcome-in bytes q b table list .refusal .number

@@ -75,7 +75,8 @@ unfoldable pub advised-by : Refusal → Advice → Advice
 advised-by f a = cond (given f) NoneNeeded a
 
 -- what a call hands back and leaves
-pub record Suggest-says (bytes : List ℕ) (q b : ℕ) (r : Told) (a : Advice) (table table-now list list-now : List ℕ) : Type 0 where
+pub record Suggest-says (bytes : List ℕ) (q b : ℕ) (r : Told) (a : Advice)
+    (table table-now list list-now : List ℕ) : Type 0 where
   pub says :
       Says (suggest-outcome-in bytes q b table list) (number-of (advice (plan-in bytes) q b)) (plan-in bytes) r
       table table-now list list-now

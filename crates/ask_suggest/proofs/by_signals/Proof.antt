@@ -11,7 +11,8 @@ refused-requires : tie.Need-refused-requires
 refused-requires c κs = search needs
 
 returns : tie.Need-returns
-returns c = no-signal _ _ _ _ _ (c .before .before .freeing .ensures) _ _ _ (c .refused .ensures) (c .before .if1 .taken)
+returns c =
+    no-signal _ _ _ _ _ (c .before .before .freeing .ensures) _ _ _ (c .refused .ensures) (c .before .if1 .taken)
 
 get16-requires : tie.Need-get16-requires
 get16-requires c κs = search needs

@@ -1,6 +1,5 @@
 -- `freeing` goes over the signals: none of those before is of the free's operation or of one after it. Assumes nothing.
 use Prim.Native.Nat.{_-_}
-use native.Mathlib.Omega.{arith}
 use Rattle.ask_suggest.proofs.SuggestTurns.{Past, past-none, past-more, past-here, past-end}
 use borrow.Author.Needs.{needs}
 use Rattle.ask_suggest.proofs.freeing.Statement.{statement}
@@ -42,7 +41,8 @@ get32-requires-2 c κs = search needs
 returns : tie.Need-returns Inv-loop μ-loop
 returns c =
     let read = c .before .before in
-    past-here _ _ _ _ (read .before .before .loop .inv) (read .get162 .ensures) (c .before .get322 .ensures) _ (read .before .loop-test .taken) (c .if1 .taken)
+    past-here _ _ _ _ (read .before .before .loop .inv) (read .get162 .ensures) (c .before .get322 .ensures) _
+    (read .before .loop-test .taken) (c .if1 .taken)
 
 add-k : tie.Need-add-k Inv-loop μ-loop
 add-k c = search needs
@@ -53,7 +53,8 @@ loop-less c = search needs
 loop-again : tie.Need-loop-again Inv-loop μ-loop
 loop-again c =
     let read = c .before .before in
-    past-more _ _ _ _ (read .before .before .loop .inv) (read .get162 .ensures) (c .before .get322 .ensures) (c .if1 .left)
+    past-more _ _ _ _ (read .before .before .loop .inv) (read .get162 .ensures) (c .before .get322 .ensures)
+    (c .if1 .left)
 
 returns-2 : tie.Need-returns-2 Inv-loop μ-loop
 returns-2 c = past-end _ _ _ _ (c .before .loop .inv) _ (c .loop-test .left)
