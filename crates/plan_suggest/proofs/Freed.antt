@@ -24,6 +24,7 @@ use Rattle.plan_order.proofs.Signals.{value-under, highest-over}
 use Rattle.plan_order.proofs.Readiness.{reached-has}
 use Rattle.plan_order.proofs.Standard.{full-has}
 use Rattle.plan_order.proofs.RunMeaning.{full-means}
+use Rattle.plan_order.proofs.VerdictMeaning.{verdict-means}
 use Rattle.plan_order.proofs.Demand3.{demand-3}
 use Rattle.plan_change.specs.Longer.{with-last, waiting, longer}
 use Rattle.plan_change.proofs.Longer.{last-count, last-op, waiting-silent, waiting-unmarked}
@@ -116,6 +117,7 @@ module _ (p : Plan) (sound : Sound p) (q : ℕ) (known : q < queues p) (i k : �
       runs = (r ++ (count p ∷ []), full-means there (r ++ (count p ∷ [])) .0 (there-full r full));
       passes = sound-passes there (there-sound few) there-passes;
       safe = demand-3 there (there-sound few) .exactly .0 there-passes;
+      verdict = verdict-means there q b Reusable .1 (reusable-there b w frees);
       reusable = reusable-there b w frees;
     }
 

@@ -14,6 +14,7 @@ use Rattle.plan_format.specs.Stored.{plan-in}
 use Rattle.plan_format.specs.Meaning.{signal-at, Is-signal, Earlier}
 use Rattle.plan_order.specs.Precedence.{Before}
 use Rattle.plan_order.specs.Check.{Outcome, outcome, rows-and-run, check-outcome, plan-outcome}
+use Rattle.plan_order.specs.Reuse.{verdict}
 use Rattle.plan_order.specs.Meaning.{Full-means, Marked, When, Gives, Check-means, Leaves-by}
 use Rattle.plan_order.specs.Promise.{Safe}
 use Rattle.plan_order.specs.declared.Verdict.the-variants.{Fresh, Reusable, Held, NotOrdered}
@@ -71,11 +72,12 @@ pub record Outcome-means (bytes : List ℕ) (q b table list : ℕ) (o : Outcome)
   pub leaves : Leaves-by suggest-numbers o
 
 -- R89: a longer plan that has what is wanted of it. It is sound, some run of it is full, it passes wherever table and
--- list are long enough, every full run keeps every buffer, and the queue may take the buffer anew
+-- list are long enough, every full run keeps every buffer, and the queue may take the buffer anew: verdict 1
 pub record Freed (l : Plan) (q b : ℕ) : Type 0 where
   pub sound : Sound l
   pub runs : (r : List ℕ) × Full-means l r
   pub passes : (table list : ℕ) → row-width * count l ≤ table → 2 * count l ≤ list →
       plan-outcome l table list ≡ outcome none-given rows-and-run
   pub safe : Safe l
+  pub verdict : verdict l q b ≡ Reusable
   pub reusable : When l q b Reusable
