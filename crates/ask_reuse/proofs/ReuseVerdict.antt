@@ -27,7 +27,7 @@ use Rattle.check_columns.specs.Shown.{mark-codes, mark-of, shown-from}
 use Rattle.check_columns.proofs.Marks.{Known, each-at, marks-known, marks-shown, place, of-buffer, of-append, of-plan}
 use Rattle.check_columns.proofs.Ordered.{ordered-right}
 use Rattle.ask_reuse.specs.ReusePass.{Verdict-given, last-shown, last-marked, seen, verdict-after, verdict-at}
-use Rattle.ask_reuse.specs.ReusePass.{marked-by, judged-at, judged-by}
+use Rattle.ask_reuse.specs.ReusePass.{marked-by, judged-at, judged-by, Judged-right}
 use Rattle.ask_reuse.specs.declared.Judged.{Judged}
 
 -- ---- the queue's last operation
@@ -132,10 +132,10 @@ module _ {p : Plan} {n marks : ℕ} {queue mark operation rows : List ℕ}
   last-are : (b : ℕ) → last-mark (buffer-marks p b) ≡ placed-at mark operation (last-marked mark b marks)
   last-are b = ap last-mark (sym (marks-are b)) ∙ last-placed mark operation b marks
 
-  pub verdict-right : (q b : ℕ) → b < length (p .sizes) → {r : Judged} →
+  verdict-is : (q b : ℕ) → b < length (p .sizes) → {r : Judged} →
       r ≡ judged-by queue mark operation rows q b n marks → r .verdict ≡ verdict p q b
   unfolding judged-by judged-at
-  verdict-right q b known e =
+  verdict-is q b known e =
       let sees : ℕ → Bool = seen-by p (last-on p q) in
       let last-right = ap (last-shown queue q) (sym (shown .many)) ∙ last-of p queue q (shown .queues-shown) in
       ap (λ (z : Judged). z .verdict) e
@@ -147,14 +147,14 @@ module _ {p : Plan} {n marks : ℕ} {queue mark operation rows : List ℕ}
       ∙ last-verdict p q b (λ k l. shown .forced b k known l)
 
   -- the operation of the last mark
-  pub operation-right : (q b : ℕ) {r : Judged} → r ≡ judged-by queue mark operation rows q b n marks → (m : Placed) →
+  operation-is : (q b : ℕ) {r : Judged} → r ≡ judged-by queue mark operation rows q b n marks → (m : Placed) →
       last-mark (buffer-marks p b) ≡ some m → r .operation ≡ m .by
   unfolding judged-by judged-at
-  operation-right q b e m last =
+  operation-is q b e m last =
       ap (λ (z : Judged). z .operation) e ∙
       operation-placed mark operation (last-marked mark b marks) m (sym (last-are b) ∙ last)
 
-  pub operation-inside : (q b : ℕ) {r : Judged} → r ≡ judged-by queue mark operation rows q b n marks → (m : Placed) →
+  operation-inside : (q b : ℕ) {r : Judged} → r ≡ judged-by queue mark operation rows q b n marks → (m : Placed) →
       last-mark (buffer-marks p b) ≡ some m → r .operation < count p
   unfolding judged-by judged-at marked-by last-marked placed-at
   operation-inside q b e m last =
@@ -165,3 +165,11 @@ module _ {p : Plan} {n marks : ℕ} {queue mark operation rows : List ℕ}
       (λ k is. let inside = highest-some marks (λ k. eqb (getD mark k 0 % mark-codes / 2) b) k is .inside in
       subst (λ (z : ℕ). z < count p)
       (sym (ap (λ (z : Judged). z .operation) e ∙ ap (marked-by operation) is)) (by-inside k inside))
+
+  pub judged-right : (q b : ℕ) → b < length (p .sizes) → {r : Judged} →
+      r ≡ judged-by queue mark operation rows q b n marks → Judged-right p q b r
+  judged-right q b known e = record {
+    verdict = verdict-is q b known e;
+    operation = λ m last. let is = operation-is q b e m last in
+        (is, subst (λ (z : ℕ). z < count p) is (operation-inside q b e m last));
+  }

@@ -11,7 +11,8 @@ use Rattle.base_lists.specs.Lists.{highest-below, place-or}
 use Rattle.plan_format.specs.Sizes.{most-buffers, most-operations, no-operation}
 use Rattle.plan_format.specs.Plan.{Plan, count, queues}
 use Rattle.plan_format.specs.Sound.{Sound}
-use Rattle.plan_order.specs.Holdings.{buffer-marks}
+use Rattle.plan_order.specs.Holdings.{Placed, buffer-marks}
+use Rattle.plan_order.specs.Reuse.{last-mark, verdict}
 use Rattle.plan_order.specs.Meaning.{Forced}
 use Rattle.plan_order.specs.declared.Verdict.{Verdict}
 use Rattle.plan_order.specs.declared.Verdict.the-variants.{Fresh, Reusable, Held, NotOrdered}
@@ -63,7 +64,7 @@ unfoldable pub marked-by : (operation : List ℕ) → (place : Option ℕ) → �
 marked-by operation none = no-operation
 marked-by operation (some k) = getD operation k 0 % most-operations
 
--- both
+-- both, by the place of the last mark, and by the columns
 unfoldable pub judged-at : (seen : ℕ → Bool) → (mark operation : List ℕ) → (place : Option ℕ) → Judged
 judged-at f mark operation k =
     record { verdict = verdict-at f mark operation k; operation = marked-by operation k }
@@ -71,3 +72,8 @@ judged-at f mark operation k =
 unfoldable pub judged-by : (queue mark operation rows : List ℕ) → (q b n marks : ℕ) → Judged
 judged-by queue mark operation rows q b n marks =
     judged-at (seen queue rows (last-shown queue q n)) mark operation (last-marked mark b marks)
+
+-- of a plan that is shown: its verdict, and the operation of the last mark on the buffer, where there is one
+pub record Judged-right (p : Plan) (q b : ℕ) (r : Judged) : Type 0 where
+  pub verdict : r .verdict ≡ verdict p q b
+  pub operation : (m : Placed) → last-mark (buffer-marks p b) ≡ some m → (r .operation ≡ m .by) × (m .by < count p)

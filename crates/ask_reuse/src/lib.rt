@@ -15,13 +15,14 @@ use plan_format::limits::WAIT_PLACES;
 use plan_order::Verdict;
 ghost use mathlib.Core.Path.{_≡_};
 ghost use Prim.Native.Nat.{_<_};
+ghost use lib.ListN.{length};
 ghost use Rattle.plan_format.specs.Sizes.{most-operations};
 ghost use Rattle.plan_format.specs.Plan.{Plan};
 ghost use Rattle.plan_format.specs.Stored.{Tells};
 ghost use Rattle.plan_order.specs.Reuse.{verdict as verdict-of, number-of, question-refusal};
 ghost use Rattle.ask_reuse.specs.Reuse.{Asked};
 ghost use Rattle.ask_reuse.specs.ReusePass.{Question-given, last-shown, last-marked, seen as is-seen};
-ghost use Rattle.ask_reuse.specs.ReusePass.{verdict-after, judged-at, judged-by};
+ghost use Rattle.ask_reuse.specs.ReusePass.{verdict-after, judged-at, judged-by, Verdict-given, Judged-right};
 
 // The verdict on a buffer, and the operation of its last mark; 1,024 where it has none.
 pub struct Judged {
@@ -114,7 +115,8 @@ pub fn judge(
     mop: &MarkColumn,
     table: &[u32],
 ) -> Judged
-    ensures { λ r. ⌜ r ≡ judged-by (now (queue .entry)) (now (mark .entry)) (now (mop .entry)) (now (table .entry)) q b n marks ⌝ }
+    ensures found { λ r. ⌜ r ≡ judged-by (now (queue .entry)) (now (mark .entry)) (now (mop .entry)) (now (table .entry)) q b n marks ⌝ }
+    ensures of_plans { λ r. ⌜ ((p : Plan) → b < length (p .sizes) → Verdict-given p n marks (now (queue .entry)) (now (mark .entry)) (now (mop .entry)) (now (table .entry)) → Judged-right p q b r) ⌝ }
 {
     let last = last_on(n, queue, q);
     by_last_mark(b, last, marks, queue, mark, mop, table)

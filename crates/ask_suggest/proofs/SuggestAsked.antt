@@ -11,7 +11,7 @@ use Rattle.base_lists.specs.Lists.{lowest-below}
 use Rattle.base_lists.proofs.Tests.{by-cases, by-option, clash}
 use Rattle.base_lists.proofs.Searches.{lowest-some, lowest-none, lowest-is}
 use Rattle.plan_format.specs.Sizes.{most-operations}
-use Rattle.plan_format.specs.Plan.{Plan, queues}
+use Rattle.plan_format.specs.Plan.{Plan, count, queues}
 use Rattle.plan_format.specs.Refusal.{Refusal, refusal, none-given, given}
 use Rattle.plan_format.specs.Stored.{plan-in}
 use Rattle.plan_format.specs.Meaning.{Refuses}
@@ -39,10 +39,9 @@ use Rattle.check_columns.specs.Shown.{ordered}
 use Rattle.check_columns.proofs.Ordered.{ordered-right}
 use Rattle.check_plan.specs.Opening.{Lent, Opened-plan}
 use Rattle.check_plan.specs.declared.Opened.{Opened}
-use Rattle.ask_reuse.specs.ReusePass.{Verdict-given, judged-by}
+use Rattle.ask_reuse.specs.ReusePass.{Verdict-given, Judged-right}
 use Rattle.ask_reuse.specs.declared.Judged.{Judged}
 use Rattle.ask_reuse.proofs.ReuseAsked.{question-given}
-use Rattle.ask_reuse.proofs.ReuseVerdict.{verdict-right, operation-right, operation-inside}
 use Rattle.ask_suggest.specs.declared.Suggested.{Suggested}
 use Rattle.ask_suggest.specs.SuggestPass.{told, suggested, suggested-by, suggested-of, Suggest-given, first-after}
 use Rattle.ask_suggest.specs.SuggestPass.{at-signal}
@@ -94,12 +93,13 @@ module _ {p : Plan} {o : Opened} {queue ssem sval sop mark mop rows : List ℕ}
         refused-as (thirteen-is p q b known-queue (omega (arith, given-plan .question .buffers-are))) (λ z. omega arith)
 
     module _ (buffer-known : b < o .counted .buffers) {j : Judged}
-        (judged : j ≡ judged-by queue mark mop rows q b (o .counted .operations) (o .marks)) where
+        (judged : b < length (p .sizes) →
+        Verdict-given p (o .counted .operations) (o .marks) queue mark mop rows → Judged-right p q b j) where
       known-buffer : b < length (p .sizes)
       known-buffer = omega (arith, given-plan .question .buffers-are)
 
       verdict-is : {v : Verdict} → j .verdict ≡ v → verdict p q b ≡ v
-      verdict-is e = sym (verdict-right shown q b known-buffer judged) ∙ e
+      verdict-is e = sym (judged known-buffer shown .verdict) ∙ e
 
       -- ---- by the verdict
       by-verdict : (v : Verdict) → j .verdict ≡ v → suggested-of p q b ≡
@@ -137,8 +137,9 @@ module _ {p : Plan} {o : Opened} {queue ssem sval sop mark mop rows : List ℕ}
             let w = place-signal p k l in
             let after = at p k .operation in
             let inside = signal-inside p (shown .sound) after (at p k .position) (w .0) in
-            let free = operation-right shown q b judged (decided .free) (decided .last) in
-            let low = operation-inside shown q b judged (decided .free) (decided .last) in
+            let last = judged known-buffer shown .operation (decided .free) (decided .last) in
+            let free = last .0 in
+            let low : j .operation < count p = omega (arith, free, last .1) in
             let x : j .operation % most-operations ≡ j .operation = omega (arith, low, few) in
             let shown-there = given-plan .signals-shown .operations k (omega (arith, given-plan .signals-shown .all)) in
             let y : getD sop k 0 % most-operations ≡ after = omega (arith, shown-there, inside, few) in

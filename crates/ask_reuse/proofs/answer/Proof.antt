@@ -2,7 +2,6 @@
 use mathlib.Core.Path.{ap, _∙_}
 use Rattle.plan_order.specs.Reuse.{number-of}
 use Rattle.ask_reuse.proofs.ReuseAsked.{buffer-known, no-queue, no-buffer, answered}
-use Rattle.ask_reuse.proofs.ReuseVerdict.{verdict-right}
 use borrow.Author.Needs.{needs}
 use Rattle.ask_reuse.proofs.answer.Statement.{statement}
 use Rattle.ask_reuse.proofs.answer.Tie as tie
@@ -35,7 +34,7 @@ returns-3 c =
     rw (c .answered .ensures)
     (λ p o. let known = buffer-known o (branch .if2 .left) in
     answered o _ _ (branch .before .before .if1 .left) (branch .if2 .left)
-    (asked .number-of .ensures ∙ ap number-of (verdict-right (o .shown) _ _ known (asked .before .judge .ensures))))
+    (asked .number-of .ensures ∙ ap number-of (asked .before .judge .ensures .1 p known (o .shown) .verdict)))
 
 pub answer-spec : {M : Type 1} → statement M
 answer-spec =

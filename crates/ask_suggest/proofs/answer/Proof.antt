@@ -48,21 +48,21 @@ returns-3 : tie.Need-returns-3
 returns-3 c =
     let judged = c .before .before .before in
     λ p o. fresh o _ _ (judged .before .before .before .if1 .left) (judged .before .if2 .left)
-    (judged .judge .ensures)
+    (judged .judge .ensures .1 p)
     (c .before .enum-told .given .1) (c .advised .ensures)
 
 returns-4 : tie.Need-returns-4
 returns-4 c =
     let judged = c .before .before .before in
     λ p o. reusable o _ _ (judged .before .before .before .if1 .left) (judged .before .if2 .left)
-    (judged .judge .ensures)
+    (judged .judge .ensures .1 p)
     (c .before .enum-told2 .given .1) (c .advised2 .ensures)
 
 returns-5 : tie.Need-returns-5
 returns-5 c =
     let judged = c .before .before .before in
     λ p o. held o _ _ (judged .before .before .before .if1 .left) (judged .before .if2 .left)
-    (judged .judge .ensures)
+    (judged .judge .ensures .1 p)
     (c .before .enum-told3 .given .1) (c .advised3 .ensures)
 
 returns-6 : tie.Need-returns-6
@@ -70,7 +70,7 @@ returns-6 c =
     let match = c .before .before .before .before .before in
     let judged = match .before .before in
     λ p o. by-signal o _ _ (judged .before .before .before .if1 .left) (judged .before .if2 .left)
-    (judged .judge .ensures)
+    (judged .judge .ensures .1 p)
     (match .enum-told4 .given .1) (c .by-signals .ensures)
 
 pub answer-spec : {M : Type 1} → statement M
