@@ -5,7 +5,7 @@
  * cundvrest` finds it there. It needs nothing but memcpy, memset and the like of
  * the C library. Every function is proved to meet a contract that is an equation
  * with the definitions of the rules, for every input: crates/cundvrest_c and, for
- * cundvrest_trace, crates/c_trace.
+ * cundvrest_trace and cundvrest_suggest, crates/c_trace and crates/c_suggest.
  *
  * TOLD. Every call writes all three numbers of `told`: number, place, answer.
  * The number is 0, or that of a refusal; the place says where. docs/REFUSALS.md
@@ -32,6 +32,8 @@
  *   13  a buffer that the plan has not        the number that was asked
  *   14  a frontier that is not well formed    0
  *   15  a capacity of 0 or above 16           0
+ *   19  no signal of the plan frees the
+ *       buffer that a wait is asked for       the buffer that was asked
  *   21  an operation that the plan has not    the number that was asked
  *   22  a trace that is not well formed       0
  *
@@ -48,8 +50,8 @@
  * THREADS AND STACK. There is no state between calls, so calls on separate
  * memory may run at the same time on any threads. A call uses less than
  * CUNDVREST_STACK bytes of its thread's stack, whatever the input. Measured:
- * read 184 kB, check, reuse, frontier and trace 120 kB, write 64 kB, the others
- * 3 kB.
+ * read 184 kB, check, reuse, suggest, frontier and trace 120 kB, write 64 kB, the
+ * others 3 kB.
  */
 #ifndef CUNDVREST_H
 #define CUNDVREST_H
@@ -81,6 +83,7 @@ extern "C" {
 #define CUNDVREST_REFUSED_NO_SUCH_BUFFER 13
 #define CUNDVREST_REFUSED_BAD_FRONTIER 14
 #define CUNDVREST_REFUSED_BAD_CAPACITY 15
+#define CUNDVREST_REFUSED_NO_SIGNAL_FREES 19
 #define CUNDVREST_REFUSED_NO_SUCH_OPERATION 21
 #define CUNDVREST_REFUSED_BAD_TRACE 22
 
@@ -105,6 +108,11 @@ extern "C" {
 #define CUNDVREST_REUSABLE 1
 #define CUNDVREST_HELD 2
 #define CUNDVREST_NOT_ORDERED 3
+
+/* Advice: the answer of cundvrest_suggest. */
+#define CUNDVREST_NONE_NEEDED 0
+#define CUNDVREST_WAIT 1
+#define CUNDVREST_NONE_WOULD_HELP 2
 
 /* What a recorded trace followed: the answer of cundvrest_trace. */
 #define CUNDVREST_FULL 0
@@ -159,6 +167,23 @@ void cundvrest_reuse(const uint8_t *plan, size_t plan_len,
                      uint32_t queue, uint32_t buffer,
                      uint32_t *table, size_t table_len,
                      uint32_t *list, size_t list_len, uint64_t told[3]);
+
+/* The wait that would free the buffer for the queue, so that the queue may take it
+ * anew: an operation that is added at the end of the plan, on this queue, with
+ * this wait alone and without signals and marks, is after every operation with a
+ * mark on the buffer. The answer goes by the verdict of cundvrest_reuse: for
+ * fresh and reusable none is needed, for held none would help. For not ordered it
+ * is the wait for the first signal of the plan, in plan order and then in list
+ * order, that does it. If the plan has fewer than 1,024 operations, the plan with
+ * that operation passes, and its verdict is reusable.
+ * answer: 0 none needed, 1 the wait, 2 none would help. wait: semaphore, value;
+ * zeros but for 1. The plan is checked first: refusals 1 to 13, then 19 where
+ * no signal does it. An answer, 12, 13 and 19 leave the rows and the run. */
+void cundvrest_suggest(const uint8_t *plan, size_t plan_len,
+                       uint32_t queue, uint32_t buffer,
+                       uint32_t *table, size_t table_len,
+                       uint32_t *list, size_t list_len,
+                       uint64_t wait[2], uint64_t told[3]);
 
 /* The frontier that is sent out for an operation: an entry for each number above
  * 0 in its row, under the axis of that column's queue, cut as a merge is. The

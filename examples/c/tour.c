@@ -2,6 +2,7 @@
  * and asked, a trace is held against it, and frontiers are compared and merged. Prints what each call told. */
 #include <pthread.h>
 #include <stdio.h>
+#include <string.h>
 
 #include "cundvrest.h"
 
@@ -50,7 +51,7 @@ static void *tour(void *unused)
     uint32_t table[3 * CUNDVREST_TABLE_WIDTH], list[3 * CUNDVREST_LIST_WIDTH];
     uint64_t first[CUNDVREST_FRONTIER], last[CUNDVREST_FRONTIER], raised[CUNDVREST_FRONTIER], merged[CUNDVREST_FRONTIER];
     uint64_t state[CUNDVREST_STATE], found[CUNDVREST_FOUND];
-    uint64_t told[3];
+    uint64_t fewer[COUNT(numbers)], wait[2], told[3];
     size_t length;
     /* two steps: operation 0, then operation 2, which should have waited for operation 1 */
     static const uint8_t trace[] = {2, 0, 0, 0, 2, 0};
@@ -88,6 +89,16 @@ static void *tour(void *unused)
     cundvrest_merge(raised, last, 17, merged, told);
     show("merge", told);
     show_frontier(merged);
+
+    /* without its last operation, eight numbers, the plan frees the buffer: what is queue 0 to wait for? */
+    memcpy(fewer, numbers, sizeof fewer);
+    fewer[9] = 2;
+    cundvrest_write(fewer, COUNT(fewer) - 8, plan, sizeof plan, told);
+    show("write", told);
+    cundvrest_suggest(plan, (size_t)told[2], 0, 0, table, COUNT(table), list, COUNT(list), wait, told);
+    show("suggest", told);
+    if (told[2] == CUNDVREST_WAIT)
+        printf("  until semaphore %lu is at %lu\n", (unsigned long)wait[0], (unsigned long)wait[1]);
 
     /* a length of 0 needs no memory */
     cundvrest_read(NULL, 0, NULL, 0, told);

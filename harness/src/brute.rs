@@ -4,7 +4,9 @@
 
 use crate::plan::Plan;
 
+mod suggest;
 mod trace;
+pub use suggest::suggest;
 pub use trace::{follow, EveryRun};
 
 /// Plans with more operations than this have too many runs.

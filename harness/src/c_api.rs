@@ -1,7 +1,7 @@
 //! The checker under test, through its C interface: the library that this build
 //! links, and libraries built earlier, opened while the program runs.
 
-use crate::side::{Found, Raw, Side, Told};
+use crate::side::{Found, Raw, Side, Told, Wait};
 use std::ffi::{c_char, c_int, c_void, CStr, CString};
 
 /// The C library as one side of a comparison, if this build links it.
@@ -53,7 +53,7 @@ macro_rules! functions {
     ($(fn $name:ident($($argument:ident: $kind:ty),* $(,)?);)*) => {
         #[cfg(cundvrest_c)]
         mod linked {
-            use super::{Found, Raw, Three};
+            use super::{Found, Raw, Three, Wait};
             extern "C" {
                 $(pub fn $name($($argument: $kind),*);)*
             }
@@ -114,6 +114,18 @@ functions! {
         table_len: usize,
         list: *mut u32,
         list_len: usize,
+        told: *mut Three,
+    );
+    fn cundvrest_suggest(
+        plan: *const u8,
+        plan_len: usize,
+        queue: u32,
+        buffer: u32,
+        table: *mut u32,
+        table_len: usize,
+        list: *mut u32,
+        list_len: usize,
+        wait: *mut Wait,
         told: *mut Three,
     );
     fn cundvrest_frontier(
@@ -245,6 +257,31 @@ impl Side for Library {
                 table.len(),
                 list.as_mut_ptr(),
                 list.len(),
+                three,
+            )
+        })
+    }
+
+    fn suggest(
+        &self,
+        plan: &[u8],
+        queue: u32,
+        buffer: u32,
+        table: &mut [u32],
+        list: &mut [u32],
+        wait: &mut Wait,
+    ) -> Told {
+        told(|three| unsafe {
+            function!(self, cundvrest_suggest)(
+                plan.as_ptr(),
+                plan.len(),
+                queue,
+                buffer,
+                table.as_mut_ptr(),
+                table.len(),
+                list.as_mut_ptr(),
+                list.len(),
+                wait,
                 three,
             )
         })

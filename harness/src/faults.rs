@@ -4,12 +4,13 @@
 
 use crate::plan::{Mark, Plan};
 use crate::reference::{self, Reference};
-use crate::side::{Found, Raw, Side, Told, EMPTY, EPOCHS, LENGTH, TAINT};
+use crate::side::{Found, Raw, Side, Told, Wait, EMPTY, EPOCHS, LENGTH, TAINT};
 
+mod suggest;
 mod trace;
 
 /// The mistakes that the rules exclude, a row's own column, and mistakes of the
-/// trace question.
+/// trace question and of the question for a wait.
 #[derive(Clone, Copy, PartialEq, Eq, Debug)]
 pub enum Fault {
     /// A wait takes over what the latest signal knows (R17).
@@ -38,11 +39,27 @@ pub enum Fault {
     UnfinishedForFull,
     /// 22 leaves zeros in the state.
     RefusalClearsState,
+    /// A wait for what comes after the first mark, instead of the last free.
+    FirstMark,
+    /// A wait for what comes before the last free.
+    ComparisonTurned,
+    /// The last signal that frees the buffer instead of the first.
+    LastSignal,
+    /// Of two signals in one operation the second.
+    SecondInList,
+    /// The value of the signal before.
+    ValueBefore,
+    /// 19 is given at the queue.
+    RefusedAtQueue,
+    /// 19 leaves a wait.
+    RefusalKeepsWait,
+    /// No wait is needed for a buffer that is held.
+    HeldNeedsNone,
 }
 
 impl Fault {
     /// Fault 1 is the first.
-    pub const ALL: [Fault; 13] = [
+    pub const ALL: [Fault; 21] = [
         Fault::NewestSignal,
         Fault::FirstUseOnly,
         Fault::OwnColumnMissing,
@@ -56,6 +73,14 @@ impl Fault {
         Fault::FormBeforeRoom,
         Fault::UnfinishedForFull,
         Fault::RefusalClearsState,
+        Fault::FirstMark,
+        Fault::ComparisonTurned,
+        Fault::LastSignal,
+        Fault::SecondInList,
+        Fault::ValueBefore,
+        Fault::RefusedAtQueue,
+        Fault::RefusalKeepsWait,
+        Fault::HeldNeedsNone,
     ];
 
     /// The plan the reference is given instead.
@@ -131,7 +156,7 @@ impl Faulty {
 
     /// Spoils what a passed check or an answered question leaves.
     fn spoil(&self, told: Told, plan: &[u8], table: &mut [u32], list: &mut [u32]) {
-        let rows_are_there = matches!(told.number, 0 | 12 | 13 | 15 | 21 | 22);
+        let rows_are_there = matches!(told.number, 0 | 12 | 13 | 15 | 19 | 21 | 22);
         let Some(plan) = parse(plan).filter(|_| rows_are_there) else {
             return;
         };
@@ -175,6 +200,21 @@ impl Side for Faulty {
         let told = reference::reuse(&self.rewritten(plan), queue, buffer, table, list);
         self.spoil(told, plan, table, list);
         told
+    }
+
+    fn suggest(
+        &self,
+        plan: &[u8],
+        queue: u32,
+        buffer: u32,
+        table: &mut [u32],
+        list: &mut [u32],
+        wait: &mut Wait,
+    ) -> Told {
+        let rewritten = self.rewritten(plan);
+        let told = reference::suggest(&rewritten, queue, buffer, table, list, wait);
+        self.spoil(told, plan, table, list);
+        suggest::spoil(self.0, plan, (queue, buffer), told, table, wait)
     }
 
     fn frontier(

@@ -861,6 +861,38 @@ fn woken_at_once(rng: &mut Rng, operations: usize) -> Plan {
 }
 
 // ---------------------------------------------------------------------------
+// The question for a wait.
+
+/// A plan of many operations with few signals, so that some buffers are freed
+/// where a signal comes after, and others where none does. Passes.
+pub fn few_signals(rng: &mut Rng, operations: usize) -> Plan {
+    let one_in = *rng.pick(&[12, 12, 100]);
+    full_lists(rng, operations, |rng| {
+        let signals = match rng.below(one_in) {
+            0 => rng.between(1, 2),
+            _ => 0,
+        };
+        [rng.below(2), signals, rng.below(2)]
+    })
+}
+
+/// A queue and a buffer to ask about: mostly a buffer that is freed last. An
+/// empty list counts as one of one entry.
+pub fn question(rng: &mut Rng, plan: &Plan) -> (u32, u32) {
+    let mut last_is_free = vec![false; plan.sizes.len()];
+    for mark in plan.operations.iter().flat_map(|o| &o.marks) {
+        last_is_free[usize::from(mark.buffer)] = mark.free;
+    }
+    let freed: Vec<usize> = (0..plan.sizes.len()).filter(|&b| last_is_free[b]).collect();
+    let buffer = if freed.is_empty() || rng.percent(25) {
+        rng.below(plan.sizes.len().max(1))
+    } else {
+        *rng.pick(&freed)
+    };
+    (rng.below(plan.axes.len().max(1)) as u32, buffer as u32)
+}
+
+// ---------------------------------------------------------------------------
 // Damage.
 
 /// Another value for one byte: near by, at an end, or any.

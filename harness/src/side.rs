@@ -18,6 +18,10 @@ pub const EMPTY: Raw = [0; 34];
 /// wait, and three numbers that are 0. What does not apply is 0.
 pub type Found = [u64; 6];
 
+/// The wait that frees a buffer, as the C interface lends it: semaphore, value.
+/// Zeros where there is none.
+pub type Wait = [u64; 2];
+
 /// How many numbers of a lent state are written: the operations run by queue,
 /// then the highest value signalled by semaphore.
 pub const STATE: usize = 16 + 64;
@@ -68,6 +72,17 @@ pub trait Side {
         buffer: u32,
         table: &mut [u32],
         list: &mut [u32],
+    ) -> Told;
+
+    /// Answer: 0 none needed, 1 the wait, 2 none would help.
+    fn suggest(
+        &self,
+        plan: &[u8],
+        queue: u32,
+        buffer: u32,
+        table: &mut [u32],
+        list: &mut [u32],
+        wait: &mut Wait,
     ) -> Told;
 
     fn frontier(

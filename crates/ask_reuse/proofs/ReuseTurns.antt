@@ -15,6 +15,8 @@ use Rattle.plan_order.specs.declared.Verdict.the-variants.{Fresh}
 use Rattle.check_columns.specs.Shown.{mark-codes}
 use Rattle.check_columns.proofs.Ordered.{ordered-is}
 use Rattle.ask_reuse.specs.ReusePass.{last-shown, last-marked, seen, verdict-after, verdict-at}
+use Rattle.ask_reuse.specs.ReusePass.{marked-by, judged-at, judged-by}
+use Rattle.ask_reuse.specs.declared.Judged.{Judged}
 
 -- ---- the highest that passes a test, from the last to the first: it is here, or it is lower
 module _ (f : ℕ → Bool) where
@@ -74,8 +76,8 @@ module _ {mark : List ℕ} {b many back : ℕ} (left : Marks-left mark b many ba
   on-buffer k = eqb (getD mark k 0 % mark-codes / 2) b
 
   pub left-none : (f : ℕ → Bool) (operation : List ℕ) → many ≤ back →
-      Fresh ≡ verdict-at f mark operation (last-marked mark b many)
-  unfolding last-marked verdict-at
+      record { verdict = Fresh; operation = no-operation } ≡ judged-at f mark operation (last-marked mark b many)
+  unfolding last-marked verdict-at marked-by judged-at
   left-none f operation l = rw (← left .last, highest-none on-buffer (many - back) (omega arith))
 
   module _ (more : back < many) {m : ℕ} (m-is : m ≡ getD mark (many - (back + 1)) 0 % mark-codes) where
@@ -90,10 +92,19 @@ module _ {mark : List ℕ} {b many back : ℕ} (left : Marks-left mark b many ba
     -- a mark on the buffer
     pub left-own : (f : ℕ → Bool) (operation : List ℕ) {i : ℕ} {s : Bool} {v : Verdict} → m / 2 ≡ b →
         i ≡ getD operation (many - (back + 1)) 0 % most-operations → s ≡ f i → v ≡ verdict-after (eqb (m % 2) 1) s →
-        v ≡ verdict-at f mark operation (last-marked mark b many)
-    unfolding last-marked verdict-at
+        record { verdict = v; operation = i } ≡ judged-at f mark operation (last-marked mark b many)
+    unfolding last-marked verdict-at marked-by judged-at
     left-own f operation h i-is s-is v-is =
         let own : on-buffer (many - (back + 1)) ≡ true =
         ap (λ (z : ℕ). eqb (z / 2) b) (sym m-is) ∙ eq-eqb (m / 2) b h in
         let here = highest-here on-buffer (many - back) (many - (back + 1)) (omega arith) own in
-        v-is ∙ rw (← left .last, here, ← m-is, ← i-is, ← s-is)
+        rw (v-is, ← left .last, here, ← m-is, ← i-is, ← s-is)
+
+-- ---- all of it
+pub judged-is : (queue mark operation rows : List ℕ) (q b n marks : ℕ) {last : ℕ} {r : Judged} →
+    last ≡ last-shown queue q n →
+    r ≡ judged-at (seen queue rows last) mark operation (last-marked mark b marks) →
+    r ≡ judged-by queue mark operation rows q b n marks
+unfolding judged-by
+judged-is queue mark operation rows q b n marks last-is e =
+    e ∙ ap (λ (z : ℕ). judged-at (seen queue rows z) mark operation (last-marked mark b marks)) last-is

@@ -1,5 +1,5 @@
 -- The verdict by columns and rows is the plan's. Assumes nothing.
-use mathlib.Core.Path.{_≡_, refl, sym, ap, _∙_}
+use mathlib.Core.Path.{_≡_, refl, sym, ap, _∙_, subst}
 use mathlib.Core.Bool.{Bool}
 use mathlib.Core.List.{List, [], _∷_, _++_, append-nil}
 use mathlib.Core.Option.{Option, none, some}
@@ -11,7 +11,7 @@ use lib.ListN.{length, getD}
 use borrow.Author.Tests.{lt-ltb}
 use Rattle.base_lists.specs.Lists.{tabulate-from, highest-below, place-or}
 use Rattle.base_lists.proofs.Tests.{by-cases, by-option}
-use Rattle.base_lists.proofs.Searches.{highest-some}
+use Rattle.base_lists.proofs.Searches.{highest-some, highest-same}
 use Rattle.base_lists.proofs.Tables.{tabulate-last}
 use Rattle.plan_format.specs.Sizes.{no-operation, most-operations}
 use Rattle.plan_format.specs.Plan.{Plan, count, op}
@@ -27,13 +27,10 @@ use Rattle.check_columns.specs.Shown.{mark-codes, mark-of, shown-from}
 use Rattle.check_columns.proofs.Marks.{Known, each-at, marks-known, marks-shown, place, of-buffer, of-append, of-plan}
 use Rattle.check_columns.proofs.Ordered.{ordered-right}
 use Rattle.ask_reuse.specs.ReusePass.{Verdict-given, last-shown, last-marked, seen, verdict-after, verdict-at}
+use Rattle.ask_reuse.specs.ReusePass.{marked-by, judged-at, judged-by, Judged-right}
+use Rattle.ask_reuse.specs.declared.Judged.{Judged}
 
 -- ---- the queue's last operation
-highest-same : (n : ℕ) (f g : ℕ → Bool) → ((i : ℕ) → i < n → f i ≡ g i) → highest-below n f ≡ highest-below n g
-unfolding highest-below
-highest-same zero f g h = refl
-highest-same (suc n) f g h = rw (h n (omega arith), highest-same n f g (λ i l. h i (omega arith)))
-
 last-of : (p : Plan) (queue : List ℕ) (q : ℕ) → Queue-column p queue →
     last-shown queue q (count p) ≡ place-or no-operation (last-on p q)
 unfolding last-shown last-on Queue-column
@@ -70,27 +67,41 @@ last-verdict p q b forced =
     (λ m e. by-cases (is-free m) (λ t. rw (e, t, all-by-last p b forced q m e t)) (λ f. rw (e, f)))
 
 -- the last mark on a buffer, by its place in the columns
-module _ (mark operation : List ℕ) (b : ℕ) (f : ℕ → Bool) where
+module _ (mark operation : List ℕ) where
   shown : ℕ → Marked
   shown k = mark-of (getD mark k 0 % mark-codes) (getD operation k 0 % most-operations)
 
   abbrev first : (n : ℕ) → List Marked
   first n = shown-from mark operation n 0
 
-  one-more : (n : ℕ) → of-buffer b (first (suc n)) ≡ of-buffer b (first n) ++ of-buffer b (shown n ∷ [])
-  unfolding shown
-  one-more n =
-      ap (of-buffer b) (tabulate-last shown n 0 ∙ ap (λ (z : ℕ). first n ++ (shown z ∷ [])) (zero-add n))
-      ∙ of-append b (first n) (shown n ∷ [])
+  placed-at : Option ℕ → Option Placed
+  placed-at none = none
+  placed-at (some k) = some (place (shown k))
 
-  last-placed : (n : ℕ) →
-      by-last f (last-mark (of-buffer b (first n))) ≡ verdict-at f mark operation (last-marked mark b n)
-  unfolding tabulate-from of-buffer last-mark by-last verdict-at last-marked highest-below shown is-free
-  last-placed zero = refl
-  last-placed (suc n) =
-      by-cases (eqb (getD mark n 0 % mark-codes / 2) b)
-      (λ t. rw (one-more n, t, last-some (of-buffer b (first n)) (place (shown n))))
-      (λ e. rw (one-more n, e, append-nil (of-buffer b (first n))) (last-placed n))
+  module _ (b : ℕ) where
+    one-more : (n : ℕ) → of-buffer b (first (suc n)) ≡ of-buffer b (first n) ++ of-buffer b (shown n ∷ [])
+    unfolding shown
+    one-more n =
+        ap (of-buffer b) (tabulate-last shown n 0 ∙ ap (λ (z : ℕ). first n ++ (shown z ∷ [])) (zero-add n))
+        ∙ of-append b (first n) (shown n ∷ [])
+
+    last-placed : (n : ℕ) → last-mark (of-buffer b (first n)) ≡ placed-at (last-marked mark b n)
+    unfolding tabulate-from of-buffer last-mark last-marked highest-below shown placed-at
+    last-placed zero = refl
+    last-placed (suc n) =
+        by-cases (eqb (getD mark n 0 % mark-codes / 2) b)
+        (λ t. rw (one-more n, t, last-some (of-buffer b (first n)) (place (shown n))))
+        (λ e. rw (one-more n, e, append-nil (of-buffer b (first n))) (last-placed n))
+
+  verdict-placed : (f : ℕ → Bool) (o : Option ℕ) → by-last f (placed-at o) ≡ verdict-at f mark operation o
+  unfolding by-last placed-at verdict-at shown is-free
+  verdict-placed f none = refl
+  verdict-placed f (some k) = refl
+
+  operation-placed : (o : Option ℕ) (m : Placed) → placed-at o ≡ some m → marked-by operation o ≡ m .by
+  unfolding placed-at marked-by shown
+  operation-placed none m e = absurd (let z : _≡_ {A = ℕ} 0 1 = cc in omega arith)
+  operation-placed (some k) m e = let same : place (shown k) ≡ m = cc in ap (λ (z : Placed). z .by) same
 
 -- ---- the verdict by columns and rows
 at-same : (f g : ℕ → Bool) (mark operation : List ℕ) (b n : ℕ) →
@@ -115,16 +126,47 @@ module _ {p : Plan} {n marks : ℕ} {queue mark operation rows : List ℕ}
       ap (of-buffer b) (marks-shown p marks mark operation (shown .sound) (shown .few-buffers) (shown .marks-shown))
       ∙ of-plan p b
 
-pub verdict-right : {p : Plan} {n marks : ℕ} {queue mark operation rows : List ℕ} (q b : ℕ) {last : ℕ} {r : Verdict} →
-    b < length (p .sizes) → Verdict-given p n marks queue mark operation rows → last ≡ last-shown queue q n →
-    r ≡ verdict-at (seen queue rows last) mark operation (last-marked mark b marks) → r ≡ verdict p q b
-verdict-right {p} {n} {marks} {queue} {mark} {operation} {rows} q b known shown last-is e =
-    let sees : ℕ → Bool = seen-by p (last-on p q) in
-    let last-right = last-is ∙ ap (last-shown queue q) (sym (shown .many)) ∙ last-of p queue q (shown .queues-shown) in
-    e
-    ∙ ap (λ (z : ℕ). verdict-at (seen queue rows z) mark operation (last-marked mark b marks)) last-right
-    ∙ at-same (seen queue rows (place-or no-operation (last-on p q))) sees mark operation b marks
-    (λ k l. seen-right shown q (getD operation k 0 % most-operations) (by-inside shown k l))
-    ∙ sym (last-placed mark operation b sees marks)
-    ∙ ap (λ (z : List Placed). by-last sees (last-mark z)) (marks-are shown b)
-    ∙ last-verdict p q b (λ k l. shown .forced b k known l)
+  last-are : (b : ℕ) → last-mark (buffer-marks p b) ≡ placed-at mark operation (last-marked mark b marks)
+  last-are b = ap last-mark (sym (marks-are b)) ∙ last-placed mark operation b marks
+
+  verdict-is : (q b : ℕ) → b < length (p .sizes) → {r : Judged} →
+      r ≡ judged-by queue mark operation rows q b n marks → r .verdict ≡ verdict p q b
+  unfolding judged-by judged-at
+  verdict-is q b known e =
+      let sees : ℕ → Bool = seen-by p (last-on p q) in
+      let last-right = ap (last-shown queue q) (sym (shown .many)) ∙ last-of p queue q (shown .queues-shown) in
+      ap (λ (z : Judged). z .verdict) e
+      ∙ ap (λ (z : ℕ). verdict-at (seen queue rows z) mark operation (last-marked mark b marks)) last-right
+      ∙ at-same (seen queue rows (place-or no-operation (last-on p q))) sees mark operation b marks
+      (λ k l. seen-right shown q (getD operation k 0 % most-operations) (by-inside k l))
+      ∙ sym (verdict-placed mark operation sees (last-marked mark b marks))
+      ∙ ap (by-last sees) (sym (last-are b))
+      ∙ last-verdict p q b (λ k l. shown .forced b k known l)
+
+  -- the operation of the last mark
+  operation-is : (q b : ℕ) {r : Judged} → r ≡ judged-by queue mark operation rows q b n marks → (m : Placed) →
+      last-mark (buffer-marks p b) ≡ some m → r .operation ≡ m .by
+  unfolding judged-by judged-at
+  operation-is q b e m last =
+      ap (λ (z : Judged). z .operation) e ∙
+      operation-placed mark operation (last-marked mark b marks) m (sym (last-are b) ∙ last)
+
+  operation-inside : (q b : ℕ) {r : Judged} → r ≡ judged-by queue mark operation rows q b n marks → (m : Placed) →
+      last-mark (buffer-marks p b) ≡ some m → r .operation < count p
+  unfolding judged-by judged-at marked-by last-marked placed-at
+  operation-inside q b e m last =
+      by-option (last-marked mark b marks)
+      (λ nowhere. let z : _≡_ {A = Option Placed} none (some m) =
+      sym (ap (placed-at mark operation) nowhere) ∙ sym (last-are b) ∙ last in
+      absurd (let y : _≡_ {A = ℕ} 0 1 = cc in omega arith))
+      (λ k is. let inside = highest-some marks (λ k. eqb (getD mark k 0 % mark-codes / 2) b) k is .inside in
+      subst (λ (z : ℕ). z < count p)
+      (sym (ap (λ (z : Judged). z .operation) e ∙ ap (marked-by operation) is)) (by-inside k inside))
+
+  pub judged-right : (q b : ℕ) → b < length (p .sizes) → {r : Judged} →
+      r ≡ judged-by queue mark operation rows q b n marks → Judged-right p q b r
+  judged-right q b known e = record {
+    verdict = verdict-is q b known e;
+    operation = λ m last. let is = operation-is q b e m last in
+        (is, subst (λ (z : ℕ). z < count p) is (operation-inside q b e m last));
+  }

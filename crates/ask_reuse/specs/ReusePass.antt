@@ -11,13 +11,15 @@ use Rattle.base_lists.specs.Lists.{highest-below, place-or}
 use Rattle.plan_format.specs.Sizes.{most-buffers, most-operations, no-operation}
 use Rattle.plan_format.specs.Plan.{Plan, count, queues}
 use Rattle.plan_format.specs.Sound.{Sound}
-use Rattle.plan_order.specs.Holdings.{buffer-marks}
+use Rattle.plan_order.specs.Holdings.{Placed, buffer-marks}
+use Rattle.plan_order.specs.Reuse.{last-mark, verdict}
 use Rattle.plan_order.specs.Meaning.{Forced}
 use Rattle.plan_order.specs.declared.Verdict.{Verdict}
 use Rattle.plan_order.specs.declared.Verdict.the-variants.{Fresh, Reusable, Held, NotOrdered}
 use Rattle.check_columns.specs.Columns.{Queue-column, Mark-columns, Row-columns}
 use Rattle.check_columns.specs.Shown.{mark-codes, ordered}
 use Rattle.check_plan.specs.declared.Counted.{Counted}
+use Rattle.ask_reuse.specs.declared.Judged.{Judged}
 
 -- a sound plan without broken marks, shown by columns, and its rows
 pub record Verdict-given (p : Plan) (n marks : ℕ) (queue mark operation rows : List ℕ) : Type 0 where
@@ -56,3 +58,22 @@ unfoldable pub verdict-at : (seen : ℕ → Bool) → (mark operation : List ℕ
 verdict-at f mark operation none = Fresh
 verdict-at f mark operation (some k) =
     verdict-after (eqb (getD mark k 0 % mark-codes % 2) 1) (f (getD operation k 0 % most-operations))
+
+-- the operation of the last mark; 1,024 where there is none
+unfoldable pub marked-by : (operation : List ℕ) → (place : Option ℕ) → ℕ
+marked-by operation none = no-operation
+marked-by operation (some k) = getD operation k 0 % most-operations
+
+-- both, by the place of the last mark, and by the columns
+unfoldable pub judged-at : (seen : ℕ → Bool) → (mark operation : List ℕ) → (place : Option ℕ) → Judged
+judged-at f mark operation k =
+    record { verdict = verdict-at f mark operation k; operation = marked-by operation k }
+
+unfoldable pub judged-by : (queue mark operation rows : List ℕ) → (q b n marks : ℕ) → Judged
+judged-by queue mark operation rows q b n marks =
+    judged-at (seen queue rows (last-shown queue q n)) mark operation (last-marked mark b marks)
+
+-- of a plan that is shown: its verdict, and the operation of the last mark on the buffer, where there is one
+pub record Judged-right (p : Plan) (q b : ℕ) (r : Judged) : Type 0 where
+  pub verdict : r .verdict ≡ verdict p q b
+  pub operation : (m : Placed) → last-mark (buffer-marks p b) ≡ some m → (r .operation ≡ m .by) × (m .by < count p)

@@ -21,8 +21,14 @@ ghost use Rattle.plan_format.specs.Plan.{Plan};
 ghost use Rattle.plan_format.specs.Stored.{Tells};
 ghost use Rattle.plan_order.specs.Reuse.{verdict as verdict-of, number-of, question-refusal};
 ghost use Rattle.ask_reuse.specs.Reuse.{Reuse-asked};
-ghost use Rattle.ask_reuse.specs.ReusePass.{Question-given, Verdict-given, last-shown, last-marked};
-ghost use Rattle.ask_reuse.specs.ReusePass.{seen as is-seen, verdict-after, verdict-at};
+ghost use Rattle.ask_reuse.specs.ReusePass.{Question-given, last-shown, last-marked, seen as is-seen};
+ghost use Rattle.ask_reuse.specs.ReusePass.{verdict-after, judged-at, judged-by, Verdict-given, Judged-right};
+
+// The verdict on a buffer, and the operation of its last mark; 1,024 where it has none.
+pub struct Judged {
+    pub verdict: Verdict,
+    pub operation: usize,
+}
 
 // The reuse question: a verdict as the answer; or the refusal of the plan, of the queue or of the buffer.
 pub fn reuse_question(
@@ -92,12 +98,13 @@ fn answer(
     if c.buffers <= b {
         return plan_format::refused(13, b);
     }
-    let v = verdict(q, b, c.operations, marks, queue, mark, mop, table);
+    let j = judge(q, b, c.operations, marks, queue, mark, mop, table);
+    let v = j.verdict;
     plan_format::answered(number_of(v))
 }
 
 // The verdict on a buffer for a queue, by the columns of a plan of n operations and its rows in the table.
-fn verdict(
+pub fn judge(
     q: usize,
     b: usize,
     n: usize,
@@ -106,13 +113,15 @@ fn verdict(
     mark: &MarkColumn,
     mop: &MarkColumn,
     table: &[u32],
-) -> Verdict
-    ensures { λ r. ⌜ ((p : Plan) → b < length (p .sizes) →
+) -> Judged
+    ensures found { λ r. ⌜ r ≡ judged-by (now (queue .entry)) (now (mark .entry)) (now (mop .entry))
+        (now (table .entry)) q b n marks ⌝ }
+    ensures of_plans { λ r. ⌜ ((p : Plan) → b < length (p .sizes) →
         Verdict-given p n marks (now (queue .entry)) (now (mark .entry)) (now (mop .entry)) (now (table .entry)) →
-        r ≡ verdict-of p q b) ⌝ }
+        Judged-right p q b r) ⌝ }
 {
     let last = last_on(n, queue, q);
-    judged(b, last, marks, queue, mark, mop, table)
+    by_last_mark(b, last, marks, queue, mark, mop, table)
 }
 
 // The queue's last operation; 1,024 where it has none.
@@ -131,7 +140,7 @@ fn last_on(n: usize, queue: &[u16], q: usize) -> usize
 
 // R58: the verdict by the last mark on a buffer, looked for from the end: in a plan without broken marks a queue that
 // sees the last free sees every operation with a mark.
-fn judged(
+fn by_last_mark(
     b: usize,
     last: usize,
     marks: usize,
@@ -139,8 +148,8 @@ fn judged(
     mark: &[u16],
     mop: &[u16],
     table: &[u32],
-) -> Verdict
-    ensures { λ r. ⌜ r ≡ verdict-at (is-seen (now (queue .entry)) (now (table .entry)) last) (now (mark .entry))
+) -> Judged
+    ensures { λ r. ⌜ r ≡ judged-at (is-seen (now (queue .entry)) (now (table .entry)) last) (now (mark .entry))
         (now (mop .entry)) (last-marked (now (mark .entry)) b marks) ⌝ }
 {
     let mut back: usize = 0;
@@ -150,10 +159,17 @@ fn judged(
         let m = base_slices::get16(mark, k) % MARK_CODES;
         if m / 2 == b {
             let i = base_slices::get16(mop, k) % MOST_OPERATIONS;
-            return after(m % 2 == 1, seen(queue, table, last, i));
+            let v = after(m % 2 == 1, seen(queue, table, last, i));
+            return Judged {
+                verdict: v,
+                operation: i,
+            };
         }
     }
-    Verdict::Fresh
+    Judged {
+        verdict: Verdict::Fresh,
+        operation: NO_OPERATION,
+    }
 }
 
 // The verdict by the last mark: whether it frees, and whether its operation is seen.

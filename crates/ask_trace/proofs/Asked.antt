@@ -17,10 +17,9 @@ use Rattle.plan_format.specs.declared.Told.{Told}
 use Rattle.plan_format.proofs.Judged.{zero-not-given, other-given, not-given-zero}
 use Rattle.plan_format.proofs.Positions.{few-waits}
 use Rattle.plan_order.specs.Check.{Leaves, Outcome, outcome, table-left, list-left, Check-says}
-use Rattle.plan_order.specs.Precedence.{plan-signals}
+use Rattle.plan_order.specs.Precedence.{no-signal, plan-signals}
 use Rattle.plan_order.specs.Promise.{Checked}
 use Rattle.plan_order.proofs.Demand3.{demand-3}
-use Rattle.check_columns.specs.Columns.{no-signal}
 use Rattle.check_signals.proofs.Flat.{plan-inside}
 use Rattle.plan_trace.specs.declared.Traced.{Traced}
 use Rattle.plan_trace.specs.Trace.{trace-steps, followed}

@@ -8,12 +8,12 @@ use native.Mathlib.Omega.{arith}
 use lib.Dec.{ltb, leb, eqb}
 use lib.ListN.{length, getD, take, length-append, List·getD-eq-default}
 use lib.Seq.{ext-getD, take-at, take-length}
-use borrow.Author.Tests.{ltb-true, ltb-false, leb-false, lt-ltb, not-false}
+use borrow.Author.Tests.{leb-false, lt-ltb, not-false}
 use Rattle.base_lists.specs.Lists.{member, tally, lowest-below}
 use Rattle.base_lists.proofs.Elements.{replicate-at}
-use Rattle.base_lists.proofs.Tests.{by-cases, by-option, clash}
+use Rattle.base_lists.proofs.Tests.{by-cases}
 use Rattle.base_lists.proofs.Places.{mem-at}
-use Rattle.base_lists.proofs.Searches.{lowest-some, lowest-none, lowest-is}
+use Rattle.base_lists.proofs.Searches.{lowest-cut}
 use Rattle.base_lists.proofs.Tallies.{tally-ends}
 use Rattle.order.proofs.Runs.{runs-nil}
 use Rattle.plan_format.specs.Sizes.{most-queues, most-operations, most-waits, no-operation}
@@ -67,22 +67,6 @@ pub record Trace-given (p : Plan) (n : ℕ) (queue source rows : List ℕ) : Typ
   pub rows-shown : Row-columns p (λ j. j < count p) rows
   pub run : List ℕ
   pub full : is-full p run ≡ true
-
--- ---- the lowest below a bound, where nothing passes from a lower bound on
-lowest-cut : (m n : ℕ) (f g : ℕ → Bool) → m ≤ n → ((k : ℕ) → k < m → f k ≡ g k) →
-    ((k : ℕ) → m ≤ k → k < n → f k ≡ false) → lowest-below n f ≡ lowest-below m g
-lowest-cut m n f g l same past =
-    by-option (lowest-below n f)
-    (λ e. e ∙ sym (by-option (lowest-below m g) (λ z. z) (λ i s. let w = lowest-some m g i s in
-    clash (g i) (w .passes) (sym (same i (w .inside)) ∙ lowest-none n f e i (omega (arith, w .inside))))))
-    (λ i e. let w = lowest-some n f i e in
-    let low : i < m =
-    by-cases (ltb i m) (λ t. ltb-true i m t) (λ h. clash (f i) (w .passes) (past i (ltb-false i m h) (w .inside))) in
-    e ∙ sym (lowest-is m g i (record {
-      inside = low;
-      passes = sym (same i low) ∙ w .passes;
-      lower = λ k b. sym (same k (omega arith)) ∙ w .lower k b;
-    })))
 
 module _ (p : Plan) (n : ℕ) (queue source rows : List ℕ) (shown : Trace-given p n queue source rows) where
   good : (signals-refusal 0 p [] (p .operations) .number ≡ 0) × (waits-refusal 0 p (p .operations) .number ≡ 0)

@@ -16,9 +16,9 @@ use Rattle.base_lists.proofs.Fronts.{front-none, front-all, front-more, front-l
 use Rattle.base_lists.proofs.Tables.{tabulate-length, tabulate-at}
 use Rattle.plan_format.specs.Sizes.{most-queues, most-semaphores, state-size}
 use Rattle.plan_format.specs.Plan.{Plan, count}
-use Rattle.plan_order.specs.Precedence.{Signal, plan-signals}
+use Rattle.plan_order.specs.Precedence.{Signal, no-signal, plan-signals}
 use Rattle.plan_order.specs.Runs.{reached, is-run}
-use Rattle.check_columns.specs.Columns.{no-signal, Signal-columns}
+use Rattle.check_columns.specs.Columns.{Signal-columns}
 use Rattle.plan_trace.specs.State.{queue-counts, state-of}
 use Rattle.plan_trace.proofs.StateMeaning.{counts-at, counts-long, state-long, state-count, state-highest}
 use Rattle.plan_trace.proofs.Tops.{top, top-reached}

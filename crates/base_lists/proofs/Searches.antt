@@ -1,5 +1,5 @@
 -- Every number below a bound, every element of a list, the lowest and the highest that pass a test. Assumes nothing.
-use mathlib.Core.Path.{_≡_, refl, ap, _∙_, subst}
+use mathlib.Core.Path.{_≡_, refl, sym, ap, _∙_, subst}
 use mathlib.Core.Bool.{Bool, true, false, true≢false}
 use mathlib.Core.List.{List, [], _∷_, List·Memᴰ, List·Memᴰ·head, List·Memᴰ·tail, List·Memᴰ·not-nil}
 use mathlib.Core.List.{List·Memᴰ·cases-cons}
@@ -7,8 +7,8 @@ use mathlib.Core.Option.{Option, none, some, orElse}
 use Prim.Native.Nat.{ℕ, zero, suc, _+_, _≤_, _<_, zero-le}
 use native.Mathlib.Nat.{not-suc-le-zero, le-refl}
 use native.Mathlib.Omega.{arith}
-use lib.Dec.{eqb}
-use borrow.Author.Tests.{eqb-true, eqb-false}
+use lib.Dec.{ltb, eqb}
+use borrow.Author.Tests.{ltb-true, ltb-false, eqb-true, eqb-false}
 use Rattle.base_lists.specs.Lists.{all, all-below, first-from, when-true, lowest-below, highest-below, is-some}
 use Rattle.base_lists.proofs.Tests.{by-cases, by-option, clash, is-false, and-left, and-right, and-both, either}
 
@@ -133,6 +133,25 @@ lowest-is n f i w =
     when-not : (m : ℕ) → f m ≡ false → _≡_ {A = Option ℕ} (when-true (f m) m) none
     when-not m e = unfold when-true in (rw e)
 
+-- two tests that agree below a lower bound, from which on nothing passes
+pub lowest-cut : (m n : ℕ) (f g : ℕ → Bool) → m ≤ n → ((k : ℕ) → k < m → f k ≡ g k) →
+    ((k : ℕ) → m ≤ k → k < n → f k ≡ false) → lowest-below n f ≡ lowest-below m g
+lowest-cut m n f g l same past =
+    by-option (lowest-below n f)
+    (λ e. e ∙ sym (by-option (lowest-below m g) (λ z. z) (λ i s. let w = lowest-some m g i s in
+    clash (g i) (w .passes) (sym (same i (w .inside)) ∙ lowest-none n f e i (omega (arith, w .inside))))))
+    (λ i e. let w = lowest-some n f i e in
+    let low : i < m =
+    by-cases (ltb i m) (λ t. ltb-true i m t) (λ h. clash (f i) (w .passes) (past i (ltb-false i m h) (w .inside))) in
+    e ∙ sym (lowest-is m g i (record {
+      inside = low;
+      passes = sym (same i low) ∙ w .passes;
+      lower = λ k b. sym (same k (omega arith)) ∙ w .lower k b;
+    })))
+
+pub lowest-same : (n : ℕ) (f g : ℕ → Bool) → ((k : ℕ) → k < n → f k ≡ g k) → lowest-below n f ≡ lowest-below n g
+lowest-same n f g same = lowest-cut n n f g (le-refl n) same (λ k a b. absurd (omega arith))
+
 -- ---- the highest below a bound
 pub record Highest (n : ℕ) (f : ℕ → Bool) (i : ℕ) : Type 0 where
   pub inside : i < n
@@ -161,6 +180,11 @@ highest-none (suc n) f e k l =
     by-cases (f n) (λ t. absurd (let same : some n ≡ none = rw t at e in let z : _≡_ {A = ℕ} 0 1 = cc in omega arith))
     (λ t. by-cases (eqb k n) (λ q. ap f (eqb-true k n q) ∙ t)
     (λ q. highest-none n f (rw t at e) k (omega (arith, eqb-false k n q))))
+
+pub highest-same : (n : ℕ) (f g : ℕ → Bool) → ((i : ℕ) → i < n → f i ≡ g i) → highest-below n f ≡ highest-below n g
+unfolding highest-below
+highest-same zero f g h = refl
+highest-same (suc n) f g h = rw (h n (omega arith), highest-same n f g (λ i l. h i (omega arith)))
 
 -- ---- some or none
 pub some-is {ℓ} : {A : Type ℓ} (o : Option A) (a : A) → o ≡ some a → is-some o ≡ true

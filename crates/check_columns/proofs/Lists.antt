@@ -13,8 +13,8 @@ use Rattle.base_lists.proofs.Stores.{map-append, tabulate-map}
 use Rattle.base_lists.proofs.Tables.{tabulate-length, tabulate-at}
 use Rattle.base_lists.proofs.Tests.{by-cases}
 use Rattle.plan_format.specs.Plan.{Point, Mark, Operation, empty-operation, operation-long, operations-in}
-use Rattle.plan_order.specs.Precedence.{Signal, signals-of, signals-from}
-use Rattle.check_columns.specs.Columns.{no-point, no-signal, Marked, no-mark, marked-of, marked-from}
+use Rattle.plan_order.specs.Precedence.{Signal, no-signal, signals-of, signals-from}
+use Rattle.check_columns.specs.Columns.{no-point, Marked, no-mark, marked-of, marked-from}
 use Rattle.check_columns.specs.Filling.{three, Part, wait-count, signal-count, mark-count, signals-at, marks-at}
 use Rattle.check_columns.specs.Filling.{first-at, second-at, next-at, queue-part, wait-semaphore-part}
 use Rattle.check_columns.specs.Filling.{wait-value-part, signal-semaphore-part, signal-value-part}

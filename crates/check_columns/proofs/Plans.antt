@@ -8,10 +8,9 @@ use lib.Seq.{sets}
 use Rattle.base_lists.proofs.Stores.{sets-at}
 use Rattle.base_lists.proofs.Tables.{tabulate-length, tabulate-at}
 use Rattle.plan_format.specs.Sizes.{wait-places, signal-places, mark-places}
-use Rattle.plan_format.specs.Form.{first-form}
 use Rattle.plan_format.specs.Plan.{Point, Operation, Plan, empty-operation, count, op, operations-in}
-use Rattle.plan_order.specs.Precedence.{Signal, plan-signals}
-use Rattle.check_columns.specs.Columns.{Columns, no-point, no-signal, Marked, no-mark, plan-marks, Queue-column}
+use Rattle.plan_order.specs.Precedence.{Signal, no-signal, plan-signals}
+use Rattle.check_columns.specs.Columns.{Columns, no-point, Marked, no-mark, plan-marks, Queue-column}
 use Rattle.check_columns.specs.Columns.{wait-at, Wait-columns, Signal-columns, Mark-columns}
 use Rattle.plan_format.specs.Limits.{Limits}
 use Rattle.plan_format.proofs.Positions.{in-range, few-waits as few-waits-of, few-signals as few-signals-of}

@@ -7,7 +7,7 @@ use Prim.Native.Nat.{ℕ, suc, _+_, _*_, _≤_, _<_}
 use lib.ListN.{length, getD}
 use Rattle.plan_format.specs.Sizes.{most-waits, signal-places, mark-places, row-width, no-operation}
 use Rattle.plan_format.specs.Plan.{Point, Mark, Operation, Plan, count, op, queues}
-use Rattle.plan_order.specs.Precedence.{Signal, plan-signals, Resolution, at-once, on, never, resolve}
+use Rattle.plan_order.specs.Precedence.{no-signal, plan-signals, Resolution, at-once, on, never, resolve}
 use Rattle.plan_order.specs.Rows.{row}
 
 -- the columns of operations, side by side: the queue of each; the semaphore and the value of each wait, three places to
@@ -36,9 +36,6 @@ columns queue wsem wval ssem sval sop mark mop = record {
 
 abbrev pub no-point : Point
 no-point = record { semaphore = 0; value = 0 }
-
-abbrev pub no-signal : Signal
-no-signal = record { operation = 0; position = 0; semaphore = 0; value = 0 }
 
 -- the numbers before the operations: the count of queues and the axis of each, the count of semaphores and the owner of
 -- each, the count of buffers and the size of each, and the count of operations

@@ -18,6 +18,12 @@ enum Given {
     Wrong,
 }
 
+// Two of them.
+enum Pair {
+    Numbers(u32, u32),
+    Wrong,
+}
+
 pub fn read_words() -> Asked {
     if os::arg_count() < 2 {
         return Asked::Plan(Question::Check);
@@ -34,6 +40,9 @@ pub fn read_words() -> Asked {
 fn command(word: &[u8]) -> Asked {
     if same(word, b"reuse") {
         return reuse();
+    }
+    if same(word, b"suggest") {
+        return suggest();
     }
     if same(word, b"frontier") {
         return frontier();
@@ -58,7 +67,7 @@ fn plain(word: &[u8]) -> Asked {
     usage::complain(
         b"no command ",
         word,
-        b"; right: none, reuse QUEUE BUFFER, frontier OPERATION CAPACITY, trace FILE, read, write or help",
+        b"; right: none, reuse or suggest QUEUE BUFFER, frontier OPERATION CAPACITY, trace FILE, read, write or help",
     );
     Asked::Nothing
 }
@@ -72,18 +81,24 @@ fn alone(asked: Asked, word: &[u8]) -> Asked {
     asked
 }
 
-// Whether a command has its two numbers.
-fn two(right: &[u8]) -> bool {
+// The two numbers of a command, each under its name.
+fn two(right: &[u8], first: &[u8], second: &[u8]) -> Pair {
     let many = os::arg_count();
     if many < 4 {
         usage::complain(b"too few words; right: ", right, b", two decimal numbers");
-        return false;
+        return Pair::Wrong;
     }
     if many > 4 {
         usage::complain(b"too many words; right: ", right, b", two decimal numbers");
-        return false;
+        return Pair::Wrong;
     }
-    true
+    let Given::Number(a) = number(2, first) else {
+        return Pair::Wrong;
+    };
+    let Given::Number(b) = number(3, second) else {
+        return Pair::Wrong;
+    };
+    Pair::Numbers(a, b)
 }
 
 // The file's name is read where the file is opened.
@@ -109,26 +124,25 @@ fn trace() -> Asked {
 }
 
 fn reuse() -> Asked {
-    if !two(b"reuse QUEUE BUFFER") {
-        return Asked::Nothing;
-    }
-    let Given::Number(queue) = number(2, b"QUEUE ") else {
-        return Asked::Nothing;
-    };
-    let Given::Number(buffer) = number(3, b"BUFFER ") else {
+    let Pair::Numbers(queue, buffer) = two(b"reuse QUEUE BUFFER", b"QUEUE ", b"BUFFER ") else {
         return Asked::Nothing;
     };
     Asked::Plan(Question::Reuse(queue, buffer))
 }
 
-fn frontier() -> Asked {
-    if !two(b"frontier OPERATION CAPACITY") {
-        return Asked::Nothing;
-    }
-    let Given::Number(operation) = number(2, b"OPERATION ") else {
+fn suggest() -> Asked {
+    let Pair::Numbers(queue, buffer) = two(b"suggest QUEUE BUFFER", b"QUEUE ", b"BUFFER ") else {
         return Asked::Nothing;
     };
-    let Given::Number(capacity) = number(3, b"CAPACITY ") else {
+    Asked::Plan(Question::Suggest(queue, buffer))
+}
+
+fn frontier() -> Asked {
+    let Pair::Numbers(operation, capacity) = two(
+        b"frontier OPERATION CAPACITY",
+        b"OPERATION ",
+        b"CAPACITY ",
+    ) else {
         return Asked::Nothing;
     };
     Asked::Plan(Question::Frontier(operation, capacity))

@@ -12,6 +12,7 @@ pub fn help(out: &mut [u8]) -> usize {
 
   cundvrest < PLAN                              check the plan: passed with its run and rows, or refused
   cundvrest reuse QUEUE BUFFER < PLAN           may this queue fill the buffer again once the plan has run?
+  cundvrest suggest QUEUE BUFFER < PLAN         the wait to add to the plan so that it may
   cundvrest frontier OPERATION CAPACITY < PLAN  the frontier sent out for an operation
   cundvrest trace FILE < PLAN                   does the recorded trace in FILE follow the plan, and how far did it come?
   cundvrest read < PLAN                         the numbers of the plan, one for each stored field
@@ -20,17 +21,16 @@ pub fn help(out: &mut [u8]) -> usize {
 
 It prints one of these, numbers in decimal; N is the refusal and P its place.
   passed 0, then size QUEUES SEMAPHORES BUFFERS OPERATIONS, run, ready, and a row for each operation
-  verdict N WORD        fresh, reusable, held or not-ordered
-  frontier whole|tainted AXIS:EPOCH ..
+  verdict N fresh|reusable|held|not-ordered     wait none-needed|SEMAPHORE VALUE|none-would-help
   trace full, unfinished STEPS or departs STEP RULE OPERATION, then queues and semaphores: how far each had come
-  refused N P
-     1 cut short       2 count over its limit     3 bytes follow          4 not in its list     5 axis twice
-     6 not the owner   7 signal not higher        8 wait for no signal   10 stuck              11 broken mark
-    12 no such queue  13 no such buffer          15 capacity not 1..16   21 no such operation  22 bad trace
+  frontier whole|tainted AXIS:EPOCH ..          refused N P
+     1 cut short       2 count over its limit   3 bytes follow        4 not in its list      5 axis twice
+     6 not the owner   7 signal not higher      8 wait for no signal 10 stuck               11 broken mark  22 bad trace
+    12 no such queue  13 no such buffer        21 no such operation  15 capacity not 1..16  19 no signal frees it
 
 Over files: check, explain, draw, text, store, rows (cundvrest check --help). Exit status of the launcher ./cundvrest:
-  0 yes, go on    passed; fresh or reusable; a frontier, numbers or a plan; a full trace
-  1 no            refused; held or not-ordered; a trace that is unfinished or departs
+  0 yes, go on    passed; fresh or reusable; no wait needed, or one to add; a frontier, numbers, a plan; a full trace
+  1 no            refused; held or not-ordered; no wait would help; a trace that is unfinished or departs
   2 not judged    wrong words, or input or output that fails: a line on standard error says what
 ",
     )

@@ -12,7 +12,7 @@ use lib.Seq.{take-suc}
 use borrow.Author.Tests.{ltb-true, ltb-false, leb-true, leb-false, lt-ltb, eqb-true, eqb-false, eq-eqb}
 use Rattle.base_lists.proofs.Tests.{by-cases, clash, and-right, and-both, or-cases, or-left, or-right, either}
 use Rattle.plan_format.specs.Refusal.{Refusal, refusal, none-given}
-use Rattle.plan_format.specs.Plan.{Point, Operation, Plan, empty-operation, op}
+use Rattle.plan_format.specs.Plan.{Point, Operation, Plan, empty-operation, count, op}
 use Rattle.plan_format.specs.Sound.{highest-in, highest, is-queue, owns, signals-number, signals-refusal}
 use Rattle.plan_format.specs.Sound.{too-high, any-too-high, waits-refusal}
 use Rattle.plan_format.specs.Meaning.{signal-at, wait-at, Is-signal, Owned, Rising, Good-before, Bad-owner}
@@ -34,8 +34,8 @@ module _ (p : Plan) where
   Good i k = Owned p i k × Rising p i k
 
   -- past the last operation there is no signal
-  signal-inside : (i k : ℕ) → Is-signal p i k → i < length (p .operations)
-  unfolding op
+  pub signal-inside : (i k : ℕ) → Is-signal p i k → i < count p
+  unfolding count op
   signal-inside i k h =
       by-cases (ltb i (length (p .operations))) (λ t. ltb-true i (length (p .operations)) t)
       (λ f. absurd (not-suc-le-zero (subst (λ (o : Operation). k < length (o .signals))
@@ -160,7 +160,7 @@ module _ (p : Plan) where
   signals-say : (i : ℕ) (os : List Operation) → drop i (p .operations) ≡ os →
       ((j l : ℕ) → j < i → Is-signal p j l → Good j l) →
       Signals-say (signals-refusal i p (take i (p .operations)) os)
-  unfolding signals-refusal op
+  unfolding signals-refusal count op
   signals-say i [] e good =
       signals-good refl (λ j l g. good j l (omega (arith, ends (p .operations) i e, signal-inside j l g)) g)
   signals-say i (o ∷ os) e good =

@@ -43,6 +43,10 @@ sent-numbers = 21 ∷ 15 ∷ []
 abbrev pub trace-numbers : List ℕ
 trace-numbers = room-numbers ++ (22 ∷ [])
 
+-- R90, of the question for a wait: those of the reuse question, and no signal that frees
+abbrev pub suggest-numbers : List ℕ
+suggest-numbers = reuse-numbers ++ (19 ∷ [])
+
 -- ---- entries: what each can give besides 0; R55: there are no other reasons
 abbrev pub reader-gives : List ℕ
 reader-gives = reading-numbers ++ room-numbers
@@ -69,3 +73,6 @@ sent-gives = check-gives ++ sent-numbers
 
 abbrev pub trace-gives : List ℕ
 trace-gives = check-gives ++ trace-numbers
+
+abbrev pub suggest-gives : List ℕ
+suggest-gives = check-gives ++ suggest-numbers

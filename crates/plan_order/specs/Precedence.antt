@@ -16,6 +16,10 @@ pub record Signal : Type 0 where
   pub semaphore : ℕ
   pub value : ℕ
 
+-- what is read past the last signal of a list
+abbrev pub no-signal : Signal
+no-signal = record { operation = 0; position = 0; semaphore = 0; value = 0 }
+
 unfoldable pub signals-of : (i k : ℕ) → List Point → List Signal
 signals-of i k [] = []
 signals-of i k (x ∷ xs) =

@@ -11,6 +11,8 @@ use Rattle.plan_format.proofs.Judged.{not-given-zero}
 use Rattle.plan_format.proofs.Prefix.{bytes-alike, plan-alike, numbers-alike, taken-alike}
 use Rattle.plan_order.proofs.FirstBytes.{judged-alike, check-says-alike, reuse-says-alike}
 use Rattle.plan_order.proofs.Checks.{checked}
+use Rattle.plan_suggest.proofs.Promises.{suggest-right}
+use Rattle.plan_suggest.proofs.SaysAlike.{suggest-says-alike}
 use Rattle.check_plan.specs.Counting.{Sizes-told}
 use Rattle.check_plan.specs.declared.Counted.{Counted}
 use Rattle.ask_reuse.proofs.ReuseAsked.{asked}
@@ -20,7 +22,7 @@ use Rattle.ask_frontier.proofs.SentQuestion.{frontier-right}
 use Rattle.print_stored.specs.Texts.{read-text, write-text}
 use Rattle.print_input.specs.Inputs.{Answered, Same-bytes, Same-numbers}
 use Rattle.print_input.specs.declared.Question.{Question}
-use Rattle.print_input.specs.declared.Question.the-variants.{Check, Reuse, Frontier, Read}
+use Rattle.print_input.specs.declared.Question.the-variants.{Check, Reuse, Suggest, Frontier, Read}
 
 module _ (bs cs : List ℕ) (same : Same-bytes bs cs) where
   pub sizes-alike : (c : Counted) → Sizes-told bs c → Sizes-told cs c
@@ -70,6 +72,14 @@ module _ (bs cs : List ℕ) (same : Same-bytes bs cs) where
     list = w .list;
     asked = asked cs q b (w .told) _ (w .table) _ (w .list)
         (reuse-says-alike bs cs same q b (w .told) _ (w .table) _ (w .list) (w .asked .says));
+    text = w .text;
+  }
+  answered-alike (Suggest q b) o x e w = record {
+    suggested = w .suggested;
+    table = w .table;
+    list = w .list;
+    right = suggest-right cs q b _ _ _ (w .table) _ (w .list)
+        (suggest-says-alike bs cs same q b _ _ _ (w .table) _ (w .list) (w .right .says));
     text = w .text;
   }
   answered-alike (Frontier j c) o x e w = record {

@@ -12,13 +12,15 @@ use Rattle.base_text.specs.Text.{Puts}
 use Rattle.print_check.specs.CheckText.{Check-printed}
 use Rattle.print_stored.specs.Texts.{read-text, write-text}
 use Rattle.print_ask.specs.Questions.{Reuse-printed, Frontier-printed}
+use Rattle.print_suggest.specs.Printed.{Suggest-printed}
 use Rattle.print_input.specs.declared.Question.{Question}
-use Rattle.print_input.specs.declared.Question.the-variants.{Check, Reuse, Frontier, Read}
+use Rattle.print_input.specs.declared.Question.the-variants.{Check, Reuse, Suggest, Frontier, Read}
 
 -- the text of the answer to a question on a plan
 unfoldable pub Answered : Question → (bytes room room-now : List ℕ) → (end : ℕ) → Type 0
 Answered Check bs o x e = Check-printed bs o x e
 Answered (Reuse q b) bs o x e = Reuse-printed bs q b o x e
+Answered (Suggest q b) bs o x e = Suggest-printed bs q b o x e
 Answered (Frontier j c) bs o x e = Frontier-printed bs j c o x e
 Answered Read bs o x e = Puts (read-text bs) o 0 x e
 

@@ -7,6 +7,7 @@ ghost use Rattle.print_input.specs.Inputs.{Answered, Answered-whole, Wri
 pub enum Question {
     Check,
     Reuse(u32, u32),
+    Suggest(u32, u32),
     Frontier(u32, u32),
     Read,
 }
@@ -18,6 +19,7 @@ pub fn answered(question: Question, plan: &[u8], out: &mut [u8]) -> usize
     match question {
         Question::Check => print_check::check(plan, out),
         Question::Reuse(queue, buffer) => print_ask::reuse(plan, queue, buffer, out),
+        Question::Suggest(queue, buffer) => print_suggest::suggest(plan, queue, buffer, out),
         Question::Frontier(operation, capacity) => print_ask::frontier(
             plan,
             operation,

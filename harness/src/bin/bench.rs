@@ -1,12 +1,12 @@
 //! The benchmark: the C library's check beside the reference's, on each family
-//! of plans and each size, the trace question beside the check, then the other
-//! functions. Prints a table, and draws time over size as an SVG if a path is
-//! given. With `--before LIBRARY` it times the linked library beside a shared
-//! library built earlier instead.
+//! of plans and each size, the trace question beside the check, the question for
+//! a wait beside the reuse question, then the other functions. Prints a table,
+//! and draws time over size as an SVG if a path is given. With `--before LIBRARY`
+//! it times the linked library beside a shared library built earlier instead.
 
 use harness::generate::{self, Family, Rng};
 use harness::reference::Reference;
-use harness::side::{Found, Raw, Side, Told, EMPTY, STATE};
+use harness::side::{Found, Raw, Side, Told, Wait, EMPTY, STATE};
 use harness::traces;
 use std::fmt::Write as _;
 use std::hint::black_box;
@@ -23,6 +23,9 @@ const PAIRS: usize = 101;
 const BATCH: Duration = Duration::from_micros(400);
 /// What a trace may take of the time of its plan's check.
 const TRACE_LIMIT: f64 = 1.15;
+
+/// What the question for a wait may take of the time of the reuse question.
+const SUGGEST_LIMIT: f64 = 1.1;
 
 /// The C library if this build links it, then the reference.
 struct Sides {
@@ -286,6 +289,119 @@ fn measure_long_trace(sides: &Sides) -> Measured {
     });
     let plans: Vec<_> = plans.collect();
     measure_traces_of(sides, &plans, 1024)
+}
+
+/// The question for a wait beside the reuse question on the same queue and
+/// buffer by the same side, and for small plans beside the reference, which
+/// checks a longer plan for each signal.
+fn measure_suggestions(sides: &Sides) {
+    let side = sides.library.as_deref().unwrap_or(&Reference);
+    println!(
+        "\nsuggest and reuse of the same queue and buffer by the {}, microseconds for one call",
+        side.name()
+    );
+    println!("signals: those passed over before one frees the buffer");
+    println!(
+        "{:<30}{:>6}{:>8}{:>12}{:>12}{:>8}{:>12}{:>8}",
+        "family", "size", "signals", "suggest", "reuse", "ratio", "reference", "ratio"
+    );
+    let sizes = match sides.library {
+        Some(_) => &[64, 256, 1024][..],
+        None => &[64],
+    };
+    let mut largest = 0.0_f64;
+    for family in Family::ALL {
+        for &size in sizes {
+            let asked: Vec<_> = (0..PLANS)
+                .filter_map(|seed| asked(side, family, size, seed))
+                .collect();
+            if !asked.is_empty() {
+                largest = largest.max(measure_suggestion(sides, side, family, size, &asked));
+            }
+        }
+    }
+    if sides.library.is_some() {
+        println!("largest ratio of suggest to reuse: {largest:.2} (limit {SUGGEST_LIMIT})");
+    }
+}
+
+/// A plan with a queue and a buffer whose verdict is 3, and how many signals of
+/// the plan are passed over before one frees the buffer.
+struct Asked {
+    plan: Vec<u8>,
+    queue: u32,
+    buffer: u32,
+    passed_over: usize,
+}
+
+/// The buffer that is freed last of all, so that most signals are passed over.
+/// None if each queue is ordered after each free.
+fn asked(side: &dyn Side, family: Family, size: usize, seed: u64) -> Option<Asked> {
+    let tree = family.plan(&mut Rng::new(seed), size);
+    let plan = tree.bytes();
+    let (mut table, mut list) = (vec![0; 16 * size], vec![0; 2 * size]);
+    let mut not_ordered = |queue: u32, buffer: u32| {
+        side.reuse(&plan, queue, buffer, &mut table, &mut list) == Told::answered(3)
+    };
+    let marks = tree.operations.iter().flat_map(|o| &o.marks).rev();
+    let frees = marks.filter(|mark| mark.free).map(|mark| mark.buffer);
+    let (queue, buffer) = frees.map(u32::from).find_map(|buffer| {
+        let mut queues = 0..tree.axes.len() as u32;
+        let queue = queues.find(|&queue| not_ordered(queue, buffer))?;
+        Some((queue, buffer))
+    })?;
+    let mut wait = Wait::default();
+    side.suggest(&plan, queue, buffer, &mut table, &mut list, &mut wait);
+    let signals = || tree.operations.iter().flat_map(|o| &o.signals);
+    let freeing = signals().position(|signal| wait == [signal.semaphore.into(), signal.value]);
+    let passed_over = freeing.unwrap_or_else(|| signals().count());
+    Some(Asked {
+        plan,
+        queue,
+        buffer,
+        passed_over,
+    })
+}
+
+fn measure_suggestion(
+    sides: &Sides,
+    side: &dyn Side,
+    family: Family,
+    size: usize,
+    asked: &[Asked],
+) -> f64 {
+    let (mut table, mut list) = (vec![0; 16 * size], vec![0; 2 * size]);
+    let mut wait = Wait::default();
+    let beside = in_turn(|turn| {
+        for asked in asked {
+            let (plan, queue, buffer) = (black_box(&asked.plan), asked.queue, asked.buffer);
+            match turn {
+                Turn::First => side.suggest(plan, queue, buffer, &mut table, &mut list, &mut wait),
+                Turn::Second => side.reuse(plan, queue, buffer, &mut table, &mut list),
+            };
+        }
+    });
+    // The reference takes too long for plans that are not small.
+    let measured = (size == 64).then(|| {
+        sides.measure(|side| {
+            for asked in asked {
+                let (plan, queue, buffer) = (black_box(&asked.plan), asked.queue, asked.buffer);
+                side.suggest(plan, queue, buffer, &mut table, &mut list, &mut wait);
+            }
+        })
+    });
+    let microseconds = |time: f64| time / asked.len() as f64 / 1e3;
+    let passed_over = asked.iter().map(|asked| asked.passed_over).sum::<usize>() / asked.len();
+    println!(
+        "{:<30}{size:>6}{passed_over:>8}{:>12.2}{:>12.2}{:>8.2}{:>12}{:>8}",
+        family.name(),
+        microseconds(beside.first),
+        microseconds(beside.second),
+        beside.ratio,
+        optional(measured.as_ref().map(|both| microseconds(both.reference))),
+        optional(measured.and_then(|both| both.ratio)),
+    );
+    beside.ratio
 }
 
 fn measure_others(sides: &Sides) {
@@ -691,6 +807,7 @@ fn main() -> ExitCode {
     let series = measure_families(&sides);
     print_growth(&series);
     measure_traces(&sides);
+    measure_suggestions(&sides);
     measure_others(&sides);
     if let Some(path) = path {
         if let Err(error) = std::fs::write(&path, plot(&series)) {

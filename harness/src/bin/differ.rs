@@ -5,9 +5,9 @@
 use harness::brute::{self, EveryRun, Judgement};
 use harness::faults::{self, Fault, Faulty};
 use harness::generate::{self, Family, Rng};
-use harness::plan::Plan;
+use harness::plan::{Operation, Plan, Point};
 use harness::reference::{self, Reference};
-use harness::side::{Found, Raw, Side, Told, LENGTH, STATE};
+use harness::side::{Found, Raw, Side, Told, Wait, LENGTH, STATE};
 use harness::traces::{self, MOST_STEPS};
 use std::process::ExitCode;
 use std::sync::atomic::{AtomicU64, Ordering};
@@ -17,9 +17,12 @@ const USAGE: &str = "\
 differ [--seed N] [--count N] [--fault N] [--trace]
   --seed N    the seed of the first case; the case after it has seed N + 1
   --count N   stop after this many plans (200000)
-  --fault N   compare with the reference under seeded fault 1 to 13 instead of
+  --fault N   compare with the reference under seeded fault 1 to 21 instead of
               with the C library
   --trace     print each case's seed before it is judged";
+
+/// The most operations of a plan.
+const MOST_OPERATIONS: usize = 1024;
 
 /// With fewer plans than this, not every number need occur.
 const ENOUGH_PLANS: u64 = 20_000;
@@ -33,6 +36,7 @@ enum Function {
     Write,
     Check,
     Reuse,
+    Suggest,
     Frontier,
     Trace,
     Merge,
@@ -41,11 +45,15 @@ enum Function {
 }
 
 /// Names, and the numbers that each function must have given.
-const FUNCTIONS: [(&str, &[usize]); 9] = [
+const FUNCTIONS: [(&str, &[usize]); 10] = [
     ("read", &[0, 1, 2, 3, 4, 5, 9]),
     ("write", &[0, 1, 2, 3, 4, 5, 9]),
     ("check", &[0, 1, 2, 3, 4, 5, 6, 7, 8, 9, 10, 11]),
     ("reuse", &[0, 1, 2, 3, 4, 5, 6, 7, 8, 9, 10, 11, 12, 13]),
+    (
+        "suggest",
+        &[0, 1, 2, 3, 4, 5, 6, 7, 8, 9, 10, 11, 12, 13, 19],
+    ),
     ("frontier", &[0, 1, 2, 3, 4, 5, 6, 7, 8, 9, 10, 11, 15, 21]),
     ("trace", &[0, 1, 2, 3, 4, 5, 6, 7, 8, 9, 10, 11, 22]),
     ("merge", &[0, 14, 15]),
@@ -57,9 +65,21 @@ const FUNCTIONS: [(&str, &[usize]); 9] = [
 struct Tally {
     plans: u64,
     by_brute_force: u64,
+    waits_by_brute_force: u64,
     traces_by_brute_force: u64,
     numbers: [[u64; NUMBERS]; FUNCTIONS.len()],
     verdicts: [u64; 4],
+    /// Answers of the question for a wait.
+    advice: [u64; 3],
+    /// Waits that free, by the place of the signal among all of the plan: the
+    /// first, the second, the third, a later one.
+    freeing: [u64; 4],
+    /// Waits for the first of two signals in one operation.
+    first_of_two: u64,
+    /// Waits and refusals by 19 on plans of 1,024 operations.
+    longest_asked: [u64; 2],
+    /// Longer plans that were checked and asked.
+    longer_plans: u64,
     dominance: [u64; 3],
     /// Answers of the trace question.
     followed: [u64; 6],
@@ -80,6 +100,7 @@ impl Tally {
         self.numbers[function as usize][told.number as usize] += 1;
         match (function, told.number) {
             (Function::Reuse, 0) => self.verdicts[told.answer as usize] += 1,
+            (Function::Suggest, 0) => self.advice[told.answer as usize] += 1,
             (Function::Trace, 0) => self.followed[told.answer as usize] += 1,
             (Function::Dominates, 0) => self.dominance[told.answer as usize] += 1,
             _ => {}
@@ -104,6 +125,18 @@ impl Tally {
         }
         println!("reuse verdicts 0 to 3: {:?}", self.verdicts);
         println!(
+            "waits none needed, one, none would help: {:?}; longer plans checked: {}",
+            self.advice, self.longer_plans
+        );
+        println!(
+            "waits for the first, second, third, a later signal: {:?}; first of two: {}",
+            self.freeing, self.first_of_two
+        );
+        println!(
+            "1,024 operations: {} waits, {} times 19",
+            self.longest_asked[0], self.longest_asked[1]
+        );
+        println!(
             "traces full, unfinished, unknown, repeated, not first, wait not met: {:?}",
             self.followed
         );
@@ -124,6 +157,15 @@ impl Tally {
         }
         if self.verdicts.contains(&0) || self.dominance.contains(&0) {
             return Some("an answer never occurred".to_string());
+        }
+        if let Some(answer) = self.advice.iter().position(|&count| count == 0) {
+            return Some(format!("suggest never answered {answer}"));
+        }
+        if self.freeing.contains(&0) || self.first_of_two == 0 {
+            return Some("a wait for a signal of some place never occurred".to_string());
+        }
+        if self.longest_asked.contains(&0) || self.longer_plans == 0 {
+            return Some("no wait or no 19 on 1,024 operations, or no longer plan".to_string());
         }
         if let Some(answer) = self.followed.iter().position(|&count| count == 0) {
             return Some(format!("trace never answered {answer}"));
@@ -189,6 +231,11 @@ impl Room<u64> {
         frontier.expect("a whole frontier is lent")
     }
 
+    fn lend_wait(&mut self) -> &mut Wait {
+        let wait = self.lend().first_chunk_mut();
+        wait.expect("two numbers are lent")
+    }
+
     fn lend_found(&mut self) -> &mut Found {
         let found = self.lend().first_chunk_mut();
         found.expect("six numbers are lent")
@@ -202,6 +249,7 @@ struct Lent {
     bytes: Room<u8>,
     table: Room<u32>,
     list: Room<u32>,
+    wait: Room<u64>,
     frontier: Room<u64>,
     state: Room<u64>,
     found: Room<u64>,
@@ -213,6 +261,7 @@ impl Lent {
         self.bytes.fill(lengths.bytes, pattern as u8);
         self.table.fill(lengths.table, pattern as u32);
         self.list.fill(lengths.list, pattern as u32);
+        self.wait.fill(WAIT, pattern);
         self.frontier.fill(FRONTIER, pattern);
         self.state.fill(lengths.state, pattern);
         self.found.fill(FOUND, pattern);
@@ -224,12 +273,15 @@ impl Lent {
         self.bytes.print_difference(&other.bytes, "bytes");
         self.table.print_difference(&other.table, "table");
         self.list.print_difference(&other.list, "list");
+        self.wait.print_difference(&other.wait, "wait");
         self.frontier.print_difference(&other.frontier, "frontier");
         self.state.print_difference(&other.state, "state");
         self.found.print_difference(&other.found, "found");
     }
 }
 
+/// Numbers of a wait.
+const WAIT: usize = 2;
 /// Numbers in a lent frontier.
 const FRONTIER: usize = 34;
 /// Numbers of what a trace's answer names.
@@ -295,6 +347,8 @@ impl Differ {
         self.check(rng, bytes, counts)?;
         self.brute_force(rng, bytes, &steps)?;
         self.reuse(rng, bytes, counts)?;
+        let plan = (!numbers.is_empty()).then(|| Plan::from_numbers(&numbers));
+        self.suggest(rng, bytes, plan.as_ref(), counts)?;
         self.sent_out(rng, bytes, counts)?;
         let mut trace = traces::stored(&steps);
         if rng.percent(15) {
@@ -368,6 +422,84 @@ impl Differ {
             },
         )?;
         Ok(())
+    }
+
+    fn suggest(
+        &mut self,
+        rng: &mut Rng,
+        bytes: &[u8],
+        plan: Option<&Plan>,
+        counts: Counts,
+    ) -> Compared<()> {
+        let signals = plan.into_iter().flat_map(|plan| &plan.operations);
+        let signals: usize = signals.map(|operation| operation.signals.len()).sum();
+        // The reference takes as many checks as there are signals.
+        if signals > 200 && !rng.percent(15) {
+            return Ok(());
+        }
+        let lengths = lent_to_check(rng, counts);
+        let (queue, buffer) = some_question(rng, plan, counts);
+        let print = || {
+            println!("queue {queue}, buffer {buffer}");
+            print_plan(bytes);
+        };
+        let told = self.compare(
+            rng,
+            Function::Suggest,
+            lengths,
+            |side, lent| {
+                let (table, list) = (lent.table.lend(), lent.list.lend());
+                side.suggest(bytes, queue, buffer, table, list, lent.wait.lend_wait())
+            },
+            print,
+        )?;
+        let longest = counts.operations == MOST_OPERATIONS;
+        self.tally.longest_asked[0] += u64::from(longest && told.answer == 1);
+        self.tally.longest_asked[1] += u64::from(longest && told.number == 19);
+        let Some(plan) = plan.filter(|_| told.answer == 1) else {
+            return Ok(());
+        };
+        let wait = as_point(self.theirs.wait.lend_wait());
+        self.count_wait(plan, wait);
+        if !longest && !self.freed(plan, queue, buffer, wait) {
+            print();
+            return Err(Different);
+        }
+        Ok(())
+    }
+
+    /// Which signal of the plan a wait is for.
+    fn count_wait(&mut self, plan: &Plan, wait: Point) {
+        let mut signals = plan.operations.iter().flat_map(|o| &o.signals);
+        let place = signals.position(|&signal| signal == wait);
+        let place = place.expect("a wait is for a signal of the plan");
+        self.tally.freeing[place.min(3)] += 1;
+        let mut lists = plan.operations.iter().map(|o| &o.signals);
+        let first_of_two = lists.any(|list| list.len() == 2 && list[0] == wait);
+        self.tally.first_of_two += u64::from(first_of_two);
+    }
+
+    /// R89 by the other side itself: with the operation added, the plan passes
+    /// and the queue may take the buffer anew.
+    fn freed(&mut self, plan: &Plan, queue: u32, buffer: u32, wait: Point) -> bool {
+        let mut longer = plan.clone();
+        longer.operations.push(Operation {
+            queue: queue as u8,
+            waits: vec![wait],
+            ..Operation::default()
+        });
+        let (bytes, operations) = (longer.bytes(), longer.operations.len());
+        let (mut table, mut list) = (vec![0; 16 * operations], vec![0; 2 * operations]);
+        let checked = self.other.check(&bytes, &mut table, &mut list);
+        let asked = self
+            .other
+            .reuse(&bytes, queue, buffer, &mut table, &mut list);
+        self.tally.longer_plans += 1;
+        let freed = checked == Told::PASSED && asked == Told::answered(1);
+        if !freed {
+            println!("DIFFERENCE: the longer plan with {wait:?}: {checked:?}, then {asked:?}");
+        }
+        freed
     }
 
     fn sent_out(&mut self, rng: &mut Rng, bytes: &[u8], counts: Counts) -> Compared<()> {
@@ -451,6 +583,8 @@ impl Differ {
         };
         if !plan.axes.is_empty() && !plan.sizes.is_empty() {
             reuse_by_brute_force(rng, &plan, &rows)?;
+            suggest_by_brute_force(rng, &plan, &rows, &runs)?;
+            self.tally.waits_by_brute_force += 1;
         }
         if steps.len() <= MOST_STEPS {
             self.followed_by_brute_force(&plan, &runs, steps)?;
@@ -560,7 +694,15 @@ impl Differ {
                 let plan = family.plan(rng, operations);
                 self.plan(rng, &plan.bytes())
             }
-            54..600 => {
+            54..134 => {
+                let operations = match rng.below(4) {
+                    0 => rng.between(64, MOST_OPERATIONS - 1),
+                    _ => MOST_OPERATIONS,
+                };
+                let plan = generate::few_signals(rng, operations);
+                self.plan(rng, &plan.bytes())
+            }
+            134..600 => {
                 let bytes = generate::random_bytes(rng);
                 self.plan(rng, &bytes)
             }
@@ -672,6 +814,28 @@ fn reuse_by_brute_force(rng: &mut Rng, plan: &Plan, rows: &[Vec<usize>]) -> Comp
     Ok(())
 }
 
+/// The reference's question for a wait against the runs of a passed plan.
+fn suggest_by_brute_force(
+    rng: &mut Rng,
+    plan: &Plan,
+    rows: &[Vec<usize>],
+    runs: &EveryRun,
+) -> Compared<()> {
+    let (queue, buffer) = generate::question(rng, plan);
+    let wanted = brute::suggest(plan, (rows, runs), queue as usize, buffer as usize);
+    let (bytes, operations) = (plan.bytes(), plan.operations.len());
+    let (mut table, mut list) = (vec![0; 16 * operations], vec![0; 2 * operations]);
+    let mut wait = [!0; WAIT];
+    let told = reference::suggest(&bytes, queue, buffer, &mut table, &mut list, &mut wait);
+    if (told, wait) != wanted {
+        println!("DIFFERENCE between the reference and brute force");
+        println!("queue {queue}, buffer {buffer}: {told:?} {wait:?}, {wanted:?}");
+        print_plan(&bytes);
+        return Err(Different);
+    }
+    Ok(())
+}
+
 /// What brute force expects to be told and left in table and list that were
 /// filled with ones.
 fn told_by_brute_force(plan: &Plan, judgement: &Judgement) -> (Told, Vec<u32>, Vec<u32>) {
@@ -767,6 +931,23 @@ fn some_position(rng: &mut Rng, length: usize) -> u32 {
         2 => rng.below(256) as u32,
         _ => rng.below(length.max(1)) as u32,
     }
+}
+
+/// A queue and a buffer to ask about, mostly of a plan that can be read.
+fn some_question(rng: &mut Rng, plan: Option<&Plan>, counts: Counts) -> (u32, u32) {
+    match plan {
+        Some(plan) if rng.percent(80) => generate::question(rng, plan),
+        _ => (
+            some_position(rng, counts.queues),
+            some_position(rng, counts.buffers),
+        ),
+    }
+}
+
+/// A wait as a plan has it.
+fn as_point(&mut [semaphore, value]: &mut Wait) -> Point {
+    let semaphore = semaphore as u8;
+    Point { semaphore, value }
 }
 
 fn some_capacity(rng: &mut Rng) -> u32 {
@@ -905,9 +1086,10 @@ fn main() -> ExitCode {
     };
     tally.print();
     println!(
-        "{} plans, {} of them and {} traces by brute force too, in {:.1} s: no difference",
+        "{} plans, {} of them, {} waits and {} traces by brute force too, in {:.1} s: no difference",
         tally.plans,
         tally.by_brute_force,
+        tally.waits_by_brute_force,
         tally.traces_by_brute_force,
         start.elapsed().as_secs_f64()
     );

@@ -27,6 +27,15 @@ impl EveryRun {
         self.0.push(word(run).expect("a run of a small plan"));
     }
 
+    /// Each run as a list of steps.
+    pub(super) fn iter(&self) -> impl Iterator<Item = Vec<Position>> + '_ {
+        self.0.iter().map(|&word| {
+            let length = word.ilog2() / 3;
+            let step = |place| (word >> (3 * (length - 1 - place)) & 7) as Position;
+            (0..length).map(step).collect()
+        })
+    }
+
     /// Is this list of steps a run?
     fn contains(&self, steps: &[Position]) -> bool {
         word(steps).is_some_and(|word| self.0.contains(&word))

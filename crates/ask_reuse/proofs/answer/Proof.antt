@@ -19,8 +19,8 @@ returns-2 : tie.Need-returns-2
 returns-2 c =
     λ p o. rw (c .refused2 .ensures) (no-buffer o _ _ (c .before .before .before .if1 .left) (c .before .if2 .taken))
 
-verdict-requires : tie.Need-verdict-requires
-verdict-requires c κs = search needs
+judge-requires : tie.Need-judge-requires
+judge-requires c κs = search needs
 
 number-of-requires : tie.Need-number-of-requires
 number-of-requires c κs = search needs
@@ -35,7 +35,7 @@ returns-3 c =
     rw (c .answered .ensures)
     (λ p o. let known = buffer-known o (branch .if2 .left) in
     answered o _ _ (branch .before .before .if1 .left) (branch .if2 .left)
-    (asked .number-of .ensures ∙ ap number-of (asked .before .verdict .ensures p known (o .shown))))
+    (asked .number-of .ensures ∙ ap number-of (asked .before .judge .ensures .1 p known (o .shown) .verdict)))
 
 pub answer-spec : {M : Type 1} → statement M
 answer-spec =
@@ -45,7 +45,7 @@ answer-spec =
     returns
     refused-requires-2
     returns-2
-    verdict-requires
+    judge-requires
     number-of-requires
     answered-requires
     returns-3)

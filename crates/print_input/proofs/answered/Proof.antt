@@ -19,6 +19,12 @@ reuse-requires c κs = search needs
 enum-known-question-2 : tie.Need-enum-known-question-2
 enum-known-question-2 c = search needs
 
+suggest-requires : tie.Need-suggest-requires
+suggest-requires c κs = search needs
+
+enum-known-question-3 : tie.Need-enum-known-question-3
+enum-known-question-3 c = search needs
+
 frontier-requires : tie.Need-frontier-requires
 frontier-requires c κs = search needs
 
@@ -47,14 +53,21 @@ same-length-3 c = search needs
 
 returns-3 : tie.Need-returns-3
 unfolding Answered
-returns-3 c = rw (c .before .before .before .before .before .question2 .given .1) (c .before .before .frontier .ensures)
+returns-3 c = rw (c .before .before .before .before .before .question2 .given .1) (c .before .before .suggest .ensures)
 
 same-length-4 : tie.Need-same-length-4
 same-length-4 c = search needs
 
 returns-4 : tie.Need-returns-4
 unfolding Answered
-returns-4 c = rw (c .before .before .before .before .enum-told2 .given .1) (c .before .before .read .ensures)
+returns-4 c = rw (c .before .before .before .before .before .question3 .given .1) (c .before .before .frontier .ensures)
+
+same-length-5 : tie.Need-same-length-5
+same-length-5 c = search needs
+
+returns-5 : tie.Need-returns-5
+unfolding Answered
+returns-5 c = rw (c .before .before .before .before .enum-told2 .given .1) (c .before .before .read .ensures)
 
 pub answered-spec : {M : Type 1} → statement M
 answered-spec =
@@ -65,6 +78,8 @@ answered-spec =
     enum-known-question
     reuse-requires
     enum-known-question-2
+    suggest-requires
+    enum-known-question-3
     frontier-requires
     enum-told-2
     read-requires
@@ -75,4 +90,6 @@ answered-spec =
     same-length-3
     returns-3
     same-length-4
-    returns-4)
+    returns-4
+    same-length-5
+    returns-5)

@@ -1,12 +1,12 @@
--- `judged` goes from the last mark to the first: the last one on the buffer is among those left. Assumes nothing.
+-- `by_last_mark` goes from the last mark to the first: the last one on the buffer is among those left. Assumes nothing.
 use mathlib.Core.Path.{ap}
 use Prim.Native.Nat.{ℕ, _-_, _%_}
 use borrow.Author.Needs.{needs}
 use Rattle.plan_format.specs.Sizes.{most-operations}
 use Rattle.check_columns.specs.Shown.{mark-codes}
 use Rattle.ask_reuse.proofs.ReuseTurns.{Marks-left, left-all, left-none, left-other, left-own}
-use Rattle.ask_reuse.proofs.judged.Statement.{statement}
-use Rattle.ask_reuse.proofs.judged.Tie as tie
+use Rattle.ask_reuse.proofs.by_last_mark.Statement.{statement}
+use Rattle.ask_reuse.proofs.by_last_mark.Tie as tie
 
 abbrev Inv-loop : tie.InvT-loop
 Inv-loop b last marks queue mark mop table back₀ back = Marks-left mark b marks back
@@ -54,8 +54,8 @@ loop-again c =
 returns-2 : tie.Need-returns-2 Inv-loop μ-loop
 returns-2 c = left-none (c .before .loop .inv) _ _ (c .loop-test .left)
 
-pub judged-spec : {M : Type 1} → statement M
-judged-spec =
+pub by-last-mark-spec : {M : Type 1} → statement M
+by-last-mark-spec =
     tie.close
     (tie.spec
     Inv-loop

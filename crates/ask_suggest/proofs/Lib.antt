@@ -1,0 +1,2 @@
+pub mod SuggestTurns
+pub mod SuggestAsked

@@ -1,0 +1,4 @@
+pub mod Longer
+pub mod LongerRuns
+pub mod LongerSound
+pub mod LongerPasses

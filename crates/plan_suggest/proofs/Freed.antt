@@ -1,0 +1,135 @@
+-- The longer plan with the wait that is advised: it is sound, has a full run and passes, and the queue may take the
+-- buffer anew. Assumes nothing.
+use mathlib.Core.Path.{_≡_, sym, ap, _∙_, subst}
+use mathlib.Core.Bool.{true, false, _&&_}
+use mathlib.Core.Logic.{inr}
+use mathlib.Core.List.{List, [], _∷_, _++_, List·Memᴰ, List·Memᴰ·not-nil, List·Memᴰ·cases-cons}
+use Prim.Native.Nat.{ℕ, zero, suc, _≤_, _<_}
+use native.Mathlib.Nat.{not-suc-le-zero}
+use native.Mathlib.Omega.{arith}
+use lib.Dec.{ltb}
+use lib.ListN.{length, getD}
+use borrow.Author.Tests.{le-ltb}
+use Rattle.base_lists.proofs.Tests.{clash, is-false, and-right, either}
+use Rattle.plan_format.specs.Sizes.{most-operations}
+use Rattle.plan_format.specs.Plan.{Point, Operation, Plan, count, op, queues}
+use Rattle.plan_format.specs.Sound.{highest, too-high, any-too-high, In-range, Sound}
+use Rattle.plan_format.specs.Meaning.{signal-at, Is-signal}
+use Rattle.plan_format.proofs.RulesFirst.{signal-inside}
+use Rattle.plan_order.specs.Runs.{reached, is-full}
+use Rattle.plan_order.specs.Holdings.{buffer-marks}
+use Rattle.plan_order.specs.Check.{order-refusal, plan-outcome}
+use Rattle.plan_order.specs.Meaning.{Forced, Last-on, When}
+use Rattle.plan_order.specs.declared.Verdict.the-variants.{Reusable, NotOrdered}
+use Rattle.plan_order.proofs.Signals.{value-under, highest-over}
+use Rattle.plan_order.proofs.Readiness.{reached-has}
+use Rattle.plan_order.proofs.Standard.{full-has}
+use Rattle.plan_order.proofs.RunMeaning.{full-means}
+use Rattle.plan_order.proofs.VerdictMeaning.{verdict-means}
+use Rattle.plan_order.proofs.Outcomes.{outcome-of-plan}
+use Rattle.plan_order.proofs.Demand3.{demand-3}
+use Rattle.plan_change.specs.Longer.{with-last, waiting, longer}
+use Rattle.plan_change.proofs.Longer.{last-count, last-op, waiting-silent, waiting-unmarked}
+use Rattle.plan_change.proofs.LongerRuns.{last-full}
+use Rattle.plan_change.proofs.LongerSound.{last-sound}
+use Rattle.plan_change.proofs.LongerPasses.{runs-and-keeps, sound-passes, last-forced}
+use Rattle.plan_suggest.specs.Meaning.{Wait-frees, First-freeing, Freed}
+use Rattle.plan_suggest.proofs.Freeing.{same-marks, value-there}
+
+module _ (p : Plan) (sound : Sound p) (q : ℕ) (known : q < queues p) (i k : ℕ) (signal : Is-signal p i k) where
+  abbrev wait : Point
+  wait = signal-at p i k
+
+  abbrev new : Operation
+  new = waiting q wait
+
+  abbrev there : Plan
+  there = longer p q wait
+
+  -- ---- sound
+  wait-low : any-too-high p (new .waits) ≡ false
+  unfolding any-too-high too-high waiting op
+  wait-low =
+      let top = highest (wait .semaphore) (p .operations) in
+      let under = highest-over (wait .semaphore) (wait .value) (p .operations) i (value-there p sound i k signal) in
+      rw (is-false (ltb 0 (wait .value) && ltb top (wait .value))
+      (λ t. clash (ltb top (wait .value)) (and-right (ltb 0 (wait .value)) (ltb top (wait .value)) t)
+      (le-ltb top (wait .value) under)))
+
+  wait-known : (n : ℕ) → n < length (wait ∷ []) →
+      getD (wait ∷ []) n (record { semaphore = 0; value = 0 }) .semaphore < length (p .owners)
+  wait-known zero l = sound .in-range i (signal-inside p i k signal) .signals k signal
+  wait-known (suc n) l = absurd (omega arith)
+
+  new-known : In-range p new
+  unfolding waiting
+  new-known = record {
+    queue = known;
+    waits = wait-known;
+    signals = λ n l. absurd (not-suc-le-zero l);
+    marks = λ n l. absurd (not-suc-le-zero l);
+    kinds = λ n l. absurd (not-suc-le-zero l);
+  }
+
+  there-sound : count p < most-operations → Sound there
+  there-sound few = last-sound p new (waiting-silent q wait) wait-low sound few new-known
+
+  -- ---- a full run
+  module _ (r : List ℕ) (full : is-full p r ≡ true) where
+    reached-there : (w : Point) → List·Memᴰ w (new .waits) → w .value ≤ reached p (w .semaphore) r
+    unfolding waiting
+    reached-there w m =
+        either (List·Memᴰ·cases-cons m)
+        (λ e. subst (λ (z : Point). z .value ≤ reached p (z .semaphore) r) (sym e)
+        (let value = value-under (wait .semaphore) (wait .value) (op p i .signals) (value-there p sound i k signal) in
+        let has = full-has p r full i (signal-inside p i k signal) in
+        omega (arith, value, reached-has p (wait .semaphore) r i has)))
+        (λ u. absurd (List·Memᴰ·not-nil u))
+
+    there-full : is-full there (r ++ (count p ∷ [])) ≡ true
+    there-full = last-full p new r full reached-there
+
+  -- ---- reusable
+  last-there : Last-on there q (count p)
+  unfolding waiting
+  last-there = record {
+    operation = omega (arith, last-count p new);
+    own = ap (λ (o : Operation). o .queue) (last-op p new);
+    last = λ j l u e. absurd (omega (arith, last-count p new));
+  }
+
+  reusable-there : (b : ℕ) → When p q b NotOrdered → Wait-frees p q b wait → When there q b Reusable
+  unfolding When
+  reusable-there b w frees =
+      let last = w .1 in
+      (w .0, (last .0, same-marks p q b wait ∙ last .1), w .2, λ j marked. (count p, last-there, inr (frees j marked)))
+
+  module _ (r : List ℕ) (full : is-full p r ≡ true)
+      (forced : (b n : ℕ) → b < length (p .sizes) → n < length (buffer-marks p b) → Forced p b n)
+      (few : count p < most-operations) where
+    there-passes : order-refusal there .number ≡ 0
+    unfolding with-last
+    there-passes =
+        runs-and-keeps there (there-sound few) (r ++ (count p ∷ [])) (there-full r full)
+        (last-forced p new (waiting-silent q wait) (waiting-unmarked q wait) forced)
+
+    there-freed : (b : ℕ) → When p q b NotOrdered → Wait-frees p q b wait → Freed there q b
+    there-freed b w frees = let passed = sound-passes there (there-sound few) there-passes in record {
+      sound = there-sound few;
+      runs = (r ++ (count p ∷ []), full-means there (r ++ (count p ∷ [])) .0 (there-full r full));
+      passes = passed;
+      stored-passes = λ bs clean e t l a c. outcome-of-plan bs t l clean
+          ∙ ap (λ (z : Plan). plan-outcome z t l) e ∙ passed t l a c;
+      safe = demand-3 there (there-sound few) .exactly .0 there-passes;
+      verdict = verdict-means there q b Reusable .1 (reusable-there b w frees);
+      reusable = reusable-there b w frees;
+    }
+
+-- ---- by the first signal that frees
+pub freed : (p : Plan) → Sound p → (r : List ℕ) → is-full p r ≡ true →
+    ((b n : ℕ) → b < length (p .sizes) → n < length (buffer-marks p b) → Forced p b n) → count p < most-operations →
+    (q b s v : ℕ) → q < queues p → When p q b NotOrdered → First-freeing p q b s v →
+    Freed (longer p q (record { semaphore = s; value = v })) q b
+freed p sound r full forced few q b s v known w first =
+    subst (λ (z : Point). Freed (longer p q z) q b) (first .point)
+    (there-freed p sound q known (first .operation) (first .place) (first .signal) r full forced few b w (first .frees))

@@ -1,0 +1,4 @@
+pub mod Numbers
+pub mod Suggest
+pub mod Meaning
+pub mod Promise
