@@ -1,7 +1,8 @@
 //! The benchmark: the C library's check beside the reference's, on each family
 //! of plans and each size, the trace question beside the check, then the other
 //! functions. Prints a table, and draws time over size as an SVG if a path is
-//! given.
+//! given. With `--before LIBRARY` it times the linked library beside a shared
+//! library built earlier instead.
 
 use harness::generate::{self, Family, Rng};
 use harness::reference::Reference;
@@ -348,13 +349,16 @@ fn measure_others(sides: &Sides) {
         print(&format!("dominates, {name}"), measured);
     }
     let [left, _] = frontier_pairs()[0].1;
-    for (name, axis) in [("a listed axis", 14), ("an axis not listed", 15)] {
+    for (name, axis) in RAISED {
         let measured = sides.measure(|side| {
             side.raise(black_box(&left), black_box(axis), 99, 16, &mut out);
         });
         print(&format!("raise, 16 entries, {name}"), measured);
     }
 }
+
+/// Axes to raise in a frontier of sixteen entries with even axes.
+const RAISED: [(&str, u64); 2] = [("a listed axis", 14), ("an axis not listed", 15)];
 
 /// Two frontiers of sixteen entries each: the left has even axes.
 fn frontier_pairs() -> [(&'static str, [Raw; 2]); 2] {
@@ -557,9 +561,127 @@ fn legend(svg: &mut String, left: f64, top: f64, series: &[Series]) {
 }
 
 // ---------------------------------------------------------------------------
+// A library before a change, and the one after it.
+
+/// Small plans, of which most of the time is what does not depend on the plan.
+const SMALL: [(&str, &[u8]); 3] = [
+    (
+        "T3, three operations",
+        include_bytes!("../../../plans/t3-three-queues.plan"),
+    ),
+    (
+        "two frames, five operations",
+        include_bytes!("../../../plans/two-frames.plan"),
+    ),
+    (
+        "camera, 128 operations",
+        include_bytes!("../../../plans/camera.plan"),
+    ),
+];
+
+/// Times one function of the library after a change and of the one before, turn
+/// by turn, and prints nanoseconds and the median ratio of the pairs.
+fn beside(name: &str, calls: u64, sides: [&dyn Side; 2], mut call: impl FnMut(&dyn Side)) {
+    let [after, before] = sides;
+    let pairs = in_turn(|turn| match turn {
+        Turn::First => call(after),
+        Turn::Second => call(before),
+    });
+    println!(
+        "{name:<44}{:>12.0}{:>12.0}{:>8.3}",
+        pairs.first / calls as f64,
+        pairs.second / calls as f64,
+        pairs.ratio
+    );
+}
+
+fn compare(after: &dyn Side, before: &dyn Side) {
+    let sides = [after, before];
+    println!(
+        "this library and {}, nanoseconds for one call",
+        before.name()
+    );
+    println!("{:<44}{:>12}{:>12}{:>8}", "call", "this", "before", "ratio");
+    let (mut table, mut list) = (vec![0; 16 * 1024], vec![0; 2 * 1024]);
+    for (name, plan) in SMALL {
+        beside(&format!("check, {name}"), 1, sides, |side| {
+            side.check(black_box(plan), &mut table, &mut list);
+        });
+    }
+    for family in Family::ALL {
+        for size in SIZES {
+            let plans = (0..PLANS).map(|seed| family.plan(&mut Rng::new(seed), size).bytes());
+            let plans: Vec<_> = plans.collect();
+            beside(
+                &format!("check, {}, {size}", family.name()),
+                PLANS,
+                sides,
+                |side| {
+                    for plan in &plans {
+                        side.check(black_box(plan), &mut table, &mut list);
+                    }
+                },
+            );
+        }
+    }
+    let plans = (0..PLANS).map(|seed| generate::greatest(&mut Rng::new(seed), 1024));
+    let plans: Vec<_> = plans.map(|plan| (plan.bytes(), plan.numbers())).collect();
+    let (mut numbers_room, mut bytes_room) = (vec![0; plans[0].1.len()], vec![0; plans[0].0.len()]);
+    beside("read, greatest plan", PLANS, sides, |side| {
+        for (bytes, _) in &plans {
+            side.read(black_box(bytes), &mut numbers_room);
+        }
+    });
+    beside("write, greatest plan", PLANS, sides, |side| {
+        for (_, numbers) in &plans {
+            side.write(black_box(numbers), &mut bytes_room);
+        }
+    });
+    beside("reuse, greatest plan", PLANS, sides, |side| {
+        for (bytes, _) in &plans {
+            side.reuse(black_box(bytes), 3, 200, &mut table, &mut list);
+        }
+    });
+    let mut out = EMPTY;
+    for (name, [left, right]) in frontier_pairs() {
+        beside(&format!("merge, {name}"), 1, sides, |side| {
+            side.merge(black_box(&left), black_box(&right), 16, &mut out);
+        });
+        beside(&format!("dominates, {name}"), 1, sides, |side| {
+            side.dominates(black_box(&left), black_box(&right));
+        });
+    }
+    let [left, _] = frontier_pairs()[0].1;
+    for (name, axis) in RAISED {
+        beside(&format!("raise, 16 entries, {name}"), 1, sides, |side| {
+            side.raise(black_box(&left), black_box(axis), 99, 16, &mut out);
+        });
+    }
+}
+
+/// `bench --before LIBRARY`.
+fn main_before(path: Option<String>) -> Result<(), String> {
+    let path = path.ok_or("--before needs the path of a shared library")?;
+    let after = harness::c_api::library().ok_or("no C library is linked")?;
+    let before = harness::c_api::earlier(&path)?;
+    compare(&*after, &*before);
+    Ok(())
+}
+
+// ---------------------------------------------------------------------------
 
 fn main() -> ExitCode {
-    let path = std::env::args().nth(1);
+    let mut words = std::env::args().skip(1);
+    let path = words.next();
+    if path.as_deref() == Some("--before") {
+        return match main_before(words.next()) {
+            Ok(()) => ExitCode::SUCCESS,
+            Err(error) => {
+                eprintln!("bench: {error}");
+                ExitCode::FAILURE
+            }
+        };
+    }
     let sides = Sides {
         library: harness::c_api::library(),
     };
