@@ -1,14 +1,13 @@
 -- What one turn of the search does. Assumes nothing.
-use mathlib.Core.Path.{_≡_, refl, sym, ap, _∙_, subst}
-use mathlib.Core.Bool.{Bool, true, false, cond}
+use mathlib.Core.Path.{_≡_, refl, sym, _∙_, subst}
+use mathlib.Core.Bool.{cond}
 use mathlib.Core.List.{List}
 use Prim.Native.Nat.{ℕ, zero, suc, _+_, _-_, _/_, _%_, _*_, _≤_, _<_}
 use native.Mathlib.Omega.{arith}
-use lib.Dec.{ltb, eqb}
+use lib.Dec.{ltb}
 use lib.ListN.{length, getD}
 use borrow.Author.Tests.{eq-eqb, ne-eqb, le-leb}
 use Rattle.base_lists.proofs.Tests.{by-cases}
-use Rattle.axis_search.specs.declared.Found.{Found}
 use Rattle.axis_search.specs.Halving.{most-slots, most-reads, no-slot, Range, middle, narrowed, search-from}
 use Rattle.axis_search.specs.Halving.{searched}
 

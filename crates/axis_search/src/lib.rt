@@ -69,8 +69,5 @@ fn halve(axes: &[u64], len: usize, axis: u64) -> Found
         low = low + only_if(x < axis, half + 1);
         many = half - only_if(x < axis, 1 - many % 2);
     }
-    Found {
-        at: NO_SLOT,
-        read,
-    }
+    Found { at: NO_SLOT, read }
 }
