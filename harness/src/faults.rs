@@ -9,7 +9,7 @@ use crate::side::{Found, Raw, Side, Told, EMPTY, EPOCHS, LENGTH, TAINT};
 mod trace;
 
 /// The mistakes that the rules exclude, a row's own column, and mistakes of the
-/// trace question.
+/// trace question and of the lookup.
 #[derive(Clone, Copy, PartialEq, Eq, Debug)]
 pub enum Fault {
     /// A wait takes over what the latest signal knows (R17).
@@ -38,11 +38,13 @@ pub enum Fault {
     UnfinishedForFull,
     /// 22 leaves zeros in the state.
     RefusalClearsState,
+    /// An absent axis is looked up as one listed with epoch 0 (R60).
+    AbsentIsZero,
 }
 
 impl Fault {
     /// Fault 1 is the first.
-    pub const ALL: [Fault; 13] = [
+    pub const ALL: [Fault; 14] = [
         Fault::NewestSignal,
         Fault::FirstUseOnly,
         Fault::OwnColumnMissing,
@@ -56,6 +58,7 @@ impl Fault {
         Fault::FormBeforeRoom,
         Fault::UnfinishedForFull,
         Fault::RefusalClearsState,
+        Fault::AbsentIsZero,
     ];
 
     /// The plan the reference is given instead.
@@ -205,6 +208,13 @@ impl Side for Faulty {
         let told = reference::trace(&rewritten, recorded, table, list, state, found);
         self.spoil(told, plan, table, list);
         trace::spoil(self.0, (plan, recorded), told, state, found)
+    }
+
+    fn lookup(&self, frontier: &Raw, axis: u64, epoch: &mut u64) -> Told {
+        match (self.0, Reference.lookup(frontier, axis, epoch)) {
+            (Fault::AbsentIsZero, _) => Told::answered(1),
+            (_, told) => told,
+        }
     }
 
     fn merge(&self, left: &Raw, right: &Raw, capacity: u32, merged: &mut Raw) -> Told {
