@@ -130,6 +130,10 @@ extern "C" {
 /* The longest recorded trace in bytes. */
 #define CUNDVREST_MOST_TRACE_BYTES 131072
 
+/* An axis looked up: the answer of cundvrest_lookup. */
+#define CUNDVREST_ABSENT 0
+#define CUNDVREST_LISTED 1
+
 /* Dominance: the answer of cundvrest_dominates. */
 #define CUNDVREST_NO 0
 #define CUNDVREST_YES 1
@@ -230,6 +234,15 @@ void cundvrest_trace(const uint8_t *plan, size_t plan_len,
 
 /* Frontiers. Well formed: at most 16 entries, axes rising, epochs above 0, slots
  * past the length zero, taint 0 or 1. Anything else is refusal 14. */
+
+/* What a frontier says of an axis. The answer is CUNDVREST_LISTED, with the
+ * axis's epoch in the lent number, or CUNDVREST_ABSENT, with 0 there; an absent
+ * axis never counts as met. At most five entries are read, so the form is not
+ * judged and nothing is refused: of a badly formed frontier anything that is
+ * listed is in a slot below the length, and with a length above 16 or a taint
+ * above 1 every axis is absent. */
+void cundvrest_lookup(const uint64_t frontier[34], uint64_t axis,
+                      uint64_t epoch[1], uint64_t told[3]);
 
 /* Every axis of either side, with the larger of its epochs. Of more entries than
  * the capacity only as many are kept: larger epochs before smaller ones, and for

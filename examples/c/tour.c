@@ -1,5 +1,5 @@
 /* Every function once, on a thread whose stack is CUNDVREST_STACK: a plan is written from numbers, read back, checked
- * and asked, a trace is held against it, and frontiers are compared and merged. Prints what each call told. */
+ * and asked, a trace is held against it, and frontiers are asked, compared and merged. Prints what each call told. */
 #include <pthread.h>
 #include <stdio.h>
 #include <string.h>
@@ -34,6 +34,15 @@ static void show_frontier(const uint64_t f[CUNDVREST_FRONTIER])
     putchar('\n');
 }
 
+/* The answer for an axis that was looked up. */
+static void show_axis(uint64_t answer, uint64_t epoch)
+{
+    if (answer == CUNDVREST_LISTED)
+        printf("  listed with %lu\n", (unsigned long)epoch);
+    else
+        puts("  absent");
+}
+
 /* The answer for a trace that departs at a wait, and how far three queues and two semaphores had come before. */
 static void show_trace(uint64_t answer, const uint64_t found[CUNDVREST_FOUND], const uint64_t state[CUNDVREST_STATE])
 {
@@ -51,7 +60,7 @@ static void *tour(void *unused)
     uint32_t table[3 * CUNDVREST_TABLE_WIDTH], list[3 * CUNDVREST_LIST_WIDTH];
     uint64_t first[CUNDVREST_FRONTIER], last[CUNDVREST_FRONTIER], raised[CUNDVREST_FRONTIER], merged[CUNDVREST_FRONTIER];
     uint64_t state[CUNDVREST_STATE], found[CUNDVREST_FOUND];
-    uint64_t fewer[COUNT(numbers)], wait[2], told[3];
+    uint64_t fewer[COUNT(numbers)], epoch, wait[2], told[3];
     size_t length;
     /* two steps: operation 0, then operation 2, which should have waited for operation 1 */
     static const uint8_t trace[] = {2, 0, 0, 0, 2, 0};
@@ -76,6 +85,12 @@ static void *tour(void *unused)
                     state, COUNT(state), found, told);
     show("trace", told);
     show_trace(told[2], found, state);
+    cundvrest_lookup(last, 20, &epoch, told);
+    show("lookup", told);
+    show_axis(told[2], epoch);
+    cundvrest_lookup(first, 20, &epoch, told);
+    show("lookup", told);
+    show_axis(told[2], epoch);
     cundvrest_dominates(last, first, told);
     show("dominates", told);
     cundvrest_dominates(first, last, told);

@@ -154,6 +154,7 @@ functions! {
         found: *mut Found,
         told: *mut Three,
     );
+    fn cundvrest_lookup(frontier: *const Raw, axis: u64, epoch: *mut u64, told: *mut Three);
     fn cundvrest_merge(
         left: *const Raw,
         right: *const Raw,
@@ -337,6 +338,10 @@ impl Side for Library {
                 three,
             )
         })
+    }
+
+    fn lookup(&self, frontier: &Raw, axis: u64, epoch: &mut u64) -> Told {
+        told(|three| unsafe { function!(self, cundvrest_lookup)(frontier, axis, epoch, three) })
     }
 
     fn merge(&self, left: &Raw, right: &Raw, capacity: u32, merged: &mut Raw) -> Told {

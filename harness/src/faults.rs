@@ -10,7 +10,7 @@ mod suggest;
 mod trace;
 
 /// The mistakes that the rules exclude, a row's own column, and mistakes of the
-/// trace question and of the question for a wait.
+/// trace question, of the question for a wait and of the lookup.
 #[derive(Clone, Copy, PartialEq, Eq, Debug)]
 pub enum Fault {
     /// A wait takes over what the latest signal knows (R17).
@@ -55,11 +55,13 @@ pub enum Fault {
     RefusalKeepsWait,
     /// No wait is needed for a buffer that is held.
     HeldNeedsNone,
+    /// An absent axis is looked up as one listed with epoch 0 (R60).
+    AbsentIsZero,
 }
 
 impl Fault {
     /// Fault 1 is the first.
-    pub const ALL: [Fault; 21] = [
+    pub const ALL: [Fault; 22] = [
         Fault::NewestSignal,
         Fault::FirstUseOnly,
         Fault::OwnColumnMissing,
@@ -81,6 +83,7 @@ impl Fault {
         Fault::RefusedAtQueue,
         Fault::RefusalKeepsWait,
         Fault::HeldNeedsNone,
+        Fault::AbsentIsZero,
     ];
 
     /// The plan the reference is given instead.
@@ -245,6 +248,13 @@ impl Side for Faulty {
         let told = reference::trace(&rewritten, recorded, table, list, state, found);
         self.spoil(told, plan, table, list);
         trace::spoil(self.0, (plan, recorded), told, state, found)
+    }
+
+    fn lookup(&self, frontier: &Raw, axis: u64, epoch: &mut u64) -> Told {
+        match (self.0, Reference.lookup(frontier, axis, epoch)) {
+            (Fault::AbsentIsZero, _) => Told::answered(1),
+            (_, told) => told,
+        }
     }
 
     fn merge(&self, left: &Raw, right: &Raw, capacity: u32, merged: &mut Raw) -> Told {

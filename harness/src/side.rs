@@ -107,6 +107,10 @@ pub trait Side {
         found: &mut Found,
     ) -> Told;
 
+    /// Answer: 1 if the axis is listed, with its epoch beside it; 0 if it is
+    /// absent, and an epoch of 0. The form is not judged.
+    fn lookup(&self, frontier: &Raw, axis: u64, epoch: &mut u64) -> Told;
+
     fn merge(&self, left: &Raw, right: &Raw, capacity: u32, merged: &mut Raw) -> Told;
 
     fn raise(&self, old: &Raw, axis: u64, epoch: u64, capacity: u32, raised: &mut Raw) -> Told;

@@ -287,6 +287,10 @@ fn frontiers_against_plain_lists() {
         assert_eq!(reference::dominates(&left, &right), Told::answered(answer));
 
         let (axis, epoch) = (rng.below(20) as u64, rng.below(10) as u64);
+        let listed = plain(&left).0.into_iter().find(|entry| entry.0 == axis);
+        let wanted = listed.map_or((Told::answered(0), 0), |entry| (Told::answered(1), entry.1));
+        assert_eq!(reference::lookup(&left, axis), wanted);
+
         let one = match epoch {
             0 => vec![],
             _ => vec![(axis, epoch)],

@@ -276,7 +276,7 @@ fn brute_force_differs(side: &dyn Side) -> bool {
 #[test]
 fn brute_force_finds_faults() {
     assert!(!brute_force_differs(&Reference));
-    for &fault in &Fault::ALL[13..] {
+    for &fault in &Fault::ALL[13..21] {
         assert!(brute_force_differs(&Faulty(fault)), "{fault:?}");
     }
 }

@@ -1,44 +1,13 @@
--- Rows of numbers copied out of a list and stored into one. Assumes nothing.
+-- Rows of numbers stored into a list. Assumes nothing.
 use mathlib.Core.Path.{_≡_, refl, sym, ap, _∙_}
 use mathlib.Core.List.{List, [], _∷_, _++_, append-nil}
-use Prim.Native.Nat.{ℕ, _+_, _≤_, _<_}
+use Prim.Native.Nat.{ℕ, _+_, _<_}
 use native.Mathlib.Numerals.{add-one}
 use native.Mathlib.Omega.{arith}
-use lib.ListN.{length, getD, set, take, drop, replicate, length-append, length-drop, length-replicate}
-use lib.ListN.{drop-of-length-le}
-use lib.Seq.{sets, sets-eq, take-suc, length-take-le, getD-drop}
-use Rattle.base_lists.specs.Lists.{in-front}
-use Rattle.base_lists.proofs.Fronts.{front-none, front-more}
+use lib.ListN.{length, getD, set, take, drop, length-append, drop-of-length-le}
+use lib.Seq.{sets, sets-eq, take-suc, length-take-le}
 use Rattle.base_lists.proofs.Stores.{sets-append}
 
--- ---- OUT OF A LIST
--- the first i of `many` numbers, copied
-abbrev pub copied : (l : List ℕ) → (at many i : ℕ) → List ℕ
-copied l at many i = in-front (take i (drop at l)) (replicate many 0)
-
-module _ (l : List ℕ) (at many : ℕ) (room : at + many ≤ length l) where
-  pub copy-none : replicate many 0 ≡ copied l at many 0
-  copy-none = sym (front-none (drop at l) (replicate many 0))
-
-  pub copy-more : (i : ℕ) (r : List ℕ) → i < many → r ≡ copied l at many i →
-      set r i (getD l (at + i) 0) ≡ copied l at many (i + 1)
-  copy-more i r b e =
-      ap (λ (xs : List ℕ). set xs i (getD l (at + i) 0)) e
-      ∙ ap (λ (v : ℕ). set (copied l at many i) i v) (sym (getD-drop at l i 0))
-      ∙ front-more (drop at l) (replicate many 0) i 0 (omega (arith, length-drop at l))
-      (omega (arith, length-replicate {A = ℕ} many 0))
-
-  pub copy-all : (i : ℕ) (r : List ℕ) → i ≡ many → r ≡ copied l at many i → r ≡ take many (drop at l)
-  unfolding in-front
-  copy-all i r e c =
-      let h = length-take-le many (drop at l) (omega (arith, length-drop at l)) in
-      c ∙ ap (λ (k : ℕ). copied l at many k) e
-      ∙ ap (λ (xs : List ℕ). take many (drop at l)
-      ++ xs) (drop-of-length-le (replicate many 0) {i = length (take many (drop at l))}
-      (omega (arith, h, length-replicate {A = ℕ} many 0)))
-      ∙ append-nil (take many (drop at l))
-
--- ---- INTO A LIST
 module _ (l : List ℕ) (at : ℕ) (row : List ℕ) where
   pub store-none : l ≡ sets l at (take 0 row)
   store-none = none row

@@ -9,10 +9,13 @@ use lib.ListN.{getD, take, drop}
 use Rattle.plan_format.specs.declared.Told.{Told}
 use Rattle.frontier.specs.declared.Frontier.{Frontier}
 use Rattle.frontier.specs.declared.Merged.{Merged}
+use Rattle.frontier.specs.declared.Lookup.{Lookup}
+use Rattle.frontier.specs.declared.Lookup.the-variants.{Listed, Absent}
 use Rattle.frontier.specs.declared.Dominance.{Dominance}
 use Rattle.frontier.specs.declared.Dominance.the-variants.{Yes, No, Unknown, Refused}
 use Rattle.frontier.specs.Entries.{most-entries}
 use Rattle.frontier.specs.Frontiers.{number-of}
+use Rattle.frontier.specs.Meaning.{epoch-of}
 
 -- ---- TOLD
 -- R77, told: number, place, answer
@@ -61,7 +64,25 @@ abbrev pub Handed : (number place : ℕ) → Frontier → (told frontier : List 
 Handed number place f told frontier =
     (told-of told ≡ record { number = number; place = place; answer = 0 }) × (frontier ≡ list-of f)
 
+-- ---- LOOKUP
+-- R77: 1 for a listed axis, 0 for an absent one, which is never told by its epoch alone
+unfoldable pub listed-value : Lookup → ℕ
+listed-value (Listed e) = 1
+listed-value Absent = 0
+
+abbrev pub Lookup-says : Lookup → (told epoch : List ℕ) → Type 0
+Lookup-says r told epoch =
+    (told-of told ≡ record { number = 0; place = 0; answer = listed-value r }) × (epoch ≡ epoch-of r ∷ [])
+
+-- what a caller reads there
+unfoldable pub lookup-of : (told epoch : List ℕ) → Lookup
+lookup-of told epoch = cond (eqb (told-of told .answer) 0) Absent (Listed (getD epoch 0 0))
+
 -- ---- MERGE AND RAISE
+-- a merge's number, and the numbers of its frontier
+abbrev pub Merge-stored : Merged → (number : ℕ) → (frontier : List ℕ) → Type 0
+Merge-stored m number frontier = (number ≡ m .number) × (frontier ≡ list-of (m .frontier))
+
 -- R50, R51: the place of 14 and 15 is 0
 abbrev pub Merge-says : Merged → (told frontier : List ℕ) → Type 0
 Merge-says m told frontier = Handed (m .number) 0 (m .frontier) told frontier

@@ -1,16 +1,20 @@
 // R77 and R78, the numbers that a C caller lends, read and stored: the three of `told`, and those of a frontier.
 use frontier::Dominance;
 use frontier::Frontier;
+use frontier::Lookup;
+use frontier::lent;
 use plan_format::Told;
 ghost use mathlib.Core.Path.{_≡_};
 ghost use mathlib.Core.Bool.{cond};
 ghost use Prim.Native.Nat.{_+_, _≤_};
 ghost use lib.Dec.{ltb};
-ghost use lib.ListN.{length, getD, take, drop};
+ghost use lib.ListN.{length, getD};
 ghost use lib.Seq.{sets};
 ghost use Rattle.frontier.specs.Entries.{most-entries};
+ghost use Rattle.frontier.specs.Frontiers.{merge, raise, dominance, looked-up};
+ghost use Rattle.frontier.specs.Walks.{of-slots, All-slots};
 ghost use Rattle.c_lent.specs.Lent.{told-of, length-at, taint-at, frontier-numbers, over-long, frontier-of};
-ghost use Rattle.c_lent.specs.Lent.{list-of, Handed, dominance-told};
+ghost use Rattle.c_lent.specs.Lent.{list-of, Handed, Merge-stored, Merge-says, dominance-told, Lookup-says};
 
 // Where the numbers of a frontier are: the axes come first, then the epochs, the length and the taint.
 const EPOCHS: usize = Frontier::SLOTS;
@@ -44,20 +48,6 @@ pub fn dominance(r: Dominance) -> Told
     }
 }
 
-// The axes or the epochs among a frontier's numbers, from `at` on.
-fn row(numbers: &[u64], at: usize) -> [u64; Frontier::SLOTS]
-    requires { ⌜ at + most-entries ≤ length (now numbers) ⌝ }
-    ensures { λ r. ⌜ r ≡ take most-entries (drop at (now (numbers .entry))) ⌝ }
-{
-    let mut r = [0u64; Frontier::SLOTS];
-    let mut i: usize = 0;
-    while i < Frontier::SLOTS {
-        r[i] = numbers[at + i];
-        i += 1;
-    }
-    r
-}
-
 // The length, or one that is over long where the taint is above 1.
 fn length_of(numbers: &[u64]) -> usize
     requires { ⌜ length (now numbers) ≡ frontier-numbers ⌝ }
@@ -68,21 +58,6 @@ fn length_of(numbers: &[u64]) -> usize
         return OVER_LONG;
     }
     numbers[LENGTH] as usize
-}
-
-// The frontier of so many numbers.
-pub fn frontier(numbers: &[u64; NUMBERS]) -> Frontier
-    ensures { λ r. ⌜ r ≡ frontier-of (now (numbers .entry)) ⌝ }
-{
-    let axes = row(numbers, 0);
-    let epochs = row(numbers, EPOCHS);
-    let len = length_of(numbers);
-    Frontier {
-        axes,
-        epochs,
-        len,
-        tainted: numbers[TAINT] != 0,
-    }
 }
 
 // The axes or the epochs over the numbers from `at` on.
@@ -97,22 +72,23 @@ fn put_row(row: &[u64], at: usize, numbers: &mut [u64])
     }
 }
 
-// The numbers of a frontier.
-fn put(f: Frontier, numbers: &mut [u64])
-    requires { ⌜ length (now numbers) ≡ frontier-numbers ⌝ }
-    ensures { λ _. ⌜ now (numbers .exit) ≡ list-of f ⌝ }
+// The numbers of a frontier, by its slots, length and taint.
+fn put<'a>(axes: &'a [u64], epochs: &'a [u64], len: usize, tainted: bool, numbers: &mut [u64])
+    requires { ⌜ All-slots (now axes) (now epochs) × (length (now numbers) ≡ frontier-numbers) ⌝ }
+    ensures { λ _. ⌜ now (numbers .exit) ≡
+        list-of (of-slots (now (axes .entry)) (now (epochs .entry)) len tainted) ⌝ }
 {
-    put_row(&f.axes, 0, numbers);
-    put_row(&f.epochs, EPOCHS, numbers);
-    numbers[LENGTH] = f.len as u64;
-    numbers[TAINT] = f.tainted as u64;
+    put_row(axes, 0, numbers);
+    put_row(epochs, EPOCHS, numbers);
+    numbers[LENGTH] = len as u64;
+    numbers[TAINT] = tainted as u64;
 }
 
 // A frontier beside its number and place, with nothing to answer.
 pub fn hand(number: u32, place: u64, f: Frontier, numbers: &mut [u64; NUMBERS], told: &mut [u64; 3])
     ensures { λ _. ⌜ Handed number place f (now (told .exit)) (now (numbers .exit)) ⌝ }
 {
-    put(f, numbers);
+    put(&f.axes, &f.epochs, f.len, f.tainted, numbers);
     tell(
         Told {
             number,
@@ -121,4 +97,153 @@ pub fn hand(number: u32, place: u64, f: Frontier, numbers: &mut [u64; NUMBERS], 
         },
         told,
     );
+}
+
+// The merge of two lent frontiers; its number.
+fn merge_numbers<'a>(left: &'a [u64], right: &'a [u64], capacity: u32, merged: &mut [u64]) -> u32
+    requires { ⌜ (length (now left) ≡ frontier-numbers) × (length (now right) ≡ frontier-numbers) ×
+        (length (now merged) ≡ frontier-numbers) ⌝ }
+    ensures { λ r. ⌜ Merge-stored
+        (merge (frontier-of (now (left .entry))) (frontier-of (now (right .entry))) capacity) r
+        (now (merged .exit)) ⌝ }
+{
+    let mut axes = [0u64; Frontier::BOTH];
+    let mut epochs = [0u64; Frontier::BOTH];
+    let xn = length_of(left);
+    let yn = length_of(right);
+    let r = lent::merge(
+        &left[..EPOCHS],
+        &left[EPOCHS..LENGTH],
+        xn,
+        left[TAINT] != 0,
+        &right[..EPOCHS],
+        &right[EPOCHS..LENGTH],
+        yn,
+        right[TAINT] != 0,
+        capacity,
+        &mut axes,
+        &mut epochs,
+    );
+    put(
+        &axes[..Frontier::SLOTS],
+        &epochs[..Frontier::SLOTS],
+        r.len,
+        r.tainted,
+        merged,
+    );
+    r.number
+}
+
+// The merge of two lent frontiers, told and stored.
+pub fn merge<'a>(
+    left: &'a [u64; NUMBERS],
+    right: &'a [u64; NUMBERS],
+    capacity: u32,
+    merged: &mut [u64; NUMBERS],
+    told: &mut [u64; 3],
+)
+    ensures { λ _. ⌜ Merge-says
+        (merge (frontier-of (now (left .entry))) (frontier-of (now (right .entry))) capacity) (now (told .exit))
+        (now (merged .exit)) ⌝ }
+{
+    let number = merge_numbers(left, right, capacity, merged);
+    tell(plan_format::refused(number, 0), told);
+}
+
+// The raise of an axis of a lent frontier; its number.
+fn raise_numbers(old: &[u64], axis: u64, epoch: u64, capacity: u32, raised: &mut [u64]) -> u32
+    requires { ⌜ (length (now old) ≡ frontier-numbers) × (length (now raised) ≡ frontier-numbers) ⌝ }
+    ensures { λ r. ⌜ Merge-stored (raise (frontier-of (now (old .entry))) axis epoch capacity) r
+        (now (raised .exit)) ⌝ }
+{
+    let mut axes = [0u64; Frontier::BOTH];
+    let mut epochs = [0u64; Frontier::BOTH];
+    let xn = length_of(old);
+    let r = lent::raise(
+        &old[..EPOCHS],
+        &old[EPOCHS..LENGTH],
+        xn,
+        old[TAINT] != 0,
+        axis,
+        epoch,
+        capacity,
+        &mut axes,
+        &mut epochs,
+    );
+    put(
+        &axes[..Frontier::SLOTS],
+        &epochs[..Frontier::SLOTS],
+        r.len,
+        r.tainted,
+        raised,
+    );
+    r.number
+}
+
+// The raise of an axis of a lent frontier, told and stored.
+pub fn raise(
+    old: &[u64; NUMBERS],
+    axis: u64,
+    epoch: u64,
+    capacity: u32,
+    raised: &mut [u64; NUMBERS],
+    told: &mut [u64; 3],
+)
+    ensures { λ _. ⌜ Merge-says (raise (frontier-of (now (old .entry))) axis epoch capacity) (now (told .exit))
+        (now (raised .exit)) ⌝ }
+{
+    let number = raise_numbers(old, axis, epoch, capacity, raised);
+    tell(plan_format::refused(number, 0), told);
+}
+
+// Whether the left of two lent frontiers dominates the right one.
+fn dominates_numbers<'a>(left: &'a [u64], right: &'a [u64]) -> Dominance
+    requires { ⌜ (length (now left) ≡ frontier-numbers) × (length (now right) ≡ frontier-numbers) ⌝ }
+    ensures { λ r. ⌜ r ≡ dominance (frontier-of (now (left .entry))) (frontier-of (now (right .entry))) ⌝ }
+{
+    let xn = length_of(left);
+    let yn = length_of(right);
+    lent::dominates(
+        &left[..EPOCHS],
+        &left[EPOCHS..LENGTH],
+        xn,
+        left[TAINT] != 0,
+        &right[..EPOCHS],
+        &right[EPOCHS..LENGTH],
+        yn,
+        right[TAINT] != 0,
+    )
+}
+
+// The same, told.
+pub fn dominates<'a>(left: &'a [u64; NUMBERS], right: &'a [u64; NUMBERS], told: &mut [u64; 3])
+    ensures { λ _. ⌜ told-of (now (told .exit)) ≡
+        dominance-told (dominance (frontier-of (now (left .entry))) (frontier-of (now (right .entry)))) ⌝ }
+{
+    let r = dominates_numbers(left, right);
+    tell(dominance(r), told);
+}
+
+// What a lent frontier says of an axis.
+fn lookup_numbers(numbers: &[u64], axis: u64) -> Lookup
+    requires { ⌜ length (now numbers) ≡ frontier-numbers ⌝ }
+    ensures { λ r. ⌜ r ≡ looked-up (frontier-of (now (numbers .entry))) axis ⌝ }
+{
+    let len = length_of(numbers);
+    lent::lookup(&numbers[..EPOCHS], &numbers[EPOCHS..LENGTH], len, axis)
+}
+
+// The same, told: whether the axis is listed, and its epoch.
+pub fn lookup(numbers: &[u64; NUMBERS], axis: u64, epoch: &mut [u64; 1], told: &mut [u64; 3])
+    ensures { λ _. ⌜ Lookup-says (looked-up (frontier-of (now (numbers .entry))) axis) (now (told .exit))
+        (now (epoch .exit)) ⌝ }
+{
+    let r = lookup_numbers(numbers, axis);
+    let Lookup::Listed(listed) = r else {
+        *epoch = [0];
+        tell(plan_format::answered(0), told);
+        return;
+    };
+    *epoch = [listed];
+    tell(plan_format::answered(1), told);
 }

@@ -7,10 +7,10 @@ ghost use Rattle.plan_format.specs.Stored.{Read-says, Write-says};
 ghost use Rattle.plan_order.specs.Promise.{Checked};
 ghost use Rattle.ask_reuse.specs.Reuse.{Reuse-asked};
 ghost use Rattle.ask_frontier.specs.SentMeaning.{Frontier-right};
-ghost use Rattle.frontier.specs.Frontiers.{capable, merge, raise, dominance};
-ghost use Rattle.frontier.specs.Meaning.{Merge-right, Raise-right, Dominance-means};
+ghost use Rattle.frontier.specs.Frontiers.{capable, looked-up, merge, raise, dominance};
+ghost use Rattle.frontier.specs.Meaning.{Looked, Merge-right, Raise-right, Dominance-means};
 ghost use Rattle.c_lent.specs.Lent.{told-of, frontier-of, oversized, Merge-says, merged-of, Oversized-refused};
-ghost use Rattle.c_lent.specs.Lent.{dominance-told, dominance-of};
+ghost use Rattle.c_lent.specs.Lent.{dominance-told, dominance-of, Lookup-says, lookup-of};
 ghost use Rattle.cundvrest_c.specs.Sent.{Sent-says, sent-of};
 
 // The numbers of a stored plan in front of the room; the answer is how many there are.
@@ -89,11 +89,28 @@ pub extern "C" fn cundvrest_frontier(
     c_lent::hand(r.number, r.place, r.frontier, frontier, told);
 }
 
+// What a frontier says of an axis: the answer is 1 if it is listed, with its epoch in a number of its own, and 0 if it
+// is absent.
+#[no_mangle]
+pub extern "C" fn cundvrest_lookup(
+    frontier: &[u64; c_lent::NUMBERS],
+    axis: u64,
+    epoch: &mut [u64; 1],
+    told: &mut [u64; 3],
+)
+    ensures says { λ _. ⌜ Lookup-says (looked-up (frontier-of (now (frontier .entry))) axis) (now (told .exit))
+        (now (epoch .exit)) ⌝ }
+    ensures means { λ _. ⌜ Looked (frontier-of (now (frontier .entry))) axis
+        (lookup-of (now (told .exit)) (now (epoch .exit))) ⌝ }
+{
+    c_lent::lookup(frontier, axis, epoch, told);
+}
+
 // The larger epoch of each axis, cut to the capacity.
 #[no_mangle]
-pub extern "C" fn cundvrest_merge(
-    left: &[u64; c_lent::NUMBERS],
-    right: &[u64; c_lent::NUMBERS],
+pub extern "C" fn cundvrest_merge<'a>(
+    left: &'a [u64; c_lent::NUMBERS],
+    right: &'a [u64; c_lent::NUMBERS],
     capacity: u32,
     merged: &mut [u64; c_lent::NUMBERS],
     told: &mut [u64; 3],
@@ -106,8 +123,7 @@ pub extern "C" fn cundvrest_merge(
     ensures oversized_sides { λ _. ⌜ Oversized-refused (oversized (now (left .entry)) || oversized (now (right .entry)))
         (capable capacity) (now (told .exit)) ⌝ }
 {
-    let r = c_lent::frontier(left).merge(c_lent::frontier(right), capacity);
-    c_lent::hand(r.number, 0, r.frontier, merged, told);
+    c_lent::merge(left, right, capacity, merged, told);
 }
 
 // One axis raised to an epoch.
@@ -127,15 +143,14 @@ pub extern "C" fn cundvrest_raise(
     ensures oversized_side { λ _. ⌜ Oversized-refused (oversized (now (old .entry))) (capable capacity)
         (now (told .exit)) ⌝ }
 {
-    let r = c_lent::frontier(old).raise(axis, epoch, capacity);
-    c_lent::hand(r.number, 0, r.frontier, raised, told);
+    c_lent::raise(old, axis, epoch, capacity, raised, told);
 }
 
 // Whether the left frontier dominates the right one; the answer is the value of no, yes or unknown.
 #[no_mangle]
-pub extern "C" fn cundvrest_dominates(
-    left: &[u64; c_lent::NUMBERS],
-    right: &[u64; c_lent::NUMBERS],
+pub extern "C" fn cundvrest_dominates<'a>(
+    left: &'a [u64; c_lent::NUMBERS],
+    right: &'a [u64; c_lent::NUMBERS],
     told: &mut [u64; 3],
 )
     ensures says { λ _. ⌜ told-of (now (told .exit)) ≡
@@ -145,6 +160,5 @@ pub extern "C" fn cundvrest_dominates(
     ensures oversized_sides { λ _. ⌜ Oversized-refused
         (oversized (now (left .entry)) || oversized (now (right .entry))) true (now (told .exit)) ⌝ }
 {
-    let r = c_lent::frontier(left).dominates(c_lent::frontier(right));
-    c_lent::tell(c_lent::dominance(r), told);
+    c_lent::dominates(left, right, told);
 }

@@ -6,21 +6,20 @@ use mathlib.Core.List.{List, [], _∷_, _++_, append-assoc, append-nil}
 use Prim.Native.Nat.{ℕ, suc, _+_, _-_, _≤_, _<_, zero-le, max}
 use native.Mathlib.Omega.{arith}
 use lib.Dec.{eqb, ltb, leb}
-use lib.ListN.{length, getD, set, length-set, take, drop, replicate}
-use lib.Seq.{length-take-le}
+use lib.ListN.{length, getD, set, length-set}
 use borrow.Author.Tests.{eqb-true, eqb-false, ltb-true, ltb-false, leb-true, leb-false, le-leb, lt-ltb}
+use Rattle.base_lists.specs.Lists.{filter}
 use Rattle.base_lists.proofs.Tests.{by-cases, clash}
 use Rattle.frontier.specs.declared.Lookup.the-variants.{Listed, Absent}
 use Rattle.frontier.specs.Entries.{Entry, most-entries, most-of-two, rising-from, find, union, cut}
-use Rattle.frontier.specs.Frontiers.{slot, slots, all-zero, pack, joined}
-use Rattle.frontier.specs.Walks.{rest, floor, leads}
+use Rattle.frontier.specs.Frontiers.{slot, slots, pack, handed, joined}
+use Rattle.frontier.specs.Walks.{rest, floor, leads, All-room, Left-in-room}
 use Rattle.frontier.proofs.Sorted.{Sorted, sorted, rising, sorted-union, lower, union-commutes, union-left}
 use Rattle.frontier.proofs.Sorted.{union-both}
 use Rattle.frontier.proofs.Slots.{rest-all, rest-more, rest-none, sorted-rest, slots-put, slots-length}
-use Rattle.frontier.proofs.Slots.{zero-past, zero-first, slots-first}
 use Rattle.frontier.proofs.Cut.{find-below}
 use Rattle.frontier.proofs.Lookups.{absent-listed, same-epoch}
-use Rattle.frontier.proofs.Pack.{repack, all-zero-replicate}
+use Rattle.frontier.proofs.Pack.{entries-pack}
 use Rattle.frontier.proofs.Merge.{joined-whole}
 
 -- WHICH SIDE LEADS
@@ -142,27 +141,20 @@ pub record Join (xa xe ya ye axes epochs : List ℕ) (xn yn n i j : ℕ) : Type 
   pub left-in : i ≤ xn
   pub right-in : j ≤ yn
   pub few : n ≤ i + j
-  pub axes-long : length axes ≡ most-of-two
-  pub epochs-long : length epochs ≡ most-of-two
-  pub zero-axes : all-zero (drop n axes) ≡ true
-  pub zero-epochs : all-zero (drop n epochs) ≡ true
+  pub room : All-room axes epochs
   pub whole : slots axes epochs n 0 ++ union (rest xa xe xn i) (rest ya ye yn j) ≡
       union (slots xa xe xn 0) (slots ya ye yn 0)
 
 module _ (xa xe ya ye axes epochs : List ℕ) (xn yn : ℕ) where
-  pub join-none : axes ≡ replicate most-of-two 0 → epochs ≡ replicate most-of-two 0 →
-      Join xa xe ya ye axes epochs xn yn 0 0 0
+  pub join-none : All-room axes epochs → Join xa xe ya ye axes epochs xn yn 0 0 0
   unfolding slots Rattle.base_lists.specs.Lists.tabulate-from
-  join-none p q = rw (p, q) (record {
+  join-none r = record {
     left-in = zero-le;
     right-in = zero-le;
     few = zero-le;
-    axes-long = refl;
-    epochs-long = refl;
-    zero-axes = all-zero-replicate most-of-two;
-    zero-epochs = all-zero-replicate most-of-two;
+    room = r;
     whole = rw (rest-all xa xe xn, rest-all ya ye yn);
-  })
+  }
 
   pub join-more : (n i j a e p q : ℕ) → Join xa xe ya ye axes epochs xn yn n i j → n < most-of-two → p ≤ xn → q ≤ yn →
       i + j < p + q → union (rest xa xe xn i) (rest ya ye yn j) ≡ record { axis = a; epoch = e } ∷ union
@@ -171,54 +163,61 @@ module _ (xa xe ya ye axes epochs : List ℕ) (xn yn : ℕ) where
     left-in = l;
     right-in = r;
     few = omega (arith, w .few);
-    axes-long = length-set axes n a ∙ w .axes-long;
-    epochs-long = length-set epochs n e ∙ w .epochs-long;
-    zero-axes = zero-past axes n a (omega (arith, w .axes-long)) (w .zero-axes);
-    zero-epochs = zero-past epochs n e (omega (arith, w .epochs-long)) (w .zero-epochs);
+    room = (length-set axes n a ∙ w .room .0, length-set epochs n e ∙ w .room .1);
     whole = rw (
-      slots-put axes epochs n a e (omega (arith, w .axes-long)) (omega (arith, w .epochs-long)),
+      slots-put axes epochs n a e (omega (arith, w .room .0)) (omega (arith, w .room .1)),
       append-assoc,
       ← step,
     ) (w .whole);
   }
 
   pub join-end : (n i j : ℕ) → Join xa xe ya ye axes epochs xn yn n i j → xn + yn ≤ i + j →
-      slots axes epochs n 0 ≡ union (slots xa xe xn 0) (slots ya ye yn 0)
+      xn ≤ most-entries → yn ≤ most-entries → (n ≤ most-of-two) × All-room axes epochs ×
+      (slots axes epochs n 0 ≡ union (slots xa xe xn 0) (slots ya ye yn 0))
   unfolding union
-  join-end n i j w h =
-      sym (append-nil (slots axes epochs n 0))
-      ∙ (rw (
-        rest-none xa xe xn i (omega (arith, w .left-in, w .right-in)),
-        rest-none ya ye yn j (omega (arith, w .left-in, w .right-in)),
-      ) at (w .whole))
-
-  -- the whole union, as eviction takes it
-  pub join-fits : (n i j : ℕ) → Join xa xe ya ye axes epochs xn yn n i j → xn + yn ≤ i + j →
-      rising-from 0 (slots xa xe xn 0) ≡ true → rising-from 0 (slots ya ye yn 0) ≡ true → xn ≤ most-entries →
-      yn ≤ most-entries → (n ≤ length axes) × (n ≤ length epochs) × (rising-from 0 (slots axes epochs n 0) ≡ true)
-  join-fits n i j w h rx ry a b = (
-    omega (arith, w .few, w .left-in, w .right-in, w .axes-long),
-    omega (arith, w .few, w .left-in, w .right-in, w .epochs-long),
-    rw (join-end n i j w h) (rising 0 (union (slots xa xe xn 0) (slots ya ye yn 0))
-        (sorted-union 0 (slots xa xe xn 0) (slots ya ye yn 0) (sorted 0 (slots xa xe xn 0) rx)
-        (sorted 0 (slots ya ye yn 0) ry))),
+  join-end n i j w h a b = (
+    omega (arith, w .few, w .left-in, w .right-in),
+    w .room,
+    sym (append-nil (slots axes epochs n 0))
+        ∙ (rw (
+          rest-none xa xe xn i (omega (arith, w .left-in, w .right-in)),
+          rest-none ya ye yn j (omega (arith, w .left-in, w .right-in)),
+        ) at (w .whole)),
   )
 
-  pub join-packed : (n i j c : ℕ) (t : Bool) → Join xa xe ya ye axes epochs xn yn n i j → xn + yn ≤ i + j → c < n →
-      pack (cut c (slots axes epochs n 0)) true ≡ joined (slots xa xe xn 0) (slots ya ye yn 0) t c
-  unfolding joined
-  join-packed n i j c t w h l = rw (← join-end n i j w h, slots-length axes epochs n 0, lt-ltb c n l, or-true t)
+-- THE WHOLE UNION, as eviction takes it, and what is left of it
+module _ (xs ys : List Entry) (axes epochs : List ℕ) (n c : ℕ) (t : Bool)
+    (e : slots axes epochs n 0 ≡ union xs ys) where
+  pub union-rises : rising-from 0 xs ≡ true → rising-from 0 ys ≡ true → rising-from 0 (slots axes epochs n 0) ≡ true
+  union-rises rx ry = rw e (rising 0 (union xs ys) (sorted-union 0 xs ys (sorted 0 xs rx) (sorted 0 ys ry)))
 
-  -- what the capacity holds is not cut: the first slots are the frontier
-  pub join-whole : (n i j c : ℕ) (t : Bool) (r q : List ℕ) → Join xa xe ya ye axes epochs xn yn n i j →
-      xn + yn ≤ i + j → n ≤ c → c ≤ most-entries → r ≡ take most-entries axes → q ≡ take most-entries epochs →
-      record { axes = r; epochs = q; len = n; tainted = t } ≡ joined (slots xa xe xn 0) (slots ya ye yn 0) t c
-  join-whole n i j c t r q w h l m e f =
-      let u = slots-first axes epochs most-entries n (omega arith) ∙ join-end n i j w h in
-      rw (e, f) (repack (take most-entries axes) (take most-entries epochs) n t (omega arith)
-      (length-take-le most-entries axes (omega (arith, w .axes-long)))
-      (length-take-le most-entries epochs (omega (arith, w .epochs-long)))
-      (zero-first most-entries n axes (w .zero-axes)) (zero-first most-entries n epochs (w .zero-epochs))
-      ∙ ap (λ l. pack l t) u
-      ∙ sym (joined-whole (slots xa xe xn 0) (slots ya ye yn 0) t c
-      (omega (arith, ap length (join-end n i j w h), slots-length axes epochs n 0))))
+  -- what the capacity holds is not cut
+  pub join-whole : All-room axes epochs → n ≤ c →
+      Left-in-room (handed (joined xs ys t c)) (record { number = 0; len = n; tainted = t }) axes epochs
+  join-whole r l =
+      let f : joined xs ys t c ≡ pack (union xs ys) t =
+      joined-whole xs ys t c (omega (arith, ap length e, slots-length axes epochs n 0)) in
+      rw f (record {
+        room = r;
+        number = refl;
+        tainted = unfold pack in refl;
+        listed = e ∙ sym (entries-pack (union xs ys) t);
+      })
+
+  -- and what is over it is, by the bound
+  pub join-cut : (f : Entry → Bool) (new-axes new-epochs : List ℕ) (m : ℕ) → c < n →
+      cut c (slots axes epochs n 0) ≡ filter f (slots axes epochs n 0) → All-room new-axes new-epochs →
+      slots new-axes new-epochs m 0 ≡ filter f (slots axes epochs n 0) →
+      Left-in-room (handed (joined xs ys t c)) (record { number = 0; len = m; tainted = true }) new-axes new-epochs
+  join-cut f new-axes new-epochs m l b r q =
+      let over : ltb c (length (union xs ys)) ≡ true =
+      lt-ltb c (length (union xs ys)) (omega (arith, ap length e, slots-length axes epochs n 0)) in
+      rw (cut-joined over) (record {
+        room = r;
+        number = refl;
+        tainted = unfold pack in refl;
+        listed = q ∙ sym b ∙ ap (cut c) e ∙ sym (entries-pack (cut c (union xs ys)) true);
+      })
+    where
+      cut-joined : ltb c (length (union xs ys)) ≡ true → joined xs ys t c ≡ pack (cut c (union xs ys)) true
+      cut-joined over = unfold joined in (rw (over, or-true t) refl)

@@ -13,6 +13,7 @@ pub mod Meaning
 pub mod Associate
 pub mod Dominates
 pub mod Lookups
+pub mod Fill
 pub mod Raising
 pub mod Raise
 pub mod Gathered

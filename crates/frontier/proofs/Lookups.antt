@@ -1,28 +1,33 @@
 -- The lookup of an axis: from a slot on it gives what is listed there, and of a whole frontier what `Looked` promises.
 -- Assumes nothing.
 use mathlib.Core.Path.{_≡_, refl, sym, ap, _∙_}
-use mathlib.Core.Bool.{true}
+use mathlib.Core.Bool.{true, false, _&&_, and-false}
 use mathlib.Core.List.{List, [], _∷_}
 use Prim.Native.Nat.{ℕ, zero, suc, _+_, _≤_, _<_}
 use native.Mathlib.Nat.{le-refl}
 use native.Mathlib.Numerals.{add-one}
 use native.Mathlib.Omega.{arith}
 use lib.Dec.{ltb, eqb}
-use lib.ListN.{getD}
-use borrow.Author.Tests.{ltb-true, eqb-true, eq-eqb, ne-eqb}
-use Rattle.base_lists.proofs.Tests.{by-cases}
+use lib.ListN.{length, getD}
+use borrow.Author.Tests.{lt-ltb, le-ltb, ltb-true, ltb-false, eqb-true, eqb-false, eq-eqb, ne-eqb}
+use Rattle.base_lists.specs.Lists.{tabulate-from}
+use Rattle.base_lists.proofs.Tests.{by-cases, and-left}
+use Rattle.axis_search.specs.declared.Slot as searches
+use Rattle.axis_search.specs.Halving.{Rise, Halving, searched}
+use Rattle.axis_search.proofs.Halves.{searched-means, five-read}
 use Rattle.frontier.specs.declared.Frontier.{Frontier}
+use Rattle.frontier.specs.declared.Lookup.{Lookup}
 use Rattle.frontier.specs.declared.Lookup.the-variants.{Listed, Absent}
 use Rattle.frontier.specs.declared.search.Found.{Found}
 use Rattle.frontier.specs.Entries.{Entry, most-entries, find, values-of, epochs-under}
-use Rattle.frontier.specs.Frontiers.{slot, slots, entries, well-formed}
+use Rattle.frontier.specs.Frontiers.{slot, slots, entries, well-formed, lookup-at, looked-up}
 use Rattle.frontier.specs.Meaning.{Looked}
-use Rattle.frontier.specs.Walks.{rest, floor, skip-below, Found-from}
+use Rattle.frontier.specs.Walks.{rest, floor, skip-below, Found-from, found-by-halving, All-slots}
 use Rattle.frontier.proofs.Sorted.{Sorted, sorted, same-entry}
 use Rattle.frontier.proofs.Cut.{find-below}
 use Rattle.frontier.proofs.Slots.{rest-all, rest-more, rest-none, sorted-rest}
 use Rattle.frontier.proofs.Steps.{skip-more, skip-stop, skip-none}
-use Rattle.frontier.proofs.Pack.{formed, sorted-entries}
+use Rattle.frontier.proofs.Pack.{formed, sorted-entries, all-slots}
 
 pub absent-listed : {A : Type 0} {e : ℕ} → Absent ≡ Listed e → A
 absent-listed q = let z : _≡_ {A = ℕ} 0 1 = cc in absurd (omega arith)
@@ -126,22 +131,126 @@ found-exactly b a (x ∷ xs) s =
     (λ t. rw (t, under-none (suc (x .axis)) a xs (s .2) (omega (arith, eqb-true (x .axis) a t))))
     (λ t. rw t (found-exactly (suc (x .axis)) a xs (s .2)))
 
-module _ (f : Frontier) (axis : ℕ) where
-  pub looked-long : most-entries < f .len → Looked f axis Absent
-  looked-long h = record {
-    found = λ w. absurd (omega (arith, formed f w .short));
-    exactly = λ w. absurd (omega (arith, formed f w .short));
-    in-a-slot = λ e q. absent-listed q;
-  }
+-- BY HALVING
+-- an answer that is not listed is absent
+absent-by : (r : Lookup) → ((e : ℕ) → r ≡ Listed e → ⊥) → Absent ≡ r
+absent-by (Listed e) h = absurd (h e refl)
+absent-by Absent h = refl
 
-  pub looked : (r : Found) → f .len ≤ most-entries → Found-from (f .axes) (f .epochs) (f .len) 0 axis r →
-      Looked f axis (r .answer)
-  looked r short w = record {
-    found = found-right;
-    exactly = λ v. ap values-of (found-right v) ∙ found-exactly 0 axis (entries f) (sorted-entries f v);
-    in-a-slot = λ e q. let s = w .in-slot e q in (r .at, s .0, short, s .1);
-  }
+-- what is found is in a slot
+find-slot : (xs es : List ℕ) (a e n i : ℕ) → find a (tabulate-from n i (slot xs es)) ≡ Listed e →
+    (k : ℕ) × (k < i + n) × (getD xs k 0 ≡ a)
+unfolding find tabulate-from slot
+find-slot xs es a e zero i q = absent-listed q
+find-slot xs es a e (suc n) i q =
+    by-cases (eqb (getD xs i 0) a) (λ t. (i, omega arith, eqb-true (getD xs i 0) a t))
+    (λ t. let w = find-slot xs es a e n (suc i) (rw t at q) in (w .0, omega (arith, w .1), w .2))
+
+module _ (xs es : List ℕ) (n : ℕ) (s : Sorted 0 (slots xs es n 0)) where
+  slot-above : (k : ℕ) → k < n → floor xs k ≤ getD xs k 0
+  slot-above k h = unfold slot in ((rw (rest-more xs es n k h) at (sorted-rest xs es n k (omega arith) s)) .0)
+
+  -- rising entries have rising axes
+  axes-rise : Rise xs n
+  axes-rise i zero h l = absurd (omega arith)
+  axes-rise i (suc k) h l =
+      by-cases (eqb i k) (λ t. rw (eqb-true i k t) next)
+      (λ t. omega (arith, axes-rise i k (omega (arith, eqb-false i k t)) (omega arith), next))
     where
-      found-right : well-formed f ≡ true → r .answer ≡ find axis (entries f)
-      found-right v = unfold entries in
-          (w .found (formed f v .rises) ∙ ap (find axis) (rest-all (f .axes) (f .epochs) (f .len)))
+      next : getD xs k 0 < getD xs (suc k) 0
+      next = unfold floor in (slot-above (suc k) l)
+
+  -- a slot of the axis has what is found
+  find-at : (a i : ℕ) → i < n → getD xs i 0 ≡ a → find a (slots xs es n 0) ≡ Listed (getD es i 0)
+  find-at a i h e = sym (find-ahead xs es n s a i (omega arith) (omega (arith, slot-above i h))) ∙ here
+    where
+      here : find a (rest xs es n i) ≡ Listed (getD es i 0)
+      here = unfold find slot in (rw (rest-more xs es n i h, eq-eqb (getD xs i 0) a e))
+
+module _ (axes epochs : List ℕ) (len axis : ℕ) where
+  means : Halving axes axis len (searched axes axis len)
+  means = searched-means axes axis len refl
+
+  abbrev at : ℕ
+  at = searched axes axis len .at
+
+  -- anything that it gives is in the slot that the search gave
+  looked-slot : (e : ℕ) → lookup-at epochs at ≡ Listed e →
+      (at < len) × (len ≤ most-entries) × (slot axes epochs at ≡ record { axis = axis; epoch = e })
+  unfolding lookup-at slot
+  looked-slot e =
+      by-cases (ltb at most-entries && ltb at (length epochs))
+      (λ t. rw t (λ q. let w = means .of-axis (ltb-true at most-entries (and-left (ltb at most-entries) _ t)) in
+      (w .0, w .1, same-entry (w .3) (same-epoch q))))
+      (λ f. rw f (λ q. absent-listed q))
+
+  looked-found : len ≤ most-entries → All-slots axes epochs → Sorted 0 (slots axes epochs len 0) →
+      lookup-at epochs at ≡ find axis (slots axes epochs len 0)
+  looked-found l a s =
+      by-cases (ltb at most-entries) some none
+    where
+      some : ltb at most-entries ≡ true → lookup-at epochs at ≡ find axis (slots axes epochs len 0)
+      some t =
+          let w = means .of-axis (ltb-true at most-entries t) in
+          unfold lookup-at in (rw (a .1, t) (sym (find-at axes epochs len s axis at (w .0) (w .3))))
+
+      slot-of : (e : ℕ) → find axis (slots axes epochs len 0) ≡ Listed e →
+          (k : ℕ) × (k < 0 + len) × (getD axes k 0 ≡ axis)
+      slot-of e q = unfold slots in (find-slot axes epochs axis e len 0 q)
+
+      none : ltb at most-entries ≡ false → lookup-at epochs at ≡ find axis (slots axes epochs len 0)
+      none t = unfold lookup-at in (rw t (absent-by (find axis (slots axes epochs len 0))
+          (λ e q. let k = slot-of e q in
+          omega (
+            arith,
+            ltb-false at most-entries t,
+            means .finds (axes-rise axes epochs len s) l (omega (arith, a .0)) (k .0) (omega (arith, k .1)) (k .2),
+            k .1,
+          ))))
+
+  -- what is in the slot that the search gave
+  module _ (found : searches.Slot) (e : found ≡ searched axes axis len) where
+    pub halved-listed : found .at < most-entries → found .at < length epochs →
+        record { answer = Listed (getD epochs (found .at) 0); at = found .at } ≡
+        found-by-halving axes epochs len axis
+    unfolding found-by-halving looked-up lookup-at
+    halved-listed h l =
+        rw (← e, lt-ltb (found .at) most-entries h, lt-ltb (found .at) (length epochs) l) refl
+
+    pub halved-short : length epochs ≤ found .at →
+        record { answer = Absent; at = found .at } ≡ found-by-halving axes epochs len axis
+    unfolding found-by-halving looked-up lookup-at
+    halved-short l = rw (← e, le-ltb (found .at) (length epochs) l, and-false (ltb (found .at) most-entries)) refl
+
+    pub halved-none : most-entries ≤ found .at →
+        record { answer = Absent; at = found .at } ≡ found-by-halving axes epochs len axis
+    unfolding found-by-halving looked-up lookup-at
+    halved-none h = rw (← e, le-ltb (found .at) most-entries h) refl
+
+  -- as the lookup from the first slot on
+  pub halved-from : len ≤ most-entries → All-slots axes epochs → {r : Found} →
+      r ≡ found-by-halving axes epochs len axis → Found-from axes epochs len 0 axis r
+  halved-from l a e = unfold found-by-halving looked-up in (rw e (record {
+    found = λ s. looked-found l a (sorted 0 (slots axes epochs len 0) s)
+        ∙ ap (find axis) (sym (rest-all axes epochs len));
+    in-slot = λ k q. let w = looked-slot k q in (w .0, w .2);
+  }))
+
+-- R60: of a frontier
+pub looked : (f : Frontier) (axis : ℕ) (r : Lookup) → r ≡ looked-up f axis → Looked f axis r
+unfolding looked-up
+looked f axis r e = rw e (record {
+  by-halving = refl;
+  few-read = five-read (f .axes) axis (f .len);
+  found = right;
+  exactly = λ v. ap values-of (right v) ∙ found-exactly 0 axis (entries f) (sorted-entries f v);
+  halves = λ v. means (f .axes) (f .epochs) (f .len) axis .halves (axes-rise (f .axes) (f .epochs) (f .len)
+      (unfold entries in (sorted-entries f v)));
+  in-a-slot = λ k q. let w = looked-slot (f .axes) (f .epochs) (f .len) axis k q in
+      (searched (f .axes) axis (f .len) .at, w .0, w .1, w .2);
+})
+  where
+    right : well-formed f ≡ true →
+        lookup-at (f .epochs) (searched (f .axes) axis (f .len) .at) ≡ find axis (entries f)
+    right v = unfold entries in (looked-found (f .axes) (f .epochs) (f .len) axis (formed f v .short) (all-slots f v)
+        (unfold entries in (sorted-entries f v)))

@@ -15,7 +15,7 @@ use Rattle.frontier.specs.declared.Merged.{Merged}
 use Rattle.frontier.specs.Entries.{Entry, most-entries, rising-from, union, cut}
 use Rattle.frontier.specs.Frontiers.{entries, well-formed, pack, refusal, handed, joined, merge-number, merge}
 use Rattle.frontier.specs.Frontiers.{one-entry}
-use Rattle.frontier.specs.Walks.{left-number}
+use Rattle.frontier.specs.Walks.{left-number, All-slots}
 use Rattle.frontier.proofs.Sorted.{Sorted, sorted-union, union-commutes, union-idempotent}
 use Rattle.frontier.proofs.Cut.{sorted-cut, cut-length, cut-whole}
 use Rattle.frontier.proofs.Slots.{slots-length}
@@ -86,7 +86,9 @@ module _ (f g : Frontier) (c : ℕ) where
   merged m w q e = e ∙ accepted (w .at-least-one) (w .at-most-sixteen) (w .left) q
 
   -- what the walk asks
-  pub joins : Left-accepted → well-formed g ≡ true → ((f .len ≤ most-entries) × (g .len ≤ most-entries))
+  pub joins : Left-accepted → well-formed g ≡ true →
+      ((f .len ≤ most-entries) × (g .len ≤ most-entries) × All-slots (f .axes) (f .epochs)
+      × All-slots (g .axes) (g .epochs))
       × (((rising-from 0 (entries f) ≡ true) × (rising-from 0 (entries g) ≡ true)) × ((1 ≤ c) × (c ≤ most-entries)))
   joins w q = let b = both-fit f g (w .left) q in (b .0, (b .1, (w .at-least-one, w .at-most-sixteen)))
 

@@ -16,6 +16,7 @@ use Rattle.base_lists.proofs.Tests.{by-cases, clash, is-false, and-left, and-ri
 use Rattle.frontier.specs.declared.Frontier.{Frontier}
 use Rattle.frontier.specs.Entries.{Entry, most-entries, rising-from}
 use Rattle.frontier.specs.Frontiers.{slot, slots, entries, all-zero, row-formed, well-formed, pack}
+use Rattle.frontier.specs.Walks.{All-slots}
 use Rattle.frontier.proofs.Sorted.{Sorted, sorted, rising}
 use Rattle.frontier.proofs.Slots.{tabulate-shift, slots-length}
 
@@ -34,7 +35,7 @@ tabulate-row (suc n) (x ∷ row) h =
     ap {B = List ℕ}
     (λ l. x ∷ l) (tabulate-shift n 0 (λ k. getD (x ∷ row) k 0) ∙ tabulate-row n row (le-of-suc-le-suc h))
 
-zeros : (row : List ℕ) → all-zero row ≡ true → row ≡ replicate (length row) 0
+pub zeros : (row : List ℕ) → all-zero row ≡ true → row ≡ replicate (length row) 0
 unfolding all-zero
 zeros [] e = refl
 zeros (x ∷ row) e =
@@ -157,6 +158,12 @@ well-formed-pack xs t s h = well (pack xs t) (record {
 pub not-short : (f : Frontier) → most-entries < f .len → false ≡ well-formed f
 not-short f h = sym (is-false (well-formed f) (λ t. omega (arith, formed f t .short)))
 
+pub not-sixteen-axes : (f : Frontier) → (length (f .axes) ≡ most-entries → ⊥) → false ≡ well-formed f
+not-sixteen-axes f h = sym (is-false (well-formed f) (λ t. h (formed f t .sixteen-axes)))
+
+pub not-sixteen-epochs : (f : Frontier) → (length (f .epochs) ≡ most-entries → ⊥) → false ≡ well-formed f
+not-sixteen-epochs f h = sym (is-false (well-formed f) (λ t. h (formed f t .sixteen-epochs)))
+
 pub not-rising : (f : Frontier) → rising-from 0 (slots (f .axes) (f .epochs) (f .len) 0) ≡ false → false ≡ well-formed f
 unfolding entries
 not-rising f e = sym (is-false (well-formed f) (λ t. clash _ (formed f t .rises) e))
@@ -175,8 +182,16 @@ judged f r l a b s z e =
     (record { short = l; rises = s; sixteen-axes = a; sixteen-epochs = b; zero-axes = z; zero-epochs = t })))
     (λ t. e ∙ t ∙ sym (is-false (well-formed f) (λ u. clash _ (formed f u .zero-epochs) t)))
 
+-- all slots of a well-formed frontier are there
+pub all-slots : (f : Frontier) → well-formed f ≡ true → All-slots (f .axes) (f .epochs)
+all-slots f e = (formed f e .sixteen-axes, formed f e .sixteen-epochs)
+
 -- two frontiers that the walks take
 pub both-fit : (f g : Frontier) → well-formed f ≡ true → well-formed g ≡ true →
-    ((f .len ≤ most-entries) × (g .len ≤ most-entries))
+    ((f .len ≤ most-entries) × (g .len ≤ most-entries) × All-slots (f .axes) (f .epochs)
+    × All-slots (g .axes) (g .epochs))
     × ((rising-from 0 (entries f) ≡ true) × (rising-from 0 (entries g) ≡ true))
-both-fit f g p q = ((formed f p .short, formed g q .short), (formed f p .rises, formed g q .rises))
+both-fit f g p q = (
+  (formed f p .short, formed g q .short, all-slots f p, all-slots g q),
+  (formed f p .rises, formed g q .rises),
+)

@@ -17,13 +17,14 @@ use Rattle.frontier.specs.declared.Merged.{Merged}
 use Rattle.frontier.specs.declared.Lookup.the-variants.{Listed}
 use Rattle.frontier.specs.declared.search.Found.{Found}
 use Rattle.frontier.specs.Entries.{Entry, most-entries, rising-from, put, union}
-use Rattle.frontier.specs.Frontiers.{slot, slots, entries, pack, refusal, handed, joined, one-entry, raise}
-use Rattle.frontier.specs.Walks.{rest, Found-from, left-number}
+use Rattle.frontier.specs.Frontiers.{slot, slots, entries, well-formed, pack, refusal, handed, joined}
+use Rattle.frontier.specs.Frontiers.{one-entry, raise}
+use Rattle.frontier.specs.Walks.{rest, Found-from, left-number, All-slots}
 use Rattle.frontier.proofs.Sorted.{Sorted, rising, same-entry, put-same, put-past, union-commutes, union-none}
 use Rattle.frontier.proofs.Slots.{tabulate-same, slots-length, rest-all, rest-more}
-use Rattle.frontier.proofs.Pack.{Formed, formed, repack, entries-pack, sorted-entries}
+use Rattle.frontier.proofs.Pack.{Formed, formed, repack, entries-pack, sorted-entries, all-slots}
 use Rattle.frontier.proofs.Merge.{Left-accepted, left-accepted, refused-first, merged, formed-one, sorted-one}
-use Rattle.frontier.proofs.Merge.{joined-whole}
+use Rattle.frontier.proofs.Merge.{joined-whole, merge-formed}
 
 -- ONE ENTRY as slots: none for epoch 0, else the first
 module _ (a e : ℕ) (axes epochs : List ℕ) where
@@ -38,10 +39,15 @@ module _ (a e : ℕ) (axes epochs : List ℕ) where
     rw one-slots (rising 0 (one-entry a e) (sorted-one a e)),
   )
 
-  pub one-joined : (xs : List Entry) (t : Bool) (c : ℕ) (r : Merged) →
-      r ≡ handed (joined xs (slots (a ∷ axes) (e ∷ epochs) (boolByte (not (eqb e 0))) 0) t c) →
-      r ≡ handed (joined xs (one-entry a e) t c)
-  one-joined xs t c r j = j ∙ ap (λ ys. handed (joined xs ys t c)) one-slots
+  pub one-joined : (xs : List Entry) (t : Bool) (c : ℕ) →
+      handed (joined xs (slots (a ∷ axes) (e ∷ epochs) (boolByte (not (eqb e 0))) 0) t c) ≡
+      handed (joined xs (one-entry a e) t c)
+  one-joined xs t c = ap (λ ys. handed (joined xs ys t c)) one-slots
+
+-- a raise hands back a well-formed frontier, as a merge does
+pub raise-formed : (f : Frontier) (x e c : ℕ) → well-formed (raise f x e c .frontier) ≡ true
+unfolding raise
+raise-formed f x e c = merge-formed f (pack (one-entry x e) false) c
 
 -- STORED IN A SLOT: what is put into the list of the entries
 module _ (xs es : List ℕ) (n at a e old m : ℕ) (l : at < n) (long : at < length es)
@@ -113,9 +119,10 @@ module _ (f : Frontier) (x e c : ℕ) (n : ℕ) (p : n ≡ left-number f c) wher
     left : Left-accepted f (pack (one-entry x e) false) c
     left = left-accepted f (pack (one-entry x e) false) c n p z
 
-    pub raise-joins : ((f .len ≤ most-entries) × (rising-from 0 (entries f) ≡ true)) × ((1 ≤ c) × (c ≤ most-entries))
+    pub raise-joins : ((f .len ≤ most-entries) × (rising-from 0 (entries f) ≡ true) × All-slots (f .axes) (f .epochs))
+        × ((1 ≤ c) × (c ≤ most-entries))
     raise-joins = (
-      (formed f (left .left) .short, formed f (left .left) .rises),
+      (formed f (left .left) .short, formed f (left .left) .rises, all-slots f (left .left)),
       (left .at-least-one, left .at-most-sixteen),
     )
 

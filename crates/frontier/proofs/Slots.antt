@@ -8,7 +8,7 @@ use native.Mathlib.Numerals.{add-one}
 use native.Mathlib.Omega.{arith}
 use lib.ListN.{length, getD, set, take, drop}
 use lib.Dec.{eqb}
-use lib.Seq.{getD-set-same, getD-set-other, getD-take, take-all, take-suc, take-suc-set, drop-cons, drop-set-lt}
+use lib.Seq.{getD-set-same, getD-set-other, getD-take, take-all, take-suc, take-suc-set}
 use Rattle.base_lists.specs.Lists.{tabulate-from}
 use Rattle.base_lists.proofs.Tests.{and-left, and-right, and-both}
 use Rattle.base_lists.proofs.Tables.{tabulate-length, tabulate-last}
@@ -79,13 +79,19 @@ slots-put xs es n a e p q =
     zero-plus : (n : ℕ) → 0 + n ≡ n
     zero-plus n = omega arith
 
--- and what lies past it stays zero
-pub zero-past : (row : List ℕ) (n v : ℕ) → n < length row → all-zero (drop n row) ≡ true →
-    all-zero (drop (n + 1) (set row n v)) ≡ true
-unfolding all-zero
-zero-past row n v h z =
-    rw (add-one n, drop-set-lt (suc n) row n v (omega arith))
-    (and-right (eqb (getD row n 0) 0) (all-zero (drop (suc n) row)) (rw (drop-cons row n 0 h) at z))
+-- the slots before it stay, and those past it
+pub slots-before : (xs es : List ℕ) (n a e : ℕ) → slots (set xs n a) (set es n e) n 0 ≡ slots xs es n 0
+unfolding slots slot
+slots-before xs es n a e =
+    tabulate-same n 0 (slot (set xs n a) (set es n e)) (slot xs es)
+    (λ k l m. same-entry (getD-set-other xs n k a 0 (λ q. omega arith)) (getD-set-other es n k e 0 (λ q. omega arith)))
+
+pub rest-past : (xs es : List ℕ) (len n i a e : ℕ) → n < i →
+    rest (set xs n a) (set es n e) len i ≡ rest xs es len i
+unfolding slots slot
+rest-past xs es len n i a e h =
+    tabulate-same _ i (slot (set xs n a) (set es n e)) (slot xs es)
+    (λ k l m. same-entry (getD-set-other xs n k a 0 (λ q. omega arith)) (getD-set-other es n k e 0 (λ q. omega arith)))
 
 -- THE FIRST SLOTS
 zero-take : (m : ℕ) (row : List ℕ) → all-zero row ≡ true → all-zero (take m row) ≡ true

@@ -1,4 +1,4 @@
--- The walks of eviction over slots: how many exceed an entry, the bound of a capacity, and the copy of what exceeds it.
+-- The walks of eviction over slots: how many exceed an entry, the bound of a capacity, and the move of what exceeds it.
 -- Assumes nothing.
 use mathlib.Core.Path.{_≡_, refl, sym, ap, _∙_}
 use mathlib.Core.Bool.{Bool, true, false, cond}
@@ -8,88 +8,85 @@ use Prim.Native.Nat.{ℕ, zero, suc, _+_, _-_, _≤_, _<_, zero-le}
 use native.Mathlib.Omega.{arith}
 use lib.Dec.{eqb}
 use borrow.Author.Tests.{eqb-true, eqb-false}
-use lib.ListN.{length, getD, drop, set, length-append, length-set, replicate}
+use lib.ListN.{getD, set, length-set}
 use Rattle.base_lists.specs.Lists.{tabulate-from}
 use Rattle.base_lists.proofs.Tests.{by-cases, clash, is-false, either}
-use Rattle.frontier.specs.declared.Merged.{Merged}
 use Rattle.base_lists.specs.Lists.{filter}
-use Rattle.frontier.specs.Entries.{Entry, most-entries, rising-from, exceeds, exceeding, cut}
-use Rattle.frontier.specs.Frontiers.{slot, slots, all-zero, pack, handed}
-use Rattle.frontier.specs.Walks.{rest}
+use Rattle.frontier.specs.Entries.{Entry, most-of-two, rising-from, exceeds, exceeding, cut}
+use Rattle.frontier.specs.Frontiers.{slot, slots}
+use Rattle.frontier.specs.Walks.{rest, All-room}
 use Rattle.frontier.proofs.Sorted.{sorted}
 use Rattle.frontier.proofs.Exceeds.{exceeds-chain, exceeds-not-itself, exceeds-not-top}
-use Rattle.frontier.proofs.Cut.{In, exceeding-lt, least-count, cut-length}
-use Rattle.frontier.proofs.Slots.{rest-all, rest-more, rest-none, slots-length, slots-put, zero-past}
-use Rattle.frontier.proofs.Pack.{repack, all-zero-replicate}
+use Rattle.frontier.proofs.Cut.{In, exceeding-lt, least-count}
+use Rattle.frontier.proofs.Slots.{rest-all, rest-more, rest-none, slots-length, slots-put, slots-before}
+use Rattle.frontier.proofs.Slots.{rest-past}
 use Rattle.frontier.proofs.Evict.{exceeding-over, exceeding-none, bound-start, cut-at, cut-by-bound}
 
--- THE COPY: what is kept so far, and what is kept of the rest, is all that is kept
-pub record Trim (f : Entry → Bool) (axes epochs kept at : List ℕ) (len n i : ℕ) : Type 0 where
-  pub sixteen-axes : length kept ≡ most-entries
-  pub sixteen-epochs : length at ≡ most-entries
-  pub zero-axes : all-zero (drop n kept) ≡ true
-  pub zero-epochs : all-zero (drop n at) ≡ true
-  pub whole : slots kept at n 0 ++ filter f (rest axes epochs len i) ≡ filter f (slots axes epochs len 0)
+-- THE MOVE: what is kept so far, in front, and what is kept of the rest, is all that was kept of what was there
+pub record Trim (f : Entry → Bool) (axes₀ epochs₀ axes epochs : List ℕ) (len n i : ℕ) : Type 0 where
+  pub room : All-room axes epochs
+  pub short : len ≤ most-of-two
+  pub inside : i ≤ len
+  pub front : n ≤ i
+  pub whole : slots axes epochs n 0 ++ filter f (rest axes epochs len i) ≡ filter f (slots axes₀ epochs₀ len 0)
 
-module _ (f : Entry → Bool) (axes epochs kept at : List ℕ) (len : ℕ) where
-  pub trim-none : kept ≡ replicate most-entries 0 → at ≡ replicate most-entries 0 → Trim f axes epochs kept at len 0 0
+module _ (f : Entry → Bool) (axes₀ epochs₀ axes epochs : List ℕ) (len : ℕ) where
+  pub trim-none : axes ≡ axes₀ → epochs ≡ epochs₀ → All-room axes epochs → len ≤ most-of-two →
+      Trim f axes₀ epochs₀ axes epochs len 0 0
   unfolding slots tabulate-from
-  trim-none p q = rw (p, q) (record {
-    sixteen-axes = refl;
-    sixteen-epochs = refl;
-    zero-axes = all-zero-replicate most-entries;
-    zero-epochs = all-zero-replicate most-entries;
-    whole = ap (filter f) (rest-all axes epochs len);
-  })
-
-  pub trim-skip : (n i : ℕ) → Trim f axes epochs kept at len n i → i < len → f (slot axes epochs i) ≡ false →
-      Trim f axes epochs kept at len n (i + 1)
-  unfolding filter
-  trim-skip n i w h e = record {
-    sixteen-axes = w .sixteen-axes;
-    sixteen-epochs = w .sixteen-epochs;
-    zero-axes = w .zero-axes;
-    zero-epochs = w .zero-epochs;
-    whole = rw (rest-more axes epochs len i h, e) at (w .whole);
+  trim-none p q r l = record {
+    room = r;
+    short = l;
+    inside = zero-le;
+    front = zero-le;
+    whole = rw (← p, ← q) (ap (filter f) (rest-all axes epochs len));
   }
 
-  kept-next : (n i : ℕ) → Trim f axes epochs kept at len n i → i < len → f (slot axes epochs i) ≡ true →
-      slots kept at n 0 ++ (slot axes epochs i ∷ filter f (rest axes epochs len (i + 1))) ≡
-      filter f (slots axes epochs len 0)
-  unfolding filter
-  kept-next n i w h e = rw (rest-more axes epochs len i h, e) at (w .whole)
-
-  pub trim-room : (n i : ℕ) → Trim f axes epochs kept at len n i → i < len → f (slot axes epochs i) ≡ true →
-      length (filter f (slots axes epochs len 0)) ≤ most-entries → n < most-entries
-  trim-room n i w h e l =
-      omega (arith, rw (length-append, slots-length kept at n 0) at (ap length (kept-next n i w h e)))
-
-  pub trim-more : (n i : ℕ) → Trim f axes epochs kept at len n i → i < len → f (slot axes epochs i) ≡ true →
-      n < most-entries → Trim f axes epochs (set kept n (getD axes i 0)) (set at n (getD epochs i 0)) len (n + 1)
-      (i + 1)
+  -- the entry in slot i is stored in slot n, and counted if it is kept
+  pub trim-more : (n i m : ℕ) (kept : Bool) → Trim f axes₀ epochs₀ axes epochs len n i → i < len →
+      kept ≡ f (slot axes epochs i) → m ≡ cond kept (n + 1) n →
+      Trim f axes₀ epochs₀ (set axes n (getD axes i 0)) (set epochs n (getD epochs i 0)) len m (i + 1)
   unfolding slot
-  trim-more n i w h e r = record {
-    sixteen-axes = length-set kept n (getD axes i 0) ∙ w .sixteen-axes;
-    sixteen-epochs = length-set at n (getD epochs i 0) ∙ w .sixteen-epochs;
-    zero-axes = zero-past kept n (getD axes i 0) (omega (arith, w .sixteen-axes)) (w .zero-axes);
-    zero-epochs = zero-past at n (getD epochs i 0) (omega (arith, w .sixteen-epochs)) (w .zero-epochs);
-    whole = rw (
-      slots-put kept at n (getD axes i 0) (getD epochs i 0) (omega (arith, w .sixteen-axes))
-          (omega (arith, w .sixteen-epochs)),
-      append-assoc,
-    ) (kept-next n i w h e);
-  }
+  trim-more n i m kept w h k g =
+      let a = getD axes i 0 in
+      let e = getD epochs i 0 in
+      let next = rw (rest-more axes epochs len i h) at (w .whole) in
+      record {
+        room = (length-set axes n a ∙ w .room .0, length-set epochs n e ∙ w .room .1);
+        short = w .short;
+        inside = omega arith;
+        front = by-cases kept (λ t. omega (arith, rw t at g, w .front)) (λ t. omega (arith, rw t at g, w .front));
+        whole = rw (rest-past axes epochs len n (i + 1) a e (omega (arith, w .front)))
+            (by-cases kept (λ t. yes t (next)) (λ t. no t (next)));
+      }
+    where
+      yes : kept ≡ true →
+          slots axes epochs n 0 ++ filter f (slot axes epochs i ∷ rest axes epochs len (i + 1)) ≡
+          filter f (slots axes₀ epochs₀ len 0) →
+          slots (set axes n (getD axes i 0)) (set epochs n (getD epochs i 0)) m 0
+          ++ filter f (rest axes epochs len (i + 1)) ≡ filter f (slots axes₀ epochs₀ len 0)
+      yes t q = unfold filter slot in (rw (
+        rw t at g,
+        slots-put axes epochs n (getD axes i 0) (getD epochs i 0)
+            (omega (arith, w .front, w .short, w .room .0)) (omega (arith, w .front, w .short, w .room .1)),
+        append-assoc,
+      ) (rw (sym k ∙ t) at q))
 
-  pub trim-end : (n i : ℕ) (t : Bool) → Trim f axes epochs kept at len n i → len ≤ i →
-      length (filter f (slots axes epochs len 0)) ≤ most-entries →
-      record { axes = kept; epochs = at; len = n; tainted = t } ≡ pack (filter f (slots axes epochs len 0)) t
+      no : kept ≡ false →
+          slots axes epochs n 0 ++ filter f (slot axes epochs i ∷ rest axes epochs len (i + 1)) ≡
+          filter f (slots axes₀ epochs₀ len 0) →
+          slots (set axes n (getD axes i 0)) (set epochs n (getD epochs i 0)) m 0
+          ++ filter f (rest axes epochs len (i + 1)) ≡ filter f (slots axes₀ epochs₀ len 0)
+      no t q = unfold filter slot in (rw (
+        rw t at g,
+        slots-before axes epochs n (getD axes i 0) (getD epochs i 0),
+      ) (rw (sym k ∙ t) at q))
+
+  pub trim-end : (n i : ℕ) → Trim f axes₀ epochs₀ axes epochs len n i → len ≤ i →
+      All-room axes epochs × (slots axes epochs n 0 ≡ filter f (slots axes₀ epochs₀ len 0))
   unfolding filter
-  trim-end n i t w h l =
-      let e : slots kept at n 0 ≡ filter f (slots axes epochs len 0) =
-      sym (append-nil (slots kept at n 0)) ∙ (rw (rest-none axes epochs len i h) at (w .whole)) in
-      repack kept at n t (omega (arith, slots-length kept at n 0, ap length e)) (w .sixteen-axes) (w .sixteen-epochs)
-      (w .zero-axes) (w .zero-epochs)
-      ∙ ap (λ l. pack l t) e
+  trim-end n i w h =
+      (w .room, sym (append-nil (slots axes epochs n 0)) ∙ (rw (rest-none axes epochs len i h) at (w .whole)))
 
 -- HOW MANY EXCEED: those counted, and those of the rest
 module _ (xs es : List ℕ) (n : ℕ) (b : Entry) where
@@ -255,13 +252,3 @@ module _ (xs es : List ℕ) (n c : ℕ) where
   pub bounded-one : (b : Entry) → exceeding b (slots xs es n 0) + 1 ≡ n → n - 1 ≡ c →
       cut c (slots xs es n 0) ≡ filter (λ x. exceeds x b) (slots xs es n 0)
   bounded-one b e h = cut-by-bound b c (slots xs es n 0) (omega arith)
-
--- THE CUT of slots: what exceeds the bound fits, and is what the cut keeps
-pub cut-fits : (xs es : List ℕ) (n c : ℕ) (f : Entry → Bool) → rising-from 0 (slots xs es n 0) ≡ true →
-    c ≤ most-entries → cut c (slots xs es n 0) ≡ filter f (slots xs es n 0) →
-    length (filter f (slots xs es n 0)) ≤ most-entries
-cut-fits xs es n c f r h e =
-    omega (arith, cut-length c 0 (slots xs es n 0) (sorted 0 (slots xs es n 0) r), ap length e)
-
-pub cut-packed : {r : Merged} (ys zs : List Entry) → r ≡ handed (pack ys true) → zs ≡ ys → r ≡ handed (pack zs true)
-cut-packed ys zs e q = e ∙ ap (λ l. handed (pack l true)) (sym q)

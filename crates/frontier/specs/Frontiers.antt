@@ -6,6 +6,7 @@ use Prim.Native.Nat.{ℕ, _-_}
 use lib.Dec.{ltb, leb, eqb}
 use lib.ListN.{length, getD, drop, replicate}
 use Rattle.base_lists.specs.Lists.{tabulate-from}
+use Rattle.axis_search.specs.Halving.{searched}
 use Rattle.frontier.specs.declared.Frontier.{Frontier}
 use Rattle.frontier.specs.declared.Merged.{Merged}
 use Rattle.frontier.specs.declared.Lookup.{Lookup}
@@ -24,6 +25,14 @@ slots axes epochs n i = tabulate-from n i (slot axes epochs)
 
 unfoldable pub entries : Frontier → List Entry
 entries f = slots (f .axes) (f .epochs) (f .len) 0
+
+-- R60: what a slot says of its axis: its epoch, or nothing where there is no such slot
+unfoldable pub lookup-at : (epochs : List ℕ) → (at : ℕ) → Lookup
+lookup-at epochs at = cond (ltb at most-entries && ltb at (length epochs)) (Listed (getD epochs at 0)) Absent
+
+-- R60, lookup: what is in the slot that the search by halving finds
+unfoldable pub looked-up : (f : Frontier) → (axis : ℕ) → Lookup
+looked-up f axis = lookup-at (f .epochs) (searched (f .axes) axis (f .len) .at)
 
 unfoldable pub all-zero : List ℕ → Bool
 all-zero [] = true

@@ -3,9 +3,10 @@
 use mathlib.Core.Path.{_≡_}
 use mathlib.Core.Bool.{Bool, true, false, _||_, cond}
 use mathlib.Core.List.{List}
-use Prim.Native.Nat.{ℕ, _≤_, _<_, max, min}
+use Prim.Native.Nat.{ℕ, _+_, _≤_, _<_, max, min}
 use lib.Dec.{ltb, leb, eqb}
 use lib.ListN.{length}
+use Rattle.axis_search.specs.Halving.{most-reads, Range, searched, Halves}
 use Rattle.frontier.specs.declared.Frontier.{Frontier}
 use Rattle.frontier.specs.declared.Merged.{Merged}
 use Rattle.frontier.specs.declared.Lookup.{Lookup}
@@ -14,7 +15,7 @@ use Rattle.frontier.specs.declared.Dominance.{Dominance}
 use Rattle.frontier.specs.declared.Dominance.the-variants.{Yes, No, Unknown}
 use Rattle.frontier.specs.Entries.{Entry, most-entries, find, values-of, epochs-under, union, exceeding}
 use Rattle.frontier.specs.Frontiers.{slot, entries, well-formed, pack, one-entry, merge, dominance-number}
-use Rattle.frontier.specs.Frontiers.{number-of}
+use Rattle.frontier.specs.Frontiers.{number-of, looked-up}
 
 -- COMPLETIONS
 
@@ -43,12 +44,18 @@ Small f g full = (axis : ℕ) →
 
 -- LOOKUP
 
--- R60: of a well-formed frontier the lookup gives every epoch listed under the axis, one or none; of any other, which
--- the rules leave unspecified, it gives, if anything, what is in a slot below the length, and nothing where that is
--- over sixteen
+-- R60: of any frontier the lookup gives what is in the slot that the search by halving finds, for which it reads at
+-- most five of sixteen. If the frontier is well formed, it gives every epoch listed under the axis, one or none, and
+-- each slot that is read leaves at most half of those in question, with every slot of the axis; of any other, which the
+-- rules leave unspecified, it gives, if anything, what is in a slot below the length, and nothing where that is over
+-- sixteen
 pub record Looked (f : Frontier) (axis : ℕ) (r : Lookup) : Type 0 where
+  pub by-halving : r ≡ looked-up f axis
+  pub few-read : searched (f .axes) axis (f .len) .read ≤ most-reads
   pub found : well-formed f ≡ true → r ≡ find axis (entries f)
   pub exactly : well-formed f ≡ true → values-of r ≡ epochs-under axis (entries f)
+  pub halves : well-formed f ≡ true → (range : Range) → 0 < range .many → range .low + range .many ≤ f .len →
+      Halves (f .axes) axis range
   pub in-a-slot : (epoch : ℕ) → r ≡ Listed epoch → (i : ℕ) × (i < f .len) × (f .len ≤ most-entries)
       × (slot (f .axes) (f .epochs) i ≡ record { axis = axis; epoch = epoch })
 

@@ -1,18 +1,18 @@
 // What is kept of too many entries: those that exceed a bound.
 use crate::Entry;
 use crate::Frontier;
-use crate::Merged;
-use crate::form::Slots;
+use crate::lent::Room;
 ghost use mathlib.Core.Path.{_≡_};
 ghost use mathlib.Core.Bool.{true, cond};
 ghost use Prim.Native.Nat.{_+_, _≤_, _<_};
 ghost use lib.ListN.{length, take};
 ghost use Rattle.base_lists.specs.Lists.{filter};
 ghost use Rattle.frontier.specs.Entries.{most-entries, most-of-two, rising-from, exceeds, exceeding, cut};
-ghost use Rattle.frontier.specs.Frontiers.{slots, pack, handed};
+ghost use Rattle.frontier.specs.Frontiers.{slots};
+ghost use Rattle.frontier.specs.Walks.{All-room, Cleared, Copied};
 
 // The first sixteen slots.
-pub fn first_slots(row: &[u64; Frontier::BOTH]) -> Slots
+pub fn first_slots(row: &Room) -> [u64; Frontier::SLOTS]
     requires { ⌜ length (now row) ≡ most-of-two ⌝ }
     ensures { λ r. ⌜ r ≡ take most-entries (now (row .entry)) ⌝ }
 {
@@ -123,36 +123,58 @@ pub fn bound_of<'a>(axes: &'a [u64], epochs: &'a [u64], len: usize, capacity: us
     lost
 }
 
-// The entries above the bound, as a frontier that has lost the others.
-pub fn trim<'a>(axes: &'a [u64], epochs: &'a [u64], len: usize, bound: Entry) -> Merged
-    requires { ⌜ (len ≤ length (now axes)) × (len ≤ length (now epochs)) ⌝ }
-    requires { ⌜ length (filter (λ x. exceeds x bound) (slots (now axes) (now epochs) len 0)) ≤ most-entries ⌝ }
-    ensures { λ r. ⌜ r ≡ handed (pack (filter (λ x. exceeds x bound)
-        (slots (now (axes .entry)) (now (epochs .entry)) len 0)) true) ⌝ }
+// The place after one more that is kept, or the same.
+fn after(n: usize, kept: bool) -> usize
+    requires { ⌜ n < most-of-two ⌝ }
+    ensures { λ r. ⌜ r ≡ cond kept (n + 1) n ⌝ }
 {
-    let mut kept = [0u64; Frontier::SLOTS];
-    let mut at = [0u64; Frontier::SLOTS];
+    if kept {
+        return n + 1;
+    }
+    n
+}
+
+// The entries above the bound, moved to the front; how many they are. No branch goes by an entry: each is stored where
+// the next that is kept belongs.
+pub fn trim(axes: &mut [u64], epochs: &mut [u64], len: usize, bound: Entry) -> usize
+    requires { ⌜ (len ≤ most-of-two) × All-room (now axes) (now epochs) ⌝ }
+    ensures { λ n. ⌜ All-room (now (axes .exit)) (now (epochs .exit)) ×
+        (slots (now (axes .exit)) (now (epochs .exit)) n 0 ≡
+        filter (λ x. exceeds x bound) (slots (now (axes .entry)) (now (epochs .entry)) len 0)) ⌝ }
+{
     let mut n: usize = 0;
     let mut i: usize = 0;
     while i < len {
         let axis = axes[i];
         let epoch = epochs[i];
+        axes[n] = axis;
+        epochs[n] = epoch;
+        n = after(n, above(Entry { axis, epoch }, bound));
         i += 1;
-        if !above(Entry { axis, epoch }, bound) {
-            continue;
-        }
-        kept[n] = axis;
-        at[n] = epoch;
-        n += 1;
     }
-    let frontier = Frontier {
-        axes: kept,
-        epochs: at,
-        len: n,
-        tainted: true,
-    };
-    Merged {
-        number: 0,
-        frontier,
+    n
+}
+
+// Zero from a place on.
+pub fn clear(row: &mut [u64], from: usize)
+    requires { ⌜ length (now row) ≡ most-of-two ⌝ }
+    ensures { λ _. ⌜ Cleared from (now (row .entry)) (now (row .exit)) ⌝ }
+{
+    let mut i = from;
+    while i < Frontier::BOTH {
+        row[i] = 0;
+        i += 1;
+    }
+}
+
+// Sixteen slots in front of the room.
+pub fn copy(from: &[u64], row: &mut [u64])
+    requires { ⌜ (length (now from) ≡ most-entries) × (length (now row) ≡ most-of-two) ⌝ }
+    ensures { λ _. ⌜ Copied (now (from .entry)) (now (row .exit)) ⌝ }
+{
+    let mut i: usize = 0;
+    while i < Frontier::SLOTS {
+        row[i] = from[i];
+        i += 1;
     }
 }

@@ -8,12 +8,9 @@ ghost use Rattle.frontier.specs.Entries.{most-entries, rising-from};
 ghost use Rattle.frontier.specs.Frontiers.{slots, all-zero, well-formed};
 ghost use Rattle.frontier.specs.Walks.{of-slots, All-slots, placed, left-number};
 
-// The axes or the epochs of a frontier.
-pub type Slots = [u64; Frontier::SLOTS];
-
 // Slot i has an epoch above 0, and its axis is above that of the slot before.
-fn in_place<'a>(axes: &'a Slots, epochs: &'a Slots, i: usize) -> bool
-    requires { ⌜ i < most-entries ⌝ }
+fn in_place<'a>(axes: &'a [u64], epochs: &'a [u64], i: usize) -> bool
+    requires { ⌜ (i < most-entries) × All-slots (now axes) (now epochs) ⌝ }
     ensures { λ r. ⌜ r ≡ placed (now (axes .entry)) (now (epochs .entry)) i ⌝ }
 {
     if epochs[i] == 0 {
@@ -26,8 +23,8 @@ fn in_place<'a>(axes: &'a Slots, epochs: &'a Slots, i: usize) -> bool
 }
 
 // The axes rise and the epochs are above 0.
-fn rising<'a>(axes: &'a Slots, epochs: &'a Slots, len: usize) -> bool
-    requires { ⌜ len ≤ most-entries ⌝ }
+fn rising<'a>(axes: &'a [u64], epochs: &'a [u64], len: usize) -> bool
+    requires { ⌜ (len ≤ most-entries) × All-slots (now axes) (now epochs) ⌝ }
     ensures { λ r. ⌜ r ≡ rising-from 0 (slots (now (axes .entry)) (now (epochs .entry)) len 0) ⌝ }
 {
     let mut i: usize = 0;
@@ -41,7 +38,7 @@ fn rising<'a>(axes: &'a Slots, epochs: &'a Slots, len: usize) -> bool
 }
 
 // Every slot from `from` on is zero.
-fn zero_from(row: &Slots, from: usize) -> bool
+fn zero_from(row: &[u64], from: usize) -> bool
     requires { ⌜ length (now row) ≡ most-entries ⌝ }
     ensures { λ r. ⌜ r ≡ all-zero (drop from (now (row .entry))) ⌝ }
 {
@@ -55,12 +52,17 @@ fn zero_from(row: &Slots, from: usize) -> bool
     true
 }
 
-// A frontier of these slots is well-formed.
-pub fn formed<'a>(axes: &'a Slots, epochs: &'a Slots, len: usize) -> bool
-    requires { ⌜ All-slots (now axes) (now epochs) ⌝ }
+// A frontier of these slots is well-formed: they are sixteen, for one thing.
+pub fn formed<'a>(axes: &'a [u64], epochs: &'a [u64], len: usize) -> bool
     ensures { λ r. ⌜ r ≡ well-formed (of-slots (now (axes .entry)) (now (epochs .entry)) len false) ⌝ }
 {
     if Frontier::SLOTS < len {
+        return false;
+    }
+    if axes.len() != Frontier::SLOTS {
+        return false;
+    }
+    if epochs.len() != Frontier::SLOTS {
         return false;
     }
     if !rising(axes, epochs, len) {
@@ -73,8 +75,7 @@ pub fn formed<'a>(axes: &'a Slots, epochs: &'a Slots, len: usize) -> bool
 }
 
 // 15 for a capacity out of its limits, then 14 for slots that are not well-formed; 0 where a merge goes on.
-pub fn judged<'a>(axes: &'a Slots, epochs: &'a Slots, len: usize, capacity: u32) -> u32
-    requires { ⌜ All-slots (now axes) (now epochs) ⌝ }
+pub fn judged<'a>(axes: &'a [u64], epochs: &'a [u64], len: usize, capacity: u32) -> u32
     ensures { λ r. ⌜ r ≡ left-number (of-slots (now (axes .entry)) (now (epochs .entry)) len false) capacity ⌝ }
 {
     if capacity < Frontier::LEAST {

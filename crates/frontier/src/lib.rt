@@ -1,19 +1,16 @@
 // R59 to R68, sparse frontiers: vector clocks of at most sixteen entries, with lookup, merge, raise and dominance.
 mod cuts;
 mod form;
+pub mod lent;
 mod search;
 mod unions;
 
+use cuts::first_slots;
 use form::formed;
-use form::judged;
-use search::dominance_of;
-use search::lookup_from;
-use unions::join;
-use unions::merged;
 ghost use mathlib.Core.Path.{_≡_};
 ghost use mathlib.Core.Bool.{false};
 ghost use mathlib.Core.List.{[]};
-ghost use Rattle.frontier.specs.Frontiers.{well-formed, pack, refusal, merge, raise, dominance};
+ghost use Rattle.frontier.specs.Frontiers.{well-formed, pack, merge, raise, dominance};
 ghost use Rattle.frontier.specs.Meaning.{Looked, Merge-right, Raise-right, Dominance-means};
 
 // Slot i holds the entry (axes[i], epochs[i]) for i below len; the slots past len are zero. A tainted frontier may have
@@ -54,7 +51,7 @@ pub enum Dominance {
 
 impl Frontier {
     // The slots of a frontier.
-    pub const SLOTS: usize = 16;
+    pub const SLOTS: usize = axis_search::SLOTS;
 
     // The smallest and the largest capacity.
     pub const LEAST: u32 = 1;
@@ -87,12 +84,7 @@ impl Frontier {
     pub fn lookup(self, axis: u64) -> Lookup
         ensures { λ r. ⌜ Looked self axis r ⌝ }
     {
-        let len = self.len;
-        if Self::SLOTS < len {
-            return Lookup::Absent;
-        }
-        let found = lookup_from(&self.axes, &self.epochs, len, 0, axis);
-        found.answer
+        lent::lookup(&self.axes, &self.epochs, self.len, axis)
     }
 
     // R61 to R63: the larger epoch of each axis, cut to the capacity.
@@ -100,7 +92,9 @@ impl Frontier {
         ensures answers { λ r. ⌜ r ≡ merge self other capacity ⌝ }
         ensures right { λ r. ⌜ Merge-right self other capacity r ⌝ }
     {
-        merged(
+        let mut axes = [0u64; Self::BOTH];
+        let mut epochs = [0u64; Self::BOTH];
+        let r = lent::merge(
             &self.axes,
             &self.epochs,
             self.len,
@@ -110,46 +104,47 @@ impl Frontier {
             other.len,
             other.tainted,
             capacity,
-        )
+            &mut axes,
+            &mut epochs,
+        );
+        let frontier = Self {
+            axes: first_slots(&axes),
+            epochs: first_slots(&epochs),
+            len: r.len,
+            tainted: r.tainted,
+        };
+        Merged {
+            number: r.number,
+            frontier,
+        }
     }
 
-    // R64: one axis raised to an epoch. Where it is listed and the capacity holds every entry, that is the larger epoch
-    // stored in this copy; else it is a merge.
+    // R64: one axis raised to an epoch, in this copy.
     pub fn raise(mut self, axis: u64, epoch: u64, capacity: u32) -> Merged
         ensures answers { λ r. ⌜ r ≡ raise self axis epoch capacity ⌝ }
         ensures right { λ r. ⌜ Raise-right self axis epoch capacity r ⌝ }
     {
-        let len = self.len;
-        let number = judged(&self.axes, &self.epochs, len, capacity);
-        if number != 0 {
-            return refused(number);
-        }
-        if len <= capacity as usize {
-            let found = lookup_from(&self.axes, &self.epochs, len, 0, axis);
-            let answer = found.answer;
-            if let Lookup::Listed(old) = answer {
-                let at = found.at;
-                self.epochs[at] = base_numbers::max_u64(old, epoch);
-                return Merged {
-                    number: 0,
-                    frontier: self,
-                };
-            }
-        }
-        let mut axes = [0u64; Self::SLOTS];
-        let mut epochs = [0u64; Self::SLOTS];
-        axes[0] = axis;
-        epochs[0] = epoch;
-        join(
+        let mut axes = [0u64; Self::BOTH];
+        let mut epochs = [0u64; Self::BOTH];
+        let r = lent::raise(
             &self.axes,
             &self.epochs,
-            len,
-            &axes,
-            &epochs,
-            (epoch != 0) as usize,
-            capacity as usize,
+            self.len,
             self.tainted,
-        )
+            axis,
+            epoch,
+            capacity,
+            &mut axes,
+            &mut epochs,
+        );
+        self.axes = first_slots(&axes);
+        self.epochs = first_slots(&epochs);
+        self.len = r.len;
+        self.tainted = r.tainted;
+        Merged {
+            number: r.number,
+            frontier: self,
+        }
     }
 
     // R68: whether every entry of the other is reached, as far as the taints let it be known.
@@ -157,7 +152,7 @@ impl Frontier {
         ensures answers { λ r. ⌜ r ≡ dominance self other ⌝ }
         ensures means { λ r. ⌜ Dominance-means self other r ⌝ }
     {
-        dominance_of(
+        lent::dominates(
             &self.axes,
             &self.epochs,
             self.len,
@@ -167,15 +162,5 @@ impl Frontier {
             other.len,
             other.tainted,
         )
-    }
-}
-
-// A refused merge hands back the empty untainted frontier.
-fn refused(number: u32) -> Merged
-    ensures { λ r. ⌜ r ≡ refusal number ⌝ }
-{
-    Merged {
-        number,
-        frontier: Frontier::empty(),
     }
 }

@@ -1,16 +1,16 @@
 // The lookup of an axis among lent slots, and what of one frontier another reaches.
 use crate::Dominance;
+use crate::Frontier;
 use crate::Lookup;
-use crate::form::Slots;
 use crate::form::formed;
 ghost use mathlib.Core.Path.{_≡_};
 ghost use mathlib.Core.Bool.{true};
 ghost use mathlib.Core.List.{List};
 ghost use Prim.Native.Nat.{ℕ, _≤_, _<_};
-ghost use lib.ListN.{getD};
+ghost use lib.ListN.{length, getD};
 ghost use Rattle.frontier.specs.Entries.{most-entries, rising-from};
 ghost use Rattle.frontier.specs.Frontiers.{slots, reached, answer, dominance};
-ghost use Rattle.frontier.specs.Walks.{rest, of-slots, All-slots, skip-below, Found-from};
+ghost use Rattle.frontier.specs.Walks.{rest, of-slots, All-slots, skip-below, Found-from, found-by-halving};
 
 // What a lookup says of an axis, and the slot at which the search for it ended.
 pub struct Found {
@@ -18,9 +18,29 @@ pub struct Found {
     pub at: usize,
 }
 
+// The lookup of an axis by halving: listed with its epoch, or absent.
+pub fn lookup_by_halving<'a>(axes: &'a [u64], epochs: &'a [u64], len: usize, axis: u64) -> Found
+    ensures { λ r. ⌜ r ≡ found-by-halving (now (axes .entry)) (now (epochs .entry)) len axis ⌝ }
+{
+    let found = axis_search::search(axes, len, axis);
+    let at = found.at;
+    if at < Frontier::SLOTS {
+        if at < epochs.len() {
+            return Found {
+                answer: Lookup::Listed(epochs[at]),
+                at,
+            };
+        }
+    }
+    Found {
+        answer: Lookup::Absent,
+        at,
+    }
+}
+
 // The first slot from `from` on whose axis is not below the one sought, or the length.
-fn seek(axes: &Slots, len: usize, from: usize, axis: u64) -> usize
-    requires { ⌜ (from ≤ len) × (len ≤ most-entries) ⌝ }
+fn seek(axes: &[u64], len: usize, from: usize, axis: u64) -> usize
+    requires { ⌜ (from ≤ len) × (len ≤ most-entries) × (length (now axes) ≡ most-entries) ⌝ }
     ensures { λ r. ⌜ (r ≤ len) × (r < len → axis ≤ getD (now (axes .entry)) r 0) × ((es : List ℕ) →
         rest (now (axes .entry)) es len r ≡ skip-below axis (rest (now (axes .entry)) es len from)) ⌝ }
 {
@@ -37,13 +57,13 @@ fn seek(axes: &Slots, len: usize, from: usize, axis: u64) -> usize
 // The lookup of an axis among the slots from `from` on: listed with its epoch, or absent. Slot `from` is looked at
 // before the search, since a walk over two frontiers mostly finds the axis there.
 pub fn lookup_from<'a>(
-    axes: &'a Slots,
-    epochs: &'a Slots,
+    axes: &'a [u64],
+    epochs: &'a [u64],
     len: usize,
     from: usize,
     axis: u64,
 ) -> Found
-    requires { ⌜ (from ≤ len) × (len ≤ most-entries) ⌝ }
+    requires { ⌜ (from ≤ len) × (len ≤ most-entries) × All-slots (now axes) (now epochs) ⌝ }
     ensures { λ r. ⌜ Found-from (now (axes .entry)) (now (epochs .entry)) len from axis r ⌝ }
 {
     let mut at = from;
@@ -68,14 +88,15 @@ pub fn lookup_from<'a>(
 
 // Every entry of y is reached by x. An axis that x lacks is not.
 fn reaches<'a>(
-    xa: &'a Slots,
-    xe: &'a Slots,
+    xa: &'a [u64],
+    xe: &'a [u64],
     xn: usize,
-    ya: &'a Slots,
-    ye: &'a Slots,
+    ya: &'a [u64],
+    ye: &'a [u64],
     yn: usize,
 ) -> bool
-    requires { ⌜ (xn ≤ most-entries) × (yn ≤ most-entries) ⌝ }
+    requires { ⌜ (xn ≤ most-entries) × (yn ≤ most-entries) × All-slots (now xa) (now xe) ×
+        All-slots (now ya) (now ye) ⌝ }
     requires { ⌜ (rising-from 0 (slots (now xa) (now xe) xn 0) ≡ true) ×
         (rising-from 0 (slots (now ya) (now ye) yn 0) ≡ true) ⌝ }
     ensures { λ r. ⌜ r ≡ reached (slots (now (xa .entry)) (now (xe .entry)) xn 0)
@@ -116,16 +137,15 @@ fn answer_of(reached: bool, tainted: bool, other: bool) -> Dominance
 
 // Whether x dominates y: 14 for x, then for y; else by what is reached and the taints.
 pub fn dominance_of<'a>(
-    xa: &'a Slots,
-    xe: &'a Slots,
+    xa: &'a [u64],
+    xe: &'a [u64],
     xn: usize,
     xt: bool,
-    ya: &'a Slots,
-    ye: &'a Slots,
+    ya: &'a [u64],
+    ye: &'a [u64],
     yn: usize,
     yt: bool,
 ) -> Dominance
-    requires { ⌜ All-slots (now xa) (now xe) × All-slots (now ya) (now ye) ⌝ }
     ensures { λ r. ⌜ r ≡ dominance (of-slots (now (xa .entry)) (now (xe .entry)) xn xt)
         (of-slots (now (ya .entry)) (now (ye .entry)) yn yt) ⌝ }
 {

@@ -115,6 +115,31 @@ fn forms() {
     text(b"\n");
 }
 
+// The slot of an axis among the first `len` of axes 1 to 17, and how many slots were read.
+fn search(len: usize, axis: u64) {
+    let axes = [1u64, 2, 3, 4, 5, 6, 7, 8, 9, 10, 11, 12, 13, 14, 15, 16, 17];
+    let found = axis_search::search(&axes, len, axis);
+    if found.at < axis_search::NO_SLOT {
+        number(found.at as u64);
+    } else {
+        text(b" none");
+    }
+    number(found.read as u64);
+    text(b"\n");
+}
+
+// No slot, the first that is read, both ends, an axis below all, one above all, and more slots than are searched.
+fn searches() {
+    text(b"search by halving\n");
+    search(0, 1);
+    search(16, 9);
+    search(16, 1);
+    search(16, 16);
+    search(16, 0);
+    search(16, 17);
+    search(17, 9);
+}
+
 // Raises of a listed axis, of one that is not, and refusals; a cut loses the entry with the smaller epoch.
 fn raises() {
     text(b"raise in place\n");
@@ -169,6 +194,7 @@ fn rows() {
 
 fn main() {
     forms();
+    searches();
     raises();
     merges();
     rows();

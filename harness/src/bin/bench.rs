@@ -465,12 +465,39 @@ fn measure_others(sides: &Sides) {
         print(&format!("dominates, {name}"), measured);
     }
     let [left, _] = frontier_pairs()[0].1;
+    for (name, offset) in LOOKED_UP {
+        let (axes, mut epoch) = (looked_up(offset), 0);
+        let measured = sides.measure(|side| {
+            for &axis in &axes {
+                side.lookup(black_box(&left), axis, &mut epoch);
+            }
+        });
+        print(
+            &format!("lookup, 16 entries, {name}"),
+            measured.of_one(LOOKUPS),
+        );
+    }
     for (name, axis) in RAISED {
         let measured = sides.measure(|side| {
             side.raise(black_box(&left), black_box(axis), 99, 16, &mut out);
         });
         print(&format!("raise, 16 entries, {name}"), measured);
     }
+}
+
+/// Axes to look up in a frontier of sixteen entries with even axes: all of them,
+/// and as many that lie between.
+const LOOKED_UP: [(&str, u64); 2] = [("all its axes", 0), ("absent axes", 1)];
+/// Lookups in one measurement. In a shorter round the branch predictor would
+/// learn by heart which axis comes next.
+const LOOKUPS: u64 = 16_384;
+
+/// Sixteen axes, each as often as the others, in random order.
+fn looked_up(offset: u64) -> Vec<u64> {
+    let rng = &mut Rng::new(offset);
+    let mut axes: Vec<u64> = (0..LOOKUPS).map(|k| 2 * (k % 16) + offset).collect();
+    rng.shuffle(&mut axes);
+    axes
 }
 
 /// Axes to raise in a frontier of sixteen entries with even axes.

@@ -7,7 +7,7 @@ use harness::faults::{self, Fault, Faulty};
 use harness::generate::{self, Family, Rng};
 use harness::plan::{Operation, Plan, Point};
 use harness::reference::{self, Reference};
-use harness::side::{Found, Raw, Side, Told, Wait, LENGTH, STATE};
+use harness::side::{Found, Raw, Side, Told, Wait, EPOCHS, LENGTH, STATE, TAINT};
 use harness::traces::{self, MOST_STEPS};
 use std::process::ExitCode;
 use std::sync::atomic::{AtomicU64, Ordering};
@@ -17,7 +17,7 @@ const USAGE: &str = "\
 differ [--seed N] [--count N] [--fault N] [--trace]
   --seed N    the seed of the first case; the case after it has seed N + 1
   --count N   stop after this many plans (200000)
-  --fault N   compare with the reference under seeded fault 1 to 21 instead of
+  --fault N   compare with the reference under seeded fault 1 to 22 instead of
               with the C library
   --trace     print each case's seed before it is judged";
 
@@ -39,13 +39,14 @@ enum Function {
     Suggest,
     Frontier,
     Trace,
+    Lookup,
     Merge,
     Raise,
     Dominates,
 }
 
 /// Names, and the numbers that each function must have given.
-const FUNCTIONS: [(&str, &[usize]); 10] = [
+const FUNCTIONS: [(&str, &[usize]); 11] = [
     ("read", &[0, 1, 2, 3, 4, 5, 9]),
     ("write", &[0, 1, 2, 3, 4, 5, 9]),
     ("check", &[0, 1, 2, 3, 4, 5, 6, 7, 8, 9, 10, 11]),
@@ -56,6 +57,7 @@ const FUNCTIONS: [(&str, &[usize]); 10] = [
     ),
     ("frontier", &[0, 1, 2, 3, 4, 5, 6, 7, 8, 9, 10, 11, 15, 21]),
     ("trace", &[0, 1, 2, 3, 4, 5, 6, 7, 8, 9, 10, 11, 22]),
+    ("lookup", &[0]),
     ("merge", &[0, 14, 15]),
     ("raise", &[0, 14, 15]),
     ("dominates", &[0, 14]),
@@ -81,6 +83,10 @@ struct Tally {
     /// Longer plans that were checked and asked.
     longer_plans: u64,
     dominance: [u64; 3],
+    /// Axes that were absent, and listed.
+    looked_up: [u64; 2],
+    /// Lookups in badly formed frontiers that listed something.
+    listed_badly: u64,
     /// Answers of the trace question.
     followed: [u64; 6],
     /// Unmet waits by their position.
@@ -102,6 +108,7 @@ impl Tally {
             (Function::Reuse, 0) => self.verdicts[told.answer as usize] += 1,
             (Function::Suggest, 0) => self.advice[told.answer as usize] += 1,
             (Function::Trace, 0) => self.followed[told.answer as usize] += 1,
+            (Function::Lookup, 0) => self.looked_up[told.answer as usize] += 1,
             (Function::Dominates, 0) => self.dominance[told.answer as usize] += 1,
             _ => {}
         }
@@ -146,6 +153,10 @@ impl Tally {
             self.longest_traces, self.short_states[0], self.short_states[1]
         );
         println!("dominance no, yes, unknown: {:?}", self.dominance);
+        println!(
+            "axes absent, listed: {:?}; listed in a badly formed frontier: {}",
+            self.looked_up, self.listed_badly
+        );
     }
 
     /// The first function and number that never occurred.
@@ -155,7 +166,8 @@ impl Tally {
                 return Some(format!("{name} never gave {number}"));
             }
         }
-        if self.verdicts.contains(&0) || self.dominance.contains(&0) {
+        let answers = [&self.verdicts[..], &self.dominance, &self.looked_up];
+        if answers.concat().contains(&0) || self.listed_badly == 0 {
             return Some("an answer never occurred".to_string());
         }
         if let Some(answer) = self.advice.iter().position(|&count| count == 0) {
@@ -652,6 +664,17 @@ impl Differ {
             println!("left {left:?}\nright {right:?}");
             println!("capacity {capacity}, axis {axis}, epoch {epoch}");
         };
+        if reference::well_formed(&left) {
+            self.compare(
+                rng,
+                Function::Lookup,
+                none,
+                |side, lent| side.lookup(&left, axis, &mut lent.frontier.lend_frontier()[0]),
+                print,
+            )?;
+        } else {
+            self.lookup_badly_formed(&left, axis)?;
+        }
         self.compare(
             rng,
             Function::Merge,
@@ -674,6 +697,29 @@ impl Differ {
             print,
         )?;
         Ok(())
+    }
+
+    /// What the rules leave open in a badly formed frontier: anything that is
+    /// listed is in a slot below the length. With a length above 16 or a taint
+    /// above 1 every axis is absent.
+    fn lookup_badly_formed(&mut self, frontier: &Raw, axis: u64) -> Compared<()> {
+        let mut epoch = !0;
+        let told = self.other.lookup(frontier, axis, &mut epoch);
+        let length = frontier[LENGTH].min(16) as usize;
+        let in_a_slot = frontier[LENGTH] <= 16
+            && frontier[TAINT] <= 1
+            && (0..length).any(|slot| (frontier[slot], frontier[EPOCHS + slot]) == (axis, epoch));
+        match told {
+            Told::PASSED if epoch == 0 => return Ok(()),
+            told if told == Told::answered(1) && in_a_slot => {
+                self.tally.listed_badly += 1;
+                return Ok(());
+            }
+            _ => {}
+        }
+        println!("DIFFERENCE in lookup, badly formed: {told:?} {epoch}");
+        println!("frontier {frontier:?}, axis {axis}");
+        Err(Different)
     }
 
     /// One case: a plan, or every damage of some kind to one.

@@ -19,9 +19,7 @@ byte-of false = refl
 
 abbrev start : (c : tie.After-slice-known3) → tie.Start
 start c =
-    let midway = c .before .before .before .before .before .before .before in
-    let earlier = midway .before .before .before .before .before .before .before .before in
-    earlier
+    let midway = c .before .before .before .before .before .before in midway .before .before .before .before .before
 
 put-row-requires : tie.Need-put-row-requires
 put-row-requires c κs = search needs
@@ -37,29 +35,29 @@ cast-numbers c = search needs
 
 slice-write-numbers-2 : tie.Need-slice-write-numbers-2
 slice-write-numbers-2 c =
-    omega (arith, length-set (c .before .before .put-row2 .last .1 .1 .0) length-at (start c .args .t1 .len))
+    omega (arith, length-set (c .before .before .put-row2 .last .1 .1 .0) length-at (start c .args .len))
 
 same-length : tie.Need-same-length
 same-length c =
     let a = start c .args in
     let second = c .before .before .put-row2 in
-    let first = c .before .before .before .before .before .before .before .before .before .put-row in
-    length-set (set (second .last .1 .1 .0) length-at (a .t1 .len)) taint-at _
-    ∙ length-set (second .last .1 .1 .0) length-at (a .t1 .len)
-    ∙ ap length (second .ensures) ∙ length-sets (first .last .1 .1 .0) epochs-at (a .t1 .epochs)
-    ∙ ap length (first .ensures) ∙ length-sets (a .numbers .now) 0 (a .t1 .axes)
+    let first = c .before .before .before .before .before .before .put-row in
+    length-set (set (second .last .1 .1 .0) length-at (a .len)) taint-at _
+    ∙ length-set (second .last .1 .1 .0) length-at (a .len)
+    ∙ ap length (second .ensures) ∙ length-sets (first .last .1 .1 .0) epochs-at (a .epochs .now)
+    ∙ ap length (first .ensures) ∙ length-sets (a .numbers .now) 0 (a .axes .now)
 
 returns : tie.Need-returns
 unfolding list-of
 returns c =
     let a = start c .args in
     let second = c .before .before .put-row2 in
-    let first = c .before .before .before .before .before .before .before .before .before .put-row in
-    ap (λ (l : List ℕ). set (set l length-at (a .t1 .len)) taint-at (boolByte (a .t1 .tainted))) (second .ensures
-    ∙ ap (λ (l : List ℕ). sets l epochs-at (a .t1 .epochs)) (first .ensures))
-    ∙ stored-whole (a .numbers .now) (a .t1 .axes) (a .t1 .epochs)
-    (a .t1 .len ∷ boolByte (a .t1 .tainted) ∷ []) epochs-at length-at (search needs) (search needs) (search needs)
-    ∙ ap (λ (k : ℕ). a .t1 .axes ++ a .t1 .epochs ++ (a .t1 .len ∷ k ∷ [])) (byte-of (a .t1 .tainted))
+    let first = c .before .before .before .before .before .before .put-row in
+    ap (λ (l : List ℕ). set (set l length-at (a .len)) taint-at (boolByte (a .tainted))) (second .ensures
+    ∙ ap (λ (l : List ℕ). sets l epochs-at (a .epochs .now)) (first .ensures))
+    ∙ stored-whole (a .numbers .now) (a .axes .now) (a .epochs .now)
+    (a .len ∷ boolByte (a .tainted) ∷ []) epochs-at length-at (search needs) (search needs) (search needs)
+    ∙ ap (λ (k : ℕ). a .axes .now ++ a .epochs .now ++ (a .len ∷ k ∷ [])) (byte-of (a .tainted))
 
 pub put-spec : {M : Type 1} → statement M
 put-spec =

@@ -1,14 +1,13 @@
 -- `dominates` meets its contract: by what it calls. Assumes nothing.
 use borrow.Author.Needs.{needs}
-use Rattle.frontier.proofs.Dominates.{dominates-all}
 use Rattle.frontier.proofs.Frontier.dominates.Statement.{statement}
 use Rattle.frontier.proofs.Frontier.dominates.Tie as tie
 
-dominance-of-requires : tie.Need-dominance-of-requires
-dominance-of-requires c κs = search needs
+dominates-requires : tie.Need-dominates-requires
+dominates-requires c κs = search needs
 
 returns : tie.Need-returns
-returns c = dominates-all _ _ _ (c .dominance-of .ensures)
+returns c = c .dominates .ensures
 
 pub dominates-spec : {M : Type 1} → statement M
-dominates-spec = tie.close (tie.spec dominance-of-requires returns)
+dominates-spec = tie.close (tie.spec dominates-requires returns)

@@ -1,17 +1,16 @@
--- `lookup` meets its contract: the lookup from the first slot on. Assumes nothing.
+-- `lookup` meets its contract: the taint does not matter. Assumes nothing.
 use borrow.Author.Needs.{needs}
-use Rattle.frontier.proofs.Lookups.{looked-long, looked}
+use Rattle.frontier.specs.Frontiers.{looked-up}
+use Rattle.frontier.proofs.Lookups.{looked}
 use Rattle.frontier.proofs.Frontier.lookup.Statement.{statement}
 use Rattle.frontier.proofs.Frontier.lookup.Tie as tie
 
+lookup-requires : tie.Need-lookup-requires
+lookup-requires c κs = search needs
+
 returns : tie.Need-returns
-returns c = looked-long _ _ (c .if1 .taken)
-
-lookup-from-requires : tie.Need-lookup-from-requires
-lookup-from-requires c κs = search needs
-
-returns-2 : tie.Need-returns-2
-returns-2 c = looked _ _ _ (c .before .before .before .before .if1 .left) (c .lookup-from .ensures)
+unfolding looked-up
+returns c = looked _ _ _ (c .lookup .ensures .by-halving)
 
 pub lookup-spec : {M : Type 1} → statement M
-lookup-spec = tie.close (tie.spec returns lookup-from-requires returns-2)
+lookup-spec = tie.close (tie.spec lookup-requires returns)

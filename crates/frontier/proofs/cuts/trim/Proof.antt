@@ -1,94 +1,74 @@
--- `trim` meets its contract: the loop's invariant is `Trim`: what is kept so far, and what is kept of the rest, is all
--- that is kept. Assumes nothing.
-use Prim.Native.Nat.{_-_, _≤_, _<_}
-use mathlib.Core.Path.{refl, sym, ap, _∙_}
-use borrow.Author.Tests.{not-true, not-false}
+-- `trim` meets its contract: the loop's invariant is `Trim`. Assumes nothing.
+use mathlib.Core.Path.{refl}
+use Prim.Native.Nat.{_-_}
 use borrow.Author.Needs.{needs}
-use Rattle.frontier.specs.Entries.{most-entries, exceeds}
-use Rattle.frontier.specs.Frontiers.{slot, handed}
-use Rattle.frontier.proofs.Trim.{Trim, trim-none, trim-skip, trim-room, trim-more, trim-end}
+use Rattle.frontier.specs.Entries.{exceeds}
+use Rattle.frontier.specs.Frontiers.{slot}
+use Rattle.frontier.proofs.Trim.{Trim, trim-none, trim-more, trim-end}
 use Rattle.frontier.proofs.cuts.trim.Statement.{statement}
 use Rattle.frontier.proofs.cuts.trim.Tie as tie
 
 abbrev Inv-loop : tie.InvT-loop
-Inv-loop axes epochs len bound kept₀ at₀ n₀ i₀ kept at n i = (i ≤ len)
-    × Trim (λ x. exceeds x bound) axes epochs kept at len n i
+Inv-loop axes₀ epochs₀ len bound n₀ i₀ axes epochs n i =
+    Trim (λ x. exceeds x bound) axes₀ epochs₀ axes epochs len n i
 
 abbrev μ-loop : tie.MeasureT-loop
-μ-loop axes epochs len bound kept₀ at₀ n₀ i₀ kept at n i = len - i
-
--- there is room for one more that is kept
-room : (c : tie.Else1 Inv-loop μ-loop) → c .before .before .before .before .before .loop .n < most-entries
-unfolding slot
-room c =
-    let start = c .before .before .before .before .before .before .before .before in
-    trim-room _ _ _ _ _ _ _ _ (c .before .before .before .before .before .loop .inv .1)
-    (c .before .before .before .before .loop-test .taken) (sym (c .before .above .ensures) ∙ not-false _ (c .if1 .left))
-    (start .pre .1)
+μ-loop axes₀ epochs₀ len bound n₀ i₀ axes epochs n i = len - i
 
 loop-holds : tie.Need-loop-holds Inv-loop μ-loop
-loop-holds c = (search needs, trim-none _ _ _ _ _ _ refl refl)
+loop-holds c = trim-none _ _ _ _ _ _ refl refl (c .before .before .pre .1) (c .before .before .pre .0)
 
 mul-axis : tie.Need-mul-axis Inv-loop μ-loop
 mul-axis c = search needs
 
-shared-slice-read-axis : tie.Need-shared-slice-read-axis Inv-loop μ-loop
-shared-slice-read-axis c = search needs
+slice-read-axis : tie.Need-slice-read-axis Inv-loop μ-loop
+slice-read-axis c = search needs
 
 mul-epoch : tie.Need-mul-epoch Inv-loop μ-loop
 mul-epoch c = search needs
 
-shared-slice-read-epoch : tie.Need-shared-slice-read-epoch Inv-loop μ-loop
-shared-slice-read-epoch c = search needs
+slice-read-epoch : tie.Need-slice-read-epoch Inv-loop μ-loop
+slice-read-epoch c = search needs
 
-add-i : tie.Need-add-i Inv-loop μ-loop
-add-i c = search needs
+mul-axes : tie.Need-mul-axes Inv-loop μ-loop
+mul-axes c = search needs
+
+slice-write-axes : tie.Need-slice-write-axes Inv-loop μ-loop
+slice-write-axes c = search needs
+
+mul-epochs : tie.Need-mul-epochs Inv-loop μ-loop
+mul-epochs c = search needs
+
+slice-write-epochs : tie.Need-slice-write-epochs Inv-loop μ-loop
+slice-write-epochs c = search needs
 
 above-requires : tie.Need-above-requires Inv-loop μ-loop
 above-requires c κs = search needs
+
+after-requires : tie.Need-after-requires Inv-loop μ-loop
+after-requires c κs = search needs
+
+add-i : tie.Need-add-i Inv-loop μ-loop
+add-i c = search needs
 
 loop-less : tie.Need-loop-less Inv-loop μ-loop
 loop-less c = search needs
 
 loop-again : tie.Need-loop-again Inv-loop μ-loop
 unfolding slot
-loop-again c = (
-  search needs,
-  trim-skip _ _ _ _ _ _ _ _ (c .before .before .before .before .before .loop .inv .1)
-      (c .before .before .before .before .loop-test .taken)
-      (sym (c .before .above .ensures) ∙ not-true _ (c .if1 .taken)),
-)
+loop-again c =
+    let turn = c .before .before .before .before in
+    trim-more _ _ _ _ _ _ _ _ _ _ (turn .before .loop .inv) (turn .loop-test .taken) (c .before .above .ensures)
+    (c .after .ensures)
 
-mul-kept : tie.Need-mul-kept Inv-loop μ-loop
-mul-kept c = let r = room c in search needs
+same-length : tie.Need-same-length Inv-loop μ-loop
+same-length c = search needs
 
-array-write-kept : tie.Need-array-write-kept Inv-loop μ-loop
-array-write-kept c = room c
-
-mul-at : tie.Need-mul-at Inv-loop μ-loop
-mul-at c = let r = room c in search needs
-
-array-write-at : tie.Need-array-write-at Inv-loop μ-loop
-array-write-at c = room c
-
-add-n : tie.Need-add-n Inv-loop μ-loop
-add-n c = let r = room c in search needs
-
-loop-less-2 : tie.Need-loop-less-2 Inv-loop μ-loop
-loop-less-2 c = search needs
-
-loop-again-2 : tie.Need-loop-again-2 Inv-loop μ-loop
-unfolding slot
-loop-again-2 c = (
-  search needs,
-  trim-more _ _ _ _ _ _ _ _ (c .before .before .before .before .before .loop .inv .1)
-      (c .before .before .before .before .loop-test .taken)
-      (sym (c .before .above .ensures) ∙ not-false _ (c .if1 .left)) (room c),
-)
+same-length-2 : tie.Need-same-length-2 Inv-loop μ-loop
+same-length-2 c = search needs
 
 returns : tie.Need-returns Inv-loop μ-loop
-returns c = ap handed (trim-end _ _ _ _ _ _ _ _ _ (c .before .loop .inv .1) (c .loop-test .left)
-    (c .before .before .before .before .pre .1))
+returns c = trim-end _ _ _ _ _ _ _ _ (c .before .loop .inv) (c .loop-test .left)
 
 pub trim-spec : {M : Type 1} → statement M
 trim-spec =
@@ -98,18 +78,18 @@ trim-spec =
     μ-loop
     loop-holds
     mul-axis
-    shared-slice-read-axis
+    slice-read-axis
     mul-epoch
-    shared-slice-read-epoch
-    add-i
+    slice-read-epoch
+    mul-axes
+    slice-write-axes
+    mul-epochs
+    slice-write-epochs
     above-requires
+    after-requires
+    add-i
     loop-less
     loop-again
-    mul-kept
-    array-write-kept
-    mul-at
-    array-write-at
-    add-n
-    loop-less-2
-    loop-again-2
+    same-length
+    same-length-2
     returns)

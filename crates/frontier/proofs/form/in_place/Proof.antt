@@ -7,8 +7,8 @@ use Rattle.frontier.proofs.form.in_place.Tie as tie
 mul-if1 : tie.Need-mul-if1
 mul-if1 c = search needs
 
-element-copy-out-if1 : tie.Need-element-copy-out-if1
-element-copy-out-if1 c = search needs
+shared-slice-read-if1 : tie.Need-shared-slice-read-if1
+shared-slice-read-if1 c = search needs
 
 returns : tie.Need-returns
 returns c = placed-zero _ _ _ (c .if1 .taken)
@@ -22,14 +22,14 @@ sub-result c = search needs
 mul-result : tie.Need-mul-result
 mul-result c = search needs
 
-element-copy-out-result : tie.Need-element-copy-out-result
-element-copy-out-result c = search needs
+shared-slice-read-result : tie.Need-shared-slice-read-result
+shared-slice-read-result c = search needs
 
 mul-result-2 : tie.Need-mul-result-2
 mul-result-2 c = search needs
 
-element-copy-out-result-2 : tie.Need-element-copy-out-result-2
-element-copy-out-result-2 c = search needs
+shared-slice-read-result-2 : tie.Need-shared-slice-read-result-2
+shared-slice-read-result-2 c = search needs
 
 returns-3 : tie.Need-returns-3
 returns-3 c = placed-next _ _ _ (c .before .before .if2 .left) (c .before .before .before .if1 .left)
@@ -39,12 +39,12 @@ in-place-spec =
     tie.close
     (tie.spec
     mul-if1
-    element-copy-out-if1
+    shared-slice-read-if1
     returns
     returns-2
     sub-result
     mul-result
-    element-copy-out-result
+    shared-slice-read-result
     mul-result-2
-    element-copy-out-result-2
+    shared-slice-read-result-2
     returns-3)

@@ -17,11 +17,13 @@ left-of s = of-slots (s .args .xa .now) (s .args .xe .now) (s .args .xn) (s .arg
 abbrev right-of : tie.Start → Frontier
 right-of s = of-slots (s .args .ya .now) (s .args .ye .now) (s .args .yn) (s .args .yt)
 
-left-formed : (c : tie.Else1) → well-formed (left-of (c .before .before)) ≡ true
+left-formed : (c : tie.Else1) → let known = c .before .before in
+    well-formed (left-of (known .before .before .before .before)) ≡ true
 unfolding well-formed entries
 left-formed c = sym (c .before .formed .ensures) ∙ not-false _ (c .if1 .left)
 
-right-formed : (c : tie.Else2) → well-formed (right-of (c .before .before .before .before)) ≡ true
+right-formed : (c : tie.Else2) → let known = c .before .before .before .before in
+    well-formed (right-of (known .before .before .before .before)) ≡ true
 unfolding well-formed entries
 right-formed c = sym (c .before .formed2 .ensures) ∙ not-false _ (c .if2 .left)
 

@@ -7,8 +7,8 @@ use Rattle.frontier.proofs.Lookups.{lookup-other}
 use Rattle.frontier.proofs.search.lookup_from.Statement.{statement}
 use Rattle.frontier.proofs.search.lookup_from.Tie as tie
 
-came : (c : tie.Joined1) → Came (c .before .args .axes .now) (c .before .args .epochs .now) (c .before .args .len)
-    (c .before .args .from) (c .before .args .axis) (c .if1 .at)
+came : (c : tie.Joined1) → let s = c .before .before .before in
+    Came (s .args .axes .now) (s .args .epochs .now) (s .args .len) (s .args .from) (s .args .axis) (c .if1 .at)
 came c =
     ⊎-elim
     (λ w. came-later _ _ _ _ _ _ (w .0 .taken) (w .2 .taken) _ (w .3 .ensures .1) (w .3 .ensures .2 _) (w .4))
@@ -19,8 +19,8 @@ came c =
 mul-if2 : tie.Need-mul-if2
 mul-if2 c = search needs
 
-element-copy-out-if2 : tie.Need-element-copy-out-if2
-element-copy-out-if2 c = search needs
+shared-slice-read-if2 : tie.Need-shared-slice-read-if2
+shared-slice-read-if2 c = search needs
 
 add-seek : tie.Need-add-seek
 add-seek c = search needs
@@ -31,14 +31,14 @@ seek-requires c κs = search needs
 mul-if4 : tie.Need-mul-if4
 mul-if4 c = search needs
 
-element-copy-out-if4 : tie.Need-element-copy-out-if4
-element-copy-out-if4 c = search needs
+shared-slice-read-if4 : tie.Need-shared-slice-read-if4
+shared-slice-read-if4 c = search needs
 
-mul-t19 : tie.Need-mul-t19
-mul-t19 c = search needs
+mul-t17 : tie.Need-mul-t17
+mul-t17 c = search needs
 
-element-copy-out-t22 : tie.Need-element-copy-out-t22
-element-copy-out-t22 c = search needs
+shared-slice-read-t19 : tie.Need-shared-slice-read-t19
+shared-slice-read-t19 c = search needs
 
 returns : tie.Need-returns
 returns c = lookup-here _ _ _ _ _ _ (came (c .before .before .before .before .before))
@@ -56,13 +56,13 @@ lookup-from-spec =
     tie.close
     (tie.spec
     mul-if2
-    element-copy-out-if2
+    shared-slice-read-if2
     add-seek
     seek-requires
     mul-if4
-    element-copy-out-if4
-    mul-t19
-    element-copy-out-t22
+    shared-slice-read-if4
+    mul-t17
+    shared-slice-read-t19
     returns
     returns-2
     returns-3)

@@ -18,11 +18,13 @@ loop-holds c = reach-none _ _ _ _ _ _
 mul-lookup-from : tie.Need-mul-lookup-from Inv-loop μ-loop
 mul-lookup-from c = search needs
 
-element-copy-out-lookup-from : tie.Need-element-copy-out-lookup-from Inv-loop μ-loop
-element-copy-out-lookup-from c = search needs
+shared-slice-read-lookup-from : tie.Need-shared-slice-read-lookup-from Inv-loop μ-loop
+shared-slice-read-lookup-from c = search needs
 
 lookup-from-requires : tie.Need-lookup-from-requires Inv-loop μ-loop
-lookup-from-requires c κs = (c .before .before .loop .inv .left-in, c .before .before .before .pre .0 .0)
+lookup-from-requires c κs =
+    let start = c .before .before .before .before .before .before .before in
+    (c .before .before .loop .inv .left-in, start .pre .0 .0, start .pre .0 .2)
 
 enum-known-answer : tie.Need-enum-known-answer Inv-loop μ-loop
 enum-known-answer c = search needs
@@ -33,20 +35,22 @@ enum-told c = search needs
 returns : tie.Need-returns Inv-loop μ-loop
 returns c =
     let at = c .before .before .before .before .before in
-    reach-absent _ _ _ _ _ _ _ _ (at .before .pre .1 .0) (at .before .pre .1 .1) (at .loop .inv)
+    let start = at .before .before .before .before .before in
+    reach-absent _ _ _ _ _ _ _ _ (start .pre .1 .0) (start .pre .1 .1) (at .loop .inv)
     (c .before .before .before .before .loop-test .taken) _
     (c .before .before .lookup-from .ensures) (c .enum-told .given .1)
 
 mul-if1 : tie.Need-mul-if1 Inv-loop μ-loop
 mul-if1 c = search needs
 
-element-copy-out-if1 : tie.Need-element-copy-out-if1 Inv-loop μ-loop
-element-copy-out-if1 c = search needs
+shared-slice-read-if1 : tie.Need-shared-slice-read-if1 Inv-loop μ-loop
+shared-slice-read-if1 c = search needs
 
 returns-2 : tie.Need-returns-2 Inv-loop μ-loop
 returns-2 c =
     let at = c .before .before .before .before .before .before .before in
-    reach-short _ _ _ _ _ _ _ _ (at .before .before .pre .1 .0) (at .before .before .pre .1 .1) (at .before .loop .inv)
+    let start = at .before .before .before .before .before .before in
+    reach-short _ _ _ _ _ _ _ _ (start .pre .1 .0) (start .pre .1 .1) (at .before .loop .inv)
     (at .loop-test .taken) _
     (c .before .before .before .before .before .lookup-from .ensures) _ (c .before .before .before .answer .given .1)
     (c .if1 .taken)
@@ -54,11 +58,12 @@ returns-2 c =
 add-i : tie.Need-add-i Inv-loop μ-loop
 add-i c =
     let at = c .before .before .before .before .before .before in
+    let start = at .before .before .before .before .before .before .before .before in
     record {
       fits = omega (
         arith,
         at .lookup-from .ensures .in-slot _ (c .before .before .before .before .answer .given .1) .0,
-        at .before .before .before .before .pre .0 .0,
+        start .pre .0 .0,
       );
     }
 
@@ -72,7 +77,8 @@ loop-again : tie.Need-loop-again Inv-loop μ-loop
 loop-again c =
     let earlier = c .before .before .before .before .before .before in
     let at = earlier .before .before in
-    reach-more _ _ _ _ _ _ _ _ (at .before .before .pre .1 .0) (at .before .before .pre .1 .1) (at .before .loop .inv)
+    let start = at .before .before .before .before .before .before in
+    reach-more _ _ _ _ _ _ _ _ (start .pre .1 .0) (start .pre .1 .1) (at .before .loop .inv)
     (at .loop-test .taken) _
     (earlier .lookup-from .ensures) _
     (c .before .before .before .before .answer .given .1) (c .before .if1 .left)
@@ -88,13 +94,13 @@ reaches-spec =
     μ-loop
     loop-holds
     mul-lookup-from
-    element-copy-out-lookup-from
+    shared-slice-read-lookup-from
     lookup-from-requires
     enum-known-answer
     enum-told
     returns
     mul-if1
-    element-copy-out-if1
+    shared-slice-read-if1
     returns-2
     add-i
     add-j

@@ -13,14 +13,14 @@ returns-2 c xe ye = leads-alone _ _ _ _ _ _ _ _ (c .before .if1 .left) (c .if2 .
 mul-result : tie.Need-mul-result
 mul-result c = search needs
 
-element-copy-out-result : tie.Need-element-copy-out-result
-element-copy-out-result c = search needs
+shared-slice-read-result : tie.Need-shared-slice-read-result
+shared-slice-read-result c = search needs
 
 mul-result-2 : tie.Need-mul-result-2
 mul-result-2 c = search needs
 
-element-copy-out-result-2 : tie.Need-element-copy-out-result-2
-element-copy-out-result-2 c = search needs
+shared-slice-read-result-2 : tie.Need-shared-slice-read-result-2
+shared-slice-read-result-2 c = search needs
 
 returns-3 : tie.Need-returns-3
 returns-3 c xe ye = leads-both _ _ _ _ _ _ _ _ (c .before .before .before .if1 .left) (c .before .before .if2 .left)
@@ -32,7 +32,7 @@ leads-at-spec =
     returns
     returns-2
     mul-result
-    element-copy-out-result
+    shared-slice-read-result
     mul-result-2
-    element-copy-out-result-2
+    shared-slice-read-result-2
     returns-3)
