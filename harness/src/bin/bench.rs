@@ -158,9 +158,14 @@ fn measure_families(sides: &Sides) -> Vec<Series> {
         .into()
 }
 
-fn measure_check(sides: &Sides, family: Family, size: usize) -> Measured {
+/// Plans of a family and size, in bytes.
+fn plans_of(family: Family, size: usize) -> Vec<Vec<u8>> {
     let plans = (0..PLANS).map(|seed| family.plan(&mut Rng::new(seed), size).bytes());
-    let plans: Vec<_> = plans.collect();
+    plans.collect()
+}
+
+fn measure_check(sides: &Sides, family: Family, size: usize) -> Measured {
+    let plans = plans_of(family, size);
     let bytes = plans.iter().map(Vec::len).sum::<usize>() / plans.len();
     let (mut table, mut list) = (vec![0; 16 * size], vec![0; 2 * size]);
     let measured = sides.measure(|side| {
@@ -410,12 +415,6 @@ fn measure_others(sides: &Sides) {
         "{:<44}{:>12}{:>12}{:>8}",
         "call", "C library", "reference", "ratio"
     );
-    let plans = (0..PLANS).map(|seed| generate::greatest(&mut Rng::new(seed), 1024));
-    let plans: Vec<_> = plans.map(|plan| (plan.bytes(), plan.numbers())).collect();
-    let mut read_room = vec![0; plans[0].1.len()];
-    let mut write_room = vec![0; plans[0].0.len()];
-    let (mut table, mut list) = (vec![0; 16 * 1024], vec![0; 2 * 1024]);
-    let mut out = EMPTY;
     let print = |name: &str, measured: Measured| {
         println!(
             "{name:<44}{:>12}{:>12.0}{:>8}",
@@ -426,62 +425,78 @@ fn measure_others(sides: &Sides) {
             optional(measured.ratio)
         );
     };
-    let measured = sides.measure(|side| {
-        for (bytes, _) in &plans {
-            side.read(black_box(bytes), &mut read_room);
-        }
-    });
-    print("read, greatest plan", measured.of_one(PLANS));
-    let measured = sides.measure(|side| {
-        for (_, numbers) in &plans {
-            side.write(black_box(numbers), &mut write_room);
-        }
-    });
-    print("write, greatest plan", measured.of_one(PLANS));
-    let measured = sides.measure(|side| {
-        for (bytes, _) in &plans {
-            side.reuse(black_box(bytes), 3, 200, &mut table, &mut list);
-        }
-    });
-    print("reuse, greatest plan", measured.of_one(PLANS));
-    let measured = sides.measure(|side| {
-        for (bytes, _) in &plans {
-            side.frontier(black_box(bytes), 1023, 8, &mut table, &mut list, &mut out);
-        }
-    });
-    print("frontier sent out, greatest plan", measured.of_one(PLANS));
+    let mut measure = |name: &str, calls: u64, call: &mut Call| {
+        print(name, sides.measure(call).of_one(calls));
+    };
+    plan_calls(&mut measure);
     print(
         "trace of 65,535 steps, greatest plan",
         measure_long_trace(sides),
     );
-    for (name, [left, right]) in frontier_pairs() {
-        let measured = sides.measure(|side| {
-            side.merge(black_box(&left), black_box(&right), 16, &mut out);
-        });
-        print(&format!("merge, {name}"), measured);
-        let measured = sides.measure(|side| {
-            side.dominates(black_box(&left), black_box(&right));
-        });
-        print(&format!("dominates, {name}"), measured);
-    }
+    frontier_calls(&mut measure);
     let [left, _] = frontier_pairs()[0].1;
     for (name, offset) in LOOKED_UP {
         let (axes, mut epoch) = (looked_up(offset), 0);
-        let measured = sides.measure(|side| {
+        let name = format!("lookup, 16 entries, {name}");
+        measure(&name, LOOKUPS, &mut |side| {
             for &axis in &axes {
                 side.lookup(black_box(&left), axis, &mut epoch);
             }
         });
-        print(
-            &format!("lookup, 16 entries, {name}"),
-            measured.of_one(LOOKUPS),
-        );
     }
+}
+
+/// Something that is asked of one side.
+type Call<'a> = dyn FnMut(&dyn Side) + 'a;
+/// Measures and prints by a name what is so many calls of one function.
+type Measure<'a> = dyn FnMut(&str, u64, &mut Call) + 'a;
+
+/// What every library can be asked of greatest plans, besides their check.
+fn plan_calls(measure: &mut Measure) {
+    let plans = (0..PLANS).map(|seed| generate::greatest(&mut Rng::new(seed), 1024));
+    let plans: Vec<_> = plans.map(|plan| (plan.bytes(), plan.numbers())).collect();
+    let mut read_room = vec![0; plans[0].1.len()];
+    let mut write_room = vec![0; plans[0].0.len()];
+    let (mut table, mut list) = (vec![0; 16 * 1024], vec![0; 2 * 1024]);
+    let mut out = EMPTY;
+    measure("read, greatest plan", PLANS, &mut |side| {
+        for (bytes, _) in &plans {
+            side.read(black_box(bytes), &mut read_room);
+        }
+    });
+    measure("write, greatest plan", PLANS, &mut |side| {
+        for (_, numbers) in &plans {
+            side.write(black_box(numbers), &mut write_room);
+        }
+    });
+    measure("reuse, greatest plan", PLANS, &mut |side| {
+        for (bytes, _) in &plans {
+            side.reuse(black_box(bytes), 3, 200, &mut table, &mut list);
+        }
+    });
+    measure("frontier sent out, greatest plan", PLANS, &mut |side| {
+        for (bytes, _) in &plans {
+            side.frontier(black_box(bytes), 1023, 8, &mut table, &mut list, &mut out);
+        }
+    });
+}
+
+/// What every library can do with frontiers.
+fn frontier_calls(measure: &mut Measure) {
+    let mut out = EMPTY;
+    for (name, [left, right]) in frontier_pairs() {
+        measure(&format!("merge, {name}"), 1, &mut |side| {
+            side.merge(black_box(&left), black_box(&right), 16, &mut out);
+        });
+        measure(&format!("dominates, {name}"), 1, &mut |side| {
+            side.dominates(black_box(&left), black_box(&right));
+        });
+    }
+    let [left, _] = frontier_pairs()[0].1;
     for (name, axis) in RAISED {
-        let measured = sides.measure(|side| {
+        measure(&format!("raise, 16 entries, {name}"), 1, &mut |side| {
             side.raise(black_box(&left), black_box(axis), 99, 16, &mut out);
         });
-        print(&format!("raise, 16 entries, {name}"), measured);
     }
 }
 
@@ -722,84 +737,43 @@ const SMALL: [(&str, &[u8]); 3] = [
     ),
 ];
 
-/// Times one function of the library after a change and of the one before, turn
-/// by turn, and prints nanoseconds and the median ratio of the pairs.
-fn beside(name: &str, calls: u64, sides: [&dyn Side; 2], mut call: impl FnMut(&dyn Side)) {
-    let [after, before] = sides;
-    let pairs = in_turn(|turn| match turn {
-        Turn::First => call(after),
-        Turn::Second => call(before),
-    });
-    println!(
-        "{name:<44}{:>12.0}{:>12.0}{:>8.3}",
-        pairs.first / calls as f64,
-        pairs.second / calls as f64,
-        pairs.ratio
-    );
-}
-
 fn compare(after: &dyn Side, before: &dyn Side) {
-    let sides = [after, before];
     println!(
         "this library and {}, nanoseconds for one call",
         before.name()
     );
     println!("{:<44}{:>12}{:>12}{:>8}", "call", "this", "before", "ratio");
+    let mut measure = |name: &str, calls: u64, call: &mut Call| {
+        let pairs = in_turn(|turn| match turn {
+            Turn::First => call(after),
+            Turn::Second => call(before),
+        });
+        println!(
+            "{name:<44}{:>12.0}{:>12.0}{:>8.3}",
+            pairs.first / calls as f64,
+            pairs.second / calls as f64,
+            pairs.ratio
+        );
+    };
     let (mut table, mut list) = (vec![0; 16 * 1024], vec![0; 2 * 1024]);
     for (name, plan) in SMALL {
-        beside(&format!("check, {name}"), 1, sides, |side| {
+        measure(&format!("check, {name}"), 1, &mut |side| {
             side.check(black_box(plan), &mut table, &mut list);
         });
     }
     for family in Family::ALL {
         for size in SIZES {
-            let plans = (0..PLANS).map(|seed| family.plan(&mut Rng::new(seed), size).bytes());
-            let plans: Vec<_> = plans.collect();
-            beside(
-                &format!("check, {}, {size}", family.name()),
-                PLANS,
-                sides,
-                |side| {
-                    for plan in &plans {
-                        side.check(black_box(plan), &mut table, &mut list);
-                    }
-                },
-            );
+            let plans = plans_of(family, size);
+            let name = format!("check, {}, {size}", family.name());
+            measure(&name, PLANS, &mut |side| {
+                for plan in &plans {
+                    side.check(black_box(plan), &mut table, &mut list);
+                }
+            });
         }
     }
-    let plans = (0..PLANS).map(|seed| generate::greatest(&mut Rng::new(seed), 1024));
-    let plans: Vec<_> = plans.map(|plan| (plan.bytes(), plan.numbers())).collect();
-    let (mut numbers_room, mut bytes_room) = (vec![0; plans[0].1.len()], vec![0; plans[0].0.len()]);
-    beside("read, greatest plan", PLANS, sides, |side| {
-        for (bytes, _) in &plans {
-            side.read(black_box(bytes), &mut numbers_room);
-        }
-    });
-    beside("write, greatest plan", PLANS, sides, |side| {
-        for (_, numbers) in &plans {
-            side.write(black_box(numbers), &mut bytes_room);
-        }
-    });
-    beside("reuse, greatest plan", PLANS, sides, |side| {
-        for (bytes, _) in &plans {
-            side.reuse(black_box(bytes), 3, 200, &mut table, &mut list);
-        }
-    });
-    let mut out = EMPTY;
-    for (name, [left, right]) in frontier_pairs() {
-        beside(&format!("merge, {name}"), 1, sides, |side| {
-            side.merge(black_box(&left), black_box(&right), 16, &mut out);
-        });
-        beside(&format!("dominates, {name}"), 1, sides, |side| {
-            side.dominates(black_box(&left), black_box(&right));
-        });
-    }
-    let [left, _] = frontier_pairs()[0].1;
-    for (name, axis) in RAISED {
-        beside(&format!("raise, 16 entries, {name}"), 1, sides, |side| {
-            side.raise(black_box(&left), black_box(axis), 99, 16, &mut out);
-        });
-    }
+    plan_calls(&mut measure);
+    frontier_calls(&mut measure);
 }
 
 /// `bench --before LIBRARY`.
