@@ -8,6 +8,7 @@ import concurrent.futures
 import glob
 import os
 import random
+import re
 import sys
 import tempfile
 import threading
@@ -21,6 +22,7 @@ sys.path.insert(0, os.path.join(ROOT, 'python'))
 from cundvrest import (Advice, Dominance, Followed, Frontier, LibraryError, Operation, Passed, Plan,  # noqa: E402
                        Refused, TextError, Trace, Verdict, __main__ as command, __version__, files, library,
                        text)
+from cundvrest.plan import LIMITS, WORDS  # noqa: E402
 
 PLANS = os.path.join(ROOT, 'plans')
 STORED = sorted(glob.glob(os.path.join(glob.escape(PLANS), '*.plan')))
@@ -322,6 +324,24 @@ class Numbers(unittest.TestCase):
                 changed.text()
             self.assertEqual(caught.exception.number, number)
         self.assertRaises(ValueError, plan.reuse, 'camra', 0)
+
+
+class Header(unittest.TestCase):
+    """The package has the numbers of include/cundvrest.h: sizes, answers, refusals."""
+
+    def test_numbers(self):
+        header = content(os.path.join(ROOT, 'include', 'cundvrest.h')).decode()
+        found = {name: int(value) for name, value in re.findall(r'^#define CUNDVREST_(\w+) (\d+)$', header, re.M)}
+        wanted = [('MOST_BYTES', library.MOST_BYTES), ('MOST_NUMBERS', library.MOST_NUMBERS),
+                  ('MOST_OPERATIONS', library.MOST_OPERATIONS), ('TABLE_WIDTH', library.WIDTH),
+                  ('FRONTIER', library.FRONTIER), ('STATE', library.STATE), ('FOUND', library.FOUND),
+                  ('STACK', library._STACK // 2)]
+        wanted += [('UNKNOWN_OPERATION' if answer is Followed.UNKNOWN else answer.name, answer.value)
+                   for kind in (Verdict, Advice, Followed, Dominance) for answer in kind]
+        for name, value in wanted:
+            self.assertEqual(found.get(name), value, name)
+        self.assertEqual(LIMITS['operation'], library.MOST_OPERATIONS)
+        self.assertEqual({value for name, value in found.items() if name.startswith('REFUSED_')}, set(WORDS))
 
 
 class Answers(unittest.TestCase):
