@@ -19,7 +19,7 @@ use Rattle.plan_format.proofs.Faults.{read-stays}
 use Rattle.plan_format.proofs.Repeats.{read-counted, repeat-stops, field-same, times-last}
 use Rattle.plan_format.proofs.Counts.{count-limited}
 use Rattle.stored_bytes.specs.declared.cursor.Cursor.{Cursor}
-use Rattle.stored_bytes.specs.Writing.{fault-of, here, spelling, Writes, Limited}
+use Rattle.stored_bytes.specs.Writing.{fault-of, here, spelling, Writes, Write-limited}
 use Rattle.stored_bytes.proofs.Fields.{here-given, fault-none, fault-clean}
 
 -- where there is no refusal at the end, there was none before
@@ -83,7 +83,7 @@ spell-counted l m w n g s t e h = rw (e, h) (sym (spell-repeat n g t))
 
 -- a count, and so many of a thing
 pub writes-counted : {g : Grammar} {xs : List ℕ} {c start r : Cursor} {bytes bytes₁ bytes₂ : List ℕ} {w most : ℕ}
-    (m : ℕ) → Limited w (most + 1) 2 xs c bytes start bytes₁ → (n : ℕ) → n ≡ start .value →
+    (m : ℕ) → Write-limited w (most + 1) 2 xs c bytes start bytes₁ → (n : ℕ) → n ≡ start .value →
     Writes (repeat n g) (m * n) xs start bytes₁ r bytes₂ →
     Writes (counted 0 most w g) (w + m * most) xs c bytes r bytes₂
 unfolding here scan fault-of limited read-by spell-by spelling

@@ -20,7 +20,7 @@ use Rattle.plan_format.proofs.Faults.{read-stays}
 use Rattle.plan_format.proofs.Judged.{other-given}
 use Rattle.plan_format.proofs.Seams.{last-snoc}
 use Rattle.stored_bytes.specs.declared.cursor.Cursor.{Cursor}
-use Rattle.stored_bytes.specs.Writing.{fault-of, here, spelling, Writes, Number-put, Limited}
+use Rattle.stored_bytes.specs.Writing.{fault-of, here, spelling, Writes, Number-put, Write-limited}
 
 module _ (w : ℕ) (c : ℕ → ℕ) (rest : List ℕ) (p : ℕ) (got : List ℕ) where
   field-missing : length rest < 1 → read-field numbers w c (scan rest p got none-given) ≡ scan rest p got (refusal 1 p)
@@ -169,7 +169,7 @@ module _ {w : ℕ} {check : Check} {xs : List ℕ} {c : Cursor} {bytes : List �
 -- ---- limited fields, whose number the cursor has
 module _ {w limit over : ℕ} {xs : List ℕ} {c : Cursor} {bytes : List ℕ} where
   pub limited-passed : (c .number ≡ 0 → ⊥) → c .at ≤ length xs →
-      Limited w limit over xs c bytes (cursor (c .number) (c .at) (c .put) 0) bytes
+      Write-limited w limit over xs c bytes (cursor (c .number) (c .at) (c .put) 0) bytes
   limited-passed z h =
       record {
         writes = passed z h;
@@ -179,7 +179,7 @@ module _ {w limit over : ℕ} {xs : List ℕ} {c : Cursor} {bytes : List ℕ} wh
       }
 
   pub limited-missing : c .number ≡ 0 → c .at ≤ length xs → length xs ≤ c .at →
-      Limited w limit over xs c bytes (cursor 1 (c .at) (c .put) 0) bytes
+      Write-limited w limit over xs c bytes (cursor 1 (c .at) (c .put) 0) bytes
   limited-missing e h l =
       record {
         writes = missing e h l;
@@ -190,7 +190,8 @@ module _ {w limit over : ℕ} {xs : List ℕ} {c : Cursor} {bytes : List ℕ} wh
 
   module _ (clean : c .number ≡ 0) (h : c .at ≤ length xs) (l : c .at < length xs) {v : ℕ}
       (d : v ≡ getD xs (c .at) 0) where
-    pub limited-over : 1 ≤ over → limit ≤ v → Limited w limit over xs c bytes (cursor over (c .at) (c .put) 0) bytes
+    pub limited-over : 1 ≤ over → limit ≤ v →
+        Write-limited w limit over xs c bytes (cursor over (c .at) (c .put) 0) bytes
     unfolding limited
     limited-over o m =
         record {
@@ -200,7 +201,8 @@ module _ {w limit over : ℕ} {xs : List ℕ} {c : Cursor} {bytes : List ℕ} wh
           value-below = omega arith;
         }
 
-    pub limited-wide : v < limit → 256 ^ w ≤ v → Limited w limit over xs c bytes (cursor 4 (c .at) (c .put) 0) bytes
+    pub limited-wide : v < limit → 256 ^ w ≤ v →
+        Write-limited w limit over xs c bytes (cursor 4 (c .at) (c .put) 0) bytes
     unfolding limited
     limited-wide m k =
         record {
@@ -212,7 +214,7 @@ module _ {w limit over : ℕ} {xs : List ℕ} {c : Cursor} {bytes : List ℕ} wh
 
     pub limited-kept : {bytes-now : List ℕ} → w ≤ 8 → v < limit → v < 256 ^ w →
         Number-put w bytes (c .put) v bytes-now →
-        Limited w limit over xs c bytes (cursor 0 (c .at + 1) (c .put + w) v) bytes-now
+        Write-limited w limit over xs c bytes (cursor 0 (c .at + 1) (c .put + w) v) bytes-now
     unfolding limited here scan last-got
     limited-kept narrow m k q =
         record {

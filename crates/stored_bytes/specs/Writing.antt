@@ -29,7 +29,7 @@ unfoldable pub spelling : (xs : List ℕ) → Cursor → (bytes : List ℕ) → 
 spelling xs c bytes = record { left = drop (c .at) xs; made = take (c .put) bytes }
 
 -- a cursor that is inside the list, with room for so many bytes more
-pub record Room (many : ℕ) (xs : List ℕ) (c : Cursor) (bytes : List ℕ) : Type 0 where
+pub record Write-room (many : ℕ) (xs : List ℕ) (c : Cursor) (bytes : List ℕ) : Type 0 where
   pub inside : c .at ≤ length xs
   pub room : c .put + many ≤ length bytes
 
@@ -53,7 +53,7 @@ pub record Number-put (width : ℕ) (bytes : List ℕ) (at v : ℕ) (bytes-now :
   pub past : drop (at + width) bytes-now ≡ drop (at + width) bytes
 
 -- a limited field was written, and the cursor has its number: 0 where it is refused
-pub record Limited (width limit over : ℕ) (xs : List ℕ) (c : Cursor) (bytes : List ℕ) (r : Cursor)
+pub record Write-limited (width limit over : ℕ) (xs : List ℕ) (c : Cursor) (bytes : List ℕ) (r : Cursor)
     (bytes-now : List ℕ) : Type 0 where
   pub writes : Writes (field width (limited limit over)) width xs c bytes r bytes-now
   pub value-is : r .number ≡ 0 → last-got (here xs r) ≡ r .value

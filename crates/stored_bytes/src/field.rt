@@ -6,14 +6,14 @@ ghost use Prim.Native.Nat.{_≤_};
 ghost use Rattle.plan_format.specs.Form.{any-number};
 ghost use Rattle.plan_format.specs.Grammar.{field};
 ghost use Rattle.plan_format.specs.Sections.{axis-field, size-field};
-ghost use Rattle.stored_bytes.specs.Writing.{Room, Writes, Limited};
+ghost use Rattle.stored_bytes.specs.Writing.{Write-room, Writes, Write-limited};
 
 // A number below `limit`, in one byte; any other is refused by `over`, and by 4 one below `limit` that the byte cannot
 // hold.
 pub fn byte(numbers: &[u64], c: Cursor, limit: u64, over: u32, bytes: &mut [u8]) -> Cursor
-    requires { ⌜ Room 1 (now numbers) c (now bytes) ⌝ }
+    requires { ⌜ Write-room 1 (now numbers) c (now bytes) ⌝ }
     requires { ⌜ 1 ≤ over ⌝ }
-    ensures { λ r. ⌜ Limited 1 limit over (now (numbers .entry)) c (now (bytes .entry)) r (now (bytes .exit)) ⌝ }
+    ensures { λ r. ⌜ Write-limited 1 limit over (now (numbers .entry)) c (now (bytes .entry)) r (now (bytes .exit)) ⌝ }
 {
     let at = c.at;
     if c.number != 0 {
@@ -36,9 +36,9 @@ pub fn byte(numbers: &[u64], c: Cursor, limit: u64, over: u32, bytes: &mut [u8])
 // A number below `limit`, in two bytes; any other is refused by `over`, and by 4 one below `limit` that the bytes
 // cannot hold.
 pub fn pair(numbers: &[u64], c: Cursor, limit: u64, over: u32, bytes: &mut [u8]) -> Cursor
-    requires { ⌜ Room 2 (now numbers) c (now bytes) ⌝ }
+    requires { ⌜ Write-room 2 (now numbers) c (now bytes) ⌝ }
     requires { ⌜ 1 ≤ over ⌝ }
-    ensures { λ r. ⌜ Limited 2 limit over (now (numbers .entry)) c (now (bytes .entry)) r (now (bytes .exit)) ⌝ }
+    ensures { λ r. ⌜ Write-limited 2 limit over (now (numbers .entry)) c (now (bytes .entry)) r (now (bytes .exit)) ⌝ }
 {
     let at = c.at;
     if c.number != 0 {
@@ -60,7 +60,7 @@ pub fn pair(numbers: &[u64], c: Cursor, limit: u64, over: u32, bytes: &mut [u8])
 
 // The size of a buffer: a number that fits four bytes.
 pub fn size(numbers: &[u64], c: Cursor, bytes: &mut [u8]) -> Cursor
-    requires { ⌜ Room 4 (now numbers) c (now bytes) ⌝ }
+    requires { ⌜ Write-room 4 (now numbers) c (now bytes) ⌝ }
     ensures { λ r. ⌜ Writes size-field 4 (now (numbers .entry)) c (now (bytes .entry)) r (now (bytes .exit)) ⌝ }
 {
     let at = c.at;
@@ -80,7 +80,7 @@ pub fn size(numbers: &[u64], c: Cursor, bytes: &mut [u8]) -> Cursor
 
 // The value of a wait or a signal: any number.
 pub fn point_value(numbers: &[u64], c: Cursor, bytes: &mut [u8]) -> Cursor
-    requires { ⌜ Room 8 (now numbers) c (now bytes) ⌝ }
+    requires { ⌜ Write-room 8 (now numbers) c (now bytes) ⌝ }
     ensures { λ r. ⌜ Writes (field 8 any-number) 8 (now (numbers .entry)) c (now (bytes .entry)) r
         (now (bytes .exit)) ⌝ }
 {
@@ -98,7 +98,7 @@ pub fn point_value(numbers: &[u64], c: Cursor, bytes: &mut [u8]) -> Cursor
 
 // The axis of a queue: a number that no earlier queue has.
 pub fn axis(numbers: &[u64], c: Cursor, bytes: &mut [u8]) -> Cursor
-    requires { ⌜ Room 8 (now numbers) c (now bytes) ⌝ }
+    requires { ⌜ Write-room 8 (now numbers) c (now bytes) ⌝ }
     ensures { λ r. ⌜ Writes axis-field 8 (now (numbers .entry)) c (now (bytes .entry)) r (now (bytes .exit)) ⌝ }
 {
     let at = c.at;

@@ -9,7 +9,7 @@ ghost use Prim.Native.Nat.{_+_, _*_};
 ghost use Rattle.plan_format.specs.Sizes.{most-operations, most-marks, block-bytes};
 ghost use Rattle.plan_format.specs.Grammar.{counted};
 ghost use Rattle.plan_format.specs.Sections.{point-below, mark-below, operation-below};
-ghost use Rattle.stored_bytes.specs.Writing.{Room, Writes};
+ghost use Rattle.stored_bytes.specs.Writing.{Write-room, Writes};
 
 // What an operation has at most, and the least counts that are too many.
 const WAITS: u64 = MOST_WAITS as u64;
@@ -22,7 +22,7 @@ const TOO_MANY_OPERATIONS: u64 = MOST_OPERATIONS as u64 + 1;
 
 // A wait or a signal: a semaphore and a value.
 fn point(numbers: &[u64], c: Cursor, semaphores: u64, bytes: &mut [u8]) -> Cursor
-    requires { ⌜ Room 9 (now numbers) c (now bytes) ⌝ }
+    requires { ⌜ Write-room 9 (now numbers) c (now bytes) ⌝ }
     ensures { λ r. ⌜ Writes (point-below 1 semaphores) 9 (now (numbers .entry)) c (now (bytes .entry)) r
         (now (bytes .exit)) ⌝ }
 {
@@ -32,7 +32,7 @@ fn point(numbers: &[u64], c: Cursor, semaphores: u64, bytes: &mut [u8]) -> Curso
 
 // The waits or the signals: a count, at most `most`, and the points.
 fn points(numbers: &[u64], c: Cursor, most: u64, semaphores: u64, bytes: &mut [u8]) -> Cursor
-    requires { ⌜ Room (1 + 9 * most) (now numbers) c (now bytes) ⌝ }
+    requires { ⌜ Write-room (1 + 9 * most) (now numbers) c (now bytes) ⌝ }
     ensures { λ r. ⌜ Writes (counted 0 most 1 (point-below 1 semaphores)) (1 + 9 * most) (now (numbers .entry)) c
         (now (bytes .entry)) r (now (bytes .exit)) ⌝ }
 {
@@ -52,7 +52,7 @@ fn points(numbers: &[u64], c: Cursor, most: u64, semaphores: u64, bytes: &mut [u
 
 // A mark: a buffer and a kind.
 fn mark(numbers: &[u64], c: Cursor, buffers: u64, bytes: &mut [u8]) -> Cursor
-    requires { ⌜ Room 3 (now numbers) c (now bytes) ⌝ }
+    requires { ⌜ Write-room 3 (now numbers) c (now bytes) ⌝ }
     ensures { λ r. ⌜ Writes (mark-below buffers) 3 (now (numbers .entry)) c (now (bytes .entry)) r
         (now (bytes .exit)) ⌝ }
 {
@@ -62,7 +62,7 @@ fn mark(numbers: &[u64], c: Cursor, buffers: u64, bytes: &mut [u8]) -> Cursor
 
 // The marks: a count and the marks.
 fn marks(numbers: &[u64], c: Cursor, buffers: u64, bytes: &mut [u8]) -> Cursor
-    requires { ⌜ Room (1 + 3 * most-marks) (now numbers) c (now bytes) ⌝ }
+    requires { ⌜ Write-room (1 + 3 * most-marks) (now numbers) c (now bytes) ⌝ }
     ensures { λ r. ⌜ Writes (counted 0 most-marks 1 (mark-below buffers)) (1 + 3 * most-marks) (now (numbers .entry)) c
         (now (bytes .entry)) r (now (bytes .exit)) ⌝ }
 {
@@ -89,7 +89,7 @@ fn operation(
     buffers: u64,
     bytes: &mut [u8],
 ) -> Cursor
-    requires { ⌜ Room block-bytes (now numbers) c (now bytes) ⌝ }
+    requires { ⌜ Write-room block-bytes (now numbers) c (now bytes) ⌝ }
     ensures { λ r. ⌜ Writes (operation-below 1 queues semaphores buffers) block-bytes (now (numbers .entry)) c
         (now (bytes .entry)) r (now (bytes .exit)) ⌝ }
 {
@@ -108,7 +108,7 @@ pub fn operations(
     buffers: u64,
     bytes: &mut [u8],
 ) -> Cursor
-    requires { ⌜ Room (2 + block-bytes * most-operations) (now numbers) c (now bytes) ⌝ }
+    requires { ⌜ Write-room (2 + block-bytes * most-operations) (now numbers) c (now bytes) ⌝ }
     ensures { λ r. ⌜ Writes (counted 0 most-operations 2 (operation-below 1 queues semaphores buffers))
         (2 + block-bytes * most-operations) (now (numbers .entry)) c (now (bytes .entry)) r (now (bytes .exit)) ⌝ }
 {

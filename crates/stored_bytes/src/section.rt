@@ -12,7 +12,7 @@ ghost use Rattle.plan_format.specs.Sizes.{most-queues, most-semaphores, most-bu
 ghost use Rattle.plan_format.specs.Form.{first-form};
 ghost use Rattle.plan_format.specs.Grammar.{counted, field};
 ghost use Rattle.plan_format.specs.Sections.{axis-field, size-field, limited};
-ghost use Rattle.stored_bytes.specs.Writing.{Room, Writes, Plan-written};
+ghost use Rattle.stored_bytes.specs.Writing.{Write-room, Writes, Plan-written};
 
 // The least counts that are too many.
 const TOO_MANY_QUEUES: u64 = MOST_QUEUES as u64 + 1;
@@ -23,7 +23,7 @@ const TOO_MANY_BUFFERS: u64 = MOST_BUFFERS as u64 + 1;
 
 // The section of queues.
 fn axes(numbers: &[u64], c: Cursor, bytes: &mut [u8]) -> Cursor
-    requires { ⌜ Room (1 + 8 * most-queues) (now numbers) c (now bytes) ⌝ }
+    requires { ⌜ Write-room (1 + 8 * most-queues) (now numbers) c (now bytes) ⌝ }
     ensures { λ r. ⌜ Writes (counted 0 most-queues 1 axis-field) (1 + 8 * most-queues) (now (numbers .entry)) c
         (now (bytes .entry)) r (now (bytes .exit)) ⌝ }
 {
@@ -43,7 +43,7 @@ fn axes(numbers: &[u64], c: Cursor, bytes: &mut [u8]) -> Cursor
 
 // The section of semaphores.
 fn owners(numbers: &[u64], c: Cursor, queues: u64, bytes: &mut [u8]) -> Cursor
-    requires { ⌜ Room (1 + most-semaphores) (now numbers) c (now bytes) ⌝ }
+    requires { ⌜ Write-room (1 + most-semaphores) (now numbers) c (now bytes) ⌝ }
     ensures { λ r. ⌜ Writes (counted 0 most-semaphores 1 (field 1 (limited queues 4))) (1 + most-semaphores)
         (now (numbers .entry)) c (now (bytes .entry)) r (now (bytes .exit)) ⌝ }
 {
@@ -63,7 +63,7 @@ fn owners(numbers: &[u64], c: Cursor, queues: u64, bytes: &mut [u8]) -> Cursor
 
 // The section of buffers.
 fn sizes(numbers: &[u64], c: Cursor, bytes: &mut [u8]) -> Cursor
-    requires { ⌜ Room (2 + 4 * most-buffers) (now numbers) c (now bytes) ⌝ }
+    requires { ⌜ Write-room (2 + 4 * most-buffers) (now numbers) c (now bytes) ⌝ }
     ensures { λ r. ⌜ Writes (counted 0 most-buffers 2 size-field) (2 + 4 * most-buffers) (now (numbers .entry)) c
         (now (bytes .entry)) r (now (bytes .exit)) ⌝ }
 {

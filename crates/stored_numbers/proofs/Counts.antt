@@ -15,7 +15,7 @@ use Rattle.plan_format.proofs.Alike.{alike-from}
 use Rattle.plan_format.proofs.Counts.{number-at, owners-alike, operations-alike, counts-of}
 use Rattle.plan_format.proofs.Follows.{Section, section}
 use Rattle.stored_numbers.specs.declared.cursor.Cursor.{Cursor}
-use Rattle.stored_numbers.specs.Reading.{fault-of, here, Past, Reads, begun, front-numbers, Heading, fronted}
+use Rattle.stored_numbers.specs.Reading.{fault-of, here, Past, Reads-on, begun, front-numbers, Heading, fronted}
 use Rattle.stored_numbers.specs.Reading.{Front-read}
 use Rattle.stored_numbers.proofs.Fields.{here-clean}
 use Rattle.stored_numbers.proofs.Cursors.{past-then, reads-past}
@@ -40,11 +40,11 @@ module _ (F : Form) where
   owned c = counted (F .semaphores-least) (F .semaphores-most) (F .semaphore-width) (field 1 c)
 
   module _ (bs : List ℕ) {c₁ c₂ c₃ : Cursor} {n₀ n₁ n₂ n₃ : List ℕ} {q m b : ℕ} (roomy : front-numbers F ≤ length n₀)
-      (axes : Reads (counted 0 most-queues 1 axis-field) (1 + most-queues) bs origin n₀ c₁ n₁)
+      (axes : Reads-on (counted 0 most-queues 1 axis-field) (1 + most-queues) bs origin n₀ c₁ n₁)
       (queues-are : q ≡ getD n₁ 0 0)
-      (owners : Reads (owned (limited q 4)) (1 + F .semaphores-most) bs c₁ n₁ c₂ n₂)
+      (owners : Reads-on (owned (limited q 4)) (1 + F .semaphores-most) bs c₁ n₁ c₂ n₂)
       (semaphores-are : m ≡ getD n₂ (c₁ .got) 0)
-      (sizes : Reads (counted 0 most-buffers 2 size-field) (1 + most-buffers) bs c₂ n₂ c₃ n₃)
+      (sizes : Reads-on (counted 0 most-buffers 2 size-field) (1 + most-buffers) bs c₂ n₂ c₃ n₃)
       (buffers-are : b ≡ getD n₃ (c₂ .got) 0) where
     first : here bs c₁ n₁ .fault .number ≡ 0 → Section (here bs origin n₀) (here bs c₁ n₁)
     unfolding axis-field

@@ -14,7 +14,7 @@ use Rattle.plan_format.specs.Sections.{repeat, limited}
 use Rattle.plan_format.proofs.Counts.{count-limited}
 use Rattle.plan_format.proofs.Repeats.{read-counted, repeat-stops, field-same}
 use Rattle.stored_numbers.specs.declared.cursor.Cursor.{Cursor}
-use Rattle.stored_numbers.specs.Reading.{fault-of, here, Past, Reads, Limited}
+use Rattle.stored_numbers.specs.Reading.{fault-of, here, Past, Reads-on, Read-limited}
 use Rattle.stored_numbers.proofs.Fields.{here-given, fault-none, value-last}
 
 -- ---- the array past the numbers
@@ -23,14 +23,14 @@ past-then {i} {k} {xs} {ys} l p q =
     record { as-long = q .as-long ∙ p .as-long; past = q .past ∙ past-later i k ys xs l (p .past) }
 
 pub reads-past : {g : Grammar} {many : ℕ} {bs : List ℕ} {c r : Cursor} {nums nums-now : List ℕ} →
-    Reads g many bs c nums r nums-now → Past (r .got) nums nums-now
+    Reads-on g many bs c nums r nums-now → Past (r .got) nums nums-now
 reads-past p = record { as-long = p .as-long; past = p .past }
 
 -- ---- one thing after another
 module _ {bs : List ℕ} {c d r : Cursor} {nums nums₁ nums₂ : List ℕ} where
   -- one thing after another
-  pub reads-seq : {g h : Grammar} {m n : ℕ} → Reads g m bs c nums d nums₁ → Reads h n bs d nums₁ r nums₂ →
-      Reads (seq g h) (m + n) bs c nums r nums₂
+  pub reads-seq : {g h : Grammar} {m n : ℕ} → Reads-on g m bs c nums d nums₁ → Reads-on h n bs d nums₁ r nums₂ →
+      Reads-on (seq g h) (m + n) bs c nums r nums₂
   unfolding read-by
   reads-seq {g} {h} p q = record {
     read = ap (λ (s : Scan). read-by bytes h s) (p .read) ∙ q .read;
@@ -42,21 +42,21 @@ module _ {bs : List ℕ} {c d r : Cursor} {nums nums₁ nums₂ : List ℕ} wher
   }
 
   -- one more
-  pub reads-more : {g : Grammar} {m : ℕ} (i : ℕ) → Reads (repeat i g) (m * i) bs c nums d nums₁ →
-      Reads g m bs d nums₁ r nums₂ → Reads (repeat (i + 1) g) (m * (i + 1)) bs c nums r nums₂
+  pub reads-more : {g : Grammar} {m : ℕ} (i : ℕ) → Reads-on (repeat i g) (m * i) bs c nums d nums₁ →
+      Reads-on g m bs d nums₁ r nums₂ → Reads-on (repeat (i + 1) g) (m * (i + 1)) bs c nums r nums₂
   unfolding repeat
   reads-more {g} {m} i p q = rw (add-one i, mul-suc m i) (reads-seq p q)
 
 -- none of a thing
 pub reads-none : (g : Grammar) (m : ℕ) (bs : List ℕ) (c : Cursor) (nums : List ℕ) → c .at ≤ length bs →
-    Reads (repeat 0 g) (m * 0) bs c nums c nums
+    Reads-on (repeat 0 g) (m * 0) bs c nums c nums
 unfolding repeat read-by
 reads-none g m bs c nums h = record
     { read = refl; inside = h; more = omega arith; few = omega arith; as-long = refl; past = refl }
 
 -- a count, and so many of a thing
 pub counted-read : (g : Grammar) {bs : List ℕ} {c start : Cursor} {nums nums₁ : List ℕ} {w : ℕ} (most : ℕ) →
-    Limited w (most + 1) 2 bs c nums start nums₁ → (n : ℕ) → n ≡ start .value →
+    Read-limited w (most + 1) 2 bs c nums start nums₁ → (n : ℕ) → n ≡ start .value →
     read-by bytes (counted 0 most w g) (here bs c nums) ≡ read-by bytes (repeat n g) (here bs start nums₁)
 unfolding here scan fault-of limited read-by
 counted-read g {bs} {c} {start} {nums} {nums₁} {w} most p n e =
@@ -66,8 +66,9 @@ counted-read g {bs} {c} {start} {nums} {nums₁} {w} most p n e =
     (λ z. value-last p (fault-none start z) ∙ sym e)
 
 pub reads-counted : {g : Grammar} {bs : List ℕ} {c start r : Cursor} {nums nums₁ nums₂ : List ℕ} {w most : ℕ} (m : ℕ) →
-    Limited w (most + 1) 2 bs c nums start nums₁ → (n : ℕ) → n ≡ start .value →
-    Reads (repeat n g) (m * n) bs start nums₁ r nums₂ → Reads (counted 0 most w g) (1 + m * most) bs c nums r nums₂
+    Read-limited w (most + 1) 2 bs c nums start nums₁ → (n : ℕ) → n ≡ start .value →
+    Reads-on (repeat n g) (m * n) bs start nums₁ r nums₂ →
+    Reads-on (counted 0 most w g) (1 + m * most) bs c nums r nums₂
 reads-counted {g} {most = most} m p n e q =
     record {
       read = counted-read g most p n e ∙ q .read;
@@ -86,8 +87,8 @@ reads-counted {g} {most = most} m p n e q =
 
 -- a loop that met a refusal has read all that can be read
 pub reads-stopped : {bs : List ℕ} {start r : Cursor} {nums nums-now : List ℕ} (g : Grammar) (m : ℕ) (i n : ℕ) →
-    (r .number ≡ 0 → ⊥) → i ≤ n → Reads (repeat i g) (m * i) bs start nums r nums-now →
-    Reads (repeat n g) (m * n) bs start nums r nums-now
+    (r .number ≡ 0 → ⊥) → i ≤ n → Reads-on (repeat i g) (m * i) bs start nums r nums-now →
+    Reads-on (repeat n g) (m * n) bs start nums r nums-now
 reads-stopped {bs} {start} {r} {nums} {nums-now} g m i n z h p =
     record {
       read = repeat-stops bytes g (here bs start nums) i n
@@ -101,6 +102,6 @@ reads-stopped {bs} {start} {r} {nums} {nums-now} g m i n z h p =
 
 -- a loop that went to its end
 pub reads-all : {bs : List ℕ} {start r : Cursor} {nums nums-now : List ℕ} (g : Grammar) (m : ℕ) {i n : ℕ} → i ≡ n →
-    Reads (repeat i g) (m * i) bs start nums r nums-now → Reads (repeat n g) (m * n) bs start nums r nums-now
+    Reads-on (repeat i g) (m * i) bs start nums r nums-now → Reads-on (repeat n g) (m * n) bs start nums r nums-now
 reads-all {bs} {start} {r} {nums} {nums-now} g m e p =
-    subst (λ (k : ℕ). Reads (repeat k g) (m * k) bs start nums r nums-now) e p
+    subst (λ (k : ℕ). Reads-on (repeat k g) (m * k) bs start nums r nums-now) e p

@@ -19,7 +19,7 @@ use Rattle.plan_format.proofs.Faults.{read-stays}
 use Rattle.plan_format.proofs.Judged.{other-given}
 use Rattle.plan_format.proofs.Seams.{last-snoc}
 use Rattle.stored_numbers.specs.declared.cursor.Cursor.{Cursor}
-use Rattle.stored_numbers.specs.Reading.{fault-of, here, Reads, Word, Limited}
+use Rattle.stored_numbers.specs.Reading.{fault-of, here, Reads-on, Word, Read-limited}
 
 module _ (w : ℕ) (c : ℕ → ℕ) (rest : List ℕ) (p : ℕ) (got : List ℕ) where
   field-cut : length rest < w → read-field bytes w c (scan rest p got none-given) ≡ scan rest p got (refusal 1 p)
@@ -68,7 +68,7 @@ fault-none c e =
 
 -- a cursor with a refusal passes through
 pub passed : {g : Grammar} {many : ℕ} {bs : List ℕ} {c : Cursor} {nums : List ℕ} {v : ℕ} → (c .number ≡ 0 → ⊥) →
-    c .at ≤ length bs → Reads g many bs c nums (cursor (c .number) (c .at) (c .got) v) nums
+    c .at ≤ length bs → Reads-on g many bs c nums (cursor (c .number) (c .at) (c .got) v) nums
 unfolding here fault-of
 passed {g} {bs = bs} {c} {nums} z h =
     record {
@@ -91,7 +91,7 @@ read-clean w check bs c nums e = ap (λ (s : Scan). read-by bytes (field w check
 module _ {w : ℕ} {check : Check} {bs : List ℕ} {c : Cursor} {nums : List ℕ} (clean : c .number ≡ 0)
     (h : c .at ≤ length bs) where
   -- cut short
-  pub cut : {v : ℕ} → length bs - c .at < w → Reads (field w check) 1 bs c nums (cursor 1 (c .at) (c .got) v) nums
+  pub cut : {v : ℕ} → length bs - c .at < w → Reads-on (field w check) 1 bs c nums (cursor 1 (c .at) (c .got) v) nums
   cut {v} l =
       record {
         read =
@@ -109,7 +109,7 @@ module _ {w : ℕ} {check : Check} {bs : List ℕ} {c : Cursor} {nums : List ℕ
   module _ (l : w ≤ length bs - c .at) {v : ℕ} (d : Word w bs (c .at) v) where
     -- refused by its check
     pub wrong : {n u : ℕ} → check (take (c .got) nums) v ≡ n → (n ≡ 0 → ⊥) →
-        Reads (field w check) 1 bs c nums (cursor n (c .at) (c .got) u) nums
+        Reads-on (field w check) 1 bs c nums (cursor n (c .at) (c .got) u) nums
     wrong {n} {u} e z =
         record {
           read =
@@ -127,7 +127,7 @@ module _ {w : ℕ} {check : Check} {bs : List ℕ} {c : Cursor} {nums : List ℕ
 
     -- kept
     pub kept : c .got < length nums → check (take (c .got) nums) v ≡ 0 →
-        Reads (field w check) 1 bs c nums (cursor 0 (c .at + w) (c .got + 1) v) (set nums (c .got) v)
+        Reads-on (field w check) 1 bs c nums (cursor 0 (c .at + w) (c .got + 1) v) (set nums (c .got) v)
     unfolding here fault-of
     kept k e =
         record {
@@ -146,7 +146,7 @@ module _ {w : ℕ} {check : Check} {bs : List ℕ} {c : Cursor} {nums : List ℕ
 
 -- ---- limited fields, whose number the cursor has
 pub value-last : {w limit over : ℕ} {bs : List ℕ} {c r : Cursor} {nums nums-now : List ℕ} →
-    Limited w limit over bs c nums r nums-now → r .number ≡ 0 → last-got (here bs r nums-now) ≡ r .value
+    Read-limited w limit over bs c nums r nums-now → r .number ≡ 0 → last-got (here bs r nums-now) ≡ r .value
 value-last {bs = bs} {r = r} {nums-now = nums-now} p z =
     sym (p .valued ∙ ap (λ (n : ℕ). cond (eqb n 0) (last-got (here bs r nums-now)) 0) z)
 
@@ -155,16 +155,16 @@ value-none n x z = rw (ne-eqb n 0 z)
 
 module _ {w limit over : ℕ} {bs : List ℕ} {c : Cursor} {nums : List ℕ} where
   pub limited-passed : (c .number ≡ 0 → ⊥) → c .at ≤ length bs →
-      Limited w limit over bs c nums (cursor (c .number) (c .at) (c .got) 0) nums
+      Read-limited w limit over bs c nums (cursor (c .number) (c .at) (c .got) 0) nums
   limited-passed z h = record { reads = passed z h; valued = value-none (c .number) _ z; value-below = omega arith }
 
   pub limited-cut : c .number ≡ 0 → c .at ≤ length bs → length bs - c .at < w →
-      Limited w limit over bs c nums (cursor 1 (c .at) (c .got) 0) nums
+      Read-limited w limit over bs c nums (cursor 1 (c .at) (c .got) 0) nums
   limited-cut e h l = record { reads = cut e h l; valued = refl; value-below = omega arith }
 
   module _ (clean : c .number ≡ 0) (h : c .at ≤ length bs) (l : w ≤ length bs - c .at) {v : ℕ}
       (d : Word w bs (c .at) v) where
-    pub limited-over : 1 ≤ over → limit ≤ v → Limited w limit over bs c nums (cursor over (c .at) (c .got) 0) nums
+    pub limited-over : 1 ≤ over → limit ≤ v → Read-limited w limit over bs c nums (cursor over (c .at) (c .got) 0) nums
     unfolding limited
     limited-over o m =
         record {
@@ -174,7 +174,7 @@ module _ {w limit over : ℕ} {bs : List ℕ} {c : Cursor} {nums : List ℕ} whe
         }
 
     pub limited-kept : c .got < length nums → v < limit →
-        Limited w limit over bs c nums (cursor 0 (c .at + w) (c .got + 1) v) (set nums (c .got) v)
+        Read-limited w limit over bs c nums (cursor 0 (c .at + w) (c .got + 1) v) (set nums (c .got) v)
     unfolding limited here scan last-got
     limited-kept k m =
         record {

@@ -26,8 +26,8 @@ use Rattle.plan_format.proofs.Sections.{sections-kept}
 use Rattle.stored_numbers.specs.declared.End.{End}
 use Rattle.stored_numbers.specs.declared.Head.{Head}
 use Rattle.stored_numbers.specs.declared.cursor.Cursor.{Cursor}
-use Rattle.stored_numbers.specs.Reading.{fault-of, here, Past, Reads, Limited, begun, front-numbers, Stopped}
-use Rattle.stored_numbers.specs.Reading.{unless-refused, Heading, Front-read, head-grammar, head-scan-by}
+use Rattle.stored_numbers.specs.Reading.{fault-of, here, Past, Reads-on, Read-limited, begun, front-numbers}
+use Rattle.stored_numbers.specs.Reading.{Stopped, unless-refused, Heading, Front-read, head-grammar, head-scan-by}
 use Rattle.stored_numbers.specs.Reading.{Head-told, Head-read, head-cursor, operation-scan}
 use Rattle.stored_numbers.specs.Reading.{Operation-told, end-cursor, Operation-read}
 use Rattle.stored_numbers.proofs.Fields.{here-clean, here-given, fault-number, fault-none, value-last}
@@ -78,7 +78,7 @@ heading-counts {q} {m} {b} {n} h =
 module _ {F : Form} {bs : List ℕ} {c r : Cursor} {q m b : ℕ} {nums₀ nums nums-now : List ℕ}
     (front : Front-read F bs c q m b nums)
     (kept : Past (c .got) nums₀ nums) (roomy : r .got ≤ length nums-now)
-    (count : Limited 2 (most-operations + 1) 2 bs c nums r nums-now) where
+    (count : Read-limited 2 (most-operations + 1) 2 bs c nums r nums-now) where
   abbrev head : Head
   head = record {
     number = r .number;
@@ -195,7 +195,7 @@ module _ {F : Form} {bs : List ℕ} {c r : Cursor} {q m b : ℕ} {nums₀ nums n
 -- ---- an operation read at the place, or at the end of the bytes
 module _ (width q m b : ℕ) {a : ℕ} (at : ℕ) {bs w w-now : List ℕ} {r : Cursor} (place : a ≡ min at (length bs))
     (roomy : block-numbers ≤ length w-now)
-    (p : Reads (operation-below width q m b) block-numbers bs (record { number = 0; at = a; got = 0; value = 0 }) w r
+    (p : Reads-on (operation-below width q m b) block-numbers bs (record { number = 0; at = a; got = 0; value = 0 }) w r
     w-now)
   where
     operation-is : operation-scan width q m b bs at ≡ here bs r w-now

@@ -15,7 +15,7 @@ use Rattle.plan_format.specs.declared.Told.{Told}
 use Rattle.plan_format.proofs.Repeats.{read-repeat}
 use Rattle.stored_numbers.specs.declared.Head.{Head}
 use Rattle.stored_numbers.specs.declared.cursor.Cursor.{Cursor}
-use Rattle.stored_numbers.specs.Reading.{fault-of, here, Past, Reads, head-cursor, operations-after, Head-read}
+use Rattle.stored_numbers.specs.Reading.{fault-of, here, Past, Reads-on, head-cursor, operations-after, Head-read}
 use Rattle.stored_numbers.specs.Reading.{Ends, rest-cursor, rest-scan}
 use Rattle.stored_numbers.proofs.Cursors.{past-then, reads-past}
 use Rattle.stored_numbers.proofs.ReadingEnds.{Read-in, answer-few, ends-front, ends-array}
@@ -42,7 +42,7 @@ module _ (width : ℕ) (bs head nums₀ : List ℕ) (at : ℕ) (h : Head) {a k n
     (got : k ≡ min (h .got) head-numbers) (many : n ≡ min (h .operations) most-operations)
     (copied : nums ≡ in-front (take k head) nums₀)
     (long : k ≤ length head) (roomy : k ≤ length nums₀) (room : k + block-numbers * n ≤ length nums)
-    (p : Reads (repeat n (operation-below width (h .queues) (h .semaphores) (h .buffers))) (block-numbers * n) bs
+    (p : Reads-on (repeat n (operation-below width (h .queues) (h .semaphores) (h .buffers))) (block-numbers * n) bs
     (record { number = h .number; at = a; got = k; value = 0 }) nums r nums-now) where
   taken : take k nums ≡ take k head
   taken = ap (λ (l : List ℕ). take k l) copied ∙ front-taken k head nums₀ long

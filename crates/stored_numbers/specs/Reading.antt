@@ -29,7 +29,7 @@ unfoldable pub here : (bs : List ℕ) → Cursor → (nums : List ℕ) → Scan
 here bs c nums = scan (drop (c .at) bs) (c .at) (take (c .got) nums) (fault-of c)
 
 -- a cursor that is inside the bytes, with room for so many numbers more
-pub record Room (many : ℕ) (bs : List ℕ) (c : Cursor) (nums : List ℕ) : Type 0 where
+pub record Read-room (many : ℕ) (bs : List ℕ) (c : Cursor) (nums : List ℕ) : Type 0 where
   pub inside : c .at ≤ length bs
   pub room : c .got + many ≤ length nums
 
@@ -39,7 +39,7 @@ pub record Past (got : ℕ) (nums nums-now : List ℕ) : Type 0 where
   pub past : drop got nums-now ≡ drop got nums
 
 -- from the cursor `c` to the cursor `r` a thing is read, at most so many numbers long
-pub record Reads (g : Grammar) (many : ℕ) (bs : List ℕ) (c : Cursor) (nums : List ℕ) (r : Cursor)
+pub record Reads-on (g : Grammar) (many : ℕ) (bs : List ℕ) (c : Cursor) (nums : List ℕ) (r : Cursor)
     (nums-now : List ℕ) : Type 0 where
   pub read : read-by bytes g (here bs c nums) ≡ here bs r nums-now
   pub inside : r .at ≤ length bs
@@ -54,9 +54,9 @@ pub record Word (width : ℕ) (bs : List ℕ) (at v : ℕ) : Type 0 where
   pub small : v < 256 ^ width
 
 -- a limited field was read, and the cursor has its number, 0 beside a refusal
-pub record Limited (width limit over : ℕ) (bs : List ℕ) (c : Cursor) (nums : List ℕ) (r : Cursor)
+pub record Read-limited (width limit over : ℕ) (bs : List ℕ) (c : Cursor) (nums : List ℕ) (r : Cursor)
     (nums-now : List ℕ) : Type 0 where
-  pub reads : Reads (field width (limited limit over)) 1 bs c nums r nums-now
+  pub reads : Reads-on (field width (limited limit over)) 1 bs c nums r nums-now
   pub valued : r .value ≡ cond (eqb (r .number) 0) (last-got (here bs r nums-now)) 0
   pub value-below : r .value ≤ limit - 1
 

@@ -6,13 +6,13 @@ ghost use Prim.Native.Nat.{_≤_};
 ghost use Rattle.plan_format.specs.Form.{any-number};
 ghost use Rattle.plan_format.specs.Grammar.{field};
 ghost use Rattle.plan_format.specs.Sections.{axis-field, size-field};
-ghost use Rattle.stored_numbers.specs.Reading.{Room, Reads, Limited};
+ghost use Rattle.stored_numbers.specs.Reading.{Read-room, Reads-on, Read-limited};
 
 // A byte below `limit`; any other is refused by `over`.
 pub fn byte(plan: &[u8], c: Cursor, limit: u64, over: u32, numbers: &mut [u64]) -> Cursor
-    requires { ⌜ Room 1 (now plan) c (now numbers) ⌝ }
+    requires { ⌜ Read-room 1 (now plan) c (now numbers) ⌝ }
     requires { ⌜ 1 ≤ over ⌝ }
-    ensures { λ r. ⌜ Limited 1 limit over (now (plan .entry)) c (now (numbers .entry)) r (now (numbers .exit)) ⌝ }
+    ensures { λ r. ⌜ Read-limited 1 limit over (now (plan .entry)) c (now (numbers .entry)) r (now (numbers .exit)) ⌝ }
 {
     let at = c.at;
     let got = c.got;
@@ -32,9 +32,9 @@ pub fn byte(plan: &[u8], c: Cursor, limit: u64, over: u32, numbers: &mut [u64]) 
 
 // Two bytes below `limit`; any other number is refused by `over`.
 pub fn pair(plan: &[u8], c: Cursor, limit: u64, over: u32, numbers: &mut [u64]) -> Cursor
-    requires { ⌜ Room 1 (now plan) c (now numbers) ⌝ }
+    requires { ⌜ Read-room 1 (now plan) c (now numbers) ⌝ }
     requires { ⌜ 1 ≤ over ⌝ }
-    ensures { λ r. ⌜ Limited 2 limit over (now (plan .entry)) c (now (numbers .entry)) r (now (numbers .exit)) ⌝ }
+    ensures { λ r. ⌜ Read-limited 2 limit over (now (plan .entry)) c (now (numbers .entry)) r (now (numbers .exit)) ⌝ }
 {
     let at = c.at;
     let got = c.got;
@@ -54,8 +54,8 @@ pub fn pair(plan: &[u8], c: Cursor, limit: u64, over: u32, numbers: &mut [u64]) 
 
 // The size of a buffer: four bytes, any number.
 pub fn size(plan: &[u8], c: Cursor, numbers: &mut [u64]) -> Cursor
-    requires { ⌜ Room 1 (now plan) c (now numbers) ⌝ }
-    ensures { λ r. ⌜ Reads size-field 1 (now (plan .entry)) c (now (numbers .entry)) r (now (numbers .exit)) ⌝ }
+    requires { ⌜ Read-room 1 (now plan) c (now numbers) ⌝ }
+    ensures { λ r. ⌜ Reads-on size-field 1 (now (plan .entry)) c (now (numbers .entry)) r (now (numbers .exit)) ⌝ }
 {
     let at = c.at;
     let got = c.got;
@@ -72,8 +72,8 @@ pub fn size(plan: &[u8], c: Cursor, numbers: &mut [u64]) -> Cursor
 
 // The value of a wait or a signal: eight bytes, any number.
 pub fn point_value(plan: &[u8], c: Cursor, numbers: &mut [u64]) -> Cursor
-    requires { ⌜ Room 1 (now plan) c (now numbers) ⌝ }
-    ensures { λ r. ⌜ Reads (field 8 any-number) 1 (now (plan .entry)) c (now (numbers .entry)) r
+    requires { ⌜ Read-room 1 (now plan) c (now numbers) ⌝ }
+    ensures { λ r. ⌜ Reads-on (field 8 any-number) 1 (now (plan .entry)) c (now (numbers .entry)) r
         (now (numbers .exit)) ⌝ }
 {
     let at = c.at;
@@ -91,8 +91,8 @@ pub fn point_value(plan: &[u8], c: Cursor, numbers: &mut [u64]) -> Cursor
 
 // The axis of a queue: eight bytes, a number that no earlier queue has.
 pub fn axis(plan: &[u8], c: Cursor, numbers: &mut [u64]) -> Cursor
-    requires { ⌜ Room 1 (now plan) c (now numbers) ⌝ }
-    ensures { λ r. ⌜ Reads axis-field 1 (now (plan .entry)) c (now (numbers .entry)) r (now (numbers .exit)) ⌝ }
+    requires { ⌜ Read-room 1 (now plan) c (now numbers) ⌝ }
+    ensures { λ r. ⌜ Reads-on axis-field 1 (now (plan .entry)) c (now (numbers .entry)) r (now (numbers .exit)) ⌝ }
 {
     let at = c.at;
     let got = c.got;

@@ -9,7 +9,7 @@ ghost use Prim.Native.Nat.{_+_, _*_};
 ghost use Rattle.plan_format.specs.Grammar.{counted};
 ghost use Rattle.plan_format.specs.Sections.{repeat, point-below, mark-below, operation-below};
 ghost use Rattle.plan_format.specs.Sizes.{most-operations, most-marks, block-numbers};
-ghost use Rattle.stored_numbers.specs.Reading.{Room, Reads};
+ghost use Rattle.stored_numbers.specs.Reading.{Read-room, Reads-on};
 
 // What an operation has at most, and the least counts that are too many.
 const WAITS: u64 = MOST_WAITS as u64;
@@ -22,8 +22,8 @@ const TOO_MANY_OPERATIONS: u64 = MOST_OPERATIONS as u64 + 1;
 
 // A wait or a signal: a semaphore and a value.
 fn point(plan: &[u8], c: Cursor, semaphores: u64, numbers: &mut [u64]) -> Cursor
-    requires { ⌜ Room 2 (now plan) c (now numbers) ⌝ }
-    ensures { λ r. ⌜ Reads (point-below 1 semaphores) 2 (now (plan .entry)) c (now (numbers .entry)) r
+    requires { ⌜ Read-room 2 (now plan) c (now numbers) ⌝ }
+    ensures { λ r. ⌜ Reads-on (point-below 1 semaphores) 2 (now (plan .entry)) c (now (numbers .entry)) r
         (now (numbers .exit)) ⌝ }
 {
     let semaphore = field::byte(plan, c, semaphores, 4, numbers);
@@ -32,8 +32,8 @@ fn point(plan: &[u8], c: Cursor, semaphores: u64, numbers: &mut [u64]) -> Cursor
 
 // The waits or the signals: a count, at most `most`, and the points.
 fn points(plan: &[u8], c: Cursor, most: u64, semaphores: u64, numbers: &mut [u64]) -> Cursor
-    requires { ⌜ Room (1 + 2 * most) (now plan) c (now numbers) ⌝ }
-    ensures { λ r. ⌜ Reads (counted 0 most 1 (point-below 1 semaphores)) (1 + 2 * most) (now (plan .entry)) c
+    requires { ⌜ Read-room (1 + 2 * most) (now plan) c (now numbers) ⌝ }
+    ensures { λ r. ⌜ Reads-on (counted 0 most 1 (point-below 1 semaphores)) (1 + 2 * most) (now (plan .entry)) c
         (now (numbers .entry)) r (now (numbers .exit)) ⌝ }
 {
     let start = field::byte(plan, c, most + 1, 2, numbers);
@@ -52,8 +52,8 @@ fn points(plan: &[u8], c: Cursor, most: u64, semaphores: u64, numbers: &mut [u64
 
 // A mark: a buffer and a kind.
 fn mark(plan: &[u8], c: Cursor, buffers: u64, numbers: &mut [u64]) -> Cursor
-    requires { ⌜ Room 2 (now plan) c (now numbers) ⌝ }
-    ensures { λ r. ⌜ Reads (mark-below buffers) 2 (now (plan .entry)) c (now (numbers .entry)) r
+    requires { ⌜ Read-room 2 (now plan) c (now numbers) ⌝ }
+    ensures { λ r. ⌜ Reads-on (mark-below buffers) 2 (now (plan .entry)) c (now (numbers .entry)) r
         (now (numbers .exit)) ⌝ }
 {
     let buffer = field::pair(plan, c, buffers, 4, numbers);
@@ -62,8 +62,8 @@ fn mark(plan: &[u8], c: Cursor, buffers: u64, numbers: &mut [u64]) -> Cursor
 
 // The marks: a count and the marks.
 fn marks(plan: &[u8], c: Cursor, buffers: u64, numbers: &mut [u64]) -> Cursor
-    requires { ⌜ Room (1 + 2 * most-marks) (now plan) c (now numbers) ⌝ }
-    ensures { λ r. ⌜ Reads (counted 0 most-marks 1 (mark-below buffers)) (1 + 2 * most-marks) (now (plan .entry)) c
+    requires { ⌜ Read-room (1 + 2 * most-marks) (now plan) c (now numbers) ⌝ }
+    ensures { λ r. ⌜ Reads-on (counted 0 most-marks 1 (mark-below buffers)) (1 + 2 * most-marks) (now (plan .entry)) c
         (now (numbers .entry)) r (now (numbers .exit)) ⌝ }
 {
     let start = field::byte(plan, c, TOO_MANY_MARKS, 2, numbers);
@@ -89,8 +89,8 @@ pub fn operation(
     buffers: u64,
     numbers: &mut [u64],
 ) -> Cursor
-    requires { ⌜ Room block-numbers (now plan) c (now numbers) ⌝ }
-    ensures { λ r. ⌜ Reads (operation-below 1 queues semaphores buffers) block-numbers (now (plan .entry)) c
+    requires { ⌜ Read-room block-numbers (now plan) c (now numbers) ⌝ }
+    ensures { λ r. ⌜ Reads-on (operation-below 1 queues semaphores buffers) block-numbers (now (plan .entry)) c
         (now (numbers .entry)) r (now (numbers .exit)) ⌝ }
 {
     let queue = field::byte(plan, c, queues, 4, numbers);
@@ -109,8 +109,8 @@ pub fn several(
     buffers: u64,
     numbers: &mut [u64],
 ) -> Cursor
-    requires { ⌜ Room (block-numbers * many) (now plan) c (now numbers) ⌝ }
-    ensures { λ r. ⌜ Reads (repeat many (operation-below 1 queues semaphores buffers)) (block-numbers * many)
+    requires { ⌜ Read-room (block-numbers * many) (now plan) c (now numbers) ⌝ }
+    ensures { λ r. ⌜ Reads-on (repeat many (operation-below 1 queues semaphores buffers)) (block-numbers * many)
         (now (plan .entry)) c (now (numbers .entry)) r (now (numbers .exit)) ⌝ }
 {
     let mut o = c;
@@ -134,8 +134,8 @@ pub fn operations(
     buffers: u64,
     numbers: &mut [u64],
 ) -> Cursor
-    requires { ⌜ Room (1 + most-operations * block-numbers) (now plan) c (now numbers) ⌝ }
-    ensures { λ r. ⌜ Reads (counted 0 most-operations 2 (operation-below 1 queues semaphores buffers))
+    requires { ⌜ Read-room (1 + most-operations * block-numbers) (now plan) c (now numbers) ⌝ }
+    ensures { λ r. ⌜ Reads-on (counted 0 most-operations 2 (operation-below 1 queues semaphores buffers))
         (1 + most-operations * block-numbers) (now (plan .entry)) c (now (numbers .entry)) r (now (numbers .exit)) ⌝ }
 {
     let start = field::pair(plan, c, TOO_MANY_OPERATIONS, 2, numbers);

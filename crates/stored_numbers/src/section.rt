@@ -12,7 +12,7 @@ ghost use Rattle.plan_format.specs.Sizes.{most-queues, most-semaphores, most-bu
 ghost use Rattle.plan_format.specs.Form.{first-form};
 ghost use Rattle.plan_format.specs.Grammar.{counted, field};
 ghost use Rattle.plan_format.specs.Sections.{axis-field, size-field, limited};
-ghost use Rattle.stored_numbers.specs.Reading.{Room, Reads, Past, Front-read, Plan-read};
+ghost use Rattle.stored_numbers.specs.Reading.{Read-room, Reads-on, Past, Front-read, Plan-read};
 
 // The least counts that are too many.
 const TOO_MANY_QUEUES: u64 = MOST_QUEUES as u64 + 1;
@@ -23,8 +23,8 @@ const TOO_MANY_BUFFERS: u64 = MOST_BUFFERS as u64 + 1;
 
 // The section of queues.
 fn axes(plan: &[u8], c: Cursor, numbers: &mut [u64]) -> Cursor
-    requires { ⌜ Room (1 + most-queues) (now plan) c (now numbers) ⌝ }
-    ensures { λ r. ⌜ Reads (counted 0 most-queues 1 axis-field) (1 + most-queues) (now (plan .entry)) c
+    requires { ⌜ Read-room (1 + most-queues) (now plan) c (now numbers) ⌝ }
+    ensures { λ r. ⌜ Reads-on (counted 0 most-queues 1 axis-field) (1 + most-queues) (now (plan .entry)) c
         (now (numbers .entry)) r (now (numbers .exit)) ⌝ }
 {
     let start = field::byte(plan, c, TOO_MANY_QUEUES, 2, numbers);
@@ -43,8 +43,8 @@ fn axes(plan: &[u8], c: Cursor, numbers: &mut [u64]) -> Cursor
 
 // The section of semaphores.
 fn owners(plan: &[u8], c: Cursor, queues: u64, numbers: &mut [u64]) -> Cursor
-    requires { ⌜ Room (1 + most-semaphores) (now plan) c (now numbers) ⌝ }
-    ensures { λ r. ⌜ Reads (counted 0 most-semaphores 1 (field 1 (limited queues 4))) (1 + most-semaphores)
+    requires { ⌜ Read-room (1 + most-semaphores) (now plan) c (now numbers) ⌝ }
+    ensures { λ r. ⌜ Reads-on (counted 0 most-semaphores 1 (field 1 (limited queues 4))) (1 + most-semaphores)
         (now (plan .entry)) c (now (numbers .entry)) r (now (numbers .exit)) ⌝ }
 {
     let start = field::byte(plan, c, TOO_MANY_SEMAPHORES, 2, numbers);
@@ -63,8 +63,8 @@ fn owners(plan: &[u8], c: Cursor, queues: u64, numbers: &mut [u64]) -> Cursor
 
 // The section of buffers.
 fn sizes(plan: &[u8], c: Cursor, numbers: &mut [u64]) -> Cursor
-    requires { ⌜ Room (1 + most-buffers) (now plan) c (now numbers) ⌝ }
-    ensures { λ r. ⌜ Reads (counted 0 most-buffers 2 size-field) (1 + most-buffers) (now (plan .entry)) c
+    requires { ⌜ Read-room (1 + most-buffers) (now plan) c (now numbers) ⌝ }
+    ensures { λ r. ⌜ Reads-on (counted 0 most-buffers 2 size-field) (1 + most-buffers) (now (plan .entry)) c
         (now (numbers .entry)) r (now (numbers .exit)) ⌝ }
 {
     let start = field::pair(plan, c, TOO_MANY_BUFFERS, 2, numbers);

@@ -4,14 +4,14 @@ use Prim.Native.Nat.{_+_, _-_, _*_, _≤_}
 use native.Mathlib.Omega.{arith}
 use borrow.Author.Needs.{needs}
 use Rattle.plan_format.specs.Sections.{repeat, mark-below}
-use Rattle.stored_numbers.specs.Reading.{Reads}
+use Rattle.stored_numbers.specs.Reading.{Reads-on}
 use Rattle.stored_numbers.proofs.Cursors.{reads-none, reads-more, reads-counted, reads-stopped}
 use Rattle.stored_numbers.proofs.operation.marks.Statement.{statement}
 use Rattle.stored_numbers.proofs.operation.marks.Tie as tie
 
 abbrev Inv-loop : tie.InvT-loop
 Inv-loop plan buffers numbers₀ count m₀ i₀ numbers m i =
-    (i ≤ count) × Reads (repeat i (mark-below buffers)) (2 * i) plan m₀ numbers₀ m numbers
+    (i ≤ count) × Reads-on (repeat i (mark-below buffers)) (2 * i) plan m₀ numbers₀ m numbers
 
 abbrev μ-loop : tie.MeasureT-loop
 μ-loop plan buffers numbers₀ count m₀ i₀ numbers m i = count - i

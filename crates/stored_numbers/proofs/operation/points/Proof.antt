@@ -4,14 +4,14 @@ use Prim.Native.Nat.{_+_, _-_, _*_, _≤_}
 use native.Mathlib.Omega.{arith}
 use borrow.Author.Needs.{needs}
 use Rattle.plan_format.specs.Sections.{repeat, point-below}
-use Rattle.stored_numbers.specs.Reading.{Reads}
+use Rattle.stored_numbers.specs.Reading.{Reads-on}
 use Rattle.stored_numbers.proofs.Cursors.{reads-none, reads-more, reads-counted, reads-stopped}
 use Rattle.stored_numbers.proofs.operation.points.Statement.{statement}
 use Rattle.stored_numbers.proofs.operation.points.Tie as tie
 
 abbrev Inv-loop : tie.InvT-loop
 Inv-loop plan most semaphores numbers₀ count p₀ i₀ numbers p i =
-    (i ≤ count) × Reads (repeat i (point-below 1 semaphores)) (2 * i) plan p₀ numbers₀ p numbers
+    (i ≤ count) × Reads-on (repeat i (point-below 1 semaphores)) (2 * i) plan p₀ numbers₀ p numbers
 
 abbrev μ-loop : tie.MeasureT-loop
 μ-loop plan most semaphores numbers₀ count p₀ i₀ numbers p i = count - i

@@ -5,15 +5,15 @@ use native.Mathlib.Omega.{arith}
 use borrow.Author.Needs.{needs}
 use Rattle.plan_format.specs.Sizes.{block-numbers}
 use Rattle.plan_format.specs.Sections.{repeat, operation-below}
-use Rattle.stored_numbers.specs.Reading.{Reads}
+use Rattle.stored_numbers.specs.Reading.{Reads-on}
 use Rattle.stored_numbers.proofs.Cursors.{reads-none, reads-more, reads-stopped, reads-all}
 use Rattle.stored_numbers.proofs.operation.several.Statement.{statement}
 use Rattle.stored_numbers.proofs.operation.several.Tie as tie
 
 abbrev Inv-loop : tie.InvT-loop
 Inv-loop plan many queues semaphores buffers numbers₀ o₀ i₀ numbers o i =
-    (i ≤ many) × Reads (repeat i (operation-below 1 queues semaphores buffers)) (block-numbers * i) plan o₀ numbers₀ o
-    numbers
+    (i ≤ many) × Reads-on (repeat i (operation-below 1 queues semaphores buffers)) (block-numbers * i) plan o₀
+    numbers₀ o numbers
 
 abbrev μ-loop : tie.MeasureT-loop
 μ-loop plan many queues semaphores buffers numbers₀ o₀ i₀ numbers o i = many - i

@@ -4,14 +4,14 @@ use Prim.Native.Nat.{_+_, _-_, _*_, _≤_}
 use native.Mathlib.Omega.{arith}
 use borrow.Author.Needs.{needs}
 use Rattle.plan_format.specs.Sections.{repeat, axis-field}
-use Rattle.stored_numbers.specs.Reading.{Reads}
+use Rattle.stored_numbers.specs.Reading.{Reads-on}
 use Rattle.stored_numbers.proofs.Cursors.{reads-none, reads-more, reads-counted, reads-stopped}
 use Rattle.stored_numbers.proofs.section.axes.Statement.{statement}
 use Rattle.stored_numbers.proofs.section.axes.Tie as tie
 
 abbrev Inv-loop : tie.InvT-loop
 Inv-loop plan numbers₀ count a₀ i₀ numbers a i =
-    (i ≤ count) × Reads (repeat i axis-field) (1 * i) plan a₀ numbers₀ a numbers
+    (i ≤ count) × Reads-on (repeat i axis-field) (1 * i) plan a₀ numbers₀ a numbers
 
 abbrev μ-loop : tie.MeasureT-loop
 μ-loop plan numbers₀ count a₀ i₀ numbers a i = count - i

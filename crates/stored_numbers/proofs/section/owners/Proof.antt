@@ -5,14 +5,14 @@ use native.Mathlib.Omega.{arith}
 use borrow.Author.Needs.{needs}
 use Rattle.plan_format.specs.Grammar.{field}
 use Rattle.plan_format.specs.Sections.{repeat, limited}
-use Rattle.stored_numbers.specs.Reading.{Reads}
+use Rattle.stored_numbers.specs.Reading.{Reads-on}
 use Rattle.stored_numbers.proofs.Cursors.{reads-none, reads-more, reads-counted, reads-stopped}
 use Rattle.stored_numbers.proofs.section.owners.Statement.{statement}
 use Rattle.stored_numbers.proofs.section.owners.Tie as tie
 
 abbrev Inv-loop : tie.InvT-loop
 Inv-loop plan queues numbers₀ count o₀ i₀ numbers o i =
-    (i ≤ count) × Reads (repeat i (field 1 (limited queues 4))) (1 * i) plan o₀ numbers₀ o numbers
+    (i ≤ count) × Reads-on (repeat i (field 1 (limited queues 4))) (1 * i) plan o₀ numbers₀ o numbers
 
 abbrev μ-loop : tie.MeasureT-loop
 μ-loop plan queues numbers₀ count o₀ i₀ numbers o i = count - i

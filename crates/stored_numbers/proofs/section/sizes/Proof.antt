@@ -4,14 +4,14 @@ use Prim.Native.Nat.{_+_, _-_, _*_, _≤_}
 use native.Mathlib.Omega.{arith}
 use borrow.Author.Needs.{needs}
 use Rattle.plan_format.specs.Sections.{repeat, size-field}
-use Rattle.stored_numbers.specs.Reading.{Reads}
+use Rattle.stored_numbers.specs.Reading.{Reads-on}
 use Rattle.stored_numbers.proofs.Cursors.{reads-none, reads-more, reads-counted, reads-stopped}
 use Rattle.stored_numbers.proofs.section.sizes.Statement.{statement}
 use Rattle.stored_numbers.proofs.section.sizes.Tie as tie
 
 abbrev Inv-loop : tie.InvT-loop
 Inv-loop plan numbers₀ count b₀ i₀ numbers b i =
-    (i ≤ count) × Reads (repeat i size-field) (1 * i) plan b₀ numbers₀ b numbers
+    (i ≤ count) × Reads-on (repeat i size-field) (1 * i) plan b₀ numbers₀ b numbers
 
 abbrev μ-loop : tie.MeasureT-loop
 μ-loop plan numbers₀ count b₀ i₀ numbers b i = count - i
