@@ -1,5 +1,5 @@
-# Part of the launcher, in the repository alone: sees to it that the program is there and as new as what it is made
-# of. Takes `home`, `program`, `form` and `fail` from it.
+# Part of the launcher, in the repository alone: whether the program is there and as new as what it is made of, and how
+# it is renewed. Takes `home`, `program`, `form` and `fail` from it.
 built=$home/target/cundvrest.built
 
 # The mark lists what the program is made of: the code and the contracts of its own crates, each file and each folder.
@@ -33,7 +33,8 @@ build() {
     mv "$built.new" "$built" || fail "cannot write below $home/target"
 }
 
-if ! fresh; then
+# renew WORDS..: proves and builds the program, for a question of these words.
+renew() {
     # help needs no proof: before the program is there, it is the text in its source
     if [ "$#:${1-}" = 1:help ] && [ ! -x "$program" ]; then
         sed -n '/^ *b"cundvrest: /,$ { /^"/q; s/^ *b"//; p; }' "$home/crates/cundvrest/src/usage.rt" || exit 2
@@ -50,4 +51,5 @@ if ! fresh; then
     fi
     fresh || build
     exec 9>&-
-fi
+    fresh() { :; } # whatever has changed meanwhile
+}

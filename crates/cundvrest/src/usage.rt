@@ -14,7 +14,7 @@ pub fn help(out: &mut [u8]) -> usize {
   cundvrest reuse QUEUE BUFFER < PLAN           may this queue fill the buffer again once the plan has run?
   cundvrest suggest QUEUE BUFFER < PLAN         the wait to add to the plan so that it may
   cundvrest frontier OPERATION CAPACITY < PLAN  the frontier sent out for an operation
-  cundvrest trace FILE < PLAN                   does the recorded trace in FILE follow the plan, and how far did it come?
+  cundvrest trace FILE < PLAN                   does a trace recorded in FILE follow the plan, and how far did it come?
   cundvrest read < PLAN                         the numbers of the plan, one for each stored field
   cundvrest write < NUMBERS > PLAN              the stored plan of such numbers
   cundvrest help                                this text
