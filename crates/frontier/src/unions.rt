@@ -15,7 +15,7 @@ ghost use mathlib.Core.List.{List, _∷_};
 ghost use Prim.Native.Nat.{ℕ, _+_, _≤_, _<_};
 ghost use lib.ListN.{length};
 ghost use Rattle.frontier.specs.Entries.{most-entries, most-of-two, rising-from, union};
-ghost use Rattle.frontier.specs.Frontiers.{slots, handed, joined, merge, raise};
+ghost use Rattle.frontier.specs.Frontiers.{slots, handed, joined, one-entry, merge, raise};
 ghost use Rattle.frontier.specs.Walks.{rest, of-slots, All-slots, leads, All-room, Left-in-room};
 
 // The next entry of a union, and where each side goes on.
@@ -194,6 +194,43 @@ fn join<'a>(
     }
 }
 
+// The union of x and one entry, cut to a capacity, in front of the room. An entry of epoch 0 is none.
+pub fn join_one<'a>(
+    xa: &'a [u64],
+    xe: &'a [u64],
+    xn: usize,
+    xt: bool,
+    axis: u64,
+    epoch: u64,
+    capacity: usize,
+    axes: &mut [u64],
+    epochs: &mut [u64],
+) -> Filled
+    requires { ⌜ (xn ≤ most-entries) × All-slots (now xa) (now xe) ×
+        (rising-from 0 (slots (now xa) (now xe) xn 0) ≡ true) ⌝ }
+    requires { ⌜ (1 ≤ capacity) × (capacity ≤ most-entries) ⌝ }
+    requires { ⌜ All-room (now axes) (now epochs) ⌝ }
+    ensures { λ r. ⌜ Left-in-room (handed (joined (slots (now (xa .entry)) (now (xe .entry)) xn 0)
+        (one-entry axis epoch) xt capacity)) r (now (axes .exit)) (now (epochs .exit)) ⌝ }
+{
+    let mut ya = [0u64; Frontier::SLOTS];
+    let mut ye = [0u64; Frontier::SLOTS];
+    ya[0] = axis;
+    ye[0] = epoch;
+    join(
+        xa,
+        xe,
+        xn,
+        &ya,
+        &ye,
+        (epoch != 0) as usize,
+        capacity,
+        xt,
+        axes,
+        epochs,
+    )
+}
+
 // A refusal leaves no entry.
 fn refused(number: u32) -> Filled
     ensures { λ r. ⌜ r ≡ record { number = number; len = 0; tainted = false } ⌝ }
@@ -280,19 +317,14 @@ pub fn raised<'a>(
             };
         }
     }
-    let mut ya = [0u64; Frontier::SLOTS];
-    let mut ye = [0u64; Frontier::SLOTS];
-    ya[0] = axis;
-    ye[0] = epoch;
-    join(
+    join_one(
         xa,
         xe,
         xn,
-        &ya,
-        &ye,
-        (epoch != 0) as usize,
-        capacity as usize,
         xt,
+        axis,
+        epoch,
+        capacity as usize,
         axes,
         epochs,
     )
