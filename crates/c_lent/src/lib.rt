@@ -147,7 +147,7 @@ pub fn merge<'a>(
         (now (merged .exit)) ⌝ }
 {
     let number = merge_numbers(left, right, capacity, merged);
-    tell(plan_format::refused(number, 0), told);
+    tell(plan_format::forwarded(number, 0), told);
 }
 
 // The raise of an axis of a lent frontier; its number.
@@ -193,7 +193,7 @@ pub fn raise(
         (now (raised .exit)) ⌝ }
 {
     let number = raise_numbers(old, axis, epoch, capacity, raised);
-    tell(plan_format::refused(number, 0), told);
+    tell(plan_format::forwarded(number, 0), told);
 }
 
 // Whether the left of two lent frontiers dominates the right one.
