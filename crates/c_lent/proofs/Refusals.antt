@@ -10,7 +10,7 @@ use borrow.Author.Tests.{ltb-true, lt-leb}
 use Rattle.base_lists.proofs.Tests.{by-cases, clash, either, or-cases}
 use Rattle.frontier.specs.declared.Frontier.{Frontier}
 use Rattle.frontier.specs.declared.Merged.{Merged}
-use Rattle.frontier.specs.Entries.{most-entries}
+use Rattle.frontier_slots.specs.Entries.{most-entries}
 use Rattle.frontier.specs.Frontiers.{well-formed, capable, merge-number, merge, refusal, dominance-number}
 use Rattle.c_lent.specs.Lent.{length-at, taint-at, over-long, frontier-of, oversized}
 

@@ -7,9 +7,10 @@ mod unions;
 
 use cuts::clear;
 use cuts::first_slots;
-use form::formed;
 use form::judged;
-use search::lookup_by_halving;
+use frontier_slots::Lookup;
+use frontier_slots::formed;
+use frontier_slots::lookup_by_halving;
 use unions::join_one;
 ghost use mathlib.Core.Path.{_≡_};
 ghost use mathlib.Core.Bool.{false};
@@ -25,18 +26,6 @@ pub struct Frontier {
     pub epochs: [u64; Frontier::SLOTS],
     pub len: usize,
     pub tainted: bool,
-}
-
-// An axis and its epoch.
-pub struct Entry {
-    pub axis: u64,
-    pub epoch: u64,
-}
-
-// What a frontier says of an axis: its epoch, or nothing.
-pub enum Lookup {
-    Listed(u64),
-    Absent,
 }
 
 // A merge's number and frontier: empty and untainted where the number is a refusal's. The frontier comes first, so

@@ -1,22 +1,24 @@
 // The union of two frontiers, by their lent slots.
 use crate::Frontier;
-use crate::Lookup;
 use crate::cuts::bound_of;
 use crate::cuts::copy;
 use crate::cuts::trim;
-use crate::form::formed;
 use crate::form::judged;
 use crate::lent::Filled;
-use crate::search::lookup_by_halving;
 use crate::search::lookup_from;
+use frontier_slots::Lookup;
+use frontier_slots::formed;
+use frontier_slots::lookup_by_halving;
 ghost use mathlib.Core.Path.{_≡_};
 ghost use mathlib.Core.Bool.{true, false};
 ghost use mathlib.Core.List.{List, _∷_};
 ghost use Prim.Native.Nat.{ℕ, _+_, _≤_, _<_};
 ghost use lib.ListN.{length};
-ghost use Rattle.frontier.specs.Entries.{most-entries, most-of-two, rising-from, union};
-ghost use Rattle.frontier.specs.Frontiers.{slots, handed, joined, one-entry, merge, raise};
-ghost use Rattle.frontier.specs.Walks.{rest, of-slots, All-slots, leads, All-room, Left-in-room};
+ghost use Rattle.frontier_slots.specs.Entries.{most-entries, most-of-two, rising-from, union};
+ghost use Rattle.frontier_slots.specs.Slots.{slots};
+ghost use Rattle.frontier.specs.Frontiers.{handed, joined, one-entry, merge, raise};
+ghost use Rattle.frontier_slots.specs.Slots.{rest, All-slots};
+ghost use Rattle.frontier.specs.Walks.{of-slots, leads, All-room, Left-in-room};
 
 // The next entry of a union, and where each side goes on.
 pub struct Step {
@@ -317,15 +319,5 @@ pub fn raised<'a>(
             };
         }
     }
-    join_one(
-        xa,
-        xe,
-        xn,
-        xt,
-        axis,
-        epoch,
-        capacity as usize,
-        axes,
-        epochs,
-    )
+    join_one(xa, xe, xn, xt, axis, epoch, capacity as usize, axes, epochs)
 }

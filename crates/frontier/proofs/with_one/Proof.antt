@@ -48,8 +48,8 @@ returns c =
     let lent = joined .before .before .before .before in
     let start = lent .before .before .before .before in
     let formed = raise-formed _ _ _ _ in
-    let left = left-same (raise-joined (start .args .t1) (start .args .axis) (start .args .epoch) _ _ refl (start .pre) _
-    refl) (joined .join-one .ensures) in
+    let raised = raise-joined (start .args .t1) (start .args .axis) (start .args .epoch) _ _ refl (start .pre) in
+    let left = left-same (raised _ refl) (joined .join-one .ensures) in
     held-right _ _ _ _ _ _ formed (fills _ _ _ _ _ _ formed left (made .clear .ensures) (cleared .clear2 .ensures))
     (c .before .before .first-slots .ensures) (c .first-slots2 .ensures)
 

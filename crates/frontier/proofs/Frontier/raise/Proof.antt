@@ -6,9 +6,10 @@ use native.Mathlib.Omega.{arith}
 use borrow.Author.Needs.{needs}
 use Rattle.frontier.specs.declared.Frontier.{Frontier}
 use Rattle.frontier.specs.declared.Merged.{Merged}
-use Rattle.frontier.specs.Entries.{most-entries, rising-from}
-use Rattle.frontier.specs.Frontiers.{entries, well-formed, refusal}
-use Rattle.frontier.specs.Walks.{left-number, All-slots, Found-from}
+use Rattle.frontier_slots.specs.Entries.{most-entries, rising-from}
+use Rattle.frontier.specs.Frontiers.{entries, refusal}
+use Rattle.frontier_slots.specs.Slots.{All-slots}
+use Rattle.frontier.specs.Walks.{left-number, Found-from}
 use Rattle.frontier.proofs.Lookups.{halved-from}
 use Rattle.frontier.proofs.Meaning.{raise-all}
 use Rattle.frontier.proofs.Raise.{raise-refused, raise-joins, raise-stored}
@@ -24,7 +25,7 @@ fits : (c : tie.Else1) → let f = own (c .before) in
     let capacity = known .before .before .before .before .args .capacity in
     ((f .len ≤ most-entries) × (rising-from 0 (entries f) ≡ true) × All-slots (f .axes) (f .epochs))
     × ((1 ≤ capacity) × (capacity ≤ most-entries))
-unfolding left-number well-formed entries
+unfolding left-number
 fits c =
     let known = c .before .before .before in
     let start = known .before .before .before .before in
@@ -56,7 +57,7 @@ empty-requires : tie.Need-empty-requires
 empty-requires c κs = search needs
 
 returns : tie.Need-returns
-unfolding left-number well-formed entries refusal
+unfolding left-number refusal
 returns c =
     let judged = c .before .before .judged in
     raise-all _ _ _ _ _
@@ -79,7 +80,7 @@ element-write-self : tie.Need-element-write-self
 element-write-self c = listed (c .before .before)
 
 returns-2 : tie.Need-returns-2
-unfolding left-number well-formed entries
+unfolding left-number
 returns-2 c =
     let answer = c .before .before in
     let left = judged-before answer in
@@ -93,7 +94,7 @@ enum-told : tie.Need-enum-told
 enum-told c = search needs
 
 with-one-requires : tie.Need-with-one-requires
-unfolding left-number well-formed entries
+unfolding left-number
 with-one-requires c κs = let left = c .before in sym (left .before .judged .ensures) ∙ left .if1 .left
 
 returns-3 : tie.Need-returns-3

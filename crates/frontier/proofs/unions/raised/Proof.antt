@@ -5,9 +5,10 @@ use Prim.Native.Nat.{_≤_, _<_}
 use native.Mathlib.Omega.{arith}
 use borrow.Author.Needs.{needs}
 use Rattle.frontier.specs.declared.Frontier.{Frontier}
-use Rattle.frontier.specs.Entries.{most-entries, rising-from}
-use Rattle.frontier.specs.Frontiers.{entries, well-formed}
-use Rattle.frontier.specs.Walks.{of-slots, left-number, All-slots, Found-from}
+use Rattle.frontier_slots.specs.Entries.{most-entries, rising-from}
+use Rattle.frontier.specs.Frontiers.{entries}
+use Rattle.frontier_slots.specs.Slots.{All-slots}
+use Rattle.frontier.specs.Walks.{of-slots, left-number, Found-from}
 use Rattle.frontier.proofs.Lookups.{halved-from}
 use Rattle.frontier.proofs.Raise.{raise-refused, raise-joins, raise-joined, raise-stored}
 use Rattle.frontier.proofs.Fill.{left-same, left-refused, left-stored}
@@ -23,7 +24,7 @@ fits : (c : tie.Else1) → let known = c .before .before in
     ((s .args .xn ≤ most-entries) × (rising-from 0 (entries (left-of s)) ≡ true)
     × All-slots (s .args .xa .now) (s .args .xe .now))
     × ((1 ≤ s .args .capacity) × (s .args .capacity ≤ most-entries))
-unfolding left-number well-formed entries
+unfolding left-number
 fits c =
     let known = c .before .before in
     let s = known .before .before .before .before in
@@ -54,7 +55,7 @@ refused-requires : tie.Need-refused-requires
 refused-requires c κs = search needs
 
 returns : tie.Need-returns
-unfolding left-number well-formed entries
+unfolding left-number
 returns c =
     let known = c .before .before .before in
     let start = known .before .before .before .before in
@@ -94,7 +95,7 @@ same-length-2 : tie.Need-same-length-2
 same-length-2 c = search needs
 
 returns-2 : tie.Need-returns-2
-unfolding left-number well-formed entries
+unfolding left-number
 returns-2 c =
     let answer = answered c in
     let found = answer .before .before in
@@ -124,7 +125,7 @@ same-length-4 : tie.Need-same-length-4
 same-length-4 c = search needs
 
 returns-3 : tie.Need-returns-3
-unfolding left-number well-formed entries
+unfolding left-number entries
 returns-3 c =
     let joined = c .before .before .before .before in
     let left = joined .before .before .before .before in
