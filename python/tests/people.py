@@ -293,7 +293,7 @@ class Numbers(unittest.TestCase):
                 self.assertRaises(TypeError, call, wrong)
         fresh = Plan.parse(plan.text())
         for call in (
-            lambda wrong: frontier.raised(wrong, 1), lambda wrong: frontier.raised(1, wrong),
+            lambda wrong: frontier.raised(wrong, 1), lambda wrong: frontier.raised(1, wrong), frontier.lookup,
             lambda wrong: Frontier({wrong: 1}).dominates(frontier), lambda wrong: Frontier({1: wrong}) | frontier,
             lambda wrong: fresh.with_operation(0, signals=[(0, wrong)]).check(),
             lambda wrong: fresh.with_operation(0, queue=wrong).check(),
@@ -335,7 +335,7 @@ class Header(unittest.TestCase):
         wanted = [('MOST_BYTES', library.MOST_BYTES), ('MOST_NUMBERS', library.MOST_NUMBERS),
                   ('MOST_OPERATIONS', library.MOST_OPERATIONS), ('TABLE_WIDTH', library.WIDTH),
                   ('FRONTIER', library.FRONTIER), ('STATE', library.STATE), ('FOUND', library.FOUND),
-                  ('STACK', library._STACK // 2)]
+                  ('STACK', library._STACK // 2), ('LISTED', library.LISTED)]
         wanted += [('UNKNOWN_OPERATION' if answer is Followed.UNKNOWN else answer.name, answer.value)
                    for kind in (Verdict, Advice, Followed, Dominance) for answer in kind]
         for name, value in wanted:
@@ -440,6 +440,15 @@ class Answers(unittest.TestCase):
                 wrong()
             self.assertEqual(caught.exception.number, number)
             self.assertTrue(str(caught.exception).startswith(f'refused {number} '))
+
+    def test_an_axis_is_listed_or_absent(self):
+        full = Frontier({3 * i: 100 + i for i in range(15)} | {GREATEST: GREATEST}, tainted=True)
+        for axis in range(-1, 46):
+            axis %= GREATEST + 1
+            self.assertEqual(full.lookup(axis), full.entries.get(axis), axis)
+        self.assertIsNone(Frontier().lookup(0))
+        self.assertEqual(Frontier({0: 7}).lookup(0), 7)
+        self.assertIsNone(Frontier(dict.fromkeys(range(17), 1)).lookup(3))
 
     def test_a_plan_that_is_changed_is_judged_anew(self):
         plan = load('camera.plan')

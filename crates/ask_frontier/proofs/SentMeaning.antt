@@ -10,13 +10,13 @@ use lib.ListN.{length, getD}
 use borrow.Author.Tests.{ltb-true, ltb-false, lt-ltb, le-ltb}
 use Rattle.base_lists.proofs.Tests.{by-cases, either}
 use Rattle.base_lists.proofs.Tables.{tabulate-length}
-use Rattle.frontier.specs.declared.Entry.{Entry}
-use Rattle.frontier.specs.Entries.{find, cut}
+use Rattle.frontier_slots.specs.declared.Entry.{Entry}
+use Rattle.frontier_slots.specs.Entries.{find, cut}
 use Rattle.frontier.specs.Frontiers.{entries, well-formed, pack, merge, reached, answer, dominance}
 use Rattle.frontier.specs.Meaning.{epoch-of, epoch-at, Completion}
 use Rattle.frontier.specs.declared.Frontier.{Frontier}
-use Rattle.frontier.specs.declared.Lookup.{Lookup}
-use Rattle.frontier.specs.declared.Lookup.the-variants.{Listed, Absent}
+use Rattle.frontier_slots.specs.declared.Lookup.{Lookup}
+use Rattle.frontier_slots.specs.declared.Lookup.the-variants.{Listed, Absent}
 use Rattle.frontier.specs.declared.Dominance.the-variants.{Yes, No}
 use Rattle.frontier.proofs.Sorted.{Sorted}
 use Rattle.frontier.proofs.Cut.{sorted-cut, cut-length, cut-whole, find-cut, epoch-cut}

@@ -9,7 +9,7 @@ use native.Mathlib.Omega.{arith}
 use lib.ListN.{length, getD}
 use Rattle.base_lists.specs.Lists.{tabulate-from}
 use Rattle.base_lists.proofs.Tables.{tabulate-length}
-use Rattle.frontier.specs.declared.Entry.{Entry}
+use Rattle.frontier_slots.specs.declared.Entry.{Entry}
 use Rattle.frontier.specs.Frontiers.{pack, gathered, raise, merge}
 use Rattle.frontier.specs.declared.Frontier.{Frontier}
 use Rattle.frontier.specs.declared.Merged.{Merged}

@@ -7,8 +7,8 @@ use Prim.Native.Nat.{ℕ}
 use lib.Dec.{ltb, leb}
 use lib.ListN.{length, getD}
 use Rattle.base_lists.specs.Lists.{tabulate-from}
-use Rattle.frontier.specs.declared.Entry.{Entry}
-use Rattle.frontier.specs.Entries.{cut}
+use Rattle.frontier_slots.specs.declared.Entry.{Entry}
+use Rattle.frontier_slots.specs.Entries.{cut}
 use Rattle.frontier.specs.Frontiers.{pack, capable, gathered}
 use Rattle.frontier.specs.declared.Frontier.{Frontier}
 use Rattle.plan_format.specs.Refusal.{Refusal, refusal, none-given, given, or-else}

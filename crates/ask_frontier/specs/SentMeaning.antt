@@ -7,11 +7,11 @@ use mathlib.Core.List.{List, []}
 use Prim.Native.Nat.{ℕ, _≤_, _<_, min}
 use lib.Dec.{ltb}
 use lib.ListN.{length, getD}
-use Rattle.frontier.specs.Entries.{most-entries, find, exceeding}
+use Rattle.frontier_slots.specs.Entries.{most-entries, find, exceeding}
 use Rattle.frontier.specs.Frontiers.{entries, well-formed, pack, merge, dominance}
 use Rattle.frontier.specs.Meaning.{Completion, epoch-at, listed-if}
 use Rattle.frontier.specs.declared.Frontier.{Frontier}
-use Rattle.frontier.specs.declared.Lookup.the-variants.{Listed}
+use Rattle.frontier_slots.specs.declared.Lookup.the-variants.{Listed}
 use Rattle.frontier.specs.declared.Dominance.the-variants.{Yes, No}
 use Rattle.plan_format.specs.Plan.{Plan, count, queues}
 use Rattle.plan_format.specs.Refusal.{Refusal}

@@ -6,7 +6,7 @@ use mathlib.Core.List.{List, []}
 use Prim.Native.Nat.{ℕ, _+_, _<_}
 use lib.ListN.{getD}
 use Rattle.base_lists.specs.Lists.{tabulate-from}
-use Rattle.frontier.specs.declared.Entry.{Entry}
+use Rattle.frontier_slots.specs.declared.Entry.{Entry}
 use Rattle.frontier.specs.Frontiers.{pack}
 use Rattle.plan_format.specs.Plan.{Plan, count, queues}
 use Rattle.plan_format.specs.Refusal.{given}

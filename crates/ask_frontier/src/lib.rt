@@ -13,7 +13,7 @@ ghost use mathlib.Core.Bool.{false};
 ghost use mathlib.Core.List.{[]};
 ghost use Prim.Native.Nat.{_+_, _*_, _≤_};
 ghost use lib.ListN.{length};
-ghost use Rattle.frontier.specs.Entries.{most-entries};
+ghost use Rattle.frontier_slots.specs.Entries.{most-entries};
 ghost use Rattle.frontier.specs.Frontiers.{pack, gathered};
 ghost use Rattle.plan_format.specs.Sizes.{most-queues, row-width};
 ghost use Rattle.plan_format.specs.Plan.{Plan};

@@ -5,8 +5,8 @@ use mathlib.Core.List.{List}
 use Prim.Native.Nat.{ℕ}
 use Rattle.plan_format.specs.declared.Told.{Told}
 use Rattle.frontier.specs.declared.Merged.{Merged}
-use Rattle.frontier.specs.declared.Lookup.{Lookup}
-use Rattle.frontier.specs.declared.Lookup.the-variants.{Listed, Absent}
+use Rattle.frontier_slots.specs.declared.Lookup.{Lookup}
+use Rattle.frontier_slots.specs.declared.Lookup.the-variants.{Listed, Absent}
 use Rattle.frontier.specs.declared.Dominance.{Dominance}
 use Rattle.frontier.specs.Frontiers.{well-formed, pack, capable, one-entry, merge, raise, dominance, looked-up}
 use Rattle.frontier.specs.Meaning.{epoch-of, Looked, Merge-right, Raise-right, Dominance-means}

@@ -10,7 +10,7 @@ use lib.ListN.{length, getD, take, drop, length-append}
 use lib.Seq.{take-append-le, take-at, drop-at, getD-append-add}
 use Rattle.frontier.specs.declared.Frontier.{Frontier}
 use Rattle.frontier.specs.declared.Merged.{Merged}
-use Rattle.frontier.specs.Entries.{most-entries}
+use Rattle.frontier_slots.specs.Entries.{most-entries}
 use Rattle.frontier.specs.Frontiers.{well-formed}
 use Rattle.frontier.proofs.Pack.{formed}
 use Rattle.c_lent.specs.Lent.{told-of, epochs-at, length-at, taint-at, over-long, frontier-of, list-of, merged-of}

@@ -10,10 +10,10 @@ use lib.Seq.{length-take-le}
 use Rattle.frontier.specs.declared.Frontier.{Frontier}
 use Rattle.frontier.specs.declared.Merged.{Merged}
 use Rattle.frontier.specs.declared.lent.Filled.{Filled}
-use Rattle.frontier.specs.declared.Lookup.{Lookup}
-use Rattle.frontier.specs.declared.Lookup.the-variants.{Listed, Absent}
+use Rattle.frontier_slots.specs.declared.Lookup.{Lookup}
+use Rattle.frontier_slots.specs.declared.Lookup.the-variants.{Listed, Absent}
 use Rattle.frontier.specs.declared.Dominance.{Dominance}
-use Rattle.frontier.specs.Entries.{most-entries}
+use Rattle.frontier_slots.specs.Entries.{most-entries}
 use Rattle.frontier.specs.Frontiers.{well-formed, merge, raise, dominance, looked-up}
 use Rattle.frontier.specs.Meaning.{epoch-of}
 use Rattle.frontier.specs.Walks.{of-slots, Fills, filled}

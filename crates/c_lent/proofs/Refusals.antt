@@ -10,7 +10,8 @@ use borrow.Author.Tests.{ltb-true, lt-leb}
 use Rattle.base_lists.proofs.Tests.{by-cases, clash, either, or-cases}
 use Rattle.frontier.specs.declared.Frontier.{Frontier}
 use Rattle.frontier.specs.declared.Merged.{Merged}
-use Rattle.frontier.specs.Entries.{most-entries}
+use Rattle.frontier_slots.specs.Entries.{most-entries}
+use Rattle.frontier_slots.specs.Slots.{slots-formed}
 use Rattle.frontier.specs.Frontiers.{well-formed, capable, merge-number, merge, refusal, dominance-number}
 use Rattle.c_lent.specs.Lent.{length-at, taint-at, over-long, frontier-of, oversized}
 
@@ -27,7 +28,7 @@ long taint len o =
     (λ t. rw n (lt-leb len most-entries (ltb-true most-entries len t))) (λ t. clash (ltb 1 taint) t n))
 
 pub oversized-formed : (ns : List ℕ) → oversized ns ≡ true → well-formed (frontier-of ns) ≡ false
-unfolding oversized frontier-of well-formed
+unfolding oversized frontier-of slots-formed
 oversized-formed ns o =
     first-fails (leb (cond (ltb 1 (getD ns taint-at 0)) over-long (getD ns length-at 0)) most-entries) _
     (long (getD ns taint-at 0) (getD ns length-at 0) o)

@@ -1,8 +1,8 @@
 // R77 and R78, the numbers that a C caller lends, read and stored: the three of `told`, and those of a frontier.
 use frontier::Dominance;
 use frontier::Frontier;
-use frontier::Lookup;
 use frontier::lent;
+use frontier_slots::Lookup;
 use plan_format::Told;
 ghost use mathlib.Core.Path.{_≡_};
 ghost use mathlib.Core.Bool.{cond};
@@ -10,9 +10,10 @@ ghost use Prim.Native.Nat.{_+_, _≤_};
 ghost use lib.Dec.{ltb};
 ghost use lib.ListN.{length, getD};
 ghost use lib.Seq.{sets};
-ghost use Rattle.frontier.specs.Entries.{most-entries};
+ghost use Rattle.frontier_slots.specs.Entries.{most-entries};
 ghost use Rattle.frontier.specs.Frontiers.{merge, raise, dominance, looked-up};
-ghost use Rattle.frontier.specs.Walks.{of-slots, All-slots};
+ghost use Rattle.frontier_slots.specs.Slots.{All-slots};
+ghost use Rattle.frontier.specs.Walks.{of-slots};
 ghost use Rattle.c_lent.specs.Lent.{told-of, length-at, taint-at, frontier-numbers, over-long, frontier-of};
 ghost use Rattle.c_lent.specs.Lent.{list-of, Handed, Merge-stored, Merge-says, dominance-told, Lookup-says};
 
@@ -147,7 +148,7 @@ pub fn merge<'a>(
         (now (merged .exit)) ⌝ }
 {
     let number = merge_numbers(left, right, capacity, merged);
-    tell(plan_format::refused(number, 0), told);
+    tell(plan_format::forwarded(number, 0), told);
 }
 
 // The raise of an axis of a lent frontier; its number.
@@ -193,7 +194,7 @@ pub fn raise(
         (now (raised .exit)) ⌝ }
 {
     let number = raise_numbers(old, axis, epoch, capacity, raised);
-    tell(plan_format::refused(number, 0), told);
+    tell(plan_format::forwarded(number, 0), told);
 }
 
 // Whether the left of two lent frontiers dominates the right one.

@@ -11,10 +11,11 @@ use lib.Dec.{ltb, leb, eqb}
 use lib.ListN.{length}
 use borrow.Author.Tests.{ltb-true, ltb-false, leb-true, leb-false, lt-ltb, le-ltb, eqb-true}
 use Rattle.base_lists.proofs.Tests.{by-cases, clash, is-true, is-false, either}
-use Rattle.frontier.specs.declared.Lookup.{Lookup}
-use Rattle.frontier.specs.declared.Lookup.the-variants.{Listed, Absent}
+use Rattle.frontier_slots.specs.declared.Lookup.{Lookup}
+use Rattle.frontier_slots.specs.declared.Lookup.the-variants.{Listed, Absent}
 use Rattle.base_lists.specs.Lists.{filter}
-use Rattle.frontier.specs.Entries.{Entry, find, put, union, exceeds, exceeding, cut}
+use Rattle.frontier_slots.specs.declared.Entry.{Entry}
+use Rattle.frontier_slots.specs.Entries.{find, put, union, exceeds, exceeding, cut}
 use Rattle.frontier.specs.Meaning.{epoch-of, epoch-at, listed-if}
 use Rattle.frontier.proofs.Sorted.{Sorted, same-entries, sorted-union, epoch-union, union-commutes, union-longer}
 use Rattle.frontier.proofs.Exceeds.{exceeds-chain, exceeds-past, exceeds-raised, exceeds-not-top}

@@ -11,10 +11,11 @@ use lib.Dec.{ltb, eqb}
 use lib.ListN.{length}
 use borrow.Author.Tests.{ltb-true, lt-ltb, eqb-true, ne-eqb}
 use Rattle.base_lists.proofs.Tests.{by-cases, either}
-use Rattle.frontier.specs.declared.Lookup.{Lookup}
-use Rattle.frontier.specs.declared.Lookup.the-variants.{Listed, Absent}
+use Rattle.frontier_slots.specs.declared.Lookup.{Lookup}
+use Rattle.frontier_slots.specs.declared.Lookup.the-variants.{Listed, Absent}
 use Rattle.base_lists.specs.Lists.{filter}
-use Rattle.frontier.specs.Entries.{Entry, find, exceeds, exceeding, cut}
+use Rattle.frontier_slots.specs.declared.Entry.{Entry}
+use Rattle.frontier_slots.specs.Entries.{find, exceeds, exceeding, cut}
 use Rattle.frontier.specs.Meaning.{epoch-of, epoch-at, listed-if}
 use Rattle.frontier.proofs.Sorted.{Sorted, lower, same-entry}
 use Rattle.frontier.proofs.Exceeds.{exceeds-not-itself, exceeds-one-way, exceeds-or, exceeds-past}

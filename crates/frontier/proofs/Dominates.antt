@@ -10,11 +10,12 @@ use lib.ListN.{length}
 use borrow.Author.Tests.{leb-true, leb-false, le-leb, eqb-true, eqb-false, eq-eqb}
 use Rattle.base_lists.proofs.Tests.{by-cases, clash, and-left, and-right}
 use Rattle.frontier.specs.declared.Frontier.{Frontier}
-use Rattle.frontier.specs.declared.Lookup.{Lookup}
-use Rattle.frontier.specs.declared.Lookup.the-variants.{Listed, Absent}
+use Rattle.frontier_slots.specs.declared.Lookup.{Lookup}
+use Rattle.frontier_slots.specs.declared.Lookup.the-variants.{Listed, Absent}
 use Rattle.frontier.specs.declared.Dominance.{Dominance}
 use Rattle.frontier.specs.declared.Dominance.the-variants.{Yes, No, Unknown, Refused}
-use Rattle.frontier.specs.Entries.{Entry, most-entries, find}
+use Rattle.frontier_slots.specs.declared.Entry.{Entry}
+use Rattle.frontier_slots.specs.Entries.{most-entries, find}
 use Rattle.frontier.specs.Frontiers.{entries, well-formed, met, reached, answer, dominance-number, dominance}
 use Rattle.frontier.specs.Frontiers.{number-of}
 use Rattle.frontier.specs.Meaning.{epoch-of, epoch-at, Completion, Over, Dominance-means}

@@ -12,7 +12,8 @@ use lib.ListN.{length}
 use borrow.Author.Tests.{lt-ltb, le-ltb}
 use Rattle.base_lists.proofs.Tests.{by-cases, clash, is-true, is-false, either}
 use Rattle.base_lists.specs.Lists.{filter}
-use Rattle.frontier.specs.Entries.{Entry, exceeds, exceeding, cut}
+use Rattle.frontier_slots.specs.declared.Entry.{Entry}
+use Rattle.frontier_slots.specs.Entries.{exceeds, exceeding, cut}
 use Rattle.frontier.proofs.Sorted.{Sorted}
 use Rattle.frontier.proofs.Exceeds.{exceeds-not-itself, exceeds-chain, exceeds-or, exceeds-past, exceeds-same}
 use Rattle.frontier.proofs.Exceeds.{exceeds-zero}

@@ -1,15 +1,16 @@
 -- The order in which entries are kept, by epoch and then by axis: a strict total order on entries of distinct axes.
 -- Assumes nothing.
 use mathlib.Core.Path.{_≡_, sym}
-use mathlib.Core.Bool.{true, false, or-false}
+use mathlib.Core.Bool.{true, false}
 use mathlib.Core.Logic.{_⊎_, inl, inr}
 use Prim.Native.Nat.{_≤_, _<_}
 use native.Mathlib.Omega.{arith}
 use lib.Dec.{ltb, eqb}
-use borrow.Author.Tests.{ltb-true, ltb-false, eqb-true, eqb-false, lt-ltb, le-ltb, eq-eqb, ne-eqb}
+use borrow.Author.Tests.{ltb-true, ltb-false, eqb-true, eqb-false, lt-ltb, eq-eqb}
 use Rattle.base_lists.proofs.Tests.{by-cases, clash, is-false, either, or-cases, or-left, or-right, and-left, and-right}
 use Rattle.base_lists.proofs.Tests.{and-both}
-use Rattle.frontier.specs.Entries.{Entry, exceeds}
+use Rattle.frontier_slots.specs.declared.Entry.{Entry}
+use Rattle.frontier_slots.specs.Entries.{exceeds}
 use Rattle.frontier.proofs.Sorted.{same-entry}
 
 abbrev Above : (y x : Entry) → Type 0
@@ -86,15 +87,6 @@ exceeds-not-top x top a e = is-false (exceeds x top) (λ t. either (above x top 
 -- an epoch above 0 exceeds the zero entry
 pub exceeds-zero : (x : Entry) → 0 < x .epoch → exceeds x (record { axis = 0; epoch = 0 }) ≡ true
 exceeds-zero x h = by-epoch x (record { axis = 0; epoch = 0 }) h
-
--- the test as the code makes it
-pub test-axis : (x b : Entry) → b .epoch ≡ x .epoch → ltb (b .axis) (x .axis) ≡ exceeds x b
-unfolding exceeds
-test-axis x b e = rw (le-ltb (b .epoch) (x .epoch) (omega arith), eq-eqb (b .epoch) (x .epoch) e)
-
-pub test-epoch : (x b : Entry) → (b .epoch ≡ x .epoch → ⊥) → ltb (b .epoch) (x .epoch) ≡ exceeds x b
-unfolding exceeds
-test-epoch x b n = rw (ne-eqb (b .epoch) (x .epoch) n) (sym (or-false (ltb (b .epoch) (x .epoch))))
 
 -- a larger epoch of the same axis exceeds what the smaller does
 pub exceeds-raised : (y z b : Entry) → exceeds y b ≡ true → y .axis ≡ z .axis → y .epoch ≤ z .epoch → exceeds z b ≡ true

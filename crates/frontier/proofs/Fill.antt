@@ -15,8 +15,9 @@ use Rattle.base_lists.proofs.Tests.{by-cases, and-both}
 use Rattle.frontier.specs.declared.Frontier.{Frontier}
 use Rattle.frontier.specs.declared.Merged.{Merged}
 use Rattle.frontier.specs.declared.lent.Filled.{Filled}
-use Rattle.frontier.specs.Entries.{most-entries, most-of-two}
-use Rattle.frontier.specs.Frontiers.{slot, slots, entries, all-zero, well-formed, pack, refusal}
+use Rattle.frontier_slots.specs.Entries.{most-entries, most-of-two}
+use Rattle.frontier_slots.specs.Slots.{slot, slots, all-zero}
+use Rattle.frontier.specs.Frontiers.{entries, well-formed, pack, refusal}
 use Rattle.frontier.specs.Walks.{of-slots, All-room, Left-in-room, Cleared, Copied, Fills, filled, in-room}
 use Rattle.frontier.proofs.Sorted.{same-entry}
 use Rattle.frontier.proofs.Slots.{tabulate-same, slots-length, slots-first, zero-first}

@@ -8,7 +8,7 @@ use lib.Dec.{eqb}
 use borrow.Author.Tests.{eqb-true, eqb-false, eq-eqb, ne-eqb}
 use Rattle.base_lists.specs.Lists.{tabulate-from}
 use Rattle.base_lists.proofs.Tests.{by-cases}
-use Rattle.frontier.specs.Entries.{Entry}
+use Rattle.frontier_slots.specs.declared.Entry.{Entry}
 use Rattle.frontier.specs.Frontiers.{one-entry, gathered}
 use Rattle.frontier.specs.Meaning.{epoch-at}
 use Rattle.frontier.proofs.Sorted.{epoch-none, epoch-union}

@@ -10,13 +10,17 @@ use lib.ListN.{length, getD, set, length-set}
 use borrow.Author.Tests.{eqb-true, eqb-false, ltb-true, ltb-false, leb-true, leb-false, le-leb, lt-ltb}
 use Rattle.base_lists.specs.Lists.{filter}
 use Rattle.base_lists.proofs.Tests.{by-cases, clash}
-use Rattle.frontier.specs.declared.Lookup.the-variants.{Listed, Absent}
-use Rattle.frontier.specs.Entries.{Entry, most-entries, most-of-two, rising-from, find, union, cut}
-use Rattle.frontier.specs.Frontiers.{slot, slots, pack, handed, joined}
-use Rattle.frontier.specs.Walks.{rest, floor, leads, All-room, Left-in-room}
+use Rattle.frontier_slots.specs.declared.Lookup.the-variants.{Listed, Absent}
+use Rattle.frontier_slots.specs.declared.Entry.{Entry}
+use Rattle.frontier_slots.specs.Entries.{most-entries, most-of-two, rising-from, find, union, cut}
+use Rattle.frontier_slots.specs.Slots.{slot, slots}
+use Rattle.frontier.specs.Frontiers.{pack, handed, joined}
+use Rattle.frontier_slots.specs.Slots.{rest, floor}
+use Rattle.frontier.specs.Walks.{leads, All-room, Left-in-room}
 use Rattle.frontier.proofs.Sorted.{Sorted, sorted, rising, sorted-union, lower, union-commutes, union-left}
 use Rattle.frontier.proofs.Sorted.{union-both}
-use Rattle.frontier.proofs.Slots.{rest-all, rest-more, rest-none, sorted-rest, slots-put, slots-length}
+use Rattle.frontier_slots.proofs.Slots.{rest-all, rest-more, rest-none}
+use Rattle.frontier.proofs.Slots.{sorted-rest, slots-put, slots-length}
 use Rattle.frontier.proofs.Cut.{find-below}
 use Rattle.frontier.proofs.Lookups.{absent-listed, same-epoch}
 use Rattle.frontier.proofs.Pack.{entries-pack}

@@ -1,7 +1,7 @@
 -- The lookup of an axis: from a slot on it gives what is listed there, and of a whole frontier what `Looked` promises.
 -- Assumes nothing.
 use mathlib.Core.Path.{_≡_, refl, sym, ap, _∙_}
-use mathlib.Core.Bool.{true, false, _&&_, and-false}
+use mathlib.Core.Bool.{true, false, _&&_}
 use mathlib.Core.List.{List, [], _∷_}
 use Prim.Native.Nat.{ℕ, zero, suc, _+_, _≤_, _<_}
 use native.Mathlib.Nat.{le-refl}
@@ -9,23 +9,26 @@ use native.Mathlib.Numerals.{add-one}
 use native.Mathlib.Omega.{arith}
 use lib.Dec.{ltb, eqb}
 use lib.ListN.{length, getD}
-use borrow.Author.Tests.{lt-ltb, le-ltb, ltb-true, ltb-false, eqb-true, eqb-false, eq-eqb, ne-eqb}
+use borrow.Author.Tests.{ltb-true, ltb-false, eqb-true, eqb-false, eq-eqb, ne-eqb}
 use Rattle.base_lists.specs.Lists.{tabulate-from}
 use Rattle.base_lists.proofs.Tests.{by-cases, and-left}
-use Rattle.axis_search.specs.declared.Slot as searches
 use Rattle.axis_search.specs.Halving.{Rise, Halving, searched}
 use Rattle.axis_search.proofs.Halves.{searched-means, five-read}
 use Rattle.frontier.specs.declared.Frontier.{Frontier}
-use Rattle.frontier.specs.declared.Lookup.{Lookup}
-use Rattle.frontier.specs.declared.Lookup.the-variants.{Listed, Absent}
-use Rattle.frontier.specs.declared.search.Found.{Found}
-use Rattle.frontier.specs.Entries.{Entry, most-entries, find, values-of, epochs-under}
-use Rattle.frontier.specs.Frontiers.{slot, slots, entries, well-formed, lookup-at, looked-up}
+use Rattle.frontier_slots.specs.declared.Lookup.{Lookup}
+use Rattle.frontier_slots.specs.declared.Lookup.the-variants.{Listed, Absent}
+use Rattle.frontier_slots.specs.declared.Found.{Found}
+use Rattle.frontier_slots.specs.declared.Entry.{Entry}
+use Rattle.frontier_slots.specs.Entries.{most-entries, find, values-of, epochs-under}
+use Rattle.frontier_slots.specs.Slots.{slot, slots, lookup-at}
+use Rattle.frontier.specs.Frontiers.{entries, well-formed, looked-up}
 use Rattle.frontier.specs.Meaning.{Looked}
-use Rattle.frontier.specs.Walks.{rest, floor, skip-below, Found-from, found-by-halving, All-slots}
+use Rattle.frontier_slots.specs.Slots.{rest, floor, found-by-halving, All-slots}
+use Rattle.frontier.specs.Walks.{skip-below, Found-from}
 use Rattle.frontier.proofs.Sorted.{Sorted, sorted, same-entry}
 use Rattle.frontier.proofs.Cut.{find-below}
-use Rattle.frontier.proofs.Slots.{rest-all, rest-more, rest-none, sorted-rest}
+use Rattle.frontier_slots.proofs.Slots.{rest-all, rest-more, rest-none}
+use Rattle.frontier.proofs.Slots.{sorted-rest}
 use Rattle.frontier.proofs.Steps.{skip-more, skip-stop, skip-none}
 use Rattle.frontier.proofs.Pack.{formed, sorted-entries, all-slots}
 
@@ -208,29 +211,10 @@ module _ (axes epochs : List ℕ) (len axis : ℕ) where
             k .1,
           ))))
 
-  -- what is in the slot that the search gave
-  module _ (found : searches.Slot) (e : found ≡ searched axes axis len) where
-    pub halved-listed : found .at < most-entries → found .at < length epochs →
-        record { answer = Listed (getD epochs (found .at) 0); at = found .at } ≡
-        found-by-halving axes epochs len axis
-    unfolding found-by-halving looked-up lookup-at
-    halved-listed h l =
-        rw (← e, lt-ltb (found .at) most-entries h, lt-ltb (found .at) (length epochs) l) refl
-
-    pub halved-short : length epochs ≤ found .at →
-        record { answer = Absent; at = found .at } ≡ found-by-halving axes epochs len axis
-    unfolding found-by-halving looked-up lookup-at
-    halved-short l = rw (← e, le-ltb (found .at) (length epochs) l, and-false (ltb (found .at) most-entries)) refl
-
-    pub halved-none : most-entries ≤ found .at →
-        record { answer = Absent; at = found .at } ≡ found-by-halving axes epochs len axis
-    unfolding found-by-halving looked-up lookup-at
-    halved-none h = rw (← e, le-ltb (found .at) most-entries h) refl
-
   -- as the lookup from the first slot on
   pub halved-from : len ≤ most-entries → All-slots axes epochs → {r : Found} →
       r ≡ found-by-halving axes epochs len axis → Found-from axes epochs len 0 axis r
-  halved-from l a e = unfold found-by-halving looked-up in (rw e (record {
+  halved-from l a e = unfold found-by-halving in (rw e (record {
     found = λ s. looked-found l a (sorted 0 (slots axes epochs len 0) s)
         ∙ ap (find axis) (sym (rest-all axes epochs len));
     in-slot = λ k q. let w = looked-slot k q in (w .0, w .2);

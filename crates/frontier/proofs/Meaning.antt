@@ -12,7 +12,8 @@ use borrow.Author.Tests.{ltb-true, ltb-false, lt-ltb, le-ltb, eqb-true, eqb-fals
 use Rattle.base_lists.proofs.Tests.{by-cases, clash}
 use Rattle.frontier.specs.declared.Frontier.{Frontier}
 use Rattle.frontier.specs.declared.Merged.{Merged}
-use Rattle.frontier.specs.Entries.{Entry, find, union, cut}
+use Rattle.frontier_slots.specs.declared.Entry.{Entry}
+use Rattle.frontier_slots.specs.Entries.{find, union, cut}
 use Rattle.frontier.specs.Frontiers.{entries, well-formed, pack, joined, merge, one-entry, raise}
 use Rattle.frontier.specs.Meaning.{epoch-at, Completion, both, Merge-means, Merge-right, Raise-right}
 use Rattle.frontier.proofs.Sorted.{Sorted, epoch-here, epoch-there, epoch-none, epoch-union, sorted-union}

@@ -12,10 +12,12 @@ use borrow.Author.Tests.{leb-true, le-ltb, le-leb, lt-leb, eqb-true, eqb-false}
 use Rattle.base_lists.proofs.Tests.{by-cases}
 use Rattle.frontier.specs.declared.Frontier.{Frontier}
 use Rattle.frontier.specs.declared.Merged.{Merged}
-use Rattle.frontier.specs.Entries.{Entry, most-entries, rising-from, union, cut}
+use Rattle.frontier_slots.specs.declared.Entry.{Entry}
+use Rattle.frontier_slots.specs.Entries.{most-entries, rising-from, union, cut}
 use Rattle.frontier.specs.Frontiers.{entries, well-formed, pack, refusal, handed, joined, merge-number, merge}
 use Rattle.frontier.specs.Frontiers.{one-entry}
-use Rattle.frontier.specs.Walks.{left-number, All-slots}
+use Rattle.frontier_slots.specs.Slots.{All-slots}
+use Rattle.frontier.specs.Walks.{left-number}
 use Rattle.frontier.proofs.Sorted.{Sorted, sorted-union, union-commutes, union-idempotent}
 use Rattle.frontier.proofs.Cut.{sorted-cut, cut-length, cut-whole}
 use Rattle.frontier.proofs.Slots.{slots-length}

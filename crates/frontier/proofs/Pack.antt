@@ -1,22 +1,25 @@
 -- A frontier is its entries and its taint: packing the entries of a well-formed frontier gives it back, and a packed
 -- list gives its entries. Assumes nothing.
 use mathlib.Core.Path.{_≡_, refl, sym, ap, ap₂, _∙_}
-use mathlib.Core.Bool.{Bool, true, false, _&&_}
+use mathlib.Core.Bool.{Bool, true, _&&_}
 use mathlib.Core.List.{List, [], _∷_, _++_, map}
 use Prim.Native.Nat.{ℕ, zero, suc, _-_, _≤_, _<_}
 use native.Mathlib.Nat.{le-of-suc-le-suc, not-suc-le-zero}
 use native.Mathlib.Omega.{arith}
-use lib.Dec.{leb, eqb}
+use lib.Dec.{eqb}
 use lib.ListN.{length, getD, take, drop, replicate, length-append, length-replicate, length-map, length-drop}
 use lib.ListN.{take-append-drop}
 use lib.Seq.{drop-at}
-use borrow.Author.Tests.{leb-true, le-leb, eqb-true, eq-eqb}
+use borrow.Author.Tests.{eqb-true}
 use Rattle.base_lists.specs.Lists.{tabulate-from}
-use Rattle.base_lists.proofs.Tests.{by-cases, clash, is-false, and-left, and-right, and-both}
+use Rattle.base_lists.proofs.Tests.{and-left, and-right}
 use Rattle.frontier.specs.declared.Frontier.{Frontier}
-use Rattle.frontier.specs.Entries.{Entry, most-entries, rising-from}
-use Rattle.frontier.specs.Frontiers.{slot, slots, entries, all-zero, row-formed, well-formed, pack}
-use Rattle.frontier.specs.Walks.{All-slots}
+use Rattle.frontier_slots.specs.declared.Entry.{Entry}
+use Rattle.frontier_slots.specs.Entries.{most-entries, rising-from}
+use Rattle.frontier_slots.specs.Slots.{slot, slots, all-zero}
+use Rattle.frontier.specs.Frontiers.{entries, well-formed, pack}
+use Rattle.frontier_slots.specs.Slots.{All-slots}
+use Rattle.frontier_slots.proofs.Form.{slots-have, slots-well}
 use Rattle.frontier.proofs.Sorted.{Sorted, sorted, rising}
 use Rattle.frontier.proofs.Slots.{tabulate-shift, slots-length}
 
@@ -84,32 +87,26 @@ pub record Formed (f : Frontier) : Type 0 where
   pub zero-epochs : all-zero (drop (f .len) (f .epochs)) ≡ true
 
 pub formed : (f : Frontier) → well-formed f ≡ true → Formed f
-unfolding well-formed row-formed
 formed f e =
-    let p = and-right (leb (f .len) most-entries) _ e in
-    let q = and-right (rising-from 0 (entries f)) _ p in
-    let x = and-left (eqb (length (f .axes)) most-entries && all-zero (drop (f .len) (f .axes))) _ q in
-    let y = and-right (eqb (length (f .axes)) most-entries && all-zero (drop (f .len) (f .axes))) _ q in
+    let w = slots-have (f .axes) (f .epochs) (f .len) e in
     record {
-      short = leb-true (f .len) most-entries (and-left (leb (f .len) most-entries) _ e);
-      rises = and-left (rising-from 0 (entries f)) _ p;
-      sixteen-axes = eqb-true (length (f .axes)) most-entries (and-left (eqb (length (f .axes)) most-entries) _ x);
-      sixteen-epochs = eqb-true (length (f .epochs)) most-entries
-          (and-left (eqb (length (f .epochs)) most-entries) _ y);
-      zero-axes = and-right (eqb (length (f .axes)) most-entries) _ x;
-      zero-epochs = and-right (eqb (length (f .epochs)) most-entries) _ y;
+      short = w .short;
+      rises = unfold entries in (w .rises);
+      sixteen-axes = w .sixteen-axes;
+      sixteen-epochs = w .sixteen-epochs;
+      zero-axes = w .zero-axes;
+      zero-epochs = w .zero-epochs;
     }
 
 pub well : (f : Frontier) → Formed f → well-formed f ≡ true
-unfolding well-formed row-formed
-well f w =
-    and-both (leb (f .len) most-entries) _ (le-leb (f .len) most-entries (w .short))
-    (and-both (rising-from 0 (entries f)) _ (w .rises)
-    (and-both (eqb (length (f .axes)) most-entries && all-zero (drop (f .len) (f .axes))) _
-    (and-both (eqb (length (f .axes)) most-entries) _ (eq-eqb (length (f .axes)) most-entries (w .sixteen-axes))
-    (w .zero-axes))
-    (and-both (eqb (length (f .epochs)) most-entries) _ (eq-eqb (length (f .epochs)) most-entries (w .sixteen-epochs))
-    (w .zero-epochs))))
+well f w = slots-well (f .axes) (f .epochs) (f .len) (record {
+  short = w .short;
+  rises = unfold entries in (w .rises);
+  sixteen-axes = w .sixteen-axes;
+  sixteen-epochs = w .sixteen-epochs;
+  zero-axes = w .zero-axes;
+  zero-epochs = w .zero-epochs;
+})
 
 pub pack-entries : (f : Frontier) → well-formed f ≡ true → f ≡ pack (entries f) (f .tainted)
 unfolding entries
@@ -153,34 +150,6 @@ well-formed-pack xs t s h = well (pack xs t) (record {
     row-zero : (f : Entry → ℕ) → all-zero (drop (length xs) (map f xs ++ replicate (most-entries - length xs) 0)) ≡ true
     row-zero f = rw (drop-at (map f xs) (replicate (most-entries - length xs) 0) (length xs) (length-map xs f))
         (all-zero-replicate (most-entries - length xs))
-
--- THE JUDGEMENT, in the order in which the code makes it
-pub not-short : (f : Frontier) → most-entries < f .len → false ≡ well-formed f
-not-short f h = sym (is-false (well-formed f) (λ t. omega (arith, formed f t .short)))
-
-pub not-sixteen-axes : (f : Frontier) → (length (f .axes) ≡ most-entries → ⊥) → false ≡ well-formed f
-not-sixteen-axes f h = sym (is-false (well-formed f) (λ t. h (formed f t .sixteen-axes)))
-
-pub not-sixteen-epochs : (f : Frontier) → (length (f .epochs) ≡ most-entries → ⊥) → false ≡ well-formed f
-not-sixteen-epochs f h = sym (is-false (well-formed f) (λ t. h (formed f t .sixteen-epochs)))
-
-pub not-rising : (f : Frontier) → rising-from 0 (slots (f .axes) (f .epochs) (f .len) 0) ≡ false → false ≡ well-formed f
-unfolding entries
-not-rising f e = sym (is-false (well-formed f) (λ t. clash _ (formed f t .rises) e))
-
-pub not-zero : (f : Frontier) → all-zero (drop (f .len) (f .axes)) ≡ false → false ≡ well-formed f
-not-zero f e = sym (is-false (well-formed f) (λ t. clash _ (formed f t .zero-axes) e))
-
-pub judged : (f : Frontier) (r : Bool) → f .len ≤ most-entries → length (f .axes) ≡ most-entries →
-    length (f .epochs) ≡ most-entries → rising-from 0 (slots (f .axes) (f .epochs) (f .len) 0) ≡ true →
-    all-zero (drop (f .len) (f .axes)) ≡ true → r ≡ all-zero (drop (f .len) (f .epochs)) → r ≡ well-formed f
-unfolding entries
-judged f r l a b s z e =
-    by-cases (all-zero (drop (f .len) (f .epochs)))
-    (λ t. e ∙ t
-    ∙ sym (well f
-    (record { short = l; rises = s; sixteen-axes = a; sixteen-epochs = b; zero-axes = z; zero-epochs = t })))
-    (λ t. e ∙ t ∙ sym (is-false (well-formed f) (λ u. clash _ (formed f u .zero-epochs) t)))
 
 -- all slots of a well-formed frontier are there
 pub all-slots : (f : Frontier) → well-formed f ≡ true → All-slots (f .axes) (f .epochs)

@@ -14,14 +14,18 @@ use Rattle.base_lists.specs.Lists.{tabulate-from}
 use Rattle.base_lists.proofs.Tests.{by-cases}
 use Rattle.frontier.specs.declared.Frontier.{Frontier}
 use Rattle.frontier.specs.declared.Merged.{Merged}
-use Rattle.frontier.specs.declared.Lookup.the-variants.{Listed}
-use Rattle.frontier.specs.declared.search.Found.{Found}
-use Rattle.frontier.specs.Entries.{Entry, most-entries, rising-from, put, union}
-use Rattle.frontier.specs.Frontiers.{slot, slots, entries, well-formed, pack, refusal, handed, joined}
+use Rattle.frontier_slots.specs.declared.Lookup.the-variants.{Listed}
+use Rattle.frontier_slots.specs.declared.Found.{Found}
+use Rattle.frontier_slots.specs.declared.Entry.{Entry}
+use Rattle.frontier_slots.specs.Entries.{most-entries, rising-from, put, union}
+use Rattle.frontier_slots.specs.Slots.{slot, slots}
+use Rattle.frontier.specs.Frontiers.{entries, well-formed, pack, refusal, handed, joined}
 use Rattle.frontier.specs.Frontiers.{one-entry, raise}
-use Rattle.frontier.specs.Walks.{rest, Found-from, left-number, All-slots}
+use Rattle.frontier_slots.specs.Slots.{rest, All-slots}
+use Rattle.frontier.specs.Walks.{Found-from, left-number}
 use Rattle.frontier.proofs.Sorted.{Sorted, rising, same-entry, put-same, put-past, union-commutes, union-none}
-use Rattle.frontier.proofs.Slots.{tabulate-same, slots-length, rest-all, rest-more}
+use Rattle.frontier_slots.proofs.Slots.{rest-all, rest-more}
+use Rattle.frontier.proofs.Slots.{tabulate-same, slots-length}
 use Rattle.frontier.proofs.Pack.{Formed, formed, repack, entries-pack, sorted-entries, all-slots}
 use Rattle.frontier.proofs.Merge.{Left-accepted, left-accepted, refused-first, merged, formed-one, sorted-one}
 use Rattle.frontier.proofs.Merge.{joined-whole, merge-formed}

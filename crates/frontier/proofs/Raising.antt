@@ -10,7 +10,8 @@ use lib.Dec.{ltb, eqb}
 use lib.ListN.{length}
 use Rattle.base_lists.proofs.Tests.{by-cases}
 use Rattle.frontier.specs.declared.Frontier.{Frontier}
-use Rattle.frontier.specs.Entries.{Entry, most-entries, put, union, cut}
+use Rattle.frontier_slots.specs.declared.Entry.{Entry}
+use Rattle.frontier_slots.specs.Entries.{most-entries, put, union, cut}
 use Rattle.frontier.specs.Frontiers.{entries, pack, joined, merge, one-entry, gathered, raise}
 use Rattle.frontier.proofs.Sorted.{Sorted, sorted-union, union-associates, union-none}
 use Rattle.frontier.proofs.Pack.{entries-pack, well-formed-pack}

@@ -9,13 +9,17 @@ use native.Mathlib.Numerals.{add-one}
 use native.Mathlib.Omega.{arith}
 use lib.ListN.{getD}
 use borrow.Author.Tests.{le-leb, lt-leb}
-use Rattle.frontier.specs.declared.Lookup.the-variants.{Listed, Absent}
-use Rattle.frontier.specs.declared.search.Found.{Found}
-use Rattle.frontier.specs.Entries.{Entry, rising-from, find}
-use Rattle.frontier.specs.Frontiers.{slot, slots, met, reached}
-use Rattle.frontier.specs.Walks.{rest, floor, Found-from}
+use Rattle.frontier_slots.specs.declared.Lookup.the-variants.{Listed, Absent}
+use Rattle.frontier_slots.specs.declared.Found.{Found}
+use Rattle.frontier_slots.specs.declared.Entry.{Entry}
+use Rattle.frontier_slots.specs.Entries.{rising-from, find}
+use Rattle.frontier_slots.specs.Slots.{slot, slots}
+use Rattle.frontier.specs.Frontiers.{met, reached}
+use Rattle.frontier_slots.specs.Slots.{rest, floor}
+use Rattle.frontier.specs.Walks.{Found-from}
 use Rattle.frontier.proofs.Sorted.{Sorted, sorted}
-use Rattle.frontier.proofs.Slots.{rest-all, rest-more, rest-none, sorted-rest}
+use Rattle.frontier_slots.proofs.Slots.{rest-all, rest-more, rest-none}
+use Rattle.frontier.proofs.Slots.{sorted-rest}
 use Rattle.frontier.proofs.Lookups.{find-ahead}
 
 -- ONE ENTRY OF THE RIGHT

@@ -3,7 +3,7 @@ use mathlib.Core.Path.{_≡_, refl, sym, ap, ap₂, _∙_}
 use mathlib.Core.Bool.{true}
 use mathlib.Core.List.{List, [], _∷_, _++_}
 use Prim.Native.Nat.{ℕ, zero, suc, _+_, _-_, _≤_, _<_}
-use native.Mathlib.Nat.{le-refl, sub-zero}
+use native.Mathlib.Nat.{le-refl}
 use native.Mathlib.Numerals.{add-one}
 use native.Mathlib.Omega.{arith}
 use lib.ListN.{length, getD, set, take, drop}
@@ -12,9 +12,10 @@ use lib.Seq.{getD-set-same, getD-set-other, getD-take, take-all, take-suc, take-
 use Rattle.base_lists.specs.Lists.{tabulate-from}
 use Rattle.base_lists.proofs.Tests.{and-left, and-right, and-both}
 use Rattle.base_lists.proofs.Tables.{tabulate-length, tabulate-last}
-use Rattle.frontier.specs.Entries.{Entry, most-entries, most-of-two}
-use Rattle.frontier.specs.Frontiers.{slot, slots, all-zero}
-use Rattle.frontier.specs.Walks.{rest, floor}
+use Rattle.frontier_slots.specs.declared.Entry.{Entry}
+use Rattle.frontier_slots.specs.Entries.{most-entries, most-of-two}
+use Rattle.frontier_slots.specs.Slots.{slot, slots, all-zero, rest, floor}
+use Rattle.frontier_slots.proofs.Slots.{rest-all, rest-more}
 use Rattle.frontier.proofs.Sorted.{Sorted, same-entry}
 
 -- TABLES
@@ -38,30 +39,12 @@ module _ (xs es : List ℕ) where
   unfolding slots
   slots-length n i = tabulate-length (slot xs es) n i
 
-  pub rest-all : (n : ℕ) → rest xs es n 0 ≡ slots xs es n 0
-  rest-all n = rw sub-zero
-
-  -- from slot i on: the slot, and what comes after it
-  pub rest-more : (n i : ℕ) → i < n → rest xs es n i ≡ slot xs es i ∷ rest xs es n (i + 1)
-  unfolding slots tabulate-from
-  rest-more n i h = rw (add-one i) (ap (λ k. tabulate-from k i (slot xs es)) (left n i h))
-    where
-      left : (n i : ℕ) → i < n → n - i ≡ suc (n - suc i)
-      left n i h = omega arith
-
-  pub rest-none : (n i : ℕ) → n ≤ i → rest xs es n i ≡ []
-  unfolding slots tabulate-from
-  rest-none n i h = ap (λ k. tabulate-from k i (slot xs es)) (left n i h)
-    where
-      left : (n i : ℕ) → n ≤ i → n - i ≡ 0
-      left n i h = omega arith
-
   pub sorted-rest : (n i : ℕ) → i ≤ n → Sorted 0 (slots xs es n 0) → Sorted (floor xs i) (rest xs es n i)
   unfolding floor slot
-  sorted-rest n zero h s = rw (rest-all n) s
+  sorted-rest n zero h s = rw (rest-all xs es n) s
   sorted-rest n (suc i) h s =
       let t : Sorted (floor xs i) (slot xs es i ∷ rest xs es n (i + 1)) =
-      rw (rest-more n i h) at (sorted-rest n i (omega arith) s) in
+      rw (rest-more xs es n i h) at (sorted-rest n i (omega arith) s) in
       rw (add-one i) at (t .2)
 
 -- one slot more is written

@@ -10,7 +10,8 @@ use lib.Dec.{ltb, leb, eqb}
 use lib.ListN.{length}
 use borrow.Author.Tests.{ltb-true, ltb-false, leb-true, eqb-true, eqb-false, lt-ltb, le-ltb, le-leb, eq-eqb, ne-eqb}
 use Rattle.base_lists.proofs.Tests.{by-cases, and-left, and-right, and-both}
-use Rattle.frontier.specs.Entries.{Entry, rising-from, find, put, union}
+use Rattle.frontier_slots.specs.declared.Entry.{Entry}
+use Rattle.frontier_slots.specs.Entries.{rising-from, find, put, union}
 use Rattle.frontier.specs.Meaning.{epoch-of, epoch-at}
 
 -- `rising-from` as a type

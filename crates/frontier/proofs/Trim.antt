@@ -12,13 +12,15 @@ use lib.ListN.{getD, set, length-set}
 use Rattle.base_lists.specs.Lists.{tabulate-from}
 use Rattle.base_lists.proofs.Tests.{by-cases, clash, is-false, either}
 use Rattle.base_lists.specs.Lists.{filter}
-use Rattle.frontier.specs.Entries.{Entry, most-of-two, rising-from, exceeds, exceeding, cut}
-use Rattle.frontier.specs.Frontiers.{slot, slots}
-use Rattle.frontier.specs.Walks.{rest, All-room}
+use Rattle.frontier_slots.specs.declared.Entry.{Entry}
+use Rattle.frontier_slots.specs.Entries.{most-of-two, rising-from, exceeds, exceeding, cut}
+use Rattle.frontier_slots.specs.Slots.{slot, slots, rest}
+use Rattle.frontier.specs.Walks.{All-room}
 use Rattle.frontier.proofs.Sorted.{sorted}
 use Rattle.frontier.proofs.Exceeds.{exceeds-chain, exceeds-not-itself, exceeds-not-top}
 use Rattle.frontier.proofs.Cut.{In, exceeding-lt, least-count}
-use Rattle.frontier.proofs.Slots.{rest-all, rest-more, rest-none, slots-length, slots-put, slots-before}
+use Rattle.frontier_slots.proofs.Slots.{rest-all, rest-more, rest-none}
+use Rattle.frontier.proofs.Slots.{slots-length, slots-put, slots-before}
 use Rattle.frontier.proofs.Slots.{rest-past}
 use Rattle.frontier.proofs.Evict.{exceeding-over, exceeding-none, bound-start, cut-at, cut-by-bound}
 

@@ -4,49 +4,28 @@ use mathlib.Core.Bool.{Bool, true, false, _&&_, _||_, cond}
 use mathlib.Core.List.{List, [], _∷_, _++_, map}
 use Prim.Native.Nat.{ℕ, _-_}
 use lib.Dec.{ltb, leb, eqb}
-use lib.ListN.{length, getD, drop, replicate}
-use Rattle.base_lists.specs.Lists.{tabulate-from}
+use lib.ListN.{length, replicate}
 use Rattle.axis_search.specs.Halving.{searched}
 use Rattle.frontier.specs.declared.Frontier.{Frontier}
 use Rattle.frontier.specs.declared.Merged.{Merged}
-use Rattle.frontier.specs.declared.Lookup.{Lookup}
-use Rattle.frontier.specs.declared.Lookup.the-variants.{Listed, Absent}
+use Rattle.frontier_slots.specs.declared.Lookup.{Lookup}
+use Rattle.frontier_slots.specs.declared.Lookup.the-variants.{Listed, Absent}
 use Rattle.frontier.specs.declared.Dominance.{Dominance}
 use Rattle.frontier.specs.declared.Dominance.the-variants.{Yes, No, Unknown, Refused}
-use Rattle.frontier.specs.Entries.{Entry, most-entries, rising-from, find, union, cut}
-
--- what slot i holds
-unfoldable pub slot : (axes epochs : List ℕ) → ℕ → Entry
-slot axes epochs i = record { axis = getD axes i 0; epoch = getD epochs i 0 }
-
--- slots i, i + 1, .. of which there are n
-unfoldable pub slots : (axes epochs : List ℕ) → (n i : ℕ) → List Entry
-slots axes epochs n i = tabulate-from n i (slot axes epochs)
+use Rattle.frontier_slots.specs.declared.Entry.{Entry}
+use Rattle.frontier_slots.specs.Entries.{most-entries, find, union, cut}
+use Rattle.frontier_slots.specs.Slots.{slots, slots-formed, lookup-at}
 
 unfoldable pub entries : Frontier → List Entry
 entries f = slots (f .axes) (f .epochs) (f .len) 0
-
--- R60: what a slot says of its axis: its epoch, or nothing where there is no such slot
-unfoldable pub lookup-at : (epochs : List ℕ) → (at : ℕ) → Lookup
-lookup-at epochs at = cond (ltb at most-entries && ltb at (length epochs)) (Listed (getD epochs at 0)) Absent
 
 -- R60, lookup: what is in the slot that the search by halving finds
 unfoldable pub looked-up : (f : Frontier) → (axis : ℕ) → Lookup
 looked-up f axis = lookup-at (f .epochs) (searched (f .axes) axis (f .len) .at)
 
-unfoldable pub all-zero : List ℕ → Bool
-all-zero [] = true
-all-zero (x ∷ xs) = eqb x 0 && all-zero xs
-
--- R59: sixteen slots, and zero from the length on
-unfoldable pub row-formed : (len : ℕ) → List ℕ → Bool
-row-formed len row = eqb (length row) most-entries && all-zero (drop len row)
-
 -- R59, form: what a frontier is that is not refused by 14 (R50)
-unfoldable pub well-formed : Frontier → Bool
-well-formed f =
-    leb (f .len) most-entries &&
-    (rising-from 0 (entries f) && (row-formed (f .len) (f .axes) && row-formed (f .len) (f .epochs)))
+abbrev pub well-formed : Frontier → Bool
+well-formed f = slots-formed (f .axes) (f .epochs) (f .len)
 
 -- the frontier of at most sixteen entries; R59: of none, the empty frontier
 unfoldable pub pack : List Entry → (tainted : Bool) → Frontier

@@ -1,4 +1,3 @@
-pub mod Entries
 pub mod Frontiers
 pub mod Meaning
 pub mod Walks

@@ -9,12 +9,14 @@ use lib.ListN.{length}
 use Rattle.axis_search.specs.Halving.{most-reads, Range, searched, Halves}
 use Rattle.frontier.specs.declared.Frontier.{Frontier}
 use Rattle.frontier.specs.declared.Merged.{Merged}
-use Rattle.frontier.specs.declared.Lookup.{Lookup}
-use Rattle.frontier.specs.declared.Lookup.the-variants.{Listed, Absent}
+use Rattle.frontier_slots.specs.declared.Lookup.{Lookup}
+use Rattle.frontier_slots.specs.declared.Lookup.the-variants.{Listed, Absent}
 use Rattle.frontier.specs.declared.Dominance.{Dominance}
 use Rattle.frontier.specs.declared.Dominance.the-variants.{Yes, No, Unknown}
-use Rattle.frontier.specs.Entries.{Entry, most-entries, find, values-of, epochs-under, union, exceeding}
-use Rattle.frontier.specs.Frontiers.{slot, entries, well-formed, pack, one-entry, merge, dominance-number}
+use Rattle.frontier_slots.specs.declared.Entry.{Entry}
+use Rattle.frontier_slots.specs.Entries.{most-entries, find, values-of, epochs-under, union, exceeding}
+use Rattle.frontier_slots.specs.Slots.{slot}
+use Rattle.frontier.specs.Frontiers.{entries, well-formed, pack, one-entry, merge, dominance-number}
 use Rattle.frontier.specs.Frontiers.{number-of, looked-up}
 
 -- COMPLETIONS

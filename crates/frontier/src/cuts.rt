@@ -1,14 +1,15 @@
 // What is kept of too many entries: those that exceed a bound.
-use crate::Entry;
 use crate::Frontier;
 use crate::lent::Room;
+use frontier_slots::Entry;
+use frontier_slots::exceeds;
 ghost use mathlib.Core.Path.{_≡_};
 ghost use mathlib.Core.Bool.{true, cond};
 ghost use Prim.Native.Nat.{_+_, _≤_, _<_};
 ghost use lib.ListN.{length, take};
 ghost use Rattle.base_lists.specs.Lists.{filter};
-ghost use Rattle.frontier.specs.Entries.{most-entries, most-of-two, rising-from, exceeds, exceeding, cut};
-ghost use Rattle.frontier.specs.Frontiers.{slots};
+ghost use Rattle.frontier_slots.specs.Entries.{most-entries, most-of-two, rising-from, exceeds, exceeding, cut};
+ghost use Rattle.frontier_slots.specs.Slots.{slots};
 ghost use Rattle.frontier.specs.Walks.{All-room, Cleared, Copied};
 
 // The first sixteen slots.
@@ -25,16 +26,6 @@ pub fn first_slots(row: &Room) -> [u64; Frontier::SLOTS]
     first
 }
 
-// An entry exceeds a bound: by its epoch, at equal epochs by its axis.
-fn above(entry: Entry, bound: Entry) -> bool
-    ensures { λ r. ⌜ r ≡ exceeds entry bound ⌝ }
-{
-    if bound.epoch == entry.epoch {
-        return bound.axis < entry.axis;
-    }
-    bound.epoch < entry.epoch
-}
-
 // How many entries exceed one.
 fn count_above<'a>(axes: &'a [u64], epochs: &'a [u64], len: usize, bound: Entry) -> usize
     requires { ⌜ (len ≤ length (now axes)) × (len ≤ length (now epochs)) ⌝ }
@@ -46,7 +37,7 @@ fn count_above<'a>(axes: &'a [u64], epochs: &'a [u64], len: usize, bound: Entry)
         let axis = axes[i];
         let epoch = epochs[i];
         i += 1;
-        if !above(Entry { axis, epoch }, bound) {
+        if !exceeds(Entry { axis, epoch }, bound) {
             continue;
         }
         n += 1;
@@ -58,7 +49,7 @@ fn count_above<'a>(axes: &'a [u64], epochs: &'a [u64], len: usize, bound: Entry)
 fn lesser(best: Entry, entry: Entry) -> Entry
     ensures { λ r. ⌜ r ≡ cond (exceeds best entry) entry best ⌝ }
 {
-    if above(best, entry) {
+    if exceeds(best, entry) {
         return entry;
     }
     best
@@ -108,10 +99,10 @@ pub fn bound_of<'a>(axes: &'a [u64], epochs: &'a [u64], len: usize, capacity: us
         let epoch = epochs[i];
         let entry = Entry { axis, epoch };
         i += 1;
-        if !above(entry, lost) {
+        if !exceeds(entry, lost) {
             continue;
         }
-        if !above(kept, entry) {
+        if !exceeds(kept, entry) {
             continue;
         }
         if count_above(axes, epochs, len, entry) < capacity {
@@ -149,7 +140,7 @@ pub fn trim(axes: &mut [u64], epochs: &mut [u64], len: usize, bound: Entry) -> u
         let epoch = epochs[i];
         axes[n] = axis;
         epochs[n] = epoch;
-        n = after(n, above(Entry { axis, epoch }, bound));
+        n = after(n, exceeds(Entry { axis, epoch }, bound));
         i += 1;
     }
     n

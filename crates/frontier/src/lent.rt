@@ -2,12 +2,12 @@
 // a merge is left in lent room.
 use crate::Dominance;
 use crate::Frontier;
-use crate::Lookup;
 use crate::cuts::clear;
 use crate::search::dominance_of;
-use crate::search::lookup_by_halving;
 use crate::unions::merged;
 use crate::unions::raised;
+use frontier_slots::Lookup;
+use frontier_slots::lookup_by_halving;
 ghost use mathlib.Core.Path.{_≡_};
 ghost use mathlib.Core.Bool.{false};
 ghost use Rattle.frontier.specs.Frontiers.{merge, raise, dominance};

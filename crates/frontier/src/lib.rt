@@ -5,13 +5,19 @@ pub mod lent;
 mod search;
 mod unions;
 
+use cuts::clear;
 use cuts::first_slots;
-use form::formed;
+use form::judged;
+use frontier_slots::Lookup;
+use frontier_slots::formed;
+use frontier_slots::lookup_by_halving;
+use unions::join_one;
 ghost use mathlib.Core.Path.{_≡_};
 ghost use mathlib.Core.Bool.{false};
 ghost use mathlib.Core.List.{[]};
 ghost use Rattle.frontier.specs.Frontiers.{well-formed, pack, merge, raise, dominance};
 ghost use Rattle.frontier.specs.Meaning.{Looked, Merge-right, Raise-right, Dominance-means};
+ghost use Rattle.frontier.specs.Walks.{left-number};
 
 // Slot i holds the entry (axes[i], epochs[i]) for i below len; the slots past len are zero. A tainted frontier may have
 // lost entries.
@@ -20,18 +26,6 @@ pub struct Frontier {
     pub epochs: [u64; Frontier::SLOTS],
     pub len: usize,
     pub tainted: bool,
-}
-
-// An axis and its epoch.
-pub struct Entry {
-    pub axis: u64,
-    pub epoch: u64,
-}
-
-// What a frontier says of an axis: its epoch, or nothing.
-pub enum Lookup {
-    Listed(u64),
-    Absent,
 }
 
 // A merge's number and frontier: empty and untainted where the number is a refusal's. The frontier comes first, so
@@ -119,32 +113,33 @@ impl Frontier {
         }
     }
 
-    // R64: one axis raised to an epoch, in this copy.
+    // R64: one axis raised to an epoch. Where it is listed and the capacity holds every entry, that is the larger epoch
+    // stored in this copy; else it is a union with one entry.
     pub fn raise(mut self, axis: u64, epoch: u64, capacity: u32) -> Merged
         ensures answers { λ r. ⌜ r ≡ raise self axis epoch capacity ⌝ }
         ensures right { λ r. ⌜ Raise-right self axis epoch capacity r ⌝ }
     {
-        let mut axes = [0u64; Self::BOTH];
-        let mut epochs = [0u64; Self::BOTH];
-        let r = lent::raise(
-            &self.axes,
-            &self.epochs,
-            self.len,
-            self.tainted,
-            axis,
-            epoch,
-            capacity,
-            &mut axes,
-            &mut epochs,
-        );
-        self.axes = first_slots(&axes);
-        self.epochs = first_slots(&epochs);
-        self.len = r.len;
-        self.tainted = r.tainted;
-        Merged {
-            number: r.number,
-            frontier: self,
+        let len = self.len;
+        let number = judged(&self.axes, &self.epochs, len, capacity);
+        if number != 0 {
+            return Merged {
+                number,
+                frontier: Self::empty(),
+            };
         }
+        if len <= capacity as usize {
+            let found = lookup_by_halving(&self.axes, &self.epochs, len, axis);
+            let answer = found.answer;
+            if let Lookup::Listed(old) = answer {
+                let at = found.at;
+                self.epochs[at] = base_numbers::max_u64(old, epoch);
+                return Merged {
+                    number: 0,
+                    frontier: self,
+                };
+            }
+        }
+        with_one(self, axis, epoch, capacity)
     }
 
     // R68: whether every entry of the other is reached, as far as the taints let it be known.
@@ -162,5 +157,37 @@ impl Frontier {
             other.len,
             other.tainted,
         )
+    }
+}
+
+// The union of a frontier with one entry, cut to a capacity.
+fn with_one(f: Frontier, axis: u64, epoch: u64, capacity: u32) -> Merged
+    requires { ⌜ left-number f capacity ≡ 0 ⌝ }
+    ensures { λ r. ⌜ r ≡ raise f axis epoch capacity ⌝ }
+{
+    let mut axes = [0u64; Frontier::BOTH];
+    let mut epochs = [0u64; Frontier::BOTH];
+    let r = join_one(
+        &f.axes,
+        &f.epochs,
+        f.len,
+        f.tainted,
+        axis,
+        epoch,
+        capacity as usize,
+        &mut axes,
+        &mut epochs,
+    );
+    clear(&mut axes, r.len);
+    clear(&mut epochs, r.len);
+    let frontier = Frontier {
+        axes: first_slots(&axes),
+        epochs: first_slots(&epochs),
+        len: r.len,
+        tainted: r.tainted,
+    };
+    Merged {
+        number: r.number,
+        frontier,
     }
 }

@@ -1,42 +1,19 @@
 // The lookup of an axis among lent slots, and what of one frontier another reaches.
 use crate::Dominance;
 use crate::Frontier;
-use crate::Lookup;
-use crate::form::formed;
+use frontier_slots::Found;
+use frontier_slots::Lookup;
+use frontier_slots::formed;
 ghost use mathlib.Core.Path.{_≡_};
 ghost use mathlib.Core.Bool.{true};
 ghost use mathlib.Core.List.{List};
 ghost use Prim.Native.Nat.{ℕ, _≤_, _<_};
 ghost use lib.ListN.{length, getD};
-ghost use Rattle.frontier.specs.Entries.{most-entries, rising-from};
-ghost use Rattle.frontier.specs.Frontiers.{slots, reached, answer, dominance};
-ghost use Rattle.frontier.specs.Walks.{rest, of-slots, All-slots, skip-below, Found-from, found-by-halving};
-
-// What a lookup says of an axis, and the slot at which the search for it ended.
-pub struct Found {
-    pub answer: Lookup,
-    pub at: usize,
-}
-
-// The lookup of an axis by halving: listed with its epoch, or absent.
-pub fn lookup_by_halving<'a>(axes: &'a [u64], epochs: &'a [u64], len: usize, axis: u64) -> Found
-    ensures { λ r. ⌜ r ≡ found-by-halving (now (axes .entry)) (now (epochs .entry)) len axis ⌝ }
-{
-    let found = axis_search::search(axes, len, axis);
-    let at = found.at;
-    if at < Frontier::SLOTS {
-        if at < epochs.len() {
-            return Found {
-                answer: Lookup::Listed(epochs[at]),
-                at,
-            };
-        }
-    }
-    Found {
-        answer: Lookup::Absent,
-        at,
-    }
-}
+ghost use Rattle.frontier_slots.specs.Entries.{most-entries, rising-from};
+ghost use Rattle.frontier_slots.specs.Slots.{slots};
+ghost use Rattle.frontier.specs.Frontiers.{reached, answer, dominance};
+ghost use Rattle.frontier_slots.specs.Slots.{rest, All-slots};
+ghost use Rattle.frontier.specs.Walks.{of-slots, skip-below, Found-from};
 
 // The first slot from `from` on whose axis is not below the one sought, or the length.
 fn seek(axes: &[u64], len: usize, from: usize, axis: u64) -> usize

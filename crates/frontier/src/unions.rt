@@ -1,22 +1,24 @@
 // The union of two frontiers, by their lent slots.
 use crate::Frontier;
-use crate::Lookup;
 use crate::cuts::bound_of;
 use crate::cuts::copy;
 use crate::cuts::trim;
-use crate::form::formed;
 use crate::form::judged;
 use crate::lent::Filled;
-use crate::search::lookup_by_halving;
 use crate::search::lookup_from;
+use frontier_slots::Lookup;
+use frontier_slots::formed;
+use frontier_slots::lookup_by_halving;
 ghost use mathlib.Core.Path.{_≡_};
 ghost use mathlib.Core.Bool.{true, false};
 ghost use mathlib.Core.List.{List, _∷_};
 ghost use Prim.Native.Nat.{ℕ, _+_, _≤_, _<_};
 ghost use lib.ListN.{length};
-ghost use Rattle.frontier.specs.Entries.{most-entries, most-of-two, rising-from, union};
-ghost use Rattle.frontier.specs.Frontiers.{slots, handed, joined, merge, raise};
-ghost use Rattle.frontier.specs.Walks.{rest, of-slots, All-slots, leads, All-room, Left-in-room};
+ghost use Rattle.frontier_slots.specs.Entries.{most-entries, most-of-two, rising-from, union};
+ghost use Rattle.frontier_slots.specs.Slots.{slots};
+ghost use Rattle.frontier.specs.Frontiers.{handed, joined, one-entry, merge, raise};
+ghost use Rattle.frontier_slots.specs.Slots.{rest, All-slots};
+ghost use Rattle.frontier.specs.Walks.{of-slots, leads, All-room, Left-in-room};
 
 // The next entry of a union, and where each side goes on.
 pub struct Step {
@@ -194,6 +196,43 @@ fn join<'a>(
     }
 }
 
+// The union of x and one entry, cut to a capacity, in front of the room. An entry of epoch 0 is none.
+pub fn join_one<'a>(
+    xa: &'a [u64],
+    xe: &'a [u64],
+    xn: usize,
+    xt: bool,
+    axis: u64,
+    epoch: u64,
+    capacity: usize,
+    axes: &mut [u64],
+    epochs: &mut [u64],
+) -> Filled
+    requires { ⌜ (xn ≤ most-entries) × All-slots (now xa) (now xe) ×
+        (rising-from 0 (slots (now xa) (now xe) xn 0) ≡ true) ⌝ }
+    requires { ⌜ (1 ≤ capacity) × (capacity ≤ most-entries) ⌝ }
+    requires { ⌜ All-room (now axes) (now epochs) ⌝ }
+    ensures { λ r. ⌜ Left-in-room (handed (joined (slots (now (xa .entry)) (now (xe .entry)) xn 0)
+        (one-entry axis epoch) xt capacity)) r (now (axes .exit)) (now (epochs .exit)) ⌝ }
+{
+    let mut ya = [0u64; Frontier::SLOTS];
+    let mut ye = [0u64; Frontier::SLOTS];
+    ya[0] = axis;
+    ye[0] = epoch;
+    join(
+        xa,
+        xe,
+        xn,
+        &ya,
+        &ye,
+        (epoch != 0) as usize,
+        capacity,
+        xt,
+        axes,
+        epochs,
+    )
+}
+
 // A refusal leaves no entry.
 fn refused(number: u32) -> Filled
     ensures { λ r. ⌜ r ≡ record { number = number; len = 0; tainted = false } ⌝ }
@@ -280,20 +319,5 @@ pub fn raised<'a>(
             };
         }
     }
-    let mut ya = [0u64; Frontier::SLOTS];
-    let mut ye = [0u64; Frontier::SLOTS];
-    ya[0] = axis;
-    ye[0] = epoch;
-    join(
-        xa,
-        xe,
-        xn,
-        &ya,
-        &ye,
-        (epoch != 0) as usize,
-        capacity as usize,
-        xt,
-        axes,
-        epochs,
-    )
+    join_one(xa, xe, xn, xt, axis, epoch, capacity as usize, axes, epochs)
 }

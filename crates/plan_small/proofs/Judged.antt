@@ -28,8 +28,9 @@ use Rattle.plan_order.specs.Holdings.{placed, marks-of, marks-from, buffer-mark
 use Rattle.plan_order.specs.Holdings.{use-asks, later-asks, asks-from, asks, asked-of, met, all-asks, has-broken}
 use Rattle.plan_order.specs.Holdings.{broken}
 use Rattle.plan_order.specs.Check.{room-refusal, refused-at, order-refusal, outcome, or-then, check-outcome}
-use Rattle.frontier.specs.Entries.{rising-from, find, put, union, exceeds, exceeding, cut}
-use Rattle.frontier.specs.Frontiers.{slot, slots, entries, all-zero, row-formed, well-formed, pack, joined}
+use Rattle.frontier_slots.specs.Entries.{rising-from, find, put, union, exceeds, exceeding, cut}
+use Rattle.frontier_slots.specs.Slots.{slot, slots, all-zero, row-formed, slots-formed}
+use Rattle.frontier.specs.Frontiers.{entries, pack, joined}
 use Rattle.frontier.specs.Frontiers.{merge-number, merge, met as entry-met, reached as all-reached}
 use Rattle.frontier.specs.Frontiers.{answer as dominance-answer, dominance-number, dominance}
 use Rattle.plan_small.specs.Cases.{section, at, use-of, free-of, operation, plan, wide, checked, judge, asked}
@@ -55,6 +56,6 @@ unfolding flatten orElse checked asked entry t12 t13 section
     ready-on next standard number-ready ready-numbers missing placed marks-of marks-from buffer-marks is-free freed-by
     free-after use-asks later-asks asks-from asks asked-of met all-asks has-broken broken room-refusal refused-at
     order-refusal outcome or-then check-outcome rising-from find put union exceeds exceeding cut slot slots entries
-    all-zero row-formed well-formed pack joined merge-number merge entry-met all-reached dominance-answer
+    all-zero row-formed slots-formed pack joined merge-number merge entry-met all-reached dominance-answer
     dominance-number dominance
 judged = refl

@@ -3,7 +3,7 @@ use mathlib.Core.Bool.{true, false, cond}
 use mathlib.Core.List.{List, [], _∷_, _++_, map, flatten}
 use Prim.Native.Nat.{ℕ, _-_}
 use lib.ListN.{length, replicate}
-use Rattle.frontier.specs.declared.Entry.{Entry}
+use Rattle.frontier_slots.specs.declared.Entry.{Entry}
 use Rattle.frontier.specs.Frontiers.{pack, merge, dominance}
 use Rattle.frontier.specs.declared.Frontier.{Frontier}
 use Rattle.frontier.specs.declared.Merged.{Merged}

@@ -1,8 +1,8 @@
 // Frontiers through their form, the lookup of an axis and the changes in place, and two lent rows: what is answered,
 // and what is stored then.
 use frontier::Frontier;
-use frontier::Lookup;
 use frontier::Merged;
+use frontier_slots::Lookup;
 use libc::STDOUT_FILENO;
 ghost use Rattle.frontier.specs.Frontiers.{merge, raise};
 ghost use Rattle.frontier_in_place.specs.InPlace.{Changed};

@@ -9,8 +9,8 @@ use Rattle.c_lent.proofs.merge.Tie as tie
 merge-numbers-requires : tie.Need-merge-numbers-requires
 merge-numbers-requires c κs = search needs
 
-refused-requires : tie.Need-refused-requires
-refused-requires c κs = search needs
+forwarded-requires : tie.Need-forwarded-requires
+forwarded-requires c κs = search needs
 
 tell-requires : tie.Need-tell-requires
 tell-requires c κs = search needs
@@ -18,10 +18,10 @@ tell-requires c κs = search needs
 returns : tie.Need-returns
 returns c =
     let made = c .before .before .before .merge-numbers .ensures in (
-      c .tell .ensures ∙ c .before .before .refused .ensures
+      c .tell .ensures ∙ c .before .before .forwarded .ensures
           ∙ ap {B = Told} (λ (n : ℕ). record { number = n; place = 0; answer = 0 }) (made .0),
       made .1,
     )
 
 pub merge-spec : {M : Type 1} → statement M
-merge-spec = tie.close (tie.spec merge-numbers-requires refused-requires tell-requires returns)
+merge-spec = tie.close (tie.spec merge-numbers-requires forwarded-requires tell-requires returns)

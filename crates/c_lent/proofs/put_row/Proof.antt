@@ -6,7 +6,7 @@ use native.Mathlib.Omega.{arith}
 use lib.ListN.{length, getD, take, length-set}
 use lib.Seq.{sets, take-all}
 use borrow.Author.Needs.{needs}
-use Rattle.frontier.specs.Entries.{most-entries}
+use Rattle.frontier_slots.specs.Entries.{most-entries}
 use Rattle.c_lent.proofs.Rows.{store-none, store-more}
 use Rattle.c_lent.proofs.put_row.Statement.{statement}
 use Rattle.c_lent.proofs.put_row.Tie as tie

@@ -9,8 +9,8 @@ use Rattle.c_lent.proofs.raise.Tie as tie
 raise-numbers-requires : tie.Need-raise-numbers-requires
 raise-numbers-requires c κs = search needs
 
-refused-requires : tie.Need-refused-requires
-refused-requires c κs = search needs
+forwarded-requires : tie.Need-forwarded-requires
+forwarded-requires c κs = search needs
 
 tell-requires : tie.Need-tell-requires
 tell-requires c κs = search needs
@@ -18,10 +18,10 @@ tell-requires c κs = search needs
 returns : tie.Need-returns
 returns c =
     let made = c .before .before .before .raise-numbers .ensures in (
-      c .tell .ensures ∙ c .before .before .refused .ensures
+      c .tell .ensures ∙ c .before .before .forwarded .ensures
           ∙ ap {B = Told} (λ (n : ℕ). record { number = n; place = 0; answer = 0 }) (made .0),
       made .1,
     )
 
 pub raise-spec : {M : Type 1} → statement M
-raise-spec = tie.close (tie.spec raise-numbers-requires refused-requires tell-requires returns)
+raise-spec = tie.close (tie.spec raise-numbers-requires forwarded-requires tell-requires returns)

@@ -1,6 +1,6 @@
 -- `entries` is safe and ends. Assumes nothing.
 use Prim.Native.Nat.{_-_, _≤_}
-use Rattle.frontier.specs.Entries.{most-entries}
+use Rattle.frontier_slots.specs.Entries.{most-entries}
 use borrow.Author.Needs.{needs}
 use Rattle.try_frontier.proofs.entries.Statement.{statement}
 use Rattle.try_frontier.proofs.entries.Tie as tie

@@ -5,7 +5,7 @@ use native.Mathlib.Omega.{arith}
 use mathlib.Core.Path.{sym, _∙_}
 use borrow.Author.Tests.{not-true, not-false}
 use borrow.Author.Needs.{needs}
-use Rattle.frontier.specs.Frontiers.{slot}
+use Rattle.frontier_slots.specs.Slots.{slot}
 use Rattle.frontier.proofs.Trim.{Cut-bound, bounded-none, bounded-lost, bounded-kept, bounded-low, bounded-high}
 use Rattle.frontier.proofs.Trim.{bounded-end, bounded-one}
 use Rattle.frontier.proofs.cuts.bound_of.Statement.{statement}
@@ -47,8 +47,8 @@ shared-slice-read-epoch c = search needs
 add-i : tie.Need-add-i Inv-loop μ-loop
 add-i c = search needs
 
-above-requires : tie.Need-above-requires Inv-loop μ-loop
-above-requires c κs = search needs
+exceeds-requires : tie.Need-exceeds-requires Inv-loop μ-loop
+exceeds-requires c κs = search needs
 
 loop-less : tie.Need-loop-less Inv-loop μ-loop
 loop-less c = search needs
@@ -57,10 +57,10 @@ loop-again : tie.Need-loop-again Inv-loop μ-loop
 unfolding slot
 loop-again c =
     bounded-lost _ _ _ _ _ _ _ (c .before .before .before .before .before .loop .inv)
-    (sym (c .before .above .ensures) ∙ not-true _ (c .if2 .taken))
+    (sym (c .before .exceeds .ensures) ∙ not-true _ (c .if2 .taken))
 
-above-requires-2 : tie.Need-above-requires-2 Inv-loop μ-loop
-above-requires-2 c κs = search needs
+exceeds-requires-2 : tie.Need-exceeds-requires-2 Inv-loop μ-loop
+exceeds-requires-2 c κs = search needs
 
 loop-less-2 : tie.Need-loop-less-2 Inv-loop μ-loop
 loop-less-2 c = search needs
@@ -69,7 +69,7 @@ loop-again-2 : tie.Need-loop-again-2 Inv-loop μ-loop
 unfolding slot
 loop-again-2 c =
     let turn = c .before .before .before .before .before .before .before in
-    bounded-kept _ _ _ _ _ _ _ (turn .loop .inv) (sym (c .before .above2 .ensures) ∙ not-true _ (c .if3 .taken))
+    bounded-kept _ _ _ _ _ _ _ (turn .loop .inv) (sym (c .before .exceeds2 .ensures) ∙ not-true _ (c .if3 .taken))
 
 count-above-requires : tie.Need-count-above-requires Inv-loop μ-loop
 count-above-requires c κs = search needs
@@ -90,7 +90,7 @@ loop-again-4 : tie.Need-loop-again-4 Inv-loop μ-loop
 unfolding slot
 loop-again-4 c =
     let turn = c .before .before .before .before .before .before .before .before .before in
-    bounded-high _ _ _ _ _ _ _ _ (turn .loop .inv) (sym (c .before .before .before .before .before .above .ensures)
+    bounded-high _ _ _ _ _ _ _ _ (turn .loop .inv) (sym (c .before .before .before .before .before .exceeds .ensures)
     ∙ not-false _ (c .before .before .before .before .if2 .left)) (c .before .count-above .ensures) (c .if4 .left)
 
 returns-2 : tie.Need-returns-2 Inv-loop μ-loop
@@ -111,10 +111,10 @@ bound-of-spec =
     mul-epoch
     shared-slice-read-epoch
     add-i
-    above-requires
+    exceeds-requires
     loop-less
     loop-again
-    above-requires-2
+    exceeds-requires-2
     loop-less-2
     loop-again-2
     count-above-requires

@@ -1,7 +1,7 @@
 -- `clear` meets its contract: the loop's invariant is `Clearing`. Assumes nothing.
 use Prim.Native.Nat.{_-_}
 use borrow.Author.Needs.{needs}
-use Rattle.frontier.specs.Entries.{most-of-two}
+use Rattle.frontier_slots.specs.Entries.{most-of-two}
 use Rattle.frontier.proofs.Fill.{Clearing, clear-none, clear-more, clear-end}
 use Rattle.frontier.proofs.cuts.clear.Statement.{statement}
 use Rattle.frontier.proofs.cuts.clear.Tie as tie

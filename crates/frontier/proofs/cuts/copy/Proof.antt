@@ -1,7 +1,7 @@
 -- `copy` meets its contract: the loop's invariant is `Copying`. Assumes nothing.
 use Prim.Native.Nat.{_-_}
 use borrow.Author.Needs.{needs}
-use Rattle.frontier.specs.Entries.{most-entries}
+use Rattle.frontier_slots.specs.Entries.{most-entries}
 use Rattle.frontier.proofs.Fill.{Copying, copy-none, copy-more, copy-end}
 use Rattle.frontier.proofs.cuts.copy.Statement.{statement}
 use Rattle.frontier.proofs.cuts.copy.Tie as tie

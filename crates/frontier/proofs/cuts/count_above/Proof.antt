@@ -4,9 +4,8 @@ use Prim.Native.Nat.{_+_, _-_, _≤_}
 use mathlib.Core.Path.{_≡_, sym, _∙_}
 use borrow.Author.Tests.{not-true, not-false}
 use borrow.Author.Needs.{needs}
-use Rattle.frontier.specs.Entries.{exceeding}
-use Rattle.frontier.specs.Frontiers.{slot, slots}
-use Rattle.frontier.specs.Walks.{rest}
+use Rattle.frontier_slots.specs.Entries.{exceeding}
+use Rattle.frontier_slots.specs.Slots.{slot, slots, rest}
 use Rattle.frontier.proofs.Trim.{count-none, count-more, count-skip, count-end}
 use Rattle.frontier.proofs.cuts.count_above.Statement.{statement}
 use Rattle.frontier.proofs.cuts.count_above.Tie as tie
@@ -36,8 +35,8 @@ shared-slice-read-epoch c = search needs
 add-i : tie.Need-add-i Inv-loop μ-loop
 add-i c = search needs
 
-above-requires : tie.Need-above-requires Inv-loop μ-loop
-above-requires c κs = search needs
+exceeds-requires : tie.Need-exceeds-requires Inv-loop μ-loop
+exceeds-requires c κs = search needs
 
 loop-less : tie.Need-loop-less Inv-loop μ-loop
 loop-less c = search needs
@@ -48,7 +47,7 @@ loop-again c = (
   search needs,
   search needs,
   count-skip _ _ _ _ _ _ (c .before .before .before .before .loop-test .taken)
-      (sym (c .before .above .ensures) ∙ not-true _ (c .if1 .taken))
+      (sym (c .before .exceeds .ensures) ∙ not-true _ (c .if1 .taken))
       (c .before .before .before .before .before .loop .inv .2),
 )
 
@@ -64,7 +63,7 @@ loop-again-2 c = (
   search needs,
   search needs,
   count-more _ _ _ _ _ _ (c .before .before .before .before .loop-test .taken)
-      (sym (c .before .above .ensures) ∙ not-false _ (c .if1 .left))
+      (sym (c .before .exceeds .ensures) ∙ not-false _ (c .if1 .left))
       (c .before .before .before .before .before .loop .inv .2),
 )
 
@@ -83,7 +82,7 @@ count-above-spec =
     mul-epoch
     shared-slice-read-epoch
     add-i
-    above-requires
+    exceeds-requires
     loop-less
     loop-again
     add-n

@@ -3,7 +3,7 @@ use Prim.Native.Nat.{_-_, _≤_}
 use mathlib.Core.Path.{_≡_, refl}
 use lib.ListN.{length, take}
 use borrow.Author.Needs.{needs}
-use Rattle.frontier.specs.Entries.{most-entries}
+use Rattle.frontier_slots.specs.Entries.{most-entries}
 use Rattle.frontier.proofs.Slots.{take-copied, first-copied}
 use Rattle.frontier.proofs.cuts.first_slots.Statement.{statement}
 use Rattle.frontier.proofs.cuts.first_slots.Tie as tie

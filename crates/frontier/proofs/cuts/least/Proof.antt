@@ -1,7 +1,7 @@
 -- `least` meets its contract: the loop's invariant is `Least-before`: the least of the slots before i. Assumes nothing.
 use Prim.Native.Nat.{_-_, _≤_}
 use borrow.Author.Needs.{needs}
-use Rattle.frontier.specs.Frontiers.{slot}
+use Rattle.frontier_slots.specs.Slots.{slot}
 use Rattle.frontier.proofs.Trim.{Least-before, least-first, least-more, least-end}
 use Rattle.frontier.proofs.cuts.least.Statement.{statement}
 use Rattle.frontier.proofs.cuts.least.Tie as tie

@@ -2,8 +2,8 @@
 use mathlib.Core.Path.{refl}
 use Prim.Native.Nat.{_-_}
 use borrow.Author.Needs.{needs}
-use Rattle.frontier.specs.Entries.{exceeds}
-use Rattle.frontier.specs.Frontiers.{slot}
+use Rattle.frontier_slots.specs.Entries.{exceeds}
+use Rattle.frontier_slots.specs.Slots.{slot}
 use Rattle.frontier.proofs.Trim.{Trim, trim-none, trim-more, trim-end}
 use Rattle.frontier.proofs.cuts.trim.Statement.{statement}
 use Rattle.frontier.proofs.cuts.trim.Tie as tie
@@ -42,8 +42,8 @@ mul-epochs c = search needs
 slice-write-epochs : tie.Need-slice-write-epochs Inv-loop μ-loop
 slice-write-epochs c = search needs
 
-above-requires : tie.Need-above-requires Inv-loop μ-loop
-above-requires c κs = search needs
+exceeds-requires : tie.Need-exceeds-requires Inv-loop μ-loop
+exceeds-requires c κs = search needs
 
 after-requires : tie.Need-after-requires Inv-loop μ-loop
 after-requires c κs = search needs
@@ -58,7 +58,7 @@ loop-again : tie.Need-loop-again Inv-loop μ-loop
 unfolding slot
 loop-again c =
     let turn = c .before .before .before .before in
-    trim-more _ _ _ _ _ _ _ _ _ _ (turn .before .loop .inv) (turn .loop-test .taken) (c .before .above .ensures)
+    trim-more _ _ _ _ _ _ _ _ _ _ (turn .before .loop .inv) (turn .loop-test .taken) (c .before .exceeds .ensures)
     (c .after .ensures)
 
 same-length : tie.Need-same-length Inv-loop μ-loop
@@ -85,7 +85,7 @@ trim-spec =
     slice-write-axes
     mul-epochs
     slice-write-epochs
-    above-requires
+    exceeds-requires
     after-requires
     add-i
     loop-less

@@ -1,9 +1,9 @@
 -- `lookup` meets its contract: by what the search by halving gives. Assumes nothing.
 use mathlib.Core.Path.{ap}
 use borrow.Author.Needs.{needs}
-use Rattle.frontier.specs.declared.search.Found.{Found}
+use Rattle.frontier_slots.specs.declared.Found.{Found}
 use Rattle.frontier.specs.Frontiers.{looked-up}
-use Rattle.frontier.specs.Walks.{found-by-halving}
+use Rattle.frontier_slots.specs.Slots.{found-by-halving}
 use Rattle.frontier.proofs.Lookups.{looked}
 use Rattle.frontier.proofs.lent.lookup.Statement.{statement}
 use Rattle.frontier.proofs.lent.lookup.Tie as tie

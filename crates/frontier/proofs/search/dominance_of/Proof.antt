@@ -19,32 +19,31 @@ right-of s = of-slots (s .args .ya .now) (s .args .ye .now) (s .args .yn) (s .ar
 
 left-formed : (c : tie.Else1) → let known = c .before .before in
     well-formed (left-of (known .before .before .before .before)) ≡ true
-unfolding well-formed entries
 left-formed c = sym (c .before .formed .ensures) ∙ not-false _ (c .if1 .left)
 
 right-formed : (c : tie.Else2) → let known = c .before .before .before .before in
     well-formed (right-of (known .before .before .before .before)) ≡ true
-unfolding well-formed entries
 right-formed c = sym (c .before .formed2 .ensures) ∙ not-false _ (c .if2 .left)
 
 formed-requires : tie.Need-formed-requires
 formed-requires c κs = search needs
 
 returns : tie.Need-returns
-unfolding well-formed entries
 returns c = judged-left _ _ (sym (c .before .formed .ensures) ∙ not-true _ (c .if1 .taken))
 
 formed-requires-2 : tie.Need-formed-requires-2
 formed-requires-2 c κs = search needs
 
 returns-2 : tie.Need-returns-2
-unfolding well-formed entries
 returns-2 c = judged-right _ _ (left-formed (c .before .before)) (sym (c .before .formed2 .ensures)
     ∙ not-true _ (c .if2 .taken))
 
 reaches-requires : tie.Need-reaches-requires
 unfolding entries
-reaches-requires c κs = both-fit _ _ (left-formed (c .before .before)) (right-formed c)
+reaches-requires c κs =
+    let known = c .before .before .before .before in
+    let start = known .before .before .before .before in
+    both-fit (left-of start) (right-of start) (left-formed (c .before .before)) (right-formed c)
 
 answer-of-requires : tie.Need-answer-of-requires
 answer-of-requires c κs = search needs

@@ -5,7 +5,8 @@ use mathlib.Core.Path.{_≡_, refl, sym, _∙_}
 use mathlib.Core.List.{List}
 use native.Mathlib.Omega.{arith}
 use borrow.Author.Needs.{needs}
-use Rattle.frontier.specs.Walks.{rest, skip-below}
+use Rattle.frontier_slots.specs.Slots.{rest}
+use Rattle.frontier.specs.Walks.{skip-below}
 use Rattle.frontier.proofs.Steps.{skip-more, skip-stop, skip-none}
 use Rattle.frontier.proofs.search.seek.Statement.{statement}
 use Rattle.frontier.proofs.search.seek.Tie as tie

@@ -2,7 +2,7 @@
 use mathlib.Core.Path.{sym, _∙_}
 use native.Mathlib.Omega.{arith}
 use borrow.Author.Needs.{needs}
-use Rattle.frontier.specs.Frontiers.{slot}
+use Rattle.frontier_slots.specs.Slots.{slot}
 use Rattle.frontier.proofs.Join.{listed-some, next-absent, next-listed}
 use Rattle.frontier.proofs.unions.leading.Statement.{statement}
 use Rattle.frontier.proofs.unions.leading.Tie as tie

@@ -20,12 +20,11 @@ right-of s = of-slots (s .args .ya .now) (s .args .ye .now) (s .args .yn) (s .ar
 left-judged : (c : tie.Else1) → let known = c .before .before in
     let start = known .before .before .before .before .before .before in
     Left-accepted (left-of start) (right-of start) (start .args .capacity)
-unfolding left-number well-formed entries
+unfolding left-number
 left-judged c = left-accepted _ _ _ _ (c .before .judged .ensures) (c .if1 .left)
 
 right-formed : (c : tie.Else2) → let known = c .before .before .before .before in
     well-formed (right-of (known .before .before .before .before .before .before)) ≡ true
-unfolding well-formed entries
 right-formed c = sym (c .before .formed .ensures) ∙ not-false _ (c .if2 .left)
 
 judged-requires : tie.Need-judged-requires
@@ -35,7 +34,7 @@ refused-requires : tie.Need-refused-requires
 refused-requires c κs = search needs
 
 returns : tie.Need-returns
-unfolding left-number well-formed entries
+unfolding left-number
 returns c =
     let known = c .before .before .before in
     let start = known .before .before .before .before .before .before in
@@ -50,7 +49,7 @@ refused-requires-2 : tie.Need-refused-requires-2
 refused-requires-2 c κs = search needs
 
 returns-2 : tie.Need-returns-2
-unfolding left-number well-formed entries
+unfolding left-number
 returns-2 c =
     let known = c .before .before .before .before .before in
     left-refused _ _ _ _ _ (refused-right _ _ _ (left-judged (c .before .before .before))

@@ -5,11 +5,12 @@ use Prim.Native.Nat.{_≤_, _<_}
 use native.Mathlib.Omega.{arith}
 use borrow.Author.Needs.{needs}
 use Rattle.frontier.specs.declared.Frontier.{Frontier}
-use Rattle.frontier.specs.Entries.{most-entries, rising-from}
-use Rattle.frontier.specs.Frontiers.{entries, well-formed}
-use Rattle.frontier.specs.Walks.{of-slots, left-number, All-slots, Found-from}
+use Rattle.frontier_slots.specs.Entries.{most-entries, rising-from}
+use Rattle.frontier.specs.Frontiers.{entries}
+use Rattle.frontier_slots.specs.Slots.{All-slots}
+use Rattle.frontier.specs.Walks.{of-slots, left-number, Found-from}
 use Rattle.frontier.proofs.Lookups.{halved-from}
-use Rattle.frontier.proofs.Raise.{one-fits, one-joined, raise-refused, raise-joins, raise-joined, raise-stored}
+use Rattle.frontier.proofs.Raise.{raise-refused, raise-joins, raise-joined, raise-stored}
 use Rattle.frontier.proofs.Fill.{left-same, left-refused, left-stored}
 use Rattle.frontier.proofs.unions.raised.Statement.{statement}
 use Rattle.frontier.proofs.unions.raised.Tie as tie
@@ -23,7 +24,7 @@ fits : (c : tie.Else1) → let known = c .before .before in
     ((s .args .xn ≤ most-entries) × (rising-from 0 (entries (left-of s)) ≡ true)
     × All-slots (s .args .xa .now) (s .args .xe .now))
     × ((1 ≤ s .args .capacity) × (s .args .capacity ≤ most-entries))
-unfolding left-number well-formed entries
+unfolding left-number
 fits c =
     let known = c .before .before in
     let s = known .before .before .before .before in
@@ -54,7 +55,7 @@ refused-requires : tie.Need-refused-requires
 refused-requires c κs = search needs
 
 returns : tie.Need-returns
-unfolding left-number well-formed entries
+unfolding left-number
 returns c =
     let known = c .before .before .before in
     let start = known .before .before .before .before in
@@ -94,7 +95,7 @@ same-length-2 : tie.Need-same-length-2
 same-length-2 c = search needs
 
 returns-2 : tie.Need-returns-2
-unfolding left-number well-formed entries
+unfolding left-number
 returns-2 c =
     let answer = answered c in
     let found = answer .before .before in
@@ -109,29 +110,13 @@ returns-2 c =
 enum-told : tie.Need-enum-told
 enum-told c = search needs
 
-array-write-ya : tie.Need-array-write-ya
-array-write-ya c = search needs
-
-array-write-ye : tie.Need-array-write-ye
-array-write-ye c = search needs
-
-slice-aggregate-join : tie.Need-slice-aggregate-join
-slice-aggregate-join c = search needs
-
-slice-aggregate-join-2 : tie.Need-slice-aggregate-join-2
-slice-aggregate-join-2 c = search needs
-
-cast-join : tie.Need-cast-join
-cast-join c = search needs
-
-join-requires : tie.Need-join-requires
+join-one-requires : tie.Need-join-one-requires
 unfolding entries
-join-requires c κs =
-    let left = c .before .before .before .before .before in
+join-one-requires c κs =
+    let left = c .before .before .before in
     let f = fits left in
-    let o = one-fits _ _ _ _ in
     let known = left .before .before in
-    ((f .0 .0, o .0, f .0 .2, (refl, refl)), ((f .0 .1, o .1), (f .1, known .before .before .before .before .pre)))
+    ((f .0 .0, f .0 .2, f .0 .1), (f .1, known .before .before .before .before .pre))
 
 same-length-3 : tie.Need-same-length-3
 same-length-3 c = search needs
@@ -140,15 +125,14 @@ same-length-4 : tie.Need-same-length-4
 same-length-4 c = search needs
 
 returns-3 : tie.Need-returns-3
-unfolding left-number well-formed entries
+unfolding left-number entries
 returns-3 c =
     let joined = c .before .before .before .before in
-    let left = joined .before .before .before .before .before .before in
+    let left = joined .before .before .before .before in
     let known = left .before .before in
-    left-same (one-joined _ _ _ _ _ _ _
-    ∙ raise-joined (left-of (known .before .before .before .before)) _ _ _ _ (left .before .judged .ensures)
+    left-same (raise-joined (left-of (known .before .before .before .before)) _ _ _ _ (left .before .judged .ensures)
     (left .if1 .left) _ refl)
-    (joined .join .ensures)
+    (joined .join-one .ensures)
 
 pub raised-spec : {M : Type 1} → statement M
 raised-spec =
@@ -168,12 +152,7 @@ raised-spec =
     same-length-2
     returns-2
     enum-told
-    array-write-ya
-    array-write-ye
-    slice-aggregate-join
-    slice-aggregate-join-2
-    cast-join
-    join-requires
+    join-one-requires
     same-length-3
     same-length-4
     returns-3)

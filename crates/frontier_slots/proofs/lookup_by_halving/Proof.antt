@@ -1,8 +1,8 @@
 -- `lookup_by_halving` meets its contract: what is in the slot that the search gave. Assumes nothing.
 use borrow.Author.Needs.{needs}
-use Rattle.frontier.proofs.Lookups.{halved-listed, halved-short, halved-none}
-use Rattle.frontier.proofs.search.lookup_by_halving.Statement.{statement}
-use Rattle.frontier.proofs.search.lookup_by_halving.Tie as tie
+use Rattle.frontier_slots.proofs.Halved.{halved-listed, halved-short, halved-none}
+use Rattle.frontier_slots.proofs.lookup_by_halving.Statement.{statement}
+use Rattle.frontier_slots.proofs.lookup_by_halving.Tie as tie
 
 search-requires : tie.Need-search-requires
 search-requires c κs = search needs

@@ -1,8 +1,8 @@
 -- `in_place` meets its contract: by the three tests. Assumes nothing.
 use borrow.Author.Needs.{needs}
-use Rattle.frontier.proofs.Steps.{placed-zero, placed-first, placed-next}
-use Rattle.frontier.proofs.form.in_place.Statement.{statement}
-use Rattle.frontier.proofs.form.in_place.Tie as tie
+use Rattle.frontier_slots.proofs.Steps.{placed-zero, placed-first, placed-next}
+use Rattle.frontier_slots.proofs.in_place.Statement.{statement}
+use Rattle.frontier_slots.proofs.in_place.Tie as tie
 
 mul-if1 : tie.Need-mul-if1
 mul-if1 c = search needs

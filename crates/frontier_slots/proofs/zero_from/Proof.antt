@@ -4,11 +4,11 @@ use native.Mathlib.Omega.{arith}
 use mathlib.Core.Path.{_≡_, refl, sym, _∙_}
 use lib.ListN.{drop}
 use borrow.Author.Needs.{needs}
-use Rattle.frontier.specs.Entries.{most-entries}
-use Rattle.frontier.specs.Frontiers.{all-zero}
-use Rattle.frontier.proofs.Steps.{zero-more, zero-stop, zero-end}
-use Rattle.frontier.proofs.form.zero_from.Statement.{statement}
-use Rattle.frontier.proofs.form.zero_from.Tie as tie
+use Rattle.frontier_slots.specs.Entries.{most-entries}
+use Rattle.frontier_slots.specs.Slots.{all-zero}
+use Rattle.frontier_slots.proofs.Steps.{zero-more, zero-stop, zero-end}
+use Rattle.frontier_slots.proofs.zero_from.Statement.{statement}
+use Rattle.frontier_slots.proofs.zero_from.Tie as tie
 
 abbrev Inv-loop : tie.InvT-loop
 Inv-loop row from i₀ i = all-zero (drop i row) ≡ all-zero (drop from row)

@@ -6,9 +6,9 @@ use Prim.Native.Nat.{ℕ, suc, _+_, _*_, max}
 use lib.Dec.{ltb, leb, eqb}
 use Rattle.base_lists.specs.Lists.{filter}
 use Rattle.axis_search.specs.Halving.{most-slots}
-pub use Rattle.frontier.specs.declared.Entry.{Entry}
-use Rattle.frontier.specs.declared.Lookup.{Lookup}
-use Rattle.frontier.specs.declared.Lookup.the-variants.{Listed, Absent}
+pub use Rattle.frontier_slots.specs.declared.Entry.{Entry}
+use Rattle.frontier_slots.specs.declared.Lookup.{Lookup}
+use Rattle.frontier_slots.specs.declared.Lookup.the-variants.{Listed, Absent}
 
 -- R59, R51: the most entries of a frontier: it has as many slots, and no capacity is larger
 abbrev pub most-entries : ℕ

@@ -3,12 +3,11 @@ use Prim.Native.Nat.{_-_, _≤_}
 use mathlib.Core.Path.{_≡_, sym, _∙_}
 use borrow.Author.Tests.{not-true, not-false}
 use borrow.Author.Needs.{needs}
-use Rattle.frontier.specs.Entries.{rising-from}
-use Rattle.frontier.specs.Frontiers.{slots}
-use Rattle.frontier.specs.Walks.{rest, floor}
-use Rattle.frontier.proofs.Steps.{rising-start, rising-more, rising-stop, rising-end}
-use Rattle.frontier.proofs.form.rising.Statement.{statement}
-use Rattle.frontier.proofs.form.rising.Tie as tie
+use Rattle.frontier_slots.specs.Entries.{rising-from}
+use Rattle.frontier_slots.specs.Slots.{slots, rest, floor}
+use Rattle.frontier_slots.proofs.Steps.{rising-start, rising-more, rising-stop, rising-end}
+use Rattle.frontier_slots.proofs.rising.Statement.{statement}
+use Rattle.frontier_slots.proofs.rising.Tie as tie
 
 abbrev Inv-loop : tie.InvT-loop
 Inv-loop axes epochs len i₀ i =

@@ -1,0 +1,5 @@
+pub mod Slots
+pub mod Steps
+pub mod Form
+pub mod Halved
+pub mod Kept
