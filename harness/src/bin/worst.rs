@@ -7,9 +7,10 @@
 use harness::c_api;
 use harness::generate::{Rng, Shape, WaitOrder};
 use harness::side::{OwnRooms, Side, Told};
+use harness::timing::timed;
 use std::hint::black_box;
 use std::process::ExitCode;
-use std::time::{Duration, Instant};
+use std::time::Duration;
 
 const OPERATIONS: usize = 1024;
 /// Plans of one shape that are checked in turn.
@@ -85,9 +86,8 @@ fn times<const SHAPES: usize>(
     for _ in 0..rounds {
         for (plans, fastest) in shapes.iter().zip(&mut fastest) {
             for (plan, fastest) in plans.iter().zip(fastest) {
-                let start = Instant::now();
-                library.check(black_box(plan), rooms, &mut told);
-                *fastest = start.elapsed().min(*fastest);
+                let time = timed(|| library.check(black_box(plan), rooms, &mut told));
+                *fastest = time.min(*fastest);
                 assert_eq!(told, Told::PASSED, "the plans of a shape pass");
             }
         }
