@@ -1,7 +1,7 @@
 //! The checker under test, through its C interface: the library that this build
 //! links, and libraries built earlier, opened while the program runs.
 
-use crate::side::{Found, Raw, Side, Told, Wait};
+use crate::side::{Found, Raw, Rooms, Side, Told, Wait};
 use std::ffi::{c_char, c_int, c_void, CStr, CString};
 
 /// The C library as one side of a comparison, if this build links it.
@@ -45,15 +45,12 @@ extern "C" {
     fn dlerror() -> *const c_char;
 }
 
-/// The three numbers of a `Told`, in the interface's order.
-type Three = [u64; 3];
-
 /// The functions of the interface, written once: linked, and looked up by name.
 macro_rules! functions {
     ($(fn $name:ident($($argument:ident: $kind:ty),* $(,)?);)*) => {
         #[cfg(cundvrest_c)]
         mod linked {
-            use super::{Found, Raw, Three, Wait};
+            use super::{Found, Raw, Told, Wait};
             extern "C" {
                 $(pub fn $name($($argument: $kind),*);)*
             }
@@ -87,14 +84,14 @@ functions! {
         plan_len: usize,
         room: *mut u64,
         room_len: usize,
-        told: *mut Three,
+        told: *mut Told,
     );
     fn cundvrest_write(
         numbers: *const u64,
         numbers_len: usize,
         room: *mut u8,
         room_len: usize,
-        told: *mut Three,
+        told: *mut Told,
     );
     fn cundvrest_check(
         plan: *const u8,
@@ -103,7 +100,7 @@ functions! {
         table_len: usize,
         list: *mut u32,
         list_len: usize,
-        told: *mut Three,
+        told: *mut Told,
     );
     fn cundvrest_reuse(
         plan: *const u8,
@@ -114,7 +111,7 @@ functions! {
         table_len: usize,
         list: *mut u32,
         list_len: usize,
-        told: *mut Three,
+        told: *mut Told,
     );
     fn cundvrest_suggest(
         plan: *const u8,
@@ -126,7 +123,7 @@ functions! {
         list: *mut u32,
         list_len: usize,
         wait: *mut Wait,
-        told: *mut Three,
+        told: *mut Told,
     );
     fn cundvrest_frontier(
         plan: *const u8,
@@ -138,7 +135,7 @@ functions! {
         list: *mut u32,
         list_len: usize,
         frontier: *mut Raw,
-        told: *mut Three,
+        told: *mut Told,
     );
     fn cundvrest_trace(
         plan: *const u8,
@@ -152,15 +149,15 @@ functions! {
         state: *mut u64,
         state_len: usize,
         found: *mut Found,
-        told: *mut Three,
+        told: *mut Told,
     );
-    fn cundvrest_lookup(frontier: *const Raw, axis: u64, epoch: *mut u64, told: *mut Three);
+    fn cundvrest_lookup(frontier: *const Raw, axis: u64, epoch: *mut u64, told: *mut Told);
     fn cundvrest_merge(
         left: *const Raw,
         right: *const Raw,
         capacity: u32,
         merged: *mut Raw,
-        told: *mut Three,
+        told: *mut Told,
     );
     fn cundvrest_raise(
         old: *const Raw,
@@ -168,22 +165,9 @@ functions! {
         epoch: u64,
         capacity: u32,
         raised: *mut Raw,
-        told: *mut Three,
+        told: *mut Told,
     );
-    fn cundvrest_dominates(left: *const Raw, right: *const Raw, told: *mut Three);
-}
-
-/// Lends three numbers to a call. They hold a pattern beforehand, so that a
-/// call which leaves one unwritten shows.
-fn told(call: impl FnOnce(*mut Three)) -> Told {
-    let mut three: Three = [0x5555_5555_5555_5555; 3];
-    call(&mut three);
-    let [number, place, answer] = three;
-    Told {
-        number,
-        place,
-        answer,
-    }
+    fn cundvrest_dominates(left: *const Raw, right: *const Raw, told: *mut Told);
 }
 
 /// One library.
@@ -210,57 +194,58 @@ impl Side for Library {
         self.name.clone()
     }
 
-    fn read(&self, plan: &[u8], room: &mut [u64]) -> Told {
-        let (plan_len, room_len) = (plan.len(), room.len());
-        let (plan, room) = (plan.as_ptr(), room.as_mut_ptr());
-        told(|three| unsafe {
-            function!(self, cundvrest_read)(plan, plan_len, room, room_len, three)
-        })
+    fn read(&self, plan: &[u8], room: &mut [u64], told: &mut Told) {
+        unsafe {
+            function!(self, cundvrest_read)(
+                plan.as_ptr(),
+                plan.len(),
+                room.as_mut_ptr(),
+                room.len(),
+                told,
+            )
+        }
     }
 
-    fn write(&self, numbers: &[u64], room: &mut [u8]) -> Told {
-        let (numbers_len, room_len) = (numbers.len(), room.len());
-        let (numbers, room) = (numbers.as_ptr(), room.as_mut_ptr());
-        told(|three| unsafe {
-            function!(self, cundvrest_write)(numbers, numbers_len, room, room_len, three)
-        })
+    fn write(&self, numbers: &[u64], room: &mut [u8], told: &mut Told) {
+        unsafe {
+            function!(self, cundvrest_write)(
+                numbers.as_ptr(),
+                numbers.len(),
+                room.as_mut_ptr(),
+                room.len(),
+                told,
+            )
+        }
     }
 
-    fn check(&self, plan: &[u8], table: &mut [u32], list: &mut [u32]) -> Told {
-        told(|three| unsafe {
+    fn check(&self, plan: &[u8], rooms: &mut Rooms, told: &mut Told) {
+        unsafe {
             function!(self, cundvrest_check)(
                 plan.as_ptr(),
                 plan.len(),
-                table.as_mut_ptr(),
-                table.len(),
-                list.as_mut_ptr(),
-                list.len(),
-                three,
+                rooms.table.as_mut_ptr(),
+                rooms.table.len(),
+                rooms.list.as_mut_ptr(),
+                rooms.list.len(),
+                told,
             )
-        })
+        }
     }
 
-    fn reuse(
-        &self,
-        plan: &[u8],
-        queue: u32,
-        buffer: u32,
-        table: &mut [u32],
-        list: &mut [u32],
-    ) -> Told {
-        told(|three| unsafe {
+    fn reuse(&self, plan: &[u8], queue: u32, buffer: u32, rooms: &mut Rooms, told: &mut Told) {
+        unsafe {
             function!(self, cundvrest_reuse)(
                 plan.as_ptr(),
                 plan.len(),
                 queue,
                 buffer,
-                table.as_mut_ptr(),
-                table.len(),
-                list.as_mut_ptr(),
-                list.len(),
-                three,
+                rooms.table.as_mut_ptr(),
+                rooms.table.len(),
+                rooms.list.as_mut_ptr(),
+                rooms.list.len(),
+                told,
             )
-        })
+        }
     }
 
     fn suggest(
@@ -268,24 +253,24 @@ impl Side for Library {
         plan: &[u8],
         queue: u32,
         buffer: u32,
-        table: &mut [u32],
-        list: &mut [u32],
+        rooms: &mut Rooms,
         wait: &mut Wait,
-    ) -> Told {
-        told(|three| unsafe {
+        told: &mut Told,
+    ) {
+        unsafe {
             function!(self, cundvrest_suggest)(
                 plan.as_ptr(),
                 plan.len(),
                 queue,
                 buffer,
-                table.as_mut_ptr(),
-                table.len(),
-                list.as_mut_ptr(),
-                list.len(),
+                rooms.table.as_mut_ptr(),
+                rooms.table.len(),
+                rooms.list.as_mut_ptr(),
+                rooms.list.len(),
                 wait,
-                three,
+                told,
             )
-        })
+        }
     }
 
     fn frontier(
@@ -293,70 +278,74 @@ impl Side for Library {
         plan: &[u8],
         operation: u32,
         capacity: u32,
-        table: &mut [u32],
-        list: &mut [u32],
+        rooms: &mut Rooms,
         frontier: &mut Raw,
-    ) -> Told {
-        told(|three| unsafe {
+        told: &mut Told,
+    ) {
+        unsafe {
             function!(self, cundvrest_frontier)(
                 plan.as_ptr(),
                 plan.len(),
                 operation,
                 capacity,
-                table.as_mut_ptr(),
-                table.len(),
-                list.as_mut_ptr(),
-                list.len(),
+                rooms.table.as_mut_ptr(),
+                rooms.table.len(),
+                rooms.list.as_mut_ptr(),
+                rooms.list.len(),
                 frontier,
-                three,
+                told,
             )
-        })
+        }
     }
 
     fn trace(
         &self,
         plan: &[u8],
-        trace: &[u8],
-        table: &mut [u32],
-        list: &mut [u32],
+        recorded: &[u8],
+        rooms: &mut Rooms,
         state: &mut [u64],
         found: &mut Found,
-    ) -> Told {
-        told(|three| unsafe {
+        told: &mut Told,
+    ) {
+        unsafe {
             function!(self, cundvrest_trace)(
                 plan.as_ptr(),
                 plan.len(),
-                trace.as_ptr(),
-                trace.len(),
-                table.as_mut_ptr(),
-                table.len(),
-                list.as_mut_ptr(),
-                list.len(),
+                recorded.as_ptr(),
+                recorded.len(),
+                rooms.table.as_mut_ptr(),
+                rooms.table.len(),
+                rooms.list.as_mut_ptr(),
+                rooms.list.len(),
                 state.as_mut_ptr(),
                 state.len(),
                 found,
-                three,
+                told,
             )
-        })
+        }
     }
 
-    fn lookup(&self, frontier: &Raw, axis: u64, epoch: &mut u64) -> Told {
-        told(|three| unsafe { function!(self, cundvrest_lookup)(frontier, axis, epoch, three) })
+    fn lookup(&self, frontier: &Raw, axis: u64, epoch: &mut u64, told: &mut Told) {
+        unsafe { function!(self, cundvrest_lookup)(frontier, axis, epoch, told) }
     }
 
-    fn merge(&self, left: &Raw, right: &Raw, capacity: u32, merged: &mut Raw) -> Told {
-        told(|three| unsafe {
-            function!(self, cundvrest_merge)(left, right, capacity, merged, three)
-        })
+    fn merge(&self, left: &Raw, right: &Raw, capacity: u32, merged: &mut Raw, told: &mut Told) {
+        unsafe { function!(self, cundvrest_merge)(left, right, capacity, merged, told) }
     }
 
-    fn raise(&self, old: &Raw, axis: u64, epoch: u64, capacity: u32, raised: &mut Raw) -> Told {
-        told(|three| unsafe {
-            function!(self, cundvrest_raise)(old, axis, epoch, capacity, raised, three)
-        })
+    fn raise(
+        &self,
+        old: &Raw,
+        axis: u64,
+        epoch: u64,
+        capacity: u32,
+        raised: &mut Raw,
+        told: &mut Told,
+    ) {
+        unsafe { function!(self, cundvrest_raise)(old, axis, epoch, capacity, raised, told) }
     }
 
-    fn dominates(&self, left: &Raw, right: &Raw) -> Told {
-        told(|three| unsafe { function!(self, cundvrest_dominates)(left, right, three) })
+    fn dominates(&self, left: &Raw, right: &Raw, told: &mut Told) {
+        unsafe { function!(self, cundvrest_dominates)(left, right, told) }
     }
 }

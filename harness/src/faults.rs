@@ -4,7 +4,7 @@
 
 use crate::plan::{Mark, Plan};
 use crate::reference::{self, Reference};
-use crate::side::{Found, Raw, Side, Told, Wait, EMPTY, EPOCHS, LENGTH, TAINT};
+use crate::side::{Found, Raw, Rooms, Side, Told, Wait, EMPTY, EPOCHS, LENGTH, TAINT};
 
 mod suggest;
 mod trace;
@@ -158,15 +158,17 @@ impl Faulty {
     }
 
     /// Spoils what a passed check or an answered question leaves.
-    fn spoil(&self, told: Told, plan: &[u8], table: &mut [u32], list: &mut [u32]) {
+    fn spoil(&self, told: &Told, plan: &[u8], rooms: &mut Rooms) {
         let rows_are_there = matches!(told.number, 0 | 12 | 13 | 15 | 19 | 21 | 22);
         let Some(plan) = parse(plan).filter(|_| rows_are_there) else {
             return;
         };
         for (position, operation) in plan.operations.iter().enumerate() {
             match self.0 {
-                Fault::OwnColumnMissing => table[16 * position + usize::from(operation.queue)] = 0,
-                Fault::PlanOrder => list[position] = position as u32,
+                Fault::OwnColumnMissing => {
+                    rooms.table[16 * position + usize::from(operation.queue)] = 0;
+                }
+                Fault::PlanOrder => rooms.list[position] = position as u32,
                 _ => {}
             }
         }
@@ -178,31 +180,22 @@ impl Side for Faulty {
         format!("reference with fault {:?}", self.0)
     }
 
-    fn read(&self, plan: &[u8], room: &mut [u64]) -> Told {
-        reference::read(plan, room)
+    fn read(&self, plan: &[u8], room: &mut [u64], told: &mut Told) {
+        Reference.read(plan, room, told);
     }
 
-    fn write(&self, numbers: &[u64], room: &mut [u8]) -> Told {
-        reference::write(numbers, room)
+    fn write(&self, numbers: &[u64], room: &mut [u8], told: &mut Told) {
+        Reference.write(numbers, room, told);
     }
 
-    fn check(&self, plan: &[u8], table: &mut [u32], list: &mut [u32]) -> Told {
-        let told = reference::check(&self.rewritten(plan), table, list);
-        self.spoil(told, plan, table, list);
-        told
+    fn check(&self, plan: &[u8], rooms: &mut Rooms, told: &mut Told) {
+        Reference.check(&self.rewritten(plan), rooms, told);
+        self.spoil(told, plan, rooms);
     }
 
-    fn reuse(
-        &self,
-        plan: &[u8],
-        queue: u32,
-        buffer: u32,
-        table: &mut [u32],
-        list: &mut [u32],
-    ) -> Told {
-        let told = reference::reuse(&self.rewritten(plan), queue, buffer, table, list);
-        self.spoil(told, plan, table, list);
-        told
+    fn reuse(&self, plan: &[u8], queue: u32, buffer: u32, rooms: &mut Rooms, told: &mut Told) {
+        Reference.reuse(&self.rewritten(plan), queue, buffer, rooms, told);
+        self.spoil(told, plan, rooms);
     }
 
     fn suggest(
@@ -210,14 +203,14 @@ impl Side for Faulty {
         plan: &[u8],
         queue: u32,
         buffer: u32,
-        table: &mut [u32],
-        list: &mut [u32],
+        rooms: &mut Rooms,
         wait: &mut Wait,
-    ) -> Told {
+        told: &mut Told,
+    ) {
         let rewritten = self.rewritten(plan);
-        let told = reference::suggest(&rewritten, queue, buffer, table, list, wait);
-        self.spoil(told, plan, table, list);
-        suggest::spoil(self.0, plan, (queue, buffer), told, table, wait)
+        Reference.suggest(&rewritten, queue, buffer, rooms, wait, told);
+        self.spoil(told, plan, rooms);
+        *told = suggest::spoil(self.0, plan, (queue, buffer), *told, rooms.table, wait);
     }
 
     fn frontier(
@@ -225,59 +218,62 @@ impl Side for Faulty {
         plan: &[u8],
         operation: u32,
         capacity: u32,
-        table: &mut [u32],
-        list: &mut [u32],
+        rooms: &mut Rooms,
         frontier: &mut Raw,
-    ) -> Told {
+        told: &mut Told,
+    ) {
         let rewritten = self.rewritten(plan);
-        let told = Reference.frontier(&rewritten, operation, capacity, table, list, frontier);
-        self.spoil(told, plan, table, list);
-        told
+        Reference.frontier(&rewritten, operation, capacity, rooms, frontier, told);
+        self.spoil(told, plan, rooms);
     }
 
     fn trace(
         &self,
         plan: &[u8],
         recorded: &[u8],
-        table: &mut [u32],
-        list: &mut [u32],
+        rooms: &mut Rooms,
         state: &mut [u64],
         found: &mut Found,
-    ) -> Told {
+        told: &mut Told,
+    ) {
         let rewritten = self.rewritten(plan);
-        let told = reference::trace(&rewritten, recorded, table, list, state, found);
-        self.spoil(told, plan, table, list);
-        trace::spoil(self.0, (plan, recorded), told, state, found)
+        Reference.trace(&rewritten, recorded, rooms, state, found, told);
+        self.spoil(told, plan, rooms);
+        *told = trace::spoil(self.0, (plan, recorded), *told, state, found);
     }
 
-    fn lookup(&self, frontier: &Raw, axis: u64, epoch: &mut u64) -> Told {
-        match (self.0, Reference.lookup(frontier, axis, epoch)) {
-            (Fault::AbsentIsZero, _) => Told::answered(1),
-            (_, told) => told,
+    fn lookup(&self, frontier: &Raw, axis: u64, epoch: &mut u64, told: &mut Told) {
+        Reference.lookup(frontier, axis, epoch, told);
+        if self.0 == Fault::AbsentIsZero {
+            *told = Told::answered(1);
         }
     }
 
-    fn merge(&self, left: &Raw, right: &Raw, capacity: u32, merged: &mut Raw) -> Told {
-        Reference.merge(left, right, capacity, merged)
+    fn merge(&self, left: &Raw, right: &Raw, capacity: u32, merged: &mut Raw, told: &mut Told) {
+        Reference.merge(left, right, capacity, merged, told);
     }
 
-    fn raise(&self, old: &Raw, axis: u64, epoch: u64, capacity: u32, raised: &mut Raw) -> Told {
-        Reference.raise(old, axis, epoch, capacity, raised)
+    fn raise(
+        &self,
+        old: &Raw,
+        axis: u64,
+        epoch: u64,
+        capacity: u32,
+        raised: &mut Raw,
+        told: &mut Told,
+    ) {
+        Reference.raise(old, axis, epoch, capacity, raised, told);
     }
 
-    fn dominates(&self, left: &Raw, right: &Raw) -> Told {
+    fn dominates(&self, left: &Raw, right: &Raw, told: &mut Told) {
         let well_formed = reference::well_formed(left) && reference::well_formed(right);
+        let mut right = *right;
         match self.0 {
-            Fault::AbsentIsMet if well_formed => {
-                reference::dominates(left, &only_listed(left, right))
-            }
-            Fault::TaintForgotten if well_formed => {
-                let mut right = *right;
-                right[TAINT] = 0;
-                reference::dominates(left, &right)
-            }
-            _ => reference::dominates(left, right),
+            Fault::AbsentIsMet if well_formed => right = only_listed(left, &right),
+            Fault::TaintForgotten if well_formed => right[TAINT] = 0,
+            _ => {}
         }
+        Reference.dominates(left, &right, told);
     }
 }
 

@@ -3,6 +3,9 @@
 use crate::plan::{Mark, Operation, Plan, Point};
 use crate::side::{Raw, EMPTY, EPOCHS, LENGTH, TAINT};
 
+mod shape;
+pub use shape::{Shape, WaitOrder};
+
 // ---------------------------------------------------------------------------
 // Random numbers.
 
@@ -209,9 +212,14 @@ fn add_kept_marks(
 fn random_run(rng: &mut Rng, queues: &[u8]) -> Vec<usize> {
     let mut turns = queues.to_vec();
     rng.shuffle(&mut turns);
+    run_in_turns(queues, &turns)
+}
+
+/// The order of all operations in which the queues take these turns.
+fn run_in_turns(queues: &[u8], turns: &[u8]) -> Vec<usize> {
     let mut next = [0; 256];
     let mut run = Vec::with_capacity(queues.len());
-    for queue in turns {
+    for &queue in turns {
         let from = &mut next[usize::from(queue)];
         while queues[*from] != queue {
             *from += 1;
@@ -637,15 +645,17 @@ pub enum Family {
     AgainstPlanOrder,
     WokenAtOnce,
     RandomCounts,
+    Worst,
 }
 
 impl Family {
-    pub const ALL: [Family; 5] = [
+    pub const ALL: [Family; 6] = [
         Family::Greatest,
         Family::OneSemaphore,
         Family::AgainstPlanOrder,
         Family::WokenAtOnce,
         Family::RandomCounts,
+        Family::Worst,
     ];
 
     pub fn name(self) -> &'static str {
@@ -655,6 +665,7 @@ impl Family {
             Family::AgainstPlanOrder => "plan order against run order",
             Family::WokenAtOnce => "many queues woken at once",
             Family::RandomCounts => "random counts",
+            Family::Worst => "worst found by search",
         }
     }
 
@@ -665,73 +676,24 @@ impl Family {
             Family::AgainstPlanOrder => against_plan_order(rng, operations),
             Family::WokenAtOnce => woken_at_once(rng, operations),
             Family::RandomCounts => random_counts(rng, operations),
+            Family::Worst => Shape::WORST.plan(rng, operations),
         }
     }
 }
 
 /// Every list at its limit. With 1,024 operations it has 63,686 bytes.
 pub fn greatest(rng: &mut Rng, operations: usize) -> Plan {
-    full_lists(rng, operations, |_| [3, 2, 4])
+    Shape::GREATEST.plan(rng, operations)
 }
 
 /// As many waits, signals and marks in each operation as the die says.
 fn random_counts(rng: &mut Rng, operations: usize) -> Plan {
-    full_lists(rng, operations, |rng| {
-        [rng.between(0, 3), rng.between(0, 2), rng.between(0, 4)]
-    })
-}
-
-/// Sixteen queues with four semaphores each, all buffers, and operations in a
-/// random order with the given numbers of waits, signals and marks.
-fn full_lists(
-    rng: &mut Rng,
-    operations: usize,
-    mut counts: impl FnMut(&mut Rng) -> [usize; 3],
-) -> Plan {
-    let mut plan = Plan {
-        axes: axes(rng, 16),
-        owners: (0..64).map(|semaphore| semaphore % 16).collect(),
-        sizes: (0..256).map(|_| rng.word() as u32).collect(),
-        operations: Vec::new(),
+    let lists = [[0, 3], [0, 2], [0, 4]];
+    let shape = Shape {
+        lists,
+        ..Shape::GREATEST
     };
-    let queues: Vec<u8> = (0..operations).map(|_| rng.below(16) as u8).collect();
-    let run = random_run(rng, &queues);
-    let counts: Vec<[usize; 3]> = queues.iter().map(|_| counts(rng)).collect();
-    let mut last = [0u64; 64];
-    for (&queue, &[_, signals, _]) in queues.iter().zip(&counts) {
-        let mut operation = Operation {
-            queue,
-            ..Operation::default()
-        };
-        for _ in 0..signals {
-            let semaphore = queue + 16 * rng.below(4) as u8;
-            let value = &mut last[usize::from(semaphore)];
-            *value += rng.between(1, 1000) as u64;
-            let value = *value;
-            operation.signals.push(Point { semaphore, value });
-        }
-        plan.operations.push(operation);
-    }
-    let mut earlier: Vec<Point> = Vec::new();
-    for &j in &run {
-        for _ in 0..counts[j][0] {
-            // The operation that runs first can wait for 0 only.
-            let zero = Point {
-                semaphore: rng.below(64) as u8,
-                value: 0,
-            };
-            let wait = match earlier.len() {
-                0 => zero,
-                // One of the last signals: pipelines wait for recent work.
-                many => earlier[many - 1 - rng.below(many.min(64))],
-            };
-            plan.operations[j].waits.push(wait);
-        }
-        earlier.extend(&plan.operations[j].signals);
-    }
-    let marks: Vec<usize> = counts.iter().map(|count| count[2]).collect();
-    add_kept_marks(rng, &mut plan, &run, &marks, 32);
-    plan
+    shape.plan(rng, operations)
 }
 
 /// All signals and waits are on one semaphore: queue 0 signals it twice in each
@@ -867,7 +829,7 @@ fn woken_at_once(rng: &mut Rng, operations: usize) -> Plan {
 /// where a signal comes after, and others where none does. Passes.
 pub fn few_signals(rng: &mut Rng, operations: usize) -> Plan {
     let one_in = *rng.pick(&[12, 12, 100]);
-    full_lists(rng, operations, |rng| {
+    Shape::GREATEST.plan_with(rng, operations, |rng| {
         let signals = match rng.below(one_in) {
             0 => rng.between(1, 2),
             _ => 0,

@@ -11,4 +11,5 @@ pub mod generate;
 pub mod plan;
 pub mod reference;
 pub mod side;
+pub mod timing;
 pub mod traces;

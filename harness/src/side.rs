@@ -26,9 +26,10 @@ pub type Wait = [u64; 2];
 /// then the highest value signalled by semaphore.
 pub const STATE: usize = 16 + 64;
 
-/// What a call hands back: number, place, answer. A refusal's answer is 0, and
-/// so is that of a call with nothing to answer.
+/// What a call hands back, as the C interface lends it: number, place, answer.
+/// A refusal's answer is 0, and so is that of a call with nothing to answer.
 #[derive(Clone, Copy, PartialEq, Eq, Debug, Default)]
+#[repr(C)]
 pub struct Told {
     pub number: u64,
     pub place: u64,
@@ -55,24 +56,69 @@ impl Told {
     }
 }
 
-/// One implementation of the interface.
+/// What a call tells. The three numbers hold a pattern beforehand, so that a
+/// call which leaves one unwritten shows.
+pub fn told(call: impl FnOnce(&mut Told)) -> Told {
+    const PATTERN: u64 = 0x5555_5555_5555_5555;
+    let mut told = Told {
+        number: PATTERN,
+        place: PATTERN,
+        answer: PATTERN,
+    };
+    call(&mut told);
+    told
+}
+
+/// What is lent to a check: the table for the rows, and the run list.
+pub struct Rooms<'a> {
+    pub table: &'a mut [u32],
+    pub list: &'a mut [u32],
+}
+
+/// A table and a run list that can be lent.
+#[derive(Clone, PartialEq, Eq, Debug)]
+pub struct OwnRooms {
+    pub table: Vec<u32>,
+    pub list: Vec<u32>,
+}
+
+impl OwnRooms {
+    /// As long as a plan of so many operations needs them, with zeros.
+    pub fn new(operations: usize) -> OwnRooms {
+        OwnRooms::filled(0, [16 * operations, 2 * operations])
+    }
+
+    /// Of these lengths, filled with a pattern.
+    pub fn filled(pattern: u32, [table, list]: [usize; 2]) -> OwnRooms {
+        OwnRooms {
+            table: vec![pattern; table],
+            list: vec![pattern; list],
+        }
+    }
+
+    pub fn lend(&mut self) -> Rooms<'_> {
+        Rooms {
+            table: &mut self.table,
+            list: &mut self.list,
+        }
+    }
+}
+
+/// One implementation of the interface. Each call writes the three numbers that
+/// it is lent last.
 pub trait Side {
     fn name(&self) -> String;
 
-    fn read(&self, plan: &[u8], room: &mut [u64]) -> Told;
+    /// Answer: the length of the list of numbers.
+    fn read(&self, plan: &[u8], room: &mut [u64], told: &mut Told);
 
-    fn write(&self, numbers: &[u64], room: &mut [u8]) -> Told;
+    /// Answer: the length of the stored plan.
+    fn write(&self, numbers: &[u64], room: &mut [u8], told: &mut Told);
 
-    fn check(&self, plan: &[u8], table: &mut [u32], list: &mut [u32]) -> Told;
+    fn check(&self, plan: &[u8], rooms: &mut Rooms, told: &mut Told);
 
-    fn reuse(
-        &self,
-        plan: &[u8],
-        queue: u32,
-        buffer: u32,
-        table: &mut [u32],
-        list: &mut [u32],
-    ) -> Told;
+    /// Answer: the verdict.
+    fn reuse(&self, plan: &[u8], queue: u32, buffer: u32, rooms: &mut Rooms, told: &mut Told);
 
     /// Answer: 0 none needed, 1 the wait, 2 none would help.
     fn suggest(
@@ -80,41 +126,49 @@ pub trait Side {
         plan: &[u8],
         queue: u32,
         buffer: u32,
-        table: &mut [u32],
-        list: &mut [u32],
+        rooms: &mut Rooms,
         wait: &mut Wait,
-    ) -> Told;
+        told: &mut Told,
+    );
 
     fn frontier(
         &self,
         plan: &[u8],
         operation: u32,
         capacity: u32,
-        table: &mut [u32],
-        list: &mut [u32],
+        rooms: &mut Rooms,
         frontier: &mut Raw,
-    ) -> Told;
+        told: &mut Told,
+    );
 
     /// Answer: 0 full, 1 unfinished, 2 unknown, 3 repeated, 4 not first, 5 wait
     /// not met.
     fn trace(
         &self,
         plan: &[u8],
-        trace: &[u8],
-        table: &mut [u32],
-        list: &mut [u32],
+        recorded: &[u8],
+        rooms: &mut Rooms,
         state: &mut [u64],
         found: &mut Found,
-    ) -> Told;
+        told: &mut Told,
+    );
 
     /// Answer: 1 if the axis is listed, with its epoch beside it; 0 if it is
     /// absent, and an epoch of 0. The form is not judged.
-    fn lookup(&self, frontier: &Raw, axis: u64, epoch: &mut u64) -> Told;
+    fn lookup(&self, frontier: &Raw, axis: u64, epoch: &mut u64, told: &mut Told);
 
-    fn merge(&self, left: &Raw, right: &Raw, capacity: u32, merged: &mut Raw) -> Told;
+    fn merge(&self, left: &Raw, right: &Raw, capacity: u32, merged: &mut Raw, told: &mut Told);
 
-    fn raise(&self, old: &Raw, axis: u64, epoch: u64, capacity: u32, raised: &mut Raw) -> Told;
+    fn raise(
+        &self,
+        old: &Raw,
+        axis: u64,
+        epoch: u64,
+        capacity: u32,
+        raised: &mut Raw,
+        told: &mut Told,
+    );
 
     /// Answer: 0 no, 1 yes, 2 unknown.
-    fn dominates(&self, left: &Raw, right: &Raw) -> Told;
+    fn dominates(&self, left: &Raw, right: &Raw, told: &mut Told);
 }

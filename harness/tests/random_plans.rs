@@ -4,34 +4,32 @@ use harness::brute::{self, Judgement};
 use harness::generate::{self, Family, Rng};
 use harness::plan::Plan;
 use harness::reference;
-use harness::side::{Raw, Told, EMPTY, EPOCHS, LENGTH, TAINT};
+use harness::side::{OwnRooms, Raw, Told, EMPTY, EPOCHS, LENGTH, TAINT};
 use std::collections::BTreeMap;
 
 /// What brute force and the reference say must agree, with all that is lent.
 fn agree(plan: &Plan) -> u64 {
     let (operations, queues) = (plan.operations.len(), plan.axes.len());
-    let mut table = vec![9; 16 * operations];
-    let mut list = vec![9; 2 * operations];
-    let told = reference::check(&plan.bytes(), &mut table, &mut list);
-    let mut wanted_table = vec![0; 16 * operations];
-    let mut wanted_list = vec![0; 2 * operations];
+    let mut left = OwnRooms::filled(9, [16 * operations, 2 * operations]);
+    let mut wanted_left = OwnRooms::new(operations);
+    let untouched = left.clone();
+    let told = reference::check(&plan.bytes(), &mut left.lend());
     let wanted = match brute::judge(plan) {
         Judgement::Refused { number, place } => {
             if number <= 9 {
-                wanted_table.fill(9);
-                wanted_list.fill(9);
+                wanted_left = untouched;
             }
             Told::refused(number, place)
         }
         Judgement::Passed {
             run, ready, rows, ..
         } => {
-            for (to, from) in wanted_list.iter_mut().zip(run.iter().chain(&ready)) {
+            for (to, from) in wanted_left.list.iter_mut().zip(run.iter().chain(&ready)) {
                 *to = *from as u32;
             }
             for (operation, row) in rows.iter().enumerate() {
                 for (queue, &epoch) in row.iter().enumerate() {
-                    wanted_table[16 * operation + queue] = epoch as u32;
+                    wanted_left.table[16 * operation + queue] = epoch as u32;
                 }
             }
             agree_on_reuse(plan, &rows, queues);
@@ -40,19 +38,16 @@ fn agree(plan: &Plan) -> u64 {
         }
     };
     assert_eq!(told, wanted, "{plan}");
-    assert_eq!(table, wanted_table, "{plan}");
-    assert_eq!(list, wanted_list, "{plan}");
+    assert_eq!(left, wanted_left, "{plan}");
     told.number
 }
 
 fn agree_on_reuse(plan: &Plan, rows: &[Vec<usize>], queues: usize) {
-    let operations = plan.operations.len();
-    let mut table = vec![9; 16 * operations];
-    let mut list = vec![9; 2 * operations];
+    let mut rooms = OwnRooms::new(plan.operations.len());
     for queue in 0..queues {
         for buffer in 0..plan.sizes.len() {
             let (q, b) = (queue as u32, buffer as u32);
-            let told = reference::reuse(&plan.bytes(), q, b, &mut table, &mut list);
+            let told = reference::reuse(&plan.bytes(), q, b, &mut rooms.lend());
             let verdict = brute::reuse(plan, rows, queue, buffer);
             assert_eq!(told, Told::answered(verdict), "{plan}");
         }
@@ -60,9 +55,7 @@ fn agree_on_reuse(plan: &Plan, rows: &[Vec<usize>], queues: usize) {
 }
 
 fn agree_on_frontiers(plan: &Plan, rows: &[Vec<usize>]) {
-    let operations = plan.operations.len();
-    let mut table = vec![9; 16 * operations];
-    let mut list = vec![9; 2 * operations];
+    let mut rooms = OwnRooms::new(plan.operations.len());
     for (operation, row) in rows.iter().enumerate() {
         let entries = plan.axes.iter().zip(row).filter(|(_, &epoch)| epoch > 0);
         let entries: Vec<_> = entries
@@ -75,8 +68,7 @@ fn agree_on_frontiers(plan: &Plan, rows: &[Vec<usize>]) {
                 &plan.bytes(),
                 operation as u32,
                 capacity as u32,
-                &mut table,
-                &mut list,
+                &mut rooms.lend(),
                 &mut out,
             );
             assert_eq!(told, Told::PASSED, "{plan}");
@@ -186,7 +178,7 @@ fn truncations() {
     let bytes = generate::camera_pipeline(rng, 2, 2).bytes();
     let mut last_place = 0;
     for length in 0..bytes.len() {
-        let told = reference::check(&bytes[..length], &mut [], &mut []);
+        let told = reference::check(&bytes[..length], &mut OwnRooms::new(0).lend());
         assert_eq!(told.number, 1);
         assert!(last_place <= told.place && told.place <= length as u64);
         assert!(told.place + 8 > length as u64);
@@ -221,9 +213,8 @@ fn families_pass_at_every_size() {
         for operations in [64, 128, 256, 512, 1024] {
             let plan = family.plan(&mut Rng::new(4), operations);
             assert_eq!(plan.operations.len(), operations);
-            let mut table = vec![0; 16 * operations];
-            let mut list = vec![0; 2 * operations];
-            let told = reference::check(&plan.bytes(), &mut table, &mut list);
+            let mut rooms = OwnRooms::new(operations);
+            let told = reference::check(&plan.bytes(), &mut rooms.lend());
             assert_eq!(told, Told::PASSED, "{family:?} {operations}");
         }
     }
@@ -239,10 +230,8 @@ fn pipelines_pass_unless_spoiled() {
         let rng = &mut Rng::new(seed);
         let plan = generate::camera_pipeline(rng, 1 + seed as usize % 4, 12);
         let judge = |plan: &Plan| {
-            let operations = plan.operations.len();
-            let mut table = vec![0; 16 * operations];
-            let mut list = vec![0; 2 * operations];
-            reference::check(&plan.bytes(), &mut table, &mut list).number
+            let mut rooms = OwnRooms::new(plan.operations.len());
+            reference::check(&plan.bytes(), &mut rooms.lend()).number
         };
         assert_eq!(judge(&plan), 0);
         let spoiled = [

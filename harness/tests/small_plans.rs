@@ -6,7 +6,7 @@ mod small;
 use harness::brute::{self, Judgement};
 use harness::plan::Plan;
 use harness::reference;
-use harness::side::{Raw, Told, EMPTY, EPOCHS, LENGTH, TAINT};
+use harness::side::{told, OwnRooms, Raw, Told, EMPTY, EPOCHS, LENGTH, TAINT};
 use small::{all_sides, operation, plan, t3, t7, t9};
 
 const PATTERN: u32 = 0xA5A5_A5A5;
@@ -16,11 +16,10 @@ type Checked = (Told, Vec<Vec<u32>>, Vec<u32>, Vec<u32>);
 
 /// Checks stored bytes, with some numbers too many lent, which stay untouched.
 fn check_bytes(bytes: &[u8], operations: usize, queues: usize) -> Checked {
-    let (told, table, list) = all_sides(|side| {
-        let mut table = vec![PATTERN; 16 * operations + 3];
-        let mut list = vec![PATTERN; 2 * operations + 3];
-        let told = side.check(bytes, &mut table, &mut list);
-        (told, table, list)
+    let (told, OwnRooms { table, list }) = all_sides(|side| {
+        let mut left = OwnRooms::filled(PATTERN, [16 * operations + 3, 2 * operations + 3]);
+        let told = told(|told| side.check(bytes, &mut left.lend(), told));
+        (told, left)
     });
     assert_eq!(table[16 * operations..], [PATTERN; 3]);
     assert_eq!(list[2 * operations..], [PATTERN; 3]);
@@ -173,7 +172,8 @@ fn t12_merge_with_eviction() {
     );
     let merged = all_sides(|side| {
         let mut merged = [7; 34];
-        (side.merge(&left, &right, 2, &mut merged), merged)
+        let told = told(|told| side.merge(&left, &right, 2, &mut merged, told));
+        (told, merged)
     });
     let wanted = frontier(&[(A, 5), (B, 7)], true);
     assert_eq!(merged, (Told::PASSED, wanted));
@@ -184,13 +184,13 @@ fn t13_dominance() {
     let right = frontier(&[(A, 3), (C, 4)], false);
     let over = |tainted| {
         let left = frontier(&[(A, 5), (B, 7)], tainted);
-        all_sides(|side| side.dominates(&left, &right))
+        all_sides(|side| told(|told| side.dominates(&left, &right, told)))
     };
     assert_eq!(over(false), Told::answered(0));
     assert_eq!(over(true), Told::answered(2));
     let tainted = frontier(&[(A, 3)], true);
     let left = frontier(&[(A, 5)], false);
-    let told = all_sides(|side| side.dominates(&left, &tainted));
+    let told = all_sides(|side| told(|told| side.dominates(&left, &tainted, told)));
     assert_eq!(told, Told::answered(2));
 }
 
@@ -210,9 +210,9 @@ fn lent_lengths() {
     let bytes = t3().bytes();
     let check = |table_len, list_len| {
         all_sides(|side| {
-            let (mut table, mut list) = (vec![PATTERN; table_len], vec![PATTERN; list_len]);
-            let told = side.check(&bytes, &mut table, &mut list);
-            let untouched = table.iter().chain(&list).all(|&number| number == PATTERN);
+            let mut left = OwnRooms::filled(PATTERN, [table_len, list_len]);
+            let told = told(|told| side.check(&bytes, &mut left.lend(), told));
+            let untouched = left == OwnRooms::filled(PATTERN, [table_len, list_len]);
             assert_eq!(untouched, told.number != 0);
             told
         })
@@ -225,10 +225,9 @@ fn lent_lengths() {
 #[test]
 fn reuse_verdicts() {
     let ask = |plan: &Plan, queue, buffer| {
-        let operations = plan.operations.len();
         all_sides(|side| {
-            let (mut table, mut list) = (vec![0; 16 * operations], vec![0; 2 * operations]);
-            side.reuse(&plan.bytes(), queue, buffer, &mut table, &mut list)
+            let (bytes, mut rooms) = (plan.bytes(), OwnRooms::new(plan.operations.len()));
+            told(|told| side.reuse(&bytes, queue, buffer, &mut rooms.lend(), told))
         })
     };
     let operations = vec![
@@ -251,8 +250,10 @@ fn frontier_sent_out() {
     let bytes = t3().bytes();
     let ask = |operation, capacity| {
         all_sides(|side| {
-            let (mut table, mut list, mut out) = ([0; 48], [0; 6], [7; 34]);
-            let told = side.frontier(&bytes, operation, capacity, &mut table, &mut list, &mut out);
+            let (mut rooms, mut out) = (OwnRooms::new(3), [7; 34]);
+            let rooms = &mut rooms.lend();
+            let told =
+                told(|told| side.frontier(&bytes, operation, capacity, rooms, &mut out, told));
             (told, out)
         })
     };

@@ -9,23 +9,23 @@ use harness::faults::{Fault, Faulty};
 use harness::generate::{self, Rng};
 use harness::plan::{Operation, Plan, Point};
 use harness::reference::{self, Reference};
-use harness::side::{Side, Told, Wait};
+use harness::side::{told, OwnRooms, Side, Told, Wait};
 use small::{all_sides, operation, plan, t3, t9};
 
 const PATTERN: u32 = 0xA5A5_A5A5;
 const WIDE_PATTERN: u64 = 0xA5A5_A5A5_A5A5_A5A5;
 
 /// Told, the wait, and all that is left in table and list.
-type Suggested = (Told, Wait, Vec<u32>, Vec<u32>);
+type Suggested = (Told, Wait, OwnRooms);
 
 /// Asks with these lengths lent.
-fn ask_lent(plan: &Plan, queue: u32, buffer: u32, [table, list]: [usize; 2]) -> Suggested {
+fn ask_lent(plan: &Plan, queue: u32, buffer: u32, lengths: [usize; 2]) -> Suggested {
     let bytes = plan.bytes();
     all_sides(|side| {
-        let (mut table, mut list) = (vec![PATTERN; table], vec![PATTERN; list]);
-        let mut wait = [WIDE_PATTERN; 2];
-        let told = side.suggest(&bytes, queue, buffer, &mut table, &mut list, &mut wait);
-        (told, wait, table, list)
+        let (mut left, mut wait) = (OwnRooms::filled(PATTERN, lengths), [WIDE_PATTERN; 2]);
+        let rooms = &mut left.lend();
+        let told = told(|told| side.suggest(&bytes, queue, buffer, rooms, &mut wait, told));
+        (told, wait, left)
     })
 }
 
@@ -34,10 +34,10 @@ fn ask_lent(plan: &Plan, queue: u32, buffer: u32, [table, list]: [usize; 2]) -> 
 fn ask(plan: &Plan, queue: u32, buffer: u32) -> (Told, Wait) {
     let operations = plan.operations.len();
     let lengths = [16 * operations + 3, 2 * operations + 3];
-    let (told, wait, table, list) = ask_lent(plan, queue, buffer, lengths);
-    let mut wanted = (vec![PATTERN; lengths[0]], vec![PATTERN; lengths[1]]);
-    reference::check(&plan.bytes(), &mut wanted.0, &mut wanted.1);
-    assert_eq!((table, list), wanted);
+    let (told, wait, left) = ask_lent(plan, queue, buffer, lengths);
+    let mut wanted = OwnRooms::filled(PATTERN, lengths);
+    reference::check(&plan.bytes(), &mut wanted.lend());
+    assert_eq!(left, wanted);
     (told, wait)
 }
 
@@ -146,11 +146,10 @@ fn lent_lengths() {
     let plan = four_buffers();
     let lengths = [([95, 11], 96), ([96, 11], 12), ([95, 12], 96)];
     for (buffer, queue) in [(0, 2), (1, 0), (2, 0), (3, 2), (4, 4)] {
-        for ([table, list], needed) in lengths {
-            let left = ask_lent(&plan, queue, buffer, [table, list]);
-            let untouched = (vec![PATTERN; table], vec![PATTERN; list]);
+        for (lengths, needed) in lengths {
+            let left = ask_lent(&plan, queue, buffer, lengths);
             let (told, wait) = refused(9, needed);
-            assert_eq!(left, (told, wait, untouched.0, untouched.1));
+            assert_eq!(left, (told, wait, OwnRooms::filled(PATTERN, lengths)));
         }
     }
 }
@@ -203,9 +202,9 @@ fn agree(
     buffer: u32,
 ) -> Told {
     let operations = plan.operations.len();
-    let (mut table, mut list) = (vec![0; 16 * operations], vec![0; 2 * operations]);
+    let mut rooms = OwnRooms::new(operations);
     let (bytes, mut wait) = (plan.bytes(), [9; 2]);
-    let told = reference::suggest(&bytes, queue, buffer, &mut table, &mut list, &mut wait);
+    let told = reference::suggest(&bytes, queue, buffer, &mut rooms.lend(), &mut wait);
     let wanted = brute::suggest(plan, (rows, runs), queue as usize, buffer as usize);
     assert_eq!((told, wait), wanted, "{queue} {buffer} of {plan}");
     let not_ordered = told.answer == 1 || told.number == 19;
@@ -256,16 +255,9 @@ fn brute_force_differs(side: &dyn Side) -> bool {
         if queue as usize >= plan.axes.len() || buffer as usize >= plan.sizes.len() {
             return false;
         }
-        let (mut table, mut list) = ([0; 16 * 1024], [0; 2 * 1024]);
-        let mut wait = [9; 2];
-        let told = side.suggest(
-            &plan.bytes(),
-            queue,
-            buffer,
-            &mut table,
-            &mut list,
-            &mut wait,
-        );
+        let (bytes, mut rooms) = (plan.bytes(), OwnRooms::new(plan.operations.len()));
+        let (rooms, mut wait) = (&mut rooms.lend(), [9; 2]);
+        let told = told(|told| side.suggest(&bytes, queue, buffer, rooms, &mut wait, told));
         let wanted = brute::suggest(&plan, (&rows, &runs), queue as usize, buffer as usize);
         (told, wait) != wanted
     })
@@ -290,8 +282,8 @@ fn pipelines() {
         let plan = generate::camera_pipeline(rng, 1 + seed as usize % 4, 6);
         for _ in 0..4 {
             let (queue, buffer) = generate::question(rng, &plan);
-            let (told, [semaphore, value]) = ask(&plan, queue, buffer);
-            if told.answer != 1 {
+            let (advised, [semaphore, value]) = ask(&plan, queue, buffer);
+            if advised.answer != 1 {
                 continue;
             }
             waits += 1;
@@ -306,9 +298,9 @@ fn pipelines() {
                 [semaphore, value]
             );
             let told = all_sides(|side| {
-                let bytes = longer(&plan, queue, signal).bytes();
-                let (mut table, mut list) = ([0; 16 * 1024], [0; 2 * 1024]);
-                side.reuse(&bytes, queue, buffer, &mut table, &mut list)
+                let longer = longer(&plan, queue, signal);
+                let (bytes, mut rooms) = (longer.bytes(), OwnRooms::new(longer.operations.len()));
+                told(|told| side.reuse(&bytes, queue, buffer, &mut rooms.lend(), told))
             });
             assert_eq!(told, Told::answered(1));
         }

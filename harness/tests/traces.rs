@@ -8,7 +8,7 @@ use harness::brute::{self, Judgement};
 use harness::generate::{self, Rng};
 use harness::plan::Plan;
 use harness::reference;
-use harness::side::{Found, Told, STATE};
+use harness::side::{told, Found, OwnRooms, Told, STATE};
 use harness::traces;
 use small::{all_sides, plan, t3, t7, t9};
 
@@ -16,16 +16,17 @@ const PATTERN: u32 = 0xA5A5_A5A5;
 const WIDE_PATTERN: u64 = 0xA5A5_A5A5_A5A5_A5A5;
 
 /// Told, what is found, and all that is left in table, list and state.
-type Traced = (Told, Found, Vec<u32>, Vec<u32>, Vec<u64>);
+type Traced = (Told, Found, OwnRooms, Vec<u64>);
 
 /// Holds stored bytes against a plan with these lengths lent.
 fn ask_lent(plan: &Plan, trace: &[u8], [table, list, state]: [usize; 3]) -> Traced {
     let bytes = plan.bytes();
     all_sides(|side| {
-        let (mut table, mut list) = (vec![PATTERN; table], vec![PATTERN; list]);
+        let mut left = OwnRooms::filled(PATTERN, [table, list]);
         let (mut state, mut found) = (vec![WIDE_PATTERN; state], [WIDE_PATTERN; 6]);
-        let told = side.trace(&bytes, trace, &mut table, &mut list, &mut state, &mut found);
-        (told, found, table, list, state)
+        let (rooms, lent) = (&mut left.lend(), &mut state);
+        let told = told(|told| side.trace(&bytes, trace, rooms, lent, &mut found, told));
+        (told, found, left, state)
     })
 }
 
@@ -33,11 +34,11 @@ fn ask_lent(plan: &Plan, trace: &[u8], [table, list, state]: [usize; 3]) -> Trac
 /// passed plan's check leaves in table and list is there.
 fn ask(plan: &Plan, trace: &[u8]) -> (Told, Found, Vec<u64>) {
     let operations = plan.operations.len();
-    let lengths = [16 * operations + 3, 2 * operations + 3, STATE + 3];
-    let (told, found, table, list, state) = ask_lent(plan, trace, lengths);
-    let mut wanted = (vec![PATTERN; lengths[0]], vec![PATTERN; lengths[1]]);
-    reference::check(&plan.bytes(), &mut wanted.0, &mut wanted.1);
-    assert_eq!((table, list), wanted);
+    let [table, list] = [16 * operations + 3, 2 * operations + 3];
+    let (told, found, left, state) = ask_lent(plan, trace, [table, list, STATE + 3]);
+    let mut wanted = OwnRooms::filled(PATTERN, [table, list]);
+    reference::check(&plan.bytes(), &mut wanted.lend());
+    assert_eq!(left, wanted);
     assert_eq!(state[STATE..], [WIDE_PATTERN; 3]);
     (told, found, state[..STATE].to_vec())
 }
@@ -134,10 +135,10 @@ fn lent_lengths() {
     // Whatever the trace: 9 for the state, with rows and run.
     for trace in [&[][..], &[0, 0], &[1, 0, 0, 0], &[3, 0, 0, 0, 1, 0, 2, 0]] {
         for length in [0, 1, 16, 64, 79] {
-            let (told, found, table, list, state) = ask_lent(&t3(), trace, [48, 6, length]);
+            let (told, found, left, state) = ask_lent(&t3(), trace, [48, 6, length]);
             assert_eq!((told, found), (Told::refused(9, 80), [0; 6]));
-            assert_eq!(table[32..36], [1, 1, 1, 0]);
-            assert_eq!(list, [0, 1, 2, 1, 1, 1]);
+            assert_eq!(left.table[32..36], [1, 1, 1, 0]);
+            assert_eq!(left.list, [0, 1, 2, 1, 1, 1]);
             assert_eq!(state, vec![WIDE_PATTERN; length]);
         }
         // Table, then list, then state.
@@ -147,8 +148,7 @@ fn lent_lengths() {
             let untouched = (
                 Told::refused(9, needed),
                 [0; 6],
-                vec![PATTERN; table],
-                vec![PATTERN; list],
+                OwnRooms::filled(PATTERN, [table, list]),
                 vec![WIDE_PATTERN; state],
             );
             assert_eq!(left, untouched);
@@ -158,10 +158,10 @@ fn lent_lengths() {
     assert_eq!(told, Told::answered(UNFINISHED));
     // T9: zeros in table and list, the state untouched.
     let left = ask_lent(&t9(), &[0, 0], [32, 4, 79]);
-    let zeros = (vec![0; 32], vec![0; 4], vec![WIDE_PATTERN; 79]);
+    let untouched = vec![WIDE_PATTERN; 79];
     assert_eq!(
         left,
-        (Told::refused(11, 1), [0; 6], zeros.0, zeros.1, zeros.2)
+        (Told::refused(11, 1), [0; 6], OwnRooms::new(2), untouched)
     );
 }
 
@@ -183,14 +183,11 @@ fn the_longest_trace() {
 
 /// Brute force and the reference must agree on this trace of a passed plan.
 fn agree(plan: &Plan, runs: &brute::EveryRun, steps: &[u16]) -> u64 {
-    let operations = plan.operations.len();
-    let (mut table, mut list) = (vec![0; 16 * operations], vec![0; 2 * operations]);
+    let mut rooms = OwnRooms::new(plan.operations.len());
     let (mut state, mut found) = ([9; STATE], [9; 6]);
     let bytes = plan.bytes();
     let trace = traces::stored(steps);
-    let told = reference::trace(
-        &bytes, &trace, &mut table, &mut list, &mut state, &mut found,
-    );
+    let told = reference::trace(&bytes, &trace, &mut rooms.lend(), &mut state, &mut found);
     let (answer, wanted, wanted_state) = brute::follow(plan, runs, steps);
     assert_eq!(told, Told::answered(answer), "{steps:?} of {plan}");
     assert_eq!(found, wanted, "{steps:?} of {plan}");

@@ -7,7 +7,9 @@ use harness::faults::{self, Fault, Faulty};
 use harness::generate::{self, Family, Rng};
 use harness::plan::{Operation, Plan, Point};
 use harness::reference::{self, Reference};
-use harness::side::{Found, Raw, Side, Told, Wait, EPOCHS, LENGTH, STATE, TAINT};
+use harness::side::{
+    told, Found, OwnRooms, Raw, Rooms, Side, Told, Wait, EPOCHS, LENGTH, STATE, TAINT,
+};
 use harness::traces::{self, MOST_STEPS};
 use std::process::ExitCode;
 use std::sync::atomic::{AtomicU64, Ordering};
@@ -254,41 +256,71 @@ impl Room<u64> {
     }
 }
 
+impl Room<Told> {
+    fn lend_told(&mut self) -> &mut Told {
+        &mut self.lend()[0]
+    }
+}
+
+/// The table and the run list.
+#[derive(Default, PartialEq)]
+struct CheckRooms {
+    table: Room<u32>,
+    list: Room<u32>,
+}
+
+impl CheckRooms {
+    fn lend(&mut self) -> Rooms<'_> {
+        Rooms {
+            table: self.table.lend(),
+            list: self.list.lend(),
+        }
+    }
+}
+
 /// Everything that may be lent to a call.
 #[derive(Default, PartialEq)]
 struct Lent {
     numbers: Room<u64>,
     bytes: Room<u8>,
-    table: Room<u32>,
-    list: Room<u32>,
+    rooms: CheckRooms,
     wait: Room<u64>,
     frontier: Room<u64>,
     state: Room<u64>,
     found: Room<u64>,
+    told: Room<Told>,
 }
 
 impl Lent {
     fn fill(&mut self, lengths: Lengths, pattern: u64) {
         self.numbers.fill(lengths.numbers, pattern);
         self.bytes.fill(lengths.bytes, pattern as u8);
-        self.table.fill(lengths.table, pattern as u32);
-        self.list.fill(lengths.list, pattern as u32);
+        self.rooms.table.fill(lengths.table, pattern as u32);
+        self.rooms.list.fill(lengths.list, pattern as u32);
         self.wait.fill(WAIT, pattern);
         self.frontier.fill(FRONTIER, pattern);
         self.state.fill(lengths.state, pattern);
         self.found.fill(FOUND, pattern);
+        let untold = Told {
+            number: pattern,
+            place: pattern,
+            answer: pattern,
+        };
+        self.told.fill(1, untold);
     }
 
     /// Prints where two differ.
     fn print_difference(&self, other: &Lent) {
         self.numbers.print_difference(&other.numbers, "numbers");
         self.bytes.print_difference(&other.bytes, "bytes");
-        self.table.print_difference(&other.table, "table");
-        self.list.print_difference(&other.list, "list");
+        let (rooms, others) = (&self.rooms, &other.rooms);
+        rooms.table.print_difference(&others.table, "table");
+        rooms.list.print_difference(&others.list, "list");
         self.wait.print_difference(&other.wait, "wait");
         self.frontier.print_difference(&other.frontier, "frontier");
         self.state.print_difference(&other.state, "state");
         self.found.print_difference(&other.found, "found");
+        self.told.print_difference(&other.told, "told");
     }
 }
 
@@ -325,20 +357,22 @@ impl Differ {
         rng: &mut Rng,
         function: Function,
         lengths: Lengths,
-        call: impl Fn(&dyn Side, &mut Lent) -> Told,
+        call: impl Fn(&dyn Side, &mut Lent),
         print_input: impl Fn(),
     ) -> Compared<Told> {
         let pattern = rng.word();
         self.ours.fill(lengths, pattern);
         self.theirs.fill(lengths, pattern);
-        let ours = call(&Reference, &mut self.ours);
-        let theirs = call(self.other.as_ref(), &mut self.theirs);
-        if ours == theirs && self.ours == self.theirs {
-            self.tally.add(function, ours);
-            return Ok(ours);
+        call(&Reference, &mut self.ours);
+        call(self.other.as_ref(), &mut self.theirs);
+        if self.ours == self.theirs {
+            let told = *self.ours.told.lend_told();
+            self.tally.add(function, told);
+            return Ok(told);
         }
         println!("DIFFERENCE in {}", FUNCTIONS[function as usize].0);
-        println!("reference:  {ours:?}");
+        println!("reference:  {:?}", self.ours.told.lend_told());
+        let theirs = self.theirs.told.lend_told();
         println!("other side: {theirs:?} ({})", self.other.name());
         self.ours.print_difference(&self.theirs);
         print_input();
@@ -380,7 +414,7 @@ impl Differ {
             rng,
             Function::Read,
             lengths,
-            |side, lent| side.read(bytes, lent.numbers.lend()),
+            |side, lent| side.read(bytes, lent.numbers.lend(), lent.told.lend_told()),
             || print_plan(bytes),
         )?;
         Ok(numbers)
@@ -401,7 +435,7 @@ impl Differ {
             rng,
             Function::Write,
             lengths,
-            |side, lent| side.write(numbers, lent.bytes.lend()),
+            |side, lent| side.write(numbers, lent.bytes.lend(), lent.told.lend_told()),
             || println!("numbers {numbers:?}"),
         )?;
         Ok(())
@@ -413,7 +447,7 @@ impl Differ {
             rng,
             Function::Check,
             lengths,
-            |side, lent| side.check(bytes, lent.table.lend(), lent.list.lend()),
+            |side, lent| side.check(bytes, &mut lent.rooms.lend(), lent.told.lend_told()),
             || print_plan(bytes),
         )?;
         Ok(())
@@ -427,7 +461,10 @@ impl Differ {
             rng,
             Function::Reuse,
             lengths,
-            |side, lent| side.reuse(bytes, queue, buffer, lent.table.lend(), lent.list.lend()),
+            |side, lent| {
+                let (rooms, told) = (&mut lent.rooms.lend(), lent.told.lend_told());
+                side.reuse(bytes, queue, buffer, rooms, told);
+            },
             || {
                 println!("queue {queue}, buffer {buffer}");
                 print_plan(bytes);
@@ -460,8 +497,8 @@ impl Differ {
             Function::Suggest,
             lengths,
             |side, lent| {
-                let (table, list) = (lent.table.lend(), lent.list.lend());
-                side.suggest(bytes, queue, buffer, table, list, lent.wait.lend_wait())
+                let (rooms, told) = (&mut lent.rooms.lend(), lent.told.lend_told());
+                side.suggest(bytes, queue, buffer, rooms, lent.wait.lend_wait(), told);
             },
             print,
         )?;
@@ -500,12 +537,10 @@ impl Differ {
             waits: vec![wait],
             ..Operation::default()
         });
-        let (bytes, operations) = (longer.bytes(), longer.operations.len());
-        let (mut table, mut list) = (vec![0; 16 * operations], vec![0; 2 * operations]);
-        let checked = self.other.check(&bytes, &mut table, &mut list);
-        let asked = self
-            .other
-            .reuse(&bytes, queue, buffer, &mut table, &mut list);
+        let mut rooms = OwnRooms::new(longer.operations.len());
+        let (bytes, rooms) = (longer.bytes(), &mut rooms.lend());
+        let checked = told(|told| self.other.check(&bytes, rooms, told));
+        let asked = told(|told| self.other.reuse(&bytes, queue, buffer, rooms, told));
         self.tally.longer_plans += 1;
         let freed = checked == Told::PASSED && asked == Told::answered(1);
         if !freed {
@@ -523,9 +558,9 @@ impl Differ {
             Function::Frontier,
             lengths,
             |side, lent| {
-                let (table, list) = (lent.table.lend(), lent.list.lend());
+                let (rooms, told) = (&mut lent.rooms.lend(), lent.told.lend_told());
                 let frontier = lent.frontier.lend_frontier();
-                side.frontier(bytes, operation, capacity, table, list, frontier)
+                side.frontier(bytes, operation, capacity, rooms, frontier, told);
             },
             || {
                 println!("operation {operation}, capacity {capacity}");
@@ -545,9 +580,9 @@ impl Differ {
             Function::Trace,
             lengths,
             |side, lent| {
-                let (table, list) = (lent.table.lend(), lent.list.lend());
+                let (rooms, told) = (&mut lent.rooms.lend(), lent.told.lend_told());
                 let (state, found) = (lent.state.lend(), lent.found.lend_found());
-                side.trace(bytes, trace, table, list, state, found)
+                side.trace(bytes, trace, rooms, state, found, told);
             },
             || {
                 let shown = trace.len().min(200);
@@ -581,11 +616,11 @@ impl Differ {
         let judgement = brute::judge(&plan);
         let wanted = told_by_brute_force(&plan, &judgement);
         let operations = plan.operations.len();
-        let (mut table, mut list) = (vec![!0; 16 * operations], vec![!0; 2 * operations]);
-        let told = reference::check(bytes, &mut table, &mut list);
-        if (told, &table, &list) != (wanted.0, &wanted.1, &wanted.2) {
+        let mut left = OwnRooms::filled(!0, [16 * operations, 2 * operations]);
+        let told = reference::check(bytes, &mut left.lend());
+        if (told, &left) != (wanted.0, &wanted.1) {
             println!("DIFFERENCE between the reference and brute force");
-            println!("reference:   {told:?} {table:?} {list:?}");
+            println!("reference:   {told:?} {left:?}");
             println!("brute force: {judgement:?}");
             print_plan(bytes);
             return Err(Different);
@@ -612,14 +647,12 @@ impl Differ {
         steps: &[u16],
     ) -> Compared<()> {
         let (answer, found, state) = brute::follow(plan, runs, steps);
-        let operations = plan.operations.len();
-        let (mut table, mut list) = (vec![0; 16 * operations], vec![0; 2 * operations]);
+        let mut rooms = OwnRooms::new(plan.operations.len());
         let (mut our_state, mut our_found) = ([!0; STATE], [!0; FOUND]);
         let told = reference::trace(
             &plan.bytes(),
             &traces::stored(steps),
-            &mut table,
-            &mut list,
+            &mut rooms.lend(),
             &mut our_state,
             &mut our_found,
         );
@@ -669,7 +702,10 @@ impl Differ {
                 rng,
                 Function::Lookup,
                 none,
-                |side, lent| side.lookup(&left, axis, &mut lent.frontier.lend_frontier()[0]),
+                |side, lent| {
+                    let epoch = &mut lent.frontier.lend_frontier()[0];
+                    side.lookup(&left, axis, epoch, lent.told.lend_told());
+                },
                 print,
             )?;
         } else {
@@ -679,21 +715,27 @@ impl Differ {
             rng,
             Function::Merge,
             none,
-            |side, lent| side.merge(&left, &right, capacity, lent.frontier.lend_frontier()),
+            |side, lent| {
+                let merged = lent.frontier.lend_frontier();
+                side.merge(&left, &right, capacity, merged, lent.told.lend_told());
+            },
             print,
         )?;
         self.compare(
             rng,
             Function::Raise,
             none,
-            |side, lent| side.raise(&left, axis, epoch, capacity, lent.frontier.lend_frontier()),
+            |side, lent| {
+                let raised = lent.frontier.lend_frontier();
+                side.raise(&left, axis, epoch, capacity, raised, lent.told.lend_told());
+            },
             print,
         )?;
         self.compare(
             rng,
             Function::Dominates,
             none,
-            |side, _| side.dominates(&left, &right),
+            |side, lent| side.dominates(&left, &right, lent.told.lend_told()),
             print,
         )?;
         Ok(())
@@ -704,7 +746,7 @@ impl Differ {
     /// above 1 every axis is absent.
     fn lookup_badly_formed(&mut self, frontier: &Raw, axis: u64) -> Compared<()> {
         let mut epoch = !0;
-        let told = self.other.lookup(frontier, axis, &mut epoch);
+        let told = told(|told| self.other.lookup(frontier, axis, &mut epoch, told));
         let length = frontier[LENGTH].min(16) as usize;
         let in_a_slot = frontier[LENGTH] <= 16
             && frontier[TAINT] <= 1
@@ -847,10 +889,9 @@ impl Differ {
 fn reuse_by_brute_force(rng: &mut Rng, plan: &Plan, rows: &[Vec<usize>]) -> Compared<()> {
     let (queue, buffer) = (rng.below(plan.axes.len()), rng.below(plan.sizes.len()));
     let verdict = brute::reuse(plan, rows, queue, buffer);
-    let (bytes, operations) = (plan.bytes(), plan.operations.len());
-    let (mut table, mut list) = (vec![0; 16 * operations], vec![0; 2 * operations]);
+    let (bytes, mut rooms) = (plan.bytes(), OwnRooms::new(plan.operations.len()));
     let (queue, buffer) = (queue as u32, buffer as u32);
-    let told = reference::reuse(&bytes, queue, buffer, &mut table, &mut list);
+    let told = reference::reuse(&bytes, queue, buffer, &mut rooms.lend());
     if told != Told::answered(verdict) {
         println!("DIFFERENCE between the reference and brute force");
         println!("queue {queue}, buffer {buffer}: {told:?}, {verdict}");
@@ -869,10 +910,9 @@ fn suggest_by_brute_force(
 ) -> Compared<()> {
     let (queue, buffer) = generate::question(rng, plan);
     let wanted = brute::suggest(plan, (rows, runs), queue as usize, buffer as usize);
-    let (bytes, operations) = (plan.bytes(), plan.operations.len());
-    let (mut table, mut list) = (vec![0; 16 * operations], vec![0; 2 * operations]);
+    let (bytes, mut rooms) = (plan.bytes(), OwnRooms::new(plan.operations.len()));
     let mut wait = [!0; WAIT];
-    let told = reference::suggest(&bytes, queue, buffer, &mut table, &mut list, &mut wait);
+    let told = reference::suggest(&bytes, queue, buffer, &mut rooms.lend(), &mut wait);
     if (told, wait) != wanted {
         println!("DIFFERENCE between the reference and brute force");
         println!("queue {queue}, buffer {buffer}: {told:?} {wait:?}, {wanted:?}");
@@ -884,29 +924,28 @@ fn suggest_by_brute_force(
 
 /// What brute force expects to be told and left in table and list that were
 /// filled with ones.
-fn told_by_brute_force(plan: &Plan, judgement: &Judgement) -> (Told, Vec<u32>, Vec<u32>) {
-    let operations = plan.operations.len();
-    let (mut table, mut list) = (vec![0; 16 * operations], vec![0; 2 * operations]);
+fn told_by_brute_force(plan: &Plan, judgement: &Judgement) -> (Told, OwnRooms) {
+    let mut left = OwnRooms::new(plan.operations.len());
     match judgement {
         Judgement::Refused { number, place } => {
             if *number <= 9 {
-                table.fill(!0);
-                list.fill(!0);
+                left.table.fill(!0);
+                left.list.fill(!0);
             }
-            (Told::refused(*number, *place), table, list)
+            (Told::refused(*number, *place), left)
         }
         Judgement::Passed {
             run, ready, rows, ..
         } => {
-            for (to, from) in list.iter_mut().zip(run.iter().chain(ready)) {
+            for (to, from) in left.list.iter_mut().zip(run.iter().chain(ready)) {
                 *to = *from as u32;
             }
-            for (to, from) in table.chunks_exact_mut(16).zip(rows) {
+            for (to, from) in left.table.chunks_exact_mut(16).zip(rows) {
                 for (to, from) in to.iter_mut().zip(from) {
                     *to = *from as u32;
                 }
             }
-            (Told::PASSED, table, list)
+            (Told::PASSED, left)
         }
     }
 }

@@ -3,7 +3,7 @@
 use super::{parse, Fault};
 use crate::plan::Plan;
 use crate::reference;
-use crate::side::{Found, Told, STATE};
+use crate::side::{Found, OwnRooms, Told, STATE};
 use crate::traces;
 
 /// Spoils what the reference has handed back for this plan and trace.
@@ -48,9 +48,8 @@ fn pass_over(mut plan: Plan, trace: &[u8], state: &mut [u64], found: &mut Found)
             operation.waits.remove(0);
         }
     }
-    let operations = plan.operations.len();
-    let (mut table, mut list) = (vec![0; 16 * operations], vec![0; 2 * operations]);
-    let told = reference::trace(&plan.bytes(), trace, &mut table, &mut list, state, found);
+    let mut rooms = OwnRooms::new(plan.operations.len());
+    let told = reference::trace(&plan.bytes(), trace, &mut rooms.lend(), state, found);
     if told.answer == 5 {
         found[2] += 1;
     }

@@ -2,8 +2,8 @@
 //! every signal in turn the plan gets one operation more, is checked again, and
 //! is asked again whether the queue may take the buffer anew.
 
-use super::{check_read_then, check_then, told, Flat, Known, Point, COLUMNS};
-use crate::side::{Told, Wait};
+use super::{check_read_then, check_then, told, Flat, Known, Point};
+use crate::side::{OwnRooms, Rooms, Told, Wait};
 
 /// R87: the plan with one operation more on this queue, which has this wait
 /// alone. It may have one operation more than a stored plan.
@@ -17,10 +17,9 @@ fn longer(flat: &Flat, queue: u32, wait: &Point) -> Flat {
 
 /// The reuse question, asked of a plan that is read.
 fn verdict(flat: &Flat, queue: u32, buffer: u32) -> Result<u64, Told> {
-    let operations = flat.operation_count();
-    let (mut table, mut list) = (vec![0; COLUMNS * operations], vec![0; 2 * operations]);
+    let mut rooms = OwnRooms::new(flat.operation_count());
     let ask = |known: &Known| Told::answered(known.reuse_verdict(queue, buffer));
-    check_read_then(flat, &mut table, &mut list, ask).map(|told| told.answer)
+    check_read_then(flat, &mut rooms.lend(), ask).map(|told| told.answer)
 }
 
 /// R88: in the longer plan every operation with a mark on the buffer is before
@@ -50,16 +49,9 @@ fn advice(known: &Known, queue: u32, buffer: u32) -> Result<(u64, Wait), Told> {
 }
 
 /// R87 to R90: the wait to add, that none is needed, or that none would help.
-pub fn suggest(
-    plan: &[u8],
-    queue: u32,
-    buffer: u32,
-    table: &mut [u32],
-    list: &mut [u32],
-    wait: &mut Wait,
-) -> Told {
+pub fn suggest(plan: &[u8], queue: u32, buffer: u32, rooms: &mut Rooms, wait: &mut Wait) -> Told {
     *wait = Wait::default();
-    told(check_then(plan, table, list, |known| {
+    told(check_then(plan, rooms, |known| {
         match advice(known, queue, buffer) {
             Ok((answer, advised)) => {
                 *wait = advised;

@@ -2,7 +2,7 @@
 //! taken by the semaphores' values, as a cell would take it.
 
 use super::{check_then, told, Known, QUEUES, SEMAPHORES};
-use crate::side::{Found, Told, STATE};
+use crate::side::{Found, Rooms, Told, STATE};
 
 /// The count, and each step in two bytes.
 fn steps(trace: &[u8]) -> Option<&[[u8; 2]]> {
@@ -126,13 +126,12 @@ impl<'a> Cell<'a> {
 pub fn trace(
     plan: &[u8],
     trace: &[u8],
-    table: &mut [u32],
-    list: &mut [u32],
+    rooms: &mut Rooms,
     state: &mut [u64],
     found: &mut Found,
 ) -> Told {
     *found = Found::default();
-    told(check_then(plan, table, list, |known| {
+    told(check_then(plan, rooms, |known| {
         let Some(state) = state.first_chunk_mut::<STATE>() else {
             return Told::refused(9, STATE as u64);
         };

@@ -6,21 +6,18 @@
 
 use harness::generate::{self, Family, Rng};
 use harness::reference::Reference;
-use harness::side::{Found, Raw, Side, Told, Wait, EMPTY, STATE};
+use harness::side::{told, Found, OwnRooms, Raw, Side, Told, Wait, EMPTY, STATE};
+use harness::timing::{self, in_turn, Turn, PAIRS};
 use harness::traces;
-use std::fmt::Write as _;
 use std::hint::black_box;
 use std::process::ExitCode;
-use std::time::{Duration, Instant};
+
+mod plot;
 
 const SIZES: [usize; 5] = [64, 128, 256, 512, 1024];
 /// Plans of a family and size that a call takes in turn: one plan checked over
 /// and over would be learnt by heart by the processor's branch predictor.
 const PLANS: u64 = 32;
-/// Pairs of measurements of which the median is taken.
-const PAIRS: usize = 101;
-/// One measurement repeats a call until it takes about this long.
-const BATCH: Duration = Duration::from_micros(400);
 /// What a trace may take of the time of its plan's check.
 const TRACE_LIMIT: f64 = 1.15;
 
@@ -54,15 +51,13 @@ impl Sides {
     /// Measures the same call on both sides, turn by turn.
     fn measure(&self, mut call: impl FnMut(&dyn Side)) -> Measured {
         let Some(library) = self.library.as_deref() else {
-            let repeats = repeats(|| call(&Reference));
-            let times = (0..PAIRS).map(|_| time(repeats, || call(&Reference)));
             return Measured {
                 library: None,
-                reference: median(times.collect()),
+                reference: timing::alone(|| call(&Reference)),
                 ratio: None,
             };
         };
-        let both = in_turn(|turn| match turn {
+        let both = in_turn(PAIRS, |turn| match turn {
             Turn::First => call(library),
             Turn::Second => call(&Reference),
         });
@@ -72,70 +67,6 @@ impl Sides {
             ratio: Some(both.ratio),
         }
     }
-}
-
-/// Which of two calls is due.
-#[derive(Clone, Copy)]
-enum Turn {
-    First,
-    Second,
-}
-
-/// Median times of two calls in nanoseconds, and the median ratio of pairs.
-struct InTurn {
-    first: f64,
-    second: f64,
-    ratio: f64,
-}
-
-/// Measures two calls turn by turn.
-fn in_turn(mut call: impl FnMut(Turn)) -> InTurn {
-    let repeats = repeats(|| call(Turn::Second));
-    let mut timed = |turn| time(repeats, || call(turn));
-    let (mut firsts, mut seconds, mut ratios) = (Vec::new(), Vec::new(), Vec::new());
-    for pair in 0..PAIRS {
-        // Each call goes first in every other pair.
-        let (first, second) = if pair % 2 == 0 {
-            let second = timed(Turn::Second);
-            (timed(Turn::First), second)
-        } else {
-            let first = timed(Turn::First);
-            (first, timed(Turn::Second))
-        };
-        firsts.push(first);
-        seconds.push(second);
-        ratios.push(first / second);
-    }
-    InTurn {
-        first: median(firsts),
-        second: median(seconds),
-        ratio: median(ratios),
-    }
-}
-
-/// How often a call is repeated in one measurement.
-fn repeats(mut call: impl FnMut()) -> u32 {
-    let mut repeats = 1;
-    loop {
-        let start = Instant::now();
-        (0..repeats).for_each(|_| call());
-        if start.elapsed() >= BATCH || repeats >= 1 << 20 {
-            return repeats;
-        }
-        repeats *= 2;
-    }
-}
-
-/// Nanoseconds of one call.
-fn time(repeats: u32, mut call: impl FnMut()) -> f64 {
-    let start = Instant::now();
-    (0..repeats).for_each(|_| call());
-    start.elapsed().as_nanos() as f64 / f64::from(repeats)
-}
-
-fn median(mut values: Vec<f64>) -> f64 {
-    values.sort_unstable_by(f64::total_cmp);
-    values[values.len() / 2]
 }
 
 // ---------------------------------------------------------------------------
@@ -167,10 +98,11 @@ fn plans_of(family: Family, size: usize) -> Vec<Vec<u8>> {
 fn measure_check(sides: &Sides, family: Family, size: usize) -> Measured {
     let plans = plans_of(family, size);
     let bytes = plans.iter().map(Vec::len).sum::<usize>() / plans.len();
-    let (mut table, mut list) = (vec![0; 16 * size], vec![0; 2 * size]);
+    let (mut rooms, mut told) = (OwnRooms::new(size), Told::default());
+    let rooms = &mut rooms.lend();
     let measured = sides.measure(|side| {
         for plan in &plans {
-            let told = side.check(black_box(plan), &mut table, &mut list);
+            side.check(black_box(plan), rooms, &mut told);
             assert_eq!(told.number, 0, "a family's plans pass");
         }
     });
@@ -183,6 +115,34 @@ fn measure_check(sides: &Sides, family: Family, size: usize) -> Measured {
         optional(measured.ratio),
     );
     measured
+}
+
+/// Small plans, of which most of the time is what does not depend on the plan.
+/// Each is one plan, checked over and over: its branches are foretold.
+const SMALL: [(&str, &[u8]); 3] = [
+    (
+        "T3, three operations",
+        include_bytes!("../../../../plans/t3-three-queues.plan"),
+    ),
+    (
+        "two frames, five operations",
+        include_bytes!("../../../../plans/two-frames.plan"),
+    ),
+    (
+        "camera, 128 operations",
+        include_bytes!("../../../../plans/camera.plan"),
+    ),
+];
+
+/// The check of small plans, whatever measures it.
+fn small_calls(measure: &mut Measure) {
+    let (mut rooms, mut told) = (OwnRooms::new(128), Told::default());
+    let rooms = &mut rooms.lend();
+    for (name, plan) in SMALL {
+        measure(&format!("check, {name}"), 1, &mut |side| {
+            side.check(black_box(plan), rooms, &mut told);
+        });
+    }
 }
 
 /// Two places after the point, or a dash.
@@ -244,17 +204,18 @@ fn with_runs(family: Family, size: usize) -> impl Iterator<Item = (Vec<u8>, Vec<
 fn measure_trace(sides: &Sides, side: &dyn Side, family: Family, size: usize) -> f64 {
     let plans = with_runs(family, size).map(|(plan, run)| (plan, traces::stored(&run)));
     let plans: Vec<_> = plans.collect();
-    let (mut table, mut list) = (vec![0; 16 * size], vec![0; 2 * size]);
+    let (mut rooms, mut told) = (OwnRooms::new(size), Told::default());
+    let rooms = &mut rooms.lend();
     let (mut state, mut found) = ([0; STATE], Found::default());
-    let beside = in_turn(|turn| {
+    let beside = in_turn(PAIRS, |turn| {
         for (plan, trace) in &plans {
             let (plan, trace) = (black_box(plan), black_box(trace));
-            let told = match turn {
+            match turn {
                 Turn::First => {
-                    side.trace(plan, trace, &mut table, &mut list, &mut state, &mut found)
+                    side.trace(plan, trace, rooms, &mut state, &mut found, &mut told);
                 }
-                Turn::Second => side.check(plan, &mut table, &mut list),
-            };
+                Turn::Second => side.check(plan, rooms, &mut told),
+            }
             assert_eq!(told, Told::PASSED, "a full run of a plan that passes");
         }
     });
@@ -274,12 +235,13 @@ fn measure_trace(sides: &Sides, side: &dyn Side, family: Family, size: usize) ->
 
 /// Traces held against their plans of this size, on both sides.
 fn measure_traces_of(sides: &Sides, plans: &[(Vec<u8>, Vec<u8>)], size: usize) -> Measured {
-    let (mut table, mut list) = (vec![0; 16 * size], vec![0; 2 * size]);
+    let (mut rooms, mut told) = (OwnRooms::new(size), Told::default());
+    let rooms = &mut rooms.lend();
     let (mut state, mut found) = ([0; STATE], Found::default());
     let measured = sides.measure(|side| {
         for (plan, trace) in plans {
             let (plan, trace) = (black_box(plan), black_box(trace));
-            side.trace(plan, trace, &mut table, &mut list, &mut state, &mut found);
+            side.trace(plan, trace, rooms, &mut state, &mut found, &mut told);
         }
     });
     measured.of_one(PLANS)
@@ -344,9 +306,10 @@ struct Asked {
 fn asked(side: &dyn Side, family: Family, size: usize, seed: u64) -> Option<Asked> {
     let tree = family.plan(&mut Rng::new(seed), size);
     let plan = tree.bytes();
-    let (mut table, mut list) = (vec![0; 16 * size], vec![0; 2 * size]);
+    let mut rooms = OwnRooms::new(size);
+    let rooms = &mut rooms.lend();
     let mut not_ordered = |queue: u32, buffer: u32| {
-        side.reuse(&plan, queue, buffer, &mut table, &mut list) == Told::answered(3)
+        told(|told| side.reuse(&plan, queue, buffer, rooms, told)) == Told::answered(3)
     };
     let marks = tree.operations.iter().flat_map(|o| &o.marks).rev();
     let frees = marks.filter(|mark| mark.free).map(|mark| mark.buffer);
@@ -356,7 +319,7 @@ fn asked(side: &dyn Side, family: Family, size: usize, seed: u64) -> Option<Aske
         Some((queue, buffer))
     })?;
     let mut wait = Wait::default();
-    side.suggest(&plan, queue, buffer, &mut table, &mut list, &mut wait);
+    told(|told| side.suggest(&plan, queue, buffer, rooms, &mut wait, told));
     let signals = || tree.operations.iter().flat_map(|o| &o.signals);
     let freeing = signals().position(|signal| wait == [signal.semaphore.into(), signal.value]);
     let passed_over = freeing.unwrap_or_else(|| signals().count());
@@ -375,15 +338,16 @@ fn measure_suggestion(
     size: usize,
     asked: &[Asked],
 ) -> f64 {
-    let (mut table, mut list) = (vec![0; 16 * size], vec![0; 2 * size]);
-    let mut wait = Wait::default();
-    let beside = in_turn(|turn| {
+    let mut rooms = OwnRooms::new(size);
+    let rooms = &mut rooms.lend();
+    let (mut wait, mut told) = (Wait::default(), Told::default());
+    let beside = in_turn(PAIRS, |turn| {
         for asked in asked {
             let (plan, queue, buffer) = (black_box(&asked.plan), asked.queue, asked.buffer);
             match turn {
-                Turn::First => side.suggest(plan, queue, buffer, &mut table, &mut list, &mut wait),
-                Turn::Second => side.reuse(plan, queue, buffer, &mut table, &mut list),
-            };
+                Turn::First => side.suggest(plan, queue, buffer, rooms, &mut wait, &mut told),
+                Turn::Second => side.reuse(plan, queue, buffer, rooms, &mut told),
+            }
         }
     });
     // The reference takes too long for plans that are not small.
@@ -391,7 +355,7 @@ fn measure_suggestion(
         sides.measure(|side| {
             for asked in asked {
                 let (plan, queue, buffer) = (black_box(&asked.plan), asked.queue, asked.buffer);
-                side.suggest(plan, queue, buffer, &mut table, &mut list, &mut wait);
+                side.suggest(plan, queue, buffer, rooms, &mut wait, &mut told);
             }
         })
     });
@@ -410,7 +374,7 @@ fn measure_suggestion(
 }
 
 fn measure_others(sides: &Sides) {
-    println!("\nother functions, nanoseconds for one call");
+    println!("\nsmall plans and other functions, nanoseconds for one call");
     println!(
         "{:<44}{:>12}{:>12}{:>8}",
         "call", "C library", "reference", "ratio"
@@ -428,22 +392,14 @@ fn measure_others(sides: &Sides) {
     let mut measure = |name: &str, calls: u64, call: &mut Call| {
         print(name, sides.measure(call).of_one(calls));
     };
+    small_calls(&mut measure);
     plan_calls(&mut measure);
     print(
         "trace of 65,535 steps, greatest plan",
         measure_long_trace(sides),
     );
     frontier_calls(&mut measure);
-    let [left, _] = frontier_pairs()[0].1;
-    for (name, offset) in LOOKED_UP {
-        let (axes, mut epoch) = (looked_up(offset), 0);
-        let name = format!("lookup, 16 entries, {name}");
-        measure(&name, LOOKUPS, &mut |side| {
-            for &axis in &axes {
-                side.lookup(black_box(&left), axis, &mut epoch);
-            }
-        });
-    }
+    lookup_calls(&mut measure);
 }
 
 /// Something that is asked of one side.
@@ -457,45 +413,62 @@ fn plan_calls(measure: &mut Measure) {
     let plans: Vec<_> = plans.map(|plan| (plan.bytes(), plan.numbers())).collect();
     let mut read_room = vec![0; plans[0].1.len()];
     let mut write_room = vec![0; plans[0].0.len()];
-    let (mut table, mut list) = (vec![0; 16 * 1024], vec![0; 2 * 1024]);
-    let mut out = EMPTY;
+    let (mut rooms, mut told) = (OwnRooms::new(1024), Told::default());
+    let (rooms, mut out) = (&mut rooms.lend(), EMPTY);
     measure("read, greatest plan", PLANS, &mut |side| {
         for (bytes, _) in &plans {
-            side.read(black_box(bytes), &mut read_room);
+            side.read(black_box(bytes), &mut read_room, &mut told);
         }
     });
     measure("write, greatest plan", PLANS, &mut |side| {
         for (_, numbers) in &plans {
-            side.write(black_box(numbers), &mut write_room);
+            side.write(black_box(numbers), &mut write_room, &mut told);
         }
     });
     measure("reuse, greatest plan", PLANS, &mut |side| {
         for (bytes, _) in &plans {
-            side.reuse(black_box(bytes), 3, 200, &mut table, &mut list);
+            side.reuse(black_box(bytes), 3, 200, rooms, &mut told);
         }
     });
     measure("frontier sent out, greatest plan", PLANS, &mut |side| {
         for (bytes, _) in &plans {
-            side.frontier(black_box(bytes), 1023, 8, &mut table, &mut list, &mut out);
+            side.frontier(black_box(bytes), 1023, 8, rooms, &mut out, &mut told);
         }
     });
 }
 
 /// What every library can do with frontiers.
 fn frontier_calls(measure: &mut Measure) {
-    let mut out = EMPTY;
+    let (mut out, mut told) = (EMPTY, Told::default());
     for (name, [left, right]) in frontier_pairs() {
         measure(&format!("merge, {name}"), 1, &mut |side| {
-            side.merge(black_box(&left), black_box(&right), 16, &mut out);
+            side.merge(black_box(&left), black_box(&right), 16, &mut out, &mut told);
         });
         measure(&format!("dominates, {name}"), 1, &mut |side| {
-            side.dominates(black_box(&left), black_box(&right));
+            side.dominates(black_box(&left), black_box(&right), &mut told);
         });
     }
     let [left, _] = frontier_pairs()[0].1;
     for (name, axis) in RAISED {
         measure(&format!("raise, 16 entries, {name}"), 1, &mut |side| {
-            side.raise(black_box(&left), black_box(axis), 99, 16, &mut out);
+            let (old, axis) = (black_box(&left), black_box(axis));
+            side.raise(old, axis, 99, 16, &mut out, &mut told);
+        });
+    }
+}
+
+/// Lookups. What is timed of each, on both sides alike: a call through the trait
+/// that goes on to one function, which writes the epoch and the three numbers
+/// where they are lent. Nothing is filled before it or read after it.
+fn lookup_calls(measure: &mut Measure) {
+    let [left, _] = frontier_pairs()[0].1;
+    for (name, offset) in LOOKED_UP {
+        let (axes, mut epoch, mut told) = (looked_up(offset), 0, Told::default());
+        let name = format!("lookup, 16 entries, {name}");
+        measure(&name, LOOKUPS, &mut |side| {
+            for &axis in &axes {
+                side.lookup(black_box(&left), axis, &mut epoch, &mut told);
+            }
         });
     }
 }
@@ -536,206 +509,7 @@ fn frontier_pairs() -> [(&'static str, [Raw; 2]); 2] {
 }
 
 // ---------------------------------------------------------------------------
-// The plot: one panel for each family, both axes logarithmic.
-
-const PANEL_WIDTH: f64 = 260.0;
-const PANEL_HEIGHT: f64 = 200.0;
-const GAP_X: f64 = 70.0;
-const GAP_Y: f64 = 80.0;
-const LIBRARY_COLOUR: &str = "#1f4e9c";
-const REFERENCE_COLOUR: &str = "#c8641e";
-
-/// Where microseconds and sizes lie in a panel.
-struct Scale {
-    left: f64,
-    top: f64,
-    lowest_decade: i32,
-    decades: i32,
-}
-
-impl Scale {
-    fn x(&self, size: f64) -> f64 {
-        let (first, last) = (SIZES[0] as f64, SIZES[SIZES.len() - 1] as f64);
-        self.left + PANEL_WIDTH * (size / first).log2() / (last / first).log2()
-    }
-
-    fn y(&self, nanoseconds: f64) -> f64 {
-        let decade = (nanoseconds / 1e3).log10() - f64::from(self.lowest_decade);
-        self.top + PANEL_HEIGHT * (1.0 - decade / f64::from(self.decades))
-    }
-}
-
-fn plot(series: &[Series]) -> String {
-    let times = series.iter().flat_map(|(_, measured)| measured);
-    let times = times.flat_map(|m| m.library.into_iter().chain([m.reference]));
-    let (low, high) = times.fold((f64::MAX, 0.0_f64), |(low, high), time| {
-        (low.min(time), high.max(time))
-    });
-    let lowest_decade = (low / 1e3).log10().floor() as i32;
-    let decades = ((high / 1e3).log10().ceil() as i32 - lowest_decade).max(1);
-    let width = 3.0 * (PANEL_WIDTH + GAP_X) + 30.0;
-    let height = 2.0 * (PANEL_HEIGHT + GAP_Y) + 50.0;
-    let mut svg = String::new();
-    let _ = writeln!(
-        svg,
-        r#"<svg xmlns="http://www.w3.org/2000/svg" viewBox="0 0 {width} {height}" width="{width}" height="{height}" font-family="sans-serif" font-size="11">"#
-    );
-    let _ = writeln!(
-        svg,
-        r##"<rect width="100%" height="100%" fill="#ffffff"/>"##
-    );
-    text(
-        &mut svg,
-        20.0,
-        28.0,
-        "start",
-        16,
-        "Check of a plan: time over size",
-    );
-    for (place, (family, measured)) in series.iter().enumerate() {
-        let scale = Scale {
-            left: 60.0 + (place % 3) as f64 * (PANEL_WIDTH + GAP_X),
-            top: 80.0 + (place / 3) as f64 * (PANEL_HEIGHT + GAP_Y),
-            lowest_decade,
-            decades,
-        };
-        panel(&mut svg, &scale, family.name());
-        curves(&mut svg, &scale, measured);
-    }
-    let left = 60.0 + 2.0 * (PANEL_WIDTH + GAP_X);
-    legend(&mut svg, left, 110.0 + PANEL_HEIGHT + GAP_Y, series);
-    svg.push_str("</svg>\n");
-    svg
-}
-
-fn text(svg: &mut String, x: f64, y: f64, anchor: &str, size: u32, words: &str) {
-    let _ = writeln!(
-        svg,
-        r##"<text x="{x:.1}" y="{y:.1}" text-anchor="{anchor}" font-size="{size}" fill="#222222">{words}</text>"##
-    );
-}
-
-fn line(svg: &mut String, points: &[(f64, f64)], style: &str) {
-    let mut list = String::new();
-    for (x, y) in points {
-        let _ = write!(list, "{x:.1},{y:.1} ");
-    }
-    let _ = writeln!(
-        svg,
-        r#"<polyline points="{}" fill="none" {style}/>"#,
-        list.trim_end()
-    );
-}
-
-/// Frame, grid, labels and title of one panel.
-fn panel(svg: &mut String, scale: &Scale, title: &str) {
-    let (left, top) = (scale.left, scale.top);
-    let (right, bottom) = (left + PANEL_WIDTH, top + PANEL_HEIGHT);
-    let grid = r##"stroke="#dddddd" stroke-width="1""##;
-    text(svg, left, top - 10.0, "start", 13, title);
-    for size in SIZES {
-        let x = scale.x(size as f64);
-        line(svg, &[(x, top), (x, bottom)], grid);
-        text(svg, x, bottom + 15.0, "middle", 11, &size.to_string());
-    }
-    for decade in 0..=scale.decades {
-        let microseconds = 10_f64.powi(scale.lowest_decade + decade);
-        let y = scale.y(microseconds * 1e3);
-        line(svg, &[(left, y), (right, y)], grid);
-        let label = format!("{microseconds} µs");
-        text(svg, left - 6.0, y + 4.0, "end", 11, &label);
-    }
-    let frame = [
-        (left, top),
-        (left, bottom),
-        (right, bottom),
-        (right, top),
-        (left, top),
-    ];
-    line(svg, &frame, r##"stroke="#888888" stroke-width="1""##);
-    text(
-        svg,
-        left + PANEL_WIDTH / 2.0,
-        bottom + 31.0,
-        "middle",
-        11,
-        "operations",
-    );
-}
-
-fn curves(svg: &mut String, scale: &Scale, measured: &[Measured]) {
-    let sizes = SIZES.map(|size| size as f64);
-    // A line of slope one through the reference's first point.
-    let linear = sizes.map(|size| {
-        let time = measured[0].reference * size / sizes[0];
-        (scale.x(size), scale.y(time))
-    });
-    line(svg, &linear, LINEAR_STYLE);
-    let point = |size: f64, time: f64| (scale.x(size), scale.y(time));
-    let library: Vec<_> = sizes
-        .iter()
-        .zip(measured)
-        .filter_map(|(&size, m)| m.library.map(|time| point(size, time)))
-        .collect();
-    let reference: Vec<_> = sizes
-        .iter()
-        .zip(measured)
-        .map(|(&size, m)| point(size, m.reference))
-        .collect();
-    curve(svg, &reference, REFERENCE_COLOUR);
-    curve(svg, &library, LIBRARY_COLOUR);
-}
-
-const LINEAR_STYLE: &str = r##"stroke="#999999" stroke-width="1" stroke-dasharray="3 4""##;
-
-fn curve(svg: &mut String, points: &[(f64, f64)], colour: &str) {
-    let style = format!(r#"stroke="{colour}" stroke-width="2""#);
-    line(svg, points, &style);
-    for (x, y) in points {
-        let _ = writeln!(
-            svg,
-            r#"<circle cx="{x:.1}" cy="{y:.1}" r="3" fill="{colour}"/>"#
-        );
-    }
-}
-
-fn legend(svg: &mut String, left: f64, top: f64, series: &[Series]) {
-    let has_library = series[0].1[0].library.is_some();
-    let mut y = top;
-    let mut entry = |svg: &mut String, colour: Option<&str>, words: &str| {
-        let points = [(left, y), (left + 40.0, y)];
-        match colour {
-            Some(colour) => curve(svg, &points, colour),
-            None => line(svg, &points, LINEAR_STYLE),
-        }
-        text(svg, left + 52.0, y + 4.0, "start", 13, words);
-        y += 26.0;
-    };
-    if has_library {
-        entry(svg, Some(LIBRARY_COLOUR), "C library");
-    }
-    entry(svg, Some(REFERENCE_COLOUR), "reference");
-    entry(svg, None, "linear, from the first point");
-}
-
-// ---------------------------------------------------------------------------
 // A library before a change, and the one after it.
-
-/// Small plans, of which most of the time is what does not depend on the plan.
-const SMALL: [(&str, &[u8]); 3] = [
-    (
-        "T3, three operations",
-        include_bytes!("../../../plans/t3-three-queues.plan"),
-    ),
-    (
-        "two frames, five operations",
-        include_bytes!("../../../plans/two-frames.plan"),
-    ),
-    (
-        "camera, 128 operations",
-        include_bytes!("../../../plans/camera.plan"),
-    ),
-];
 
 fn compare(after: &dyn Side, before: &dyn Side) {
     println!(
@@ -744,7 +518,7 @@ fn compare(after: &dyn Side, before: &dyn Side) {
     );
     println!("{:<44}{:>12}{:>12}{:>8}", "call", "this", "before", "ratio");
     let mut measure = |name: &str, calls: u64, call: &mut Call| {
-        let pairs = in_turn(|turn| match turn {
+        let pairs = in_turn(PAIRS, |turn| match turn {
             Turn::First => call(after),
             Turn::Second => call(before),
         });
@@ -755,19 +529,16 @@ fn compare(after: &dyn Side, before: &dyn Side) {
             pairs.ratio
         );
     };
-    let (mut table, mut list) = (vec![0; 16 * 1024], vec![0; 2 * 1024]);
-    for (name, plan) in SMALL {
-        measure(&format!("check, {name}"), 1, &mut |side| {
-            side.check(black_box(plan), &mut table, &mut list);
-        });
-    }
+    small_calls(&mut measure);
+    let (mut rooms, mut told) = (OwnRooms::new(1024), Told::default());
+    let rooms = &mut rooms.lend();
     for family in Family::ALL {
         for size in SIZES {
             let plans = plans_of(family, size);
             let name = format!("check, {}, {size}", family.name());
             measure(&name, PLANS, &mut |side| {
                 for plan in &plans {
-                    side.check(black_box(plan), &mut table, &mut list);
+                    side.check(black_box(plan), rooms, &mut told);
                 }
             });
         }
@@ -811,7 +582,7 @@ fn main() -> ExitCode {
     measure_suggestions(&sides);
     measure_others(&sides);
     if let Some(path) = path {
-        if let Err(error) = std::fs::write(&path, plot(&series)) {
+        if let Err(error) = std::fs::write(&path, plot::plot(&series)) {
             eprintln!("{path}: {error}");
             return ExitCode::FAILURE;
         }

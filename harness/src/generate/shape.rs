@@ -1,0 +1,208 @@
+//! Plans with long lists, shaped by dials. The search for a costly plan turns
+//! them (`src/bin/worst.rs`); all plans of all shapes pass.
+
+use super::{add_kept_marks, axes, below_signal, run_in_turns, signallers, Rng};
+use crate::plan::{Operation, Plan, Point};
+
+/// The dials. Chances are in percent.
+#[derive(Clone, Copy, PartialEq, Eq, Debug)]
+pub struct Shape {
+    /// How many waits, signals and marks an operation has: at least, at most.
+    pub lists: [[usize; 2]; 3],
+    /// Queues with operations, up to 16.
+    pub queues: usize,
+    /// An operation is on the queue of the operation listed before it.
+    pub stay: usize,
+    /// Else it is on the lowest queue, or on the highest.
+    pub ends: [usize; 2],
+    /// Semaphores that each queue signals, up to 4.
+    pub semaphores: usize,
+    /// A signal is on the first of them, else by the same chance on the second,
+    /// and so on; what is left over is on any of them.
+    pub skew: usize,
+    /// The run that the waits allow is the plan's order, shuffled in windows of
+    /// so many operations.
+    pub window: usize,
+    /// A wait is for one of so many latest signals in that run.
+    pub recent: usize,
+    /// It is for any of those since the last operation of its queue instead.
+    pub since: usize,
+    /// An operation has a wait for the latest signal of all.
+    pub latest: usize,
+    /// A wait is for less than was signalled.
+    pub less: usize,
+    /// A wait is for 0.
+    pub zero: usize,
+    pub wait_order: WaitOrder,
+    pub buffers: usize,
+    /// Of them so many are never freed.
+    pub never_freed: usize,
+}
+
+/// The order of the waits in an operation's list.
+#[derive(Clone, Copy, PartialEq, Eq, Debug)]
+pub enum WaitOrder {
+    Random,
+    /// What is signalled first in the run comes first.
+    Rising,
+    Falling,
+}
+
+impl Shape {
+    /// Every list at its limit, all semaphores and all buffers.
+    pub const GREATEST: Shape = Shape {
+        lists: [[3, 3], [2, 2], [4, 4]],
+        queues: 16,
+        stay: 0,
+        ends: [0, 0],
+        semaphores: 4,
+        skew: 0,
+        window: 1024,
+        recent: 64,
+        since: 0,
+        latest: 0,
+        less: 0,
+        zero: 0,
+        wait_order: WaitOrder::Random,
+        buffers: 256,
+        never_freed: 32,
+    };
+
+    /// What the search has found: operations that sleep on one wait after the
+    /// other, groups of unequal length, and one buffer with all marks.
+    pub const WORST: Shape = Shape {
+        lists: [[3, 3], [2, 2], [4, 4]],
+        queues: 16,
+        stay: 0,
+        ends: [25, 12],
+        semaphores: 4,
+        skew: 75,
+        window: 32,
+        recent: 16,
+        since: 75,
+        latest: 50,
+        less: 0,
+        zero: 0,
+        wait_order: WaitOrder::Rising,
+        buffers: 1,
+        never_freed: 1,
+    };
+
+    pub fn plan(&self, rng: &mut Rng, operations: usize) -> Plan {
+        self.plan_with(rng, operations, |rng| {
+            self.lists.map(|[least, most]| rng.between(least, most))
+        })
+    }
+
+    /// With these numbers of waits, signals and marks.
+    pub(super) fn plan_with(
+        &self,
+        rng: &mut Rng,
+        operations: usize,
+        mut counts: impl FnMut(&mut Rng) -> [usize; 3],
+    ) -> Plan {
+        let queues = self.random_queues(rng, operations);
+        let counts: Vec<[usize; 3]> = queues.iter().map(|_| counts(rng)).collect();
+        let mut plan = Plan {
+            axes: axes(rng, 16),
+            owners: (0..64).map(|semaphore| semaphore % 16).collect(),
+            sizes: (0..self.buffers).map(|_| rng.word() as u32).collect(),
+            operations: Vec::new(),
+        };
+        self.add_operations(rng, &mut plan, &queues, &counts);
+        let mut turns = queues.clone();
+        for window in turns.chunks_mut(self.window) {
+            rng.shuffle(window);
+        }
+        let run = run_in_turns(&queues, &turns);
+        self.add_waits(rng, &mut plan, &run, &counts);
+        let marks: Vec<usize> = counts.iter().map(|count| count[2]).collect();
+        add_kept_marks(rng, &mut plan, &run, &marks, self.never_freed);
+        plan
+    }
+
+    fn random_queues(&self, rng: &mut Rng, operations: usize) -> Vec<u8> {
+        let mut queue = 0;
+        let mut next = |_| {
+            if !rng.percent(self.stay) {
+                let [lowest, highest] = self.ends.map(|chance| rng.percent(chance));
+                queue = match (lowest, highest) {
+                    (true, _) => 0,
+                    (_, true) => self.queues - 1,
+                    _ => rng.below(self.queues),
+                };
+            }
+            queue as u8
+        };
+        (0..operations).map(&mut next).collect()
+    }
+
+    /// Operations with their signals.
+    fn add_operations(&self, rng: &mut Rng, plan: &mut Plan, queues: &[u8], counts: &[[usize; 3]]) {
+        let mut last = [0u64; 64];
+        for (&queue, &[_, signals, _]) in queues.iter().zip(counts) {
+            let mut operation = Operation {
+                queue,
+                ..Operation::default()
+            };
+            for _ in 0..signals {
+                let chosen = (0..self.semaphores).find(|_| rng.percent(self.skew));
+                let which = chosen.unwrap_or_else(|| rng.below(self.semaphores)) as u8;
+                let semaphore = queue + 16 * which;
+                let value = &mut last[usize::from(semaphore)];
+                *value += rng.between(1, 1000) as u64;
+                let value = *value;
+                operation.signals.push(Point { semaphore, value });
+            }
+            plan.operations.push(operation);
+        }
+    }
+
+    /// Waits for what comes earlier in the run.
+    fn add_waits(&self, rng: &mut Rng, plan: &mut Plan, run: &[usize], counts: &[[usize; 3]]) {
+        let signallers = signallers(plan);
+        let mut earlier: Vec<Point> = Vec::new();
+        // How many there were after the last operation of each queue.
+        let mut own = [0; 16];
+        for &j in run {
+            let own = &mut own[usize::from(plan.operations[j].queue)];
+            let waits = (0..counts[j][0]).map(|_| self.earlier_signal(rng, *own, earlier.len()));
+            let mut waits: Vec<Option<usize>> = waits.collect();
+            if let Some(first) = waits.first_mut().filter(|_| rng.percent(self.latest)) {
+                *first = earlier.len().checked_sub(1);
+            }
+            match self.wait_order {
+                WaitOrder::Random => {}
+                WaitOrder::Rising => waits.sort_unstable(),
+                WaitOrder::Falling => waits.sort_unstable_by_key(|&at| std::cmp::Reverse(at)),
+            }
+            for at in waits {
+                let wait = match at {
+                    None => Point {
+                        semaphore: rng.below(64) as u8,
+                        value: 0,
+                    },
+                    Some(at) if rng.percent(self.less) => {
+                        below_signal(rng, &signallers, earlier[at])
+                    }
+                    Some(at) => earlier[at],
+                };
+                plan.operations[j].waits.push(wait);
+            }
+            earlier.extend(&plan.operations[j].signals);
+            *own = earlier.len();
+        }
+    }
+
+    /// The position of one of so many earlier signals in the run; none for a wait
+    /// for 0. The operation that runs first can wait for 0 only.
+    fn earlier_signal(&self, rng: &mut Rng, own: usize, many: usize) -> Option<usize> {
+        if many == 0 || rng.percent(self.zero) {
+            None
+        } else if own < many && rng.percent(self.since) {
+            Some(rng.between(own, many - 1))
+        } else {
+            Some(many - 1 - rng.below(many.min(self.recent)))
+        }
+    }
+}
