@@ -4,8 +4,9 @@
  * `./install PREFIX` puts it below PREFIX, and `pkg-config --cflags --libs
  * cundvrest` finds it there. It needs nothing but memcpy, memset and the like of
  * the C library. Every function is proved to meet a contract that is an equation
- * with the definitions of the rules, for every input: crates/cundvrest_c and, for
- * cundvrest_trace and cundvrest_suggest, crates/c_trace and crates/c_suggest.
+ * with the definitions of the rules, for every input: crates/cundvrest_c; for the
+ * functions on frontiers crates/c_lent; for cundvrest_trace and cundvrest_suggest
+ * crates/c_trace and crates/c_suggest.
  *
  * TOLD. Every call writes all three numbers of `told`: number, place, answer.
  * The number is 0, or that of a refusal; the place says where. docs/REFUSALS.md
@@ -50,8 +51,8 @@
  * THREADS AND STACK. There is no state between calls, so calls on separate
  * memory may run at the same time on any threads. A call uses less than
  * CUNDVREST_STACK bytes of its thread's stack, whatever the input. Measured:
- * read 184 kB, check, reuse, suggest, frontier and trace 120 kB, write 64 kB, the
- * others 3 kB.
+ * read 184 kB, frontier 144 kB, check, reuse, suggest and trace 142 kB, write
+ * 64 kB, the others 3 kB.
  */
 #ifndef CUNDVREST_H
 #define CUNDVREST_H

@@ -64,7 +64,7 @@ module _ {p : Plan} {o : Opened} {c : Lent} {table : List ℕ} (opened : Opened-
     shown = shown-of;
     few-semaphores = opened .limits .few-semaphores;
     signals-in = λ k l.
-        let inside = plan-inside p (opened .limits .few-semaphores) (opened .sound .in-range) _
+        let inside = plan-inside p (opened .sound .in-range) _
         (mem-at (plan-signals p) no-signal k l) in
         (inside .operation, inside .semaphore);
     signals-shown = opened .read .signals-shown;

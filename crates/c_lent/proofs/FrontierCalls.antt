@@ -13,7 +13,8 @@ use Rattle.frontier.specs.Meaning.{epoch-of, Looked, Merge-right, Raise-right, 
 use Rattle.frontier.proofs.Lookups.{looked}
 use Rattle.frontier.proofs.Meaning.{merge-right, raise-right}
 use Rattle.frontier.proofs.Dominates.{dominance-means}
-use Rattle.c_lent.specs.Lent.{told-of, frontier-of, oversized, Merge-says, merged-of, Oversized-refused}
+use Rattle.c_told.specs.Told.{told-of}
+use Rattle.c_lent.specs.Lent.{frontier-of, oversized, Merge-says, merged-of, Oversized-refused}
 use Rattle.c_lent.specs.Lent.{dominance-told, dominance-of, listed-value, Lookup-says, lookup-of}
 use Rattle.c_lent.proofs.Told.{dominance-back}
 use Rattle.c_lent.proofs.Frontiers.{merged-back}

@@ -13,7 +13,8 @@ use Rattle.frontier.specs.declared.Merged.{Merged}
 use Rattle.frontier_slots.specs.Entries.{most-entries}
 use Rattle.frontier.specs.Frontiers.{well-formed}
 use Rattle.frontier.proofs.Pack.{formed}
-use Rattle.c_lent.specs.Lent.{told-of, epochs-at, length-at, taint-at, over-long, frontier-of, list-of, merged-of}
+use Rattle.c_told.specs.Told.{told-of}
+use Rattle.c_lent.specs.Lent.{epochs-at, length-at, taint-at, over-long, frontier-of, list-of, merged-of}
 
 -- the numbers after the two rows
 module _ (axes epochs : List ℕ) (la : length axes ≡ most-entries) (le : length epochs ≡ most-entries) (len : ℕ)

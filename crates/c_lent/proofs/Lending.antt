@@ -20,7 +20,8 @@ use Rattle.frontier.specs.Walks.{of-slots, Fills, filled}
 use Rattle.frontier.proofs.Merge.{merge-formed}
 use Rattle.frontier.proofs.Raise.{raise-formed}
 use Rattle.frontier.proofs.Fill.{filled-right}
-use Rattle.c_lent.specs.Lent.{told-of, epochs-at, length-at, taint-at, over-long, frontier-of}
+use Rattle.c_told.specs.Told.{told-of}
+use Rattle.c_lent.specs.Lent.{epochs-at, length-at, taint-at, over-long, frontier-of}
 use Rattle.c_lent.specs.Lent.{list-of, Merge-stored, listed-value, Lookup-says}
 
 -- LENT NUMBERS

@@ -1,5 +1,5 @@
--- What the numbers that a C caller lends mean: the three of `told`, and those of a frontier. Assumes nothing: these are
--- definitions.
+-- What the numbers of a frontier that a C caller lends mean, and what it is told of frontiers. Assumes nothing: these
+-- are definitions.
 use mathlib.Core.Path.{_≡_}
 use mathlib.Core.Bool.{Bool, true, not, cond, _||_}
 use mathlib.Core.List.{List, [], _∷_, _++_}
@@ -16,11 +16,7 @@ use Rattle.frontier.specs.declared.Dominance.the-variants.{Yes, No, Unknown, Re
 use Rattle.frontier_slots.specs.Entries.{most-entries}
 use Rattle.frontier.specs.Frontiers.{number-of}
 use Rattle.frontier.specs.Meaning.{epoch-of}
-
--- ---- TOLD
--- R77, told: number, place, answer
-unfoldable pub told-of : List ℕ → Told
-told-of ns = record { number = getD ns 0 0; place = getD ns 1 0; answer = getD ns 2 0 }
+use Rattle.c_told.specs.Told.{told-of}
 
 -- ---- FRONTIERS
 -- R78, where the numbers of a frontier are: the axes come first, then the epochs, the length and the taint

@@ -1,21 +1,24 @@
-// R77 and R78, the numbers that a C caller lends, read and stored: the three of `told`, and those of a frontier.
+// R78, the functions of the C interface on frontiers: the numbers of a frontier that a caller lends, read and stored.
 use frontier::Dominance;
 use frontier::Frontier;
 use frontier::lent;
 use frontier_slots::Lookup;
 use plan_format::Told;
 ghost use mathlib.Core.Path.{_≡_};
-ghost use mathlib.Core.Bool.{cond};
+ghost use mathlib.Core.Bool.{true, cond, _||_};
 ghost use Prim.Native.Nat.{_+_, _≤_};
 ghost use lib.Dec.{ltb};
 ghost use lib.ListN.{length, getD};
 ghost use lib.Seq.{sets};
 ghost use Rattle.frontier_slots.specs.Entries.{most-entries};
-ghost use Rattle.frontier.specs.Frontiers.{merge, raise, dominance, looked-up};
+ghost use Rattle.frontier.specs.Frontiers.{capable, merge, raise, dominance, looked-up};
+ghost use Rattle.frontier.specs.Meaning.{Looked, Merge-right, Raise-right, Dominance-means};
 ghost use Rattle.frontier_slots.specs.Slots.{All-slots};
 ghost use Rattle.frontier.specs.Walks.{of-slots};
-ghost use Rattle.c_lent.specs.Lent.{told-of, length-at, taint-at, frontier-numbers, over-long, frontier-of};
-ghost use Rattle.c_lent.specs.Lent.{list-of, Handed, Merge-stored, Merge-says, dominance-told, Lookup-says};
+ghost use Rattle.c_told.specs.Told.{told-of};
+ghost use Rattle.c_lent.specs.Lent.{length-at, taint-at, frontier-numbers, over-long, frontier-of};
+ghost use Rattle.c_lent.specs.Lent.{list-of, oversized, Handed, Merge-stored, Merge-says, merged-of};
+ghost use Rattle.c_lent.specs.Lent.{Oversized-refused, dominance-told, dominance-of, Lookup-says, lookup-of};
 
 // Where the numbers of a frontier are: the axes come first, then the epochs, the length and the taint.
 const EPOCHS: usize = Frontier::SLOTS;
@@ -30,15 +33,8 @@ pub const NUMBERS: usize = TAINT + 1;
 // A length that no well-formed frontier has.
 const OVER_LONG: usize = Frontier::SLOTS + 1;
 
-// Number, place and answer.
-pub fn tell(r: Told, told: &mut [u64; 3])
-    ensures { λ _. ⌜ told-of (now (told .exit)) ≡ r ⌝ }
-{
-    *told = [r.number as u64, r.place, r.answer];
-}
-
 // The number and the value of an answer of dominance.
-pub fn dominance(r: Dominance) -> Told
+fn dominance(r: Dominance) -> Told
     ensures { λ t. ⌜ t ≡ dominance-told r ⌝ }
 {
     match r {
@@ -90,7 +86,7 @@ pub fn hand(number: u32, place: u64, f: Frontier, numbers: &mut [u64; NUMBERS], 
     ensures { λ _. ⌜ Handed number place f (now (told .exit)) (now (numbers .exit)) ⌝ }
 {
     put(&f.axes, &f.epochs, f.len, f.tainted, numbers);
-    tell(
+    c_told::tell(
         Told {
             number,
             place,
@@ -135,20 +131,25 @@ fn merge_numbers<'a>(left: &'a [u64], right: &'a [u64], capacity: u32, merged: &
     r.number
 }
 
-// The merge of two lent frontiers, told and stored.
-pub fn merge<'a>(
+// The larger epoch of each axis, cut to the capacity.
+#[no_mangle]
+pub extern "C" fn cundvrest_merge<'a>(
     left: &'a [u64; NUMBERS],
     right: &'a [u64; NUMBERS],
     capacity: u32,
     merged: &mut [u64; NUMBERS],
     told: &mut [u64; 3],
 )
-    ensures { λ _. ⌜ Merge-says
+    ensures says { λ _. ⌜ Merge-says
         (merge (frontier-of (now (left .entry))) (frontier-of (now (right .entry))) capacity) (now (told .exit))
         (now (merged .exit)) ⌝ }
+    ensures right { λ _. ⌜ Merge-right (frontier-of (now (left .entry))) (frontier-of (now (right .entry))) capacity
+        (merged-of (now (told .exit)) (now (merged .exit))) ⌝ }
+    ensures oversized_sides { λ _. ⌜ Oversized-refused (oversized (now (left .entry)) || oversized (now (right .entry)))
+        (capable capacity) (now (told .exit)) ⌝ }
 {
     let number = merge_numbers(left, right, capacity, merged);
-    tell(plan_format::forwarded(number, 0), told);
+    c_told::tell(plan_format::forwarded(number, 0), told);
 }
 
 // The raise of an axis of a lent frontier; its number.
@@ -181,8 +182,9 @@ fn raise_numbers(old: &[u64], axis: u64, epoch: u64, capacity: u32, raised: &mut
     r.number
 }
 
-// The raise of an axis of a lent frontier, told and stored.
-pub fn raise(
+// One axis raised to an epoch.
+#[no_mangle]
+pub extern "C" fn cundvrest_raise(
     old: &[u64; NUMBERS],
     axis: u64,
     epoch: u64,
@@ -190,11 +192,15 @@ pub fn raise(
     raised: &mut [u64; NUMBERS],
     told: &mut [u64; 3],
 )
-    ensures { λ _. ⌜ Merge-says (raise (frontier-of (now (old .entry))) axis epoch capacity) (now (told .exit))
+    ensures says { λ _. ⌜ Merge-says (raise (frontier-of (now (old .entry))) axis epoch capacity) (now (told .exit))
         (now (raised .exit)) ⌝ }
+    ensures right { λ _. ⌜ Raise-right (frontier-of (now (old .entry))) axis epoch capacity
+        (merged-of (now (told .exit)) (now (raised .exit))) ⌝ }
+    ensures oversized_side { λ _. ⌜ Oversized-refused (oversized (now (old .entry))) (capable capacity)
+        (now (told .exit)) ⌝ }
 {
     let number = raise_numbers(old, axis, epoch, capacity, raised);
-    tell(plan_format::forwarded(number, 0), told);
+    c_told::tell(plan_format::forwarded(number, 0), told);
 }
 
 // Whether the left of two lent frontiers dominates the right one.
@@ -216,13 +222,22 @@ fn dominates_numbers<'a>(left: &'a [u64], right: &'a [u64]) -> Dominance
     )
 }
 
-// The same, told.
-pub fn dominates<'a>(left: &'a [u64; NUMBERS], right: &'a [u64; NUMBERS], told: &mut [u64; 3])
-    ensures { λ _. ⌜ told-of (now (told .exit)) ≡
+// Whether the left frontier dominates the right one; the answer is the value of no, yes or unknown.
+#[no_mangle]
+pub extern "C" fn cundvrest_dominates<'a>(
+    left: &'a [u64; NUMBERS],
+    right: &'a [u64; NUMBERS],
+    told: &mut [u64; 3],
+)
+    ensures says { λ _. ⌜ told-of (now (told .exit)) ≡
         dominance-told (dominance (frontier-of (now (left .entry))) (frontier-of (now (right .entry)))) ⌝ }
+    ensures means { λ _. ⌜ Dominance-means (frontier-of (now (left .entry))) (frontier-of (now (right .entry)))
+        (dominance-of (told-of (now (told .exit)))) ⌝ }
+    ensures oversized_sides { λ _. ⌜ Oversized-refused
+        (oversized (now (left .entry)) || oversized (now (right .entry))) true (now (told .exit)) ⌝ }
 {
     let r = dominates_numbers(left, right);
-    tell(dominance(r), told);
+    c_told::tell(dominance(r), told);
 }
 
 // What a lent frontier says of an axis.
@@ -234,17 +249,26 @@ fn lookup_numbers(numbers: &[u64], axis: u64) -> Lookup
     lent::lookup(&numbers[..EPOCHS], &numbers[EPOCHS..LENGTH], len, axis)
 }
 
-// The same, told: whether the axis is listed, and its epoch.
-pub fn lookup(numbers: &[u64; NUMBERS], axis: u64, epoch: &mut [u64; 1], told: &mut [u64; 3])
-    ensures { λ _. ⌜ Lookup-says (looked-up (frontier-of (now (numbers .entry))) axis) (now (told .exit))
+// What a frontier says of an axis: the answer is 1 if it is listed, with its epoch in a number of its own, and 0 if it
+// is absent.
+#[no_mangle]
+pub extern "C" fn cundvrest_lookup(
+    frontier: &[u64; NUMBERS],
+    axis: u64,
+    epoch: &mut [u64; 1],
+    told: &mut [u64; 3],
+)
+    ensures says { λ _. ⌜ Lookup-says (looked-up (frontier-of (now (frontier .entry))) axis) (now (told .exit))
         (now (epoch .exit)) ⌝ }
+    ensures means { λ _. ⌜ Looked (frontier-of (now (frontier .entry))) axis
+        (lookup-of (now (told .exit)) (now (epoch .exit))) ⌝ }
 {
-    let r = lookup_numbers(numbers, axis);
+    let r = lookup_numbers(frontier, axis);
     let Lookup::Listed(listed) = r else {
         *epoch = [0];
-        tell(plan_format::answered(0), told);
+        c_told::tell(plan_format::answered(0), told);
         return;
     };
     *epoch = [listed];
-    tell(plan_format::answered(1), told);
+    c_told::tell(plan_format::answered(1), told);
 }

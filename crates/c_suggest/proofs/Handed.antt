@@ -8,7 +8,7 @@ use Rattle.plan_suggest.specs.declared.Advice.{Advice}
 use Rattle.plan_suggest.specs.declared.Advice.the-variants.{NoneNeeded, Wait, NoneWouldHelp}
 use Rattle.plan_suggest.specs.Numbers.{number-of, semaphore-of, value-of, wait-numbers}
 use Rattle.plan_suggest.specs.Promise.{Suggest-right}
-use Rattle.c_lent.specs.Lent.{told-of}
+use Rattle.c_told.specs.Told.{told-of}
 use Rattle.c_suggest.specs.Handed.{Suggest-handed}
 
 -- an advice with number 1 is a wait, and any other has no numbers but 0

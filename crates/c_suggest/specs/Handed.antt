@@ -6,7 +6,7 @@ use Rattle.plan_suggest.specs.declared.Advice.{Advice}
 use Rattle.plan_suggest.specs.declared.Advice.the-variants.{Wait}
 use Rattle.plan_suggest.specs.Numbers.{wait-numbers}
 use Rattle.plan_suggest.specs.Promise.{Suggest-right}
-use Rattle.c_lent.specs.Lent.{told-of}
+use Rattle.c_told.specs.Told.{told-of}
 
 -- `told` is number, place and the number of the advice; `wait` has its semaphore and value, and zeros but for a wait
 pub record Suggest-handed (bytes : List ℕ) (queue buffer : ℕ)

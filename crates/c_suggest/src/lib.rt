@@ -23,7 +23,7 @@ pub extern "C" fn cundvrest_suggest(
     let semaphore = numbers::semaphore_of(a);
     let value = numbers::value_of(a);
     *wait = [semaphore as u64, value];
-    c_lent::tell(
+    c_told::tell(
         Told {
             number: r.number,
             place: r.place,

@@ -8,7 +8,7 @@ use Rattle.plan_trace.specs.declared.Traced.{Traced}
 use Rattle.plan_trace.specs.State.{nothing-traced}
 use Rattle.plan_trace.specs.Numbers.{number-of, operation-of, wait-of, found-numbers}
 use Rattle.plan_trace.specs.Promise.{Trace-right}
-use Rattle.c_lent.specs.Lent.{told-of}
+use Rattle.c_told.specs.Told.{told-of}
 use Rattle.c_trace.specs.Handed.{found-size, Trace-handed}
 
 -- what is found of nothing traced

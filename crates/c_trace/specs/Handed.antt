@@ -6,7 +6,7 @@ use lib.ListN.{replicate}
 use Rattle.plan_trace.specs.declared.Traced.{Traced}
 use Rattle.plan_trace.specs.Numbers.{found-numbers}
 use Rattle.plan_trace.specs.Promise.{Trace-right}
-use Rattle.c_lent.specs.Lent.{told-of}
+use Rattle.c_told.specs.Told.{told-of}
 
 -- how many numbers say what was found
 abbrev pub found-size : ℕ

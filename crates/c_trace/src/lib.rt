@@ -29,7 +29,7 @@ pub extern "C" fn cundvrest_trace(
     let traced = r.traced;
     let followed = traced.followed;
     put(traced, found);
-    c_lent::tell(
+    c_told::tell(
         Told {
             number: r.counted.number,
             place: r.counted.place,

@@ -9,7 +9,6 @@ use lib.Seq.{sets, length-sets}
 use Rattle.base_lists.specs.Lists.{tabulate-from}
 use Rattle.base_lists.proofs.Stores.{sets-append}
 use Rattle.base_lists.proofs.Tables.{tabulate-length}
-use Rattle.plan_format.specs.Sizes.{most-operations, wait-places, signal-places, mark-places}
 use Rattle.check_columns.specs.Columns.{Columns}
 use Rattle.check_columns.specs.Filling.{repeated, Part, wait-semaphores, wait-values, signal-semaphores}
 use Rattle.check_columns.specs.Filling.{signal-values, codes-of-marks, wait-count, signals-at, signal-count}
@@ -46,40 +45,37 @@ module _ (X : List ℕ) (at : ℕ) {w s m : ℕ} (w-is : w ≡ getD X (at + 1) 0
   pub marks-more : (had : ℕ) → had + m ≡ had + mark-count X at
   marks-more had = rw m-right
 
-  module _ (i : ℕ) {room place : ℕ} {old new : List ℕ} where
-    pub wait-semaphores-put : new ≡ sets old place (wait-semaphores X w (at + 1)) → length old ≡ room →
-        Put room (wait-semaphore-part X i at) place old new
-    wait-semaphores-put e l = record { stored = e ∙ rw w-right; size = l }
+  module _ (i : ℕ) {place : ℕ} {old new : List ℕ} where
+    pub wait-semaphores-put : new ≡ sets old place (wait-semaphores X w (at + 1)) →
+        Put (wait-semaphore-part X i at) place old new
+    wait-semaphores-put e = record { stored = e ∙ rw w-right }
 
-    pub wait-values-put : new ≡ sets old place (wait-values X w (at + 1)) → length old ≡ room →
-        Put room (wait-value-part X i at) place old new
-    wait-values-put e l = record { stored = e ∙ rw w-right; size = l }
+    pub wait-values-put : new ≡ sets old place (wait-values X w (at + 1)) →
+        Put (wait-value-part X i at) place old new
+    wait-values-put e = record { stored = e ∙ rw w-right }
 
-    pub signal-semaphores-put : new ≡ sets old place (signal-semaphores X s (at + 2 + 2 * w)) → length old ≡ room →
-        Put room (signal-semaphore-part X i at) place old new
-    signal-semaphores-put e l =
-        record {
-          stored = e ∙ ap₂ (λ (k a : ℕ). sets old place (signal-semaphores X k a)) s-right signals-right;
-          size = l;
-        }
+    pub signal-semaphores-put : new ≡ sets old place (signal-semaphores X s (at + 2 + 2 * w)) →
+        Put (signal-semaphore-part X i at) place old new
+    signal-semaphores-put e =
+        record { stored = e ∙ ap₂ (λ (k a : ℕ). sets old place (signal-semaphores X k a)) s-right signals-right }
 
-    pub signal-values-put : new ≡ sets old place (signal-values X s (at + 2 + 2 * w)) → length old ≡ room →
-        Put room (signal-value-part X i at) place old new
-    signal-values-put e l =
-        record { stored = e ∙ ap₂ (λ (k a : ℕ). sets old place (signal-values X k a)) s-right signals-right; size = l }
+    pub signal-values-put : new ≡ sets old place (signal-values X s (at + 2 + 2 * w)) →
+        Put (signal-value-part X i at) place old new
+    signal-values-put e =
+        record { stored = e ∙ ap₂ (λ (k a : ℕ). sets old place (signal-values X k a)) s-right signals-right }
 
-    pub signal-operations-put : new ≡ sets old place (repeated s i) → length old ≡ room →
-        Put room (signal-operation-part X i at) place old new
-    signal-operations-put e l = record { stored = e ∙ rw s-right; size = l }
+    pub signal-operations-put : new ≡ sets old place (repeated s i) →
+        Put (signal-operation-part X i at) place old new
+    signal-operations-put e = record { stored = e ∙ rw s-right }
 
-    pub marks-put : new ≡ sets old place (codes-of-marks X m (at + 2 + 2 * w + 1 + 2 * s)) → length old ≡ room →
-        Put room (mark-part X i at) place old new
-    marks-put e l =
-        record { stored = e ∙ ap₂ (λ (k a : ℕ). sets old place (codes-of-marks X k a)) m-right marks-right; size = l }
+    pub marks-put : new ≡ sets old place (codes-of-marks X m (at + 2 + 2 * w + 1 + 2 * s)) →
+        Put (mark-part X i at) place old new
+    marks-put e =
+        record { stored = e ∙ ap₂ (λ (k a : ℕ). sets old place (codes-of-marks X k a)) m-right marks-right }
 
-    pub mark-operations-put : new ≡ sets old place (repeated m i) → length old ≡ room →
-        Put room (mark-operation-part X i at) place old new
-    mark-operations-put e l = record { stored = e ∙ rw m-right; size = l }
+    pub mark-operations-put : new ≡ sets old place (repeated m i) →
+        Put (mark-operation-part X i at) place old new
+    mark-operations-put e = record { stored = e ∙ rw m-right }
 
 -- ---- operation after operation: one column
 parts-next : (X : List ℕ) (f : Part) (n i at next : ℕ) → i < n → next ≡ next-at X at →
@@ -88,41 +84,33 @@ unfolding parts
 parts-next X f n i at next l e =
     let m : n - i ≡ suc (n - (i + 1)) = omega arith in rw (m, add-one i, e)
 
-pub record Column (X : List ℕ) (f : Part) (room n first : ℕ) (before now : List ℕ) (i at place : ℕ) : Type 0 where
+pub record Column (X : List ℕ) (f : Part) (n first : ℕ) (before now : List ℕ) (i at place : ℕ) : Type 0 where
   pub rest : sets now place (parts X f (n - i) i at) ≡ sets before 0 (parts X f n 0 first)
   pub counted : place + length (parts X f (n - i) i at) ≡ length (parts X f n 0 first)
-  pub size : 0 < i → length before ≡ room
 
-module _ {X : List ℕ} {f : Part} {room n first : ℕ} {before : List ℕ} where
-  pub column-none : Column X f room n first before before 0 first 0
+module _ {X : List ℕ} {f : Part} {n first : ℕ} {before : List ℕ} where
+  pub column-none : Column X f n first before before 0 first 0
   column-none =
       let e : n - 0 ≡ n = omega arith in
-      record { rest = rw e; counted = rw e (omega arith); size = λ l. absurd (omega arith) }
+      record { rest = rw e; counted = rw e (omega arith) }
 
-  pub column-next : {old new : List ℕ} {i at next place further : ℕ} → Column X f room n first before old i at place →
-      i < n → Put room (f i at) place old new →
-      next ≡ next-at X at → further ≡ place + length (f i at) → Column X f room n first before new (i + 1) next further
+  pub column-next : {old new : List ℕ} {i at next place further : ℕ} → Column X f n first before old i at place →
+      i < n → Put (f i at) place old new →
+      next ≡ next-at X at → further ≡ place + length (f i at) → Column X f n first before new (i + 1) next further
   column-next {old} {new} {i} {at} {next} {place} b l p e h =
       let here = parts-next X f n i at next l e in
       let more = parts X f (n - (i + 1)) (i + 1) next in
       record {
         rest = rw (p .stored, h) (sets-append (f i at) old more place ∙ rw here at (b .rest));
         counted = omega (arith, h, length-append (f i at) more, ap (λ (z : List ℕ). length z) here, b .counted);
-        size = λ k. sym (same-size (b .rest)) ∙ p .size;
       }
-    where
-      same-size : sets old place (parts X f (n - i) i at) ≡ sets before 0 (parts X f n 0 first) →
-          length old ≡ length before
-      same-size q =
-          sym (length-sets old place (parts X f (n - i) i at)) ∙ ap (λ (z : List ℕ). length z) q
-          ∙ length-sets before 0 (parts X f n 0 first)
 
-  pub column-end : {now : List ℕ} {i at place : ℕ} → n ≤ i → Column X f room n first before now i at place →
+  pub column-end : {now : List ℕ} {i at place : ℕ} → n ≤ i → Column X f n first before now i at place →
       now ≡ sets before 0 (parts X f n 0 first)
   unfolding parts
   column-end {i} l b = let e : n - i ≡ 0 = omega arith in rw e at (b .rest)
 
-  pub column-count : {now : List ℕ} {i at place : ℕ} → n ≤ i → Column X f room n first before now i at place →
+  pub column-count : {now : List ℕ} {i at place : ℕ} → n ≤ i → Column X f n first before now i at place →
       place ≡ length (parts X f n 0 first)
   unfolding parts
   column-count {i} {at} {place} l b =
@@ -136,18 +124,18 @@ pub record Filling (X : List ℕ) (n first : ℕ) (cs₀ cs : Columns)
   pub near : at ≤ first + 30 * i
   pub few-signals : signals ≤ 3 * i
   pub few-marks : marks ≤ 7 * i
-  pub queues : Column X (queue-part X) most-operations n first (cs₀ .queue) (cs .queue) i at i
-  pub wait-semaphores : Column X (wait-semaphore-part X) wait-places n first (cs₀ .wait-semaphore)
+  pub queues : Column X (queue-part X) n first (cs₀ .queue) (cs .queue) i at i
+  pub wait-semaphores : Column X (wait-semaphore-part X) n first (cs₀ .wait-semaphore)
       (cs .wait-semaphore) i at (3 * i)
-  pub wait-values : Column X (wait-value-part X) wait-places n first (cs₀ .wait-value) (cs .wait-value) i at (3 * i)
-  pub signal-semaphores : Column X (signal-semaphore-part X) signal-places n first (cs₀ .signal-semaphore)
+  pub wait-values : Column X (wait-value-part X) n first (cs₀ .wait-value) (cs .wait-value) i at (3 * i)
+  pub signal-semaphores : Column X (signal-semaphore-part X) n first (cs₀ .signal-semaphore)
       (cs .signal-semaphore) i at signals
-  pub signal-values : Column X (signal-value-part X) signal-places n first (cs₀ .signal-value)
+  pub signal-values : Column X (signal-value-part X) n first (cs₀ .signal-value)
       (cs .signal-value) i at signals
-  pub signal-operations : Column X (signal-operation-part X) signal-places n first (cs₀ .signal-operation)
+  pub signal-operations : Column X (signal-operation-part X) n first (cs₀ .signal-operation)
       (cs .signal-operation) i at signals
-  pub codes-of-marks : Column X (mark-part X) mark-places n first (cs₀ .mark) (cs .mark) i at marks
-  pub mark-operations : Column X (mark-operation-part X) mark-places n first (cs₀ .mark-operation)
+  pub codes-of-marks : Column X (mark-part X) n first (cs₀ .mark) (cs .mark) i at marks
+  pub mark-operations : Column X (mark-operation-part X) n first (cs₀ .mark-operation)
       (cs .mark-operation) i at marks
 
 next-near : (X : List ℕ) (at : ℕ) → next-at X at ≤ at + 30

@@ -1,13 +1,13 @@
 -- Columns filled from the numbers of a plan show the plan. Assumes nothing.
 use mathlib.Core.Path.{_≡_, refl, sym, ap, _∙_, subst}
 use mathlib.Core.List.{List, [], _∷_, map}
-use Prim.Native.Nat.{ℕ, zero, suc, _+_, _*_, _≤_, _<_}
+use Prim.Native.Nat.{ℕ, _+_, _*_, _≤_, _<_}
 use native.Mathlib.Omega.{arith}
 use lib.ListN.{length, getD, drop, length-map, List·getD-map}
-use lib.Seq.{sets}
+use lib.Seq.{sets, length-sets}
 use Rattle.base_lists.proofs.Stores.{sets-at}
 use Rattle.base_lists.proofs.Tables.{tabulate-length, tabulate-at}
-use Rattle.plan_format.specs.Sizes.{wait-places, signal-places, mark-places}
+use Rattle.plan_format.specs.Sizes.{most-signals, most-marks}
 use Rattle.plan_format.specs.Plan.{Point, Operation, Plan, empty-operation, count, op, operations-in}
 use Rattle.plan_order.specs.Precedence.{Signal, no-signal, plan-signals}
 use Rattle.check_columns.specs.Columns.{Columns, no-point, Marked, no-mark, plan-marks, Queue-column}
@@ -15,7 +15,7 @@ use Rattle.check_columns.specs.Columns.{wait-at, Wait-columns, Signal-co
 use Rattle.plan_format.specs.Limits.{Limits}
 use Rattle.plan_format.proofs.Positions.{in-range, few-waits as few-waits-of, few-signals as few-signals-of}
 use Rattle.plan_format.proofs.Positions.{few-marks as few-marks-of}
-use Rattle.check_columns.specs.Shown.{Columns-of}
+use Rattle.check_columns.specs.Shown.{Columns-of, Places-for}
 use Rattle.check_columns.specs.Filling.{Part, parts, queue-part, wait-semaphore-part, wait-value-part}
 use Rattle.check_columns.specs.Filling.{signal-semaphore-part, signal-value-part, signal-operation-part}
 use Rattle.check_columns.specs.Filling.{mark-part, mark-operation-part}
@@ -29,26 +29,26 @@ use Rattle.check_columns.proofs.Lists.{mark-same, mark-operation-same}
 use Rattle.check_columns.proofs.Parts.{Column, column-end, column-count, Filling}
 
 -- ---- a column that holds what a list says
-some-parts : (X : List ℕ) (f : Part) (n i at k : ℕ) → k < length (parts X f n i at) → 0 < n
-unfolding parts
-some-parts X f zero i at k l = absurd (omega arith)
-some-parts X f (suc n) i at k l = omega arith
-
-module _ {X : List ℕ} {f : Part} {room n first : ℕ} {before now : List ℕ} {i at place : ℕ} {A : Type 0} (done : n ≤ i)
-    (b : Column X f room n first before now i at place)
+module _ {X : List ℕ} {f : Part} {n first : ℕ} {before now : List ℕ} {i at place : ℕ} {A : Type 0} (done : n ≤ i)
+    (b : Column X f n first before now i at place)
     (h : A → ℕ) (d : A) (ys : List A) (says : parts X f n 0 first ≡ map h ys) where
   parts-long : length (parts X f n 0 first) ≡ length ys
   parts-long = ap (λ (z : List ℕ). length z) says ∙ length-map ys h
 
-  column-shows : h d ≡ 0 → length ys ≤ room → (k : ℕ) → k < length ys → getD now k 0 ≡ h (getD ys k d)
+  column-shows : h d ≡ 0 → length ys ≤ length before → (k : ℕ) → k < length ys → getD now k 0 ≡ h (getD ys k d)
   column-shows z few k l =
-      let size = b .size (omega (arith, some-parts X f n 0 first k (omega (arith, parts-long)))) in
       ap (λ (y : List ℕ). getD y k 0) (column-end done b ∙ ap (λ (y : List ℕ). sets before 0 y) says)
-      ∙ sets-at before (map h ys) k 0 (omega (arith, size, length-map ys h)) (omega (arith, length-map ys h))
+      ∙ sets-at before (map h ys) k 0 (omega (arith, few, length-map ys h)) (omega (arith, length-map ys h))
       ∙ subst (λ (v : ℕ). getD (map h ys) k v ≡ h (getD ys k d)) z (List·getD-map h ys k d)
 
   column-many : place ≡ length ys
   column-many = column-count done b ∙ parts-long
+
+-- a column is as long as before
+column-long : {X : List ℕ} {f : Part} {n first : ℕ} {before now : List ℕ} {i at place : ℕ} → n ≤ i →
+    Column X f n first before now i at place → length now ≡ length before
+column-long {X} {f} {n} {first} {before} done b =
+    ap (λ (z : List ℕ). length z) (column-end done b) ∙ length-sets before 0 (parts X f n 0 first)
 
 -- ---- a plan whose operations are among the numbers
 module _ (p : Plan) (limits : Limits p) (X : List ℕ) (n first : ℕ)
@@ -84,7 +84,7 @@ module _ (p : Plan) (limits : Limits p) (X : List ℕ) (n first : ℕ)
       ∙ ap (λ (z : List Operation). map h (joined of 0 z)) (sym stored-as)
 
   module _ {cs₀ cs : Columns} {i at signals marks : ℕ} (done : n ≤ i)
-      (b : Filling X n first cs₀ cs i at signals marks) where
+      (b : Filling X n first cs₀ cs i at signals marks) (places : Places-for n cs₀) where
     queue-shown : Queue-column p (cs .queue)
     unfolding Queue-column count op
     queue-shown j l =
@@ -93,7 +93,7 @@ module _ (p : Plan) (limits : Limits p) (X : List ℕ) (n first : ℕ)
         let e : 1 * j + 0 ≡ j = omega arith in
         column-shows done (b .queues) (λ o. o .queue) empty-operation (joined of 0 (p .operations))
         (says (queue-part X) (λ o. o .queue) of (λ i at f. queue-same X i at f)) refl
-        (omega (arith, long, few-operations limits)) j (omega (arith, long))
+        (omega (arith, long, many-is, places .queues)) j (omega (arith, long))
         ∙ ap (λ (o : Operation). o .queue)
         (subst (λ (z : ℕ). getD (joined of 0 (p .operations)) z empty-operation ≡
         getD (p .operations) j empty-operation) e
@@ -101,41 +101,44 @@ module _ (p : Plan) (limits : Limits p) (X : List ℕ) (n first : ℕ)
 
     -- a number of a wait
     wait-shown : (h : Point → ℕ) → h no-point ≡ 0 → {f : Part} {before now : List ℕ} → parts X f n 0 first ≡ map h
-        (joined three-waits 0 (p .operations)) → Column X f wait-places n first before now i at (3 * i) →
-        (j k : ℕ) → j < count p → k < 3 → getD now (3 * j + k) 0 ≡ h (wait-at p j k)
+        (joined three-waits 0 (p .operations)) → Column X f n first before now i at (3 * i) →
+        3 * n ≤ length before → (j k : ℕ) → j < count p → k < 3 → getD now (3 * j + k) 0 ≡ h (wait-at p j k)
     unfolding count op wait-at
-    wait-shown h z s c j k l u =
+    wait-shown h z s c room j k l u =
         let even : (i : ℕ) (o : Operation) → length (three-waits i o) ≡ 3 =
         λ i o. tabulate-length (λ j. getD (o .waits) j no-point) 3 0 in
         let long = joined-long three-waits 3 even 0 (p .operations) in
         let o = getD (p .operations) j empty-operation in
         column-shows done c h no-point (joined three-waits 0 (p .operations)) s z
-        (omega (arith, long, few-operations limits)) (3 * j + k) (omega (arith, long))
+        (omega (arith, long, many-is, room)) (3 * j + k) (omega (arith, long))
         ∙ ap h (joined-at three-waits 3 even 0 (p .operations) j k no-point l u
         ∙ tabulate-at (λ j. getD (o .waits) j no-point) 3 0 k no-point u
         ∙ ap (λ (z : ℕ). getD (o .waits) z no-point) (let e : 0 + k ≡ k = omega arith in e))
 
     waits-shown : Wait-columns p (cs .wait-semaphore) (cs .wait-value)
     waits-shown = record {
+      semaphore-room = omega (arith, many-is, column-long done (b .wait-semaphores), places .wait-semaphores);
+      value-room = omega (arith, many-is, column-long done (b .wait-values), places .wait-values);
       few = few-waits-of limits;
       semaphores = wait-shown (λ x. x .semaphore) refl
           (says (wait-semaphore-part X) (λ x. x .semaphore) three-waits (λ i at f. wait-semaphore-same X i at f))
-          (b .wait-semaphores);
+          (b .wait-semaphores) (places .wait-semaphores);
       values = wait-shown (λ x. x .value) refl
-          (says (wait-value-part X) (λ x. x .value) three-waits (λ i at f. wait-value-same X i at f)) (b .wait-values);
+          (says (wait-value-part X) (λ x. x .value) three-waits (λ i at f. wait-value-same X i at f)) (b .wait-values)
+          (places .wait-values);
     }
 
     all-signals : joined its-signals 0 (p .operations) ≡ plan-signals p
     unfolding plan-signals
     all-signals = signals-joined 0 (p .operations)
 
-    few-signals : length (plan-signals p) ≤ signal-places
+    few-signals : length (plan-signals p) ≤ most-signals * n
     unfolding count op
     few-signals =
         omega (
           arith,
           ap (λ (z : List Signal). length z) all-signals,
-          few-operations limits,
+          many-is,
           joined-few its-signals 2 0 (p .operations)
               (λ j l. omega (arith, signals-long (0 + j) 0 (op p j .signals), few-signals-of limits j l)),
         )
@@ -151,28 +154,37 @@ module _ (p : Plan) (limits : Limits p) (X : List ℕ) (n first : ℕ)
         let v = signals-says (signal-value-part X) (λ x. x .value) (λ i at f. signal-value-same X i at f) in
         let o = signals-says (signal-operation-part X) (λ x. x .operation) (λ i at f. signal-operation-same X i at f) in
         let many = column-many done (b .signal-semaphores) (λ x. x .semaphore) no-signal (plan-signals p) s in
+        let room : length (plan-signals p) ≤ length (cs₀ .signal-semaphore) =
+        omega (arith, few-signals, places .signal-semaphores) in
+        let value-room : length (plan-signals p) ≤ length (cs₀ .signal-value) =
+        omega (arith, few-signals, places .signal-values) in
+        let operation-room : length (plan-signals p) ≤ length (cs₀ .signal-operation) =
+        omega (arith, few-signals, places .signal-operations) in
         record {
-          few = omega (arith, many, few-signals);
+          few = omega (arith, many, few-signals, many-is, few-operations limits);
+          semaphore-room = omega (arith, many, column-long done (b .signal-semaphores), room);
+          value-room = omega (arith, many, column-long done (b .signal-values), value-room);
+          operation-room = omega (arith, many, column-long done (b .signal-operations), operation-room);
           all = many;
           semaphores = λ k l. column-shows done (b .signal-semaphores)
-              (λ x. x .semaphore) no-signal (plan-signals p) s refl few-signals k (omega (arith, many));
+              (λ x. x .semaphore) no-signal (plan-signals p) s refl room k (omega (arith, many));
           values = λ k l. column-shows done (b .signal-values)
-              (λ x. x .value) no-signal (plan-signals p) v refl few-signals k (omega (arith, many));
+              (λ x. x .value) no-signal (plan-signals p) v refl value-room k (omega (arith, many));
           operations = λ k l. column-shows done (b .signal-operations)
-              (λ x. x .operation) no-signal (plan-signals p) o refl few-signals k (omega (arith, many));
+              (λ x. x .operation) no-signal (plan-signals p) o refl operation-room k (omega (arith, many));
         }
 
     all-marks : joined its-marks 0 (p .operations) ≡ plan-marks p
     unfolding plan-marks
     all-marks = marks-joined 0 (p .operations)
 
-    few-marks : length (plan-marks p) ≤ mark-places
+    few-marks : length (plan-marks p) ≤ most-marks * n
     unfolding count op
     few-marks =
         omega (
           arith,
           ap (λ (z : List Marked). length z) all-marks,
-          few-operations limits,
+          many-is,
           joined-few its-marks 4 0 (p .operations)
               (λ j l. omega (arith, marked-long (0 + j) (op p j .marks), few-marks-of limits j l)),
         )
@@ -187,13 +199,17 @@ module _ (p : Plan) (limits : Limits p) (X : List ℕ) (n first : ℕ)
         let m = marks-says (mark-part X) code-of (λ i at f. mark-same X i at f) in
         let o = marks-says (mark-operation-part X) (λ x. x .by) (λ i at f. mark-operation-same X i at f) in
         let many = column-many done (b .codes-of-marks) code-of no-mark (plan-marks p) m in
+        let room : length (plan-marks p) ≤ length (cs₀ .mark) = omega (arith, few-marks, places .marks) in
+        let operation-room : length (plan-marks p) ≤ length (cs₀ .mark-operation) =
+        omega (arith, few-marks, places .mark-operations) in
         record {
-          few = omega (arith, many, few-marks);
+          room = omega (arith, many, column-long done (b .codes-of-marks), room);
+          operation-room = omega (arith, many, column-long done (b .mark-operations), operation-room);
           all = many;
-          marks = λ k l. column-shows done (b .codes-of-marks) code-of no-mark (plan-marks p) m refl few-marks k
+          marks = λ k l. column-shows done (b .codes-of-marks) code-of no-mark (plan-marks p) m refl room k
               (omega (arith, many));
           operations = λ k l. column-shows done (b .mark-operations)
-              (λ x. x .by) no-mark (plan-marks p) o refl few-marks k (omega (arith, many));
+              (λ x. x .by) no-mark (plan-marks p) o refl operation-room k (omega (arith, many));
         }
 
     pub filling-end : Columns-of p signals marks cs

@@ -5,7 +5,7 @@ use mathlib.Core.Path.{_≡_}
 use mathlib.Core.List.{List, [], _∷_, _++_}
 use Prim.Native.Nat.{ℕ, suc, _+_, _*_, _≤_, _<_}
 use lib.ListN.{length, getD}
-use Rattle.plan_format.specs.Sizes.{most-waits, signal-places, mark-places, row-width, no-operation}
+use Rattle.plan_format.specs.Sizes.{most-waits, signal-places, row-width, no-operation}
 use Rattle.plan_format.specs.Plan.{Point, Mark, Operation, Plan, count, op, queues}
 use Rattle.plan_order.specs.Precedence.{no-signal, plan-signals, Resolution, at-once, on, never, resolve}
 use Rattle.plan_order.specs.Rows.{row}
@@ -61,16 +61,21 @@ Queue-column p queue = (i : ℕ) → i < count p → getD queue i 0 ≡ op p i .
 unfoldable pub wait-at : Plan → (i k : ℕ) → Point
 wait-at p i k = getD (op p i .waits) k no-point
 
--- three places for each operation
+-- three places for each operation; columns with room for all
 pub record Wait-columns (p : Plan) (semaphore value : List ℕ) : Type 0 where
+  pub semaphore-room : most-waits * count p ≤ length semaphore
+  pub value-room : most-waits * count p ≤ length value
   pub few : (i : ℕ) → i < count p → length (op p i .waits) ≤ most-waits
   pub semaphores : (i k : ℕ) → i < count p → k < most-waits →
       getD semaphore (most-waits * i + k) 0 ≡ wait-at p i k .semaphore
   pub values : (i k : ℕ) → i < count p → k < most-waits → getD value (most-waits * i + k) 0 ≡ wait-at p i k .value
 
--- one place for each signal, and how many there are
+-- one place for each signal, and how many there are; columns with room for all
 pub record Signal-columns (p : Plan) (many : ℕ) (semaphore value operation : List ℕ) : Type 0 where
   pub few : many ≤ signal-places
+  pub semaphore-room : many ≤ length semaphore
+  pub value-room : many ≤ length value
+  pub operation-room : many ≤ length operation
   pub all : many ≡ length (plan-signals p)
   pub semaphores : (k : ℕ) → k < many → getD semaphore k 0 ≡ getD (plan-signals p) k no-signal .semaphore
   pub values : (k : ℕ) → k < many → getD value k 0 ≡ getD (plan-signals p) k no-signal .value
@@ -96,9 +101,10 @@ marked-from i (o ∷ os) = marked-of i (o .marks) ++ marked-from (suc i) os
 unfoldable pub plan-marks : Plan → List Marked
 plan-marks p = marked-from 0 (p .operations)
 
--- one place for each mark, twice its buffer and one more for a free, and how many there are
+-- one place for each mark, twice its buffer and one more for a free, and how many there are; columns with room for all
 pub record Mark-columns (p : Plan) (many : ℕ) (mark operation : List ℕ) : Type 0 where
-  pub few : many ≤ mark-places
+  pub room : many ≤ length mark
+  pub operation-room : many ≤ length operation
   pub all : many ≡ length (plan-marks p)
   pub marks : (k : ℕ) → k < many →
       getD mark k 0 ≡ 2 * getD (plan-marks p) k no-mark .buffer + getD (plan-marks p) k no-mark .kind

@@ -4,12 +4,12 @@
 use mathlib.Core.Path.{_≡_}
 use mathlib.Core.Bool.{cond}
 use mathlib.Core.List.{List, [], _∷_, _++_}
-use Prim.Native.Nat.{ℕ, zero, suc, _+_, _*_, _%_}
+use Prim.Native.Nat.{ℕ, zero, suc, _+_, _*_, _%_, _≤_, _<_}
 use lib.Dec.{ltb}
 use lib.ListN.{length, getD}
 use lib.Seq.{sets}
 use Rattle.base_lists.specs.Lists.{tabulate-from}
-use Rattle.plan_format.specs.Sizes.{most-buffers, most-operations, most-waits, wait-places, signal-places, mark-places}
+use Rattle.plan_format.specs.Sizes.{most-buffers, most-operations, most-waits}
 use Rattle.check_columns.specs.Columns.{Columns}
 
 -- the number of each of three waits, 0 in place of one that is missing
@@ -101,26 +101,29 @@ module _ (numbers : List ℕ) where
   parts f (suc k) i at = f i at ++ parts f k (suc i) (next-at at)
 
 -- ---- one operation
--- a part is in a column from a place on; the column has room for so many
-pub record Put (room : ℕ) (part : List ℕ) (place : ℕ) (before after : List ℕ) : Type 0 where
+-- a part is in a column from a place on, as far as the column has places
+pub record Put (part : List ℕ) (place : ℕ) (before after : List ℕ) : Type 0 where
   pub stored : after ≡ sets before place part
-  pub size : length before ≡ room
+
+-- operation i has its places in the columns of waits: one of 1,024, and three places in the column of values
+abbrev pub Wait-placed : (i : ℕ) → (value : List ℕ) → Type 0
+Wait-placed i value = (i < most-operations) × (most-waits * i + most-waits ≤ length value)
 
 -- operation i at a place is in every column; `signals` and `marks` are how many come before it
 pub record Added (numbers : List ℕ) (i at signals marks : ℕ) (cs cs′ : Columns) (at′ signals′ marks′ : ℕ) : Type 0 where
-  pub queues-added : Put most-operations (queue-part numbers i at) i (cs .queue) (cs′ .queue)
-  pub wait-semaphores-added : Put wait-places (wait-semaphore-part numbers i at) (most-waits * i) (cs .wait-semaphore)
+  pub queues-added : Put (queue-part numbers i at) i (cs .queue) (cs′ .queue)
+  pub wait-semaphores-added : Put (wait-semaphore-part numbers i at) (most-waits * i) (cs .wait-semaphore)
       (cs′ .wait-semaphore)
-  pub wait-values-added : Put wait-places (wait-value-part numbers i at) (most-waits * i) (cs .wait-value)
+  pub wait-values-added : Put (wait-value-part numbers i at) (most-waits * i) (cs .wait-value)
       (cs′ .wait-value)
-  pub signal-semaphores-added : Put signal-places (signal-semaphore-part numbers i at) signals (cs .signal-semaphore)
+  pub signal-semaphores-added : Put (signal-semaphore-part numbers i at) signals (cs .signal-semaphore)
       (cs′ .signal-semaphore)
-  pub signal-values-added : Put signal-places (signal-value-part numbers i at) signals (cs .signal-value)
+  pub signal-values-added : Put (signal-value-part numbers i at) signals (cs .signal-value)
       (cs′ .signal-value)
-  pub signal-operations-added : Put signal-places (signal-operation-part numbers i at) signals (cs .signal-operation)
+  pub signal-operations-added : Put (signal-operation-part numbers i at) signals (cs .signal-operation)
       (cs′ .signal-operation)
-  pub marks-added : Put mark-places (mark-part numbers i at) marks (cs .mark) (cs′ .mark)
-  pub mark-operations-added : Put mark-places (mark-operation-part numbers i at) marks (cs .mark-operation)
+  pub marks-added : Put (mark-part numbers i at) marks (cs .mark) (cs′ .mark)
+  pub mark-operations-added : Put (mark-operation-part numbers i at) marks (cs .mark-operation)
       (cs′ .mark-operation)
   pub next : at′ ≡ next-at numbers at
   pub more-signals : signals′ ≡ signals + signal-count numbers at

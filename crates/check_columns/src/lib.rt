@@ -3,6 +3,7 @@ use plan_format::limits::MARK_PLACES;
 use plan_format::limits::MOST_BUFFERS;
 use plan_format::limits::MOST_OPERATIONS;
 use plan_format::limits::MOST_SEMAPHORES;
+use plan_format::limits::MOST_WAITS;
 use plan_format::limits::PLAN_NUMBERS;
 use plan_format::limits::ROW_PLACES;
 use plan_format::limits::SIGNAL_PLACES;
@@ -10,15 +11,17 @@ use plan_format::limits::WAIT_PLACES;
 use plan_format::limits::Window;
 ghost use mathlib.Core.Path.{_≡_};
 ghost use mathlib.Core.Bool.{cond};
-ghost use Prim.Native.Nat.{ℕ, _*_, _%_, _<_, _≤_, min};
+ghost use Prim.Native.Nat.{ℕ, _+_, _*_, _%_, _<_, _≤_, min};
 ghost use lib.Dec.{ltb};
 ghost use lib.ListN.{length, getD, take, drop};
 ghost use lib.Seq.{sets};
-ghost use Rattle.plan_format.specs.Sizes.{most-queues, most-semaphores, most-operations, wait-places, plan-numbers};
+ghost use Rattle.plan_format.specs.Sizes.{most-queues, most-semaphores, most-operations, most-waits};
+ghost use Rattle.plan_format.specs.Sizes.{wait-places, plan-numbers};
 ghost use Rattle.plan_format.specs.Plan.{Plan, queues};
 ghost use Rattle.check_columns.specs.Columns.{columns, Owner-column};
 ghost use Rattle.check_columns.specs.Filling.{owner-numbers, wait-semaphores, wait-values, signal-semaphores};
-ghost use Rattle.check_columns.specs.Filling.{signal-values, codes-of-marks, repeated, next-at, Added};
+ghost use Rattle.check_columns.specs.Filling.{signal-values, codes-of-marks, repeated, next-at, Wait-placed};
+ghost use Rattle.check_columns.specs.Filling.{Added};
 
 // The columns of a plan: an owner for each semaphore, a queue for each operation; for each place of a wait a semaphore
 // or the operation that the wait rests on, and a value; for each signal a semaphore or its operation, and a value; for
@@ -83,8 +86,9 @@ fn owned(numbers: &[u64], at: usize, many: usize, owner: &mut [u16])
 }
 
 // Stores operation i, read into a window, after the signals and marks of those before it; gives how many there are
-// with its own. There are places for 1,024 operations: one past them is not stored. With its counts cut to their bits
-// no operation reaches past a window of 32.
+// with its own. There are places for 1,024 operations, and for as many as the column of wait values has three places
+// for: one past them is not stored. A signal or a mark that a column has no place for is not stored in it. With its
+// counts cut to their bits no operation reaches past a window of 32.
 pub fn add(
     window: &Window,
     i: u16,
@@ -92,20 +96,20 @@ pub fn add(
     marks: u16,
     queue: &mut QueueColumn,
     wsem: &mut WaitColumn,
-    wval: &mut WaitValues,
-    ssem: &mut SignalColumn,
-    sval: &mut SignalValues,
-    sop: &mut SignalColumn,
-    mark: &mut MarkColumn,
-    mop: &mut MarkColumn,
+    wval: &mut [u64],
+    ssem: &mut [u16],
+    sval: &mut [u64],
+    sop: &mut [u16],
+    mark: &mut [u16],
+    mop: &mut [u16],
 ) -> Filled
-    ensures added { λ r. ⌜ (i < most-operations → Added (now (window .entry)) i 0 signals marks
+    ensures added { λ r. ⌜ (Wait-placed i (now (wval .entry)) → Added (now (window .entry)) i 0 signals marks
         (columns (now (queue .entry)) (now (wsem .entry)) (now (wval .entry)) (now (ssem .entry)) (now (sval .entry))
         (now (sop .entry)) (now (mark .entry)) (now (mop .entry)))
         (columns (now (queue .exit)) (now (wsem .exit)) (now (wval .exit)) (now (ssem .exit)) (now (sval .exit))
         (now (sop .exit)) (now (mark .exit)) (now (mop .exit)))
         (next-at (now (window .entry)) 0) (r .signals) (r .marks)) ⌝ }
-    ensures full { λ r. ⌜ (most-operations ≤ i → (r .signals ≡ signals) × (r .marks ≡ marks)
+    ensures full { λ r. ⌜ ((Wait-placed i (now (wval .entry)) → ⊥) → (r .signals ≡ signals) × (r .marks ≡ marks)
         × (columns (now (queue .exit)) (now (wsem .exit)) (now (wval .exit)) (now (ssem .exit)) (now (sval .exit))
         (now (sop .exit)) (now (mark .exit)) (now (mop .exit))
         ≡ columns (now (queue .entry)) (now (wsem .entry)) (now (wval .entry)) (now (ssem .entry)) (now (sval .entry))
@@ -115,6 +119,12 @@ pub fn add(
     let signals_before = signals as usize;
     let marks_before = marks as usize;
     if MOST_OPERATIONS <= operation {
+        return Filled {
+            signals: signals_before,
+            marks: marks_before,
+        };
+    }
+    if wval.len() < MOST_WAITS * operation + MOST_WAITS {
         return Filled {
             signals: signals_before,
             marks: marks_before,
@@ -142,7 +152,8 @@ pub fn add(
 
 // Stores the three waits of operation i, a wait for 0 in place of each that it lacks; gives how many it has.
 fn put_waits(window: &Window, i: usize, semaphore: &mut [u16], value: &mut [u64]) -> usize
-    requires { ⌜ (i < most-operations) × (wait-places ≤ length (now semaphore)) × (wait-places ≤ length (now value)) ⌝ }
+    requires { ⌜ (i < most-operations) × (wait-places ≤ length (now semaphore)) ×
+        (most-waits * i + most-waits ≤ length (now value)) ⌝ }
     ensures many { λ r. ⌜ r ≡ getD (now (window .entry)) 1 0 % 4 ⌝ }
     ensures semaphores { λ r. ⌜ now (semaphore .exit) ≡
         sets (now (semaphore .entry)) (3 * i) (wait-semaphores (now (window .entry)) r 1) ⌝ }

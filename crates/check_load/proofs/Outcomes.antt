@@ -22,6 +22,7 @@ use Rattle.plan_format.proofs.Seams.{after-seam}
 use Rattle.plan_format.proofs.Sections.{plan-whole}
 use Rattle.plan_format.proofs.Plans.{scanned-limits}
 use Rattle.check_columns.specs.Columns.{Columns, Head-column}
+use Rattle.check_columns.specs.Shown.{Places-for}
 use Rattle.check_columns.proofs.Plans.{filling-end}
 use Rattle.stored_numbers.specs.declared.Head.{Head}
 use Rattle.stored_numbers.specs.declared.End.{End}
@@ -330,9 +331,9 @@ module _ {F : Form} (bs : List ℕ) (form : Read-in F bs) (h : Head) (nums : Lis
           marks = marks;
         }
 
-        pub load-columns : Loads bs loaded nums cs
+        pub load-columns : Places-for (h .operations) cs₀ → Loads bs loaded nums cs
         unfolding queues
-        load-columns = record {
+        load-columns places = record {
           number = numbers .told .number;
           place = numbers .told .place;
           sizes = record {
@@ -344,7 +345,7 @@ module _ {F : Form} (bs : List ℕ) (form : Read-in F bs) (h : Head) (nums : Lis
           none = λ z. absurd (z refl);
           head-shown = λ _. load-head;
           columns = λ _. filling-end (plan-in bs) (scanned-limits bs clean) (all ++ []) (h .operations)
-              (length heading) operations-are done (l .filled small []);
+              (length heading) operations-are done (l .filled small []) places;
         }
 
         pub load-owners : plan-in bs .owners ≡ take (h .semaphores) (drop (2 + h .queues) nums)

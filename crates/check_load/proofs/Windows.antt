@@ -16,9 +16,9 @@ use Rattle.check_columns.proofs.Lists.{wait-value-same, signal-semaphore-same, 
 use Rattle.check_columns.proofs.Lists.{mark-same, mark-operation-same}
 use Rattle.check_load.proofs.Blocks.{Small, block-fits}
 
-put-same : {room place : ℕ} {part other before after : List ℕ} → part ≡ other → Put room part place before after →
-    Put room other place before after
-put-same {room} {place} {before = before} {after} e p = subst (λ (z : List ℕ). Put room z place before after) e p
+put-same : {place : ℕ} {part other before after : List ℕ} → part ≡ other → Put part place before after →
+    Put other place before after
+put-same {place} {before = before} {after} e p = subst (λ (z : List ℕ). Put z place before after) e p
 
 module _ {q m b : ℕ} (small : Small q m b) (front block more junk : List ℕ) (k : Block q m b block) where
   abbrev all : List ℕ

@@ -3,19 +3,15 @@
 use mathlib.Core.Path.{_≡_}
 use mathlib.Core.Bool.{cond}
 use mathlib.Core.List.{List}
-use Prim.Native.Nat.{ℕ, _+_, _*_, min}
+use Prim.Native.Nat.{ℕ, _*_}
 use lib.ListN.{length}
-use lib.Seq.{sets}
-use Rattle.base_lists.specs.Lists.{in-front}
-use Rattle.plan_format.specs.Sizes.{most-semaphores, most-waits, plan-numbers}
+use Rattle.plan_format.specs.Sizes.{most-waits}
 use Rattle.plan_format.specs.Grammar.{last-got}
-use Rattle.plan_format.specs.Form.{queue-count, semaphore-count}
 use Rattle.plan_format.specs.Plan.{count}
 use Rattle.plan_format.specs.Refusal.{given}
 use Rattle.plan_format.specs.Stored.{scanned, plan-in}
 use Rattle.plan_order.specs.Meaning.{Past-kept}
 use Rattle.check_columns.specs.Columns.{Columns, Head-column}
-use Rattle.check_columns.specs.Filling.{owner-numbers}
 use Rattle.check_columns.specs.Shown.{Columns-of}
 use Rattle.stored_numbers.specs.Reading.{head-scan, unless-refused}
 use Rattle.check_load.specs.declared.Loaded.{Loaded}
@@ -61,13 +57,3 @@ head-got bs = head-scan bs .got
 -- how many operations the head tells; 0 beside a refusal of the head
 unfoldable pub head-operations : (bytes : List ℕ) → ℕ
 head-operations bs = unless-refused (head-scan bs) (last-got (head-scan bs))
-
--- the head's numbers, up to its refusal, are in front of what was lent for them; its owners, cut to sixteen bits, are
--- in front of theirs, which stays beside a refusal of the head
-pub record Load-left (bytes : List ℕ) (r : Loaded) (head head-now owner owner-now : List ℕ)
-    (cs cs′ : Columns) : Type 0 where
-  pub head-is : head-now ≡ in-front (head-got bytes) head
-  pub owner-is : owner-now ≡ cond (given (head-scan bytes .fault)) owner
-      (sets owner 0 (owner-numbers head-now (min (semaphore-count (head-got bytes)) most-semaphores)
-      (min (2 + queue-count (head-got bytes)) plan-numbers)))
-  pub keeps : Keeps (head-operations bytes) r cs cs′

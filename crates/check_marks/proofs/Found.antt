@@ -13,7 +13,7 @@ use lib.Seq.{getD-set-same, getD-set-other}
 use borrow.Author.Tests.{ltb-true, ltb-false, eqb-true, eqb-false, eq-eqb, ne-eqb}
 use Rattle.base_lists.specs.Lists.{place-or}
 use Rattle.base_lists.proofs.Tests.{by-cases, by-option, clash, either}
-use Rattle.plan_format.specs.Sizes.{most-buffers, no-operation, mark-places}
+use Rattle.plan_format.specs.Sizes.{most-buffers, no-operation}
 use Rattle.plan_format.specs.Plan.{Plan, count}
 use Rattle.plan_format.specs.Sound.{Sound}
 use Rattle.plan_order.specs.Precedence.{before, at-or-before}
@@ -263,12 +263,13 @@ module _ (p : Plan) (sound : Sound p) (few : length (p .sizes) ≤ 256) (f : Lis
       ))))
 
 -- ---- the lower of the two
-pub lower-found : (n many cut a b r : ℕ) (queue mark operation rows : List ℕ) → cut ≡ min many mark-places →
+pub lower-found : (n many held cut a b r : ℕ) (queue mark operation rows : List ℕ) →
+    held ≡ min (length mark) (length operation) → cut ≡ min many held →
     a ≡ first-late queue rows n (shown-from mark operation cut 0) →
     b ≡ first-early queue rows n none-noted (shown-from mark operation cut 0) →
     r ≡ min a b → r ≡ first-broken queue rows n many mark operation
 unfolding first-broken
-lower-found n many cut a b r queue mark operation rows c ea eb er = rw (er, ea, eb, c)
+lower-found n many held cut a b r queue mark operation rows h c ea eb er = rw (er, ea, eb, c, h)
 
 pub broken-found : (p : Plan) (n many : ℕ) (queue mark operation rows : List ℕ) →
     Marks-given p n many queue mark operation rows →
@@ -276,7 +277,8 @@ pub broken-found : (p : Plan) (n many : ℕ) (queue mark operation rows : List �
 unfolding first-broken
 broken-found p n many queue mark operation rows c =
     let known = marks-known p (c .sound) in
-    let all : min many mark-places ≡ many = omega (arith, c .marks-shown .few) in
+    let all : min many (min (length mark) (length operation)) ≡ many =
+    omega (arith, c .marks-shown .room, c .marks-shown .operation-room) in
     rw (
       all,
       ← c .many,

@@ -6,8 +6,8 @@ use mathlib.Core.Bool.{Bool, _&&_, _||_, not, cond}
 use mathlib.Core.List.{List, [], _∷_}
 use Prim.Native.Nat.{ℕ, _/_, _%_, _<_, min}
 use lib.Dec.{ltb, eqb}
-use lib.ListN.{getD, set, replicate}
-use Rattle.plan_format.specs.Sizes.{most-buffers, mark-places, row-width, no-operation}
+use lib.ListN.{length, getD, set, replicate}
+use Rattle.plan_format.specs.Sizes.{most-buffers, row-width, no-operation}
 use Rattle.check_columns.specs.Columns.{Marked}
 use Rattle.check_columns.specs.Shown.{shown-from, ordered}
 
@@ -54,7 +54,9 @@ module _ (queue rows : List ℕ) where
   first-early n frees (m ∷ ms) =
       cond (early (free-in frees (m .buffer)) (m .by)) (m .by) (first-early n (noted m frees) ms)
 
-  -- the lower of the two, by the first `many` marks of columns with 4,096 places; n where there is neither
+  -- the lower of the two, by the first `many` marks, or by all that the columns hold where they hold fewer; n where
+  -- there is neither
   unfoldable pub first-broken : (n many : ℕ) → (mark operation : List ℕ) → ℕ
   first-broken n many mark operation =
-      let ms = shown-from mark operation (min many mark-places) 0 in min (first-late n ms) (first-early n none-noted ms)
+      let ms = shown-from mark operation (min many (min (length mark) (length operation))) 0 in
+      min (first-late n ms) (first-early n none-noted ms)

@@ -3,10 +3,8 @@
 // row of its free begins, or the free's own place in that row; and the zero row, after the last, for none. What is done
 // for a mark does not branch on it.
 use check_columns::MARK_CODES;
-use check_columns::MarkColumn;
 use check_columns::QueueColumn;
 use check_columns::Rows;
-use plan_format::limits::MARK_PLACES;
 use plan_format::limits::MOST_BUFFERS;
 use plan_format::limits::MOST_OPERATIONS;
 use plan_format::limits::NO_OPERATION;
@@ -16,7 +14,8 @@ ghost use mathlib.Core.Bool.{cond};
 ghost use mathlib.Core.List.{List};
 ghost use Prim.Native.Nat.{ℕ, _+_, _*_, _%_, _<_, _≤_};
 ghost use lib.Dec.{eqb};
-ghost use Rattle.plan_format.specs.Sizes.{most-operations, mark-places, row-width, no-operation};
+ghost use lib.ListN.{length};
+ghost use Rattle.plan_format.specs.Sizes.{most-operations, row-width, no-operation};
 ghost use Rattle.plan_format.specs.Plan.{Plan};
 ghost use Rattle.plan_order.specs.Holdings.{broken as broken-mark};
 ghost use Rattle.base_lists.specs.Lists.{place-or};
@@ -30,14 +29,14 @@ const NO_ROW: usize = ROW_WIDTH * NO_OPERATION;
 
 const NO_ROW_STORED: u16 = NO_ROW as u16;
 
-// The lower of what the two passes find; n where they find nothing. By the columns of a plan it is the lowest operation
-// with a broken mark.
+// The lower of what the two passes find by the marks that the columns hold; n where they find nothing. By the columns
+// of a plan it is the lowest operation with a broken mark.
 pub fn broken(
     n: u16,
     marks: usize,
     queue: &QueueColumn,
-    mark: &MarkColumn,
-    mop: &MarkColumn,
+    mark: &[u16],
+    mop: &[u16],
     rows: &Rows,
 ) -> usize
     ensures found { λ r. ⌜ r ≡ first-broken (now (queue .entry)) (now (rows .entry)) n marks (now (mark .entry))
@@ -47,7 +46,8 @@ pub fn broken(
         r ≡ place-or n (broken-mark p)) ⌝ }
 {
     let none = n as usize;
-    let many = base_numbers::min_usize(marks, MARK_PLACES);
+    let held = base_numbers::min_usize(mark.len(), mop.len());
+    let many = base_numbers::min_usize(marks, held);
     let a = uses(none, many, queue, mark, mop, rows);
     let b = reuses(none, many, queue, mark, mop, rows);
     base_numbers::min_usize(a, b)
@@ -59,11 +59,11 @@ fn uses(
     n: usize,
     marks: usize,
     queue: &QueueColumn,
-    mark: &MarkColumn,
-    mop: &MarkColumn,
+    mark: &[u16],
+    mop: &[u16],
     rows: &Rows,
 ) -> usize
-    requires { ⌜ marks ≤ mark-places ⌝ }
+    requires { ⌜ (marks ≤ length (now mark)) × (marks ≤ length (now mop)) ⌝ }
     ensures { λ r. ⌜ r ≡ first-late (now (queue .entry)) (now (rows .entry)) n
         (shown-from (now (mark .entry)) (now (mop .entry)) marks 0) ⌝ }
 {
@@ -86,11 +86,11 @@ fn reuses(
     n: usize,
     marks: usize,
     queue: &QueueColumn,
-    mark: &MarkColumn,
-    mop: &MarkColumn,
+    mark: &[u16],
+    mop: &[u16],
     rows: &Rows,
 ) -> usize
-    requires { ⌜ marks ≤ mark-places ⌝ }
+    requires { ⌜ (marks ≤ length (now mark)) × (marks ≤ length (now mop)) ⌝ }
     ensures { λ r. ⌜ r ≡ first-early (now (queue .entry)) (now (rows .entry)) n none-noted
         (shown-from (now (mark .entry)) (now (mop .entry)) marks 0) ⌝ }
 {

@@ -5,7 +5,7 @@ use mathlib.Core.List.{List}
 use Prim.Native.Nat.{ℕ, _*_, _≤_, _<_}
 use native.Mathlib.Omega.{arith}
 use lib.Dec.{ltb}
-use lib.ListN.{length, take, drop, replicate, length-replicate}
+use lib.ListN.{take, drop, replicate, length-replicate}
 use lib.Seq.{length-take-le}
 use borrow.Author.Tests.{lt-ltb, le-ltb}
 use Rattle.base_lists.specs.Lists.{in-front}
@@ -17,8 +17,7 @@ use Rattle.plan_format.specs.Stored.{Tells}
 use Rattle.plan_format.specs.declared.Told.{Told}
 use Rattle.plan_format.proofs.Telling.{told, tells}
 use Rattle.plan_format.proofs.Judged.{zero-not-given, other-given, not-given-zero, or-else-first, or-else-second}
-use Rattle.plan_format.proofs.Judged.{refusal-given}
-use Rattle.check_signals.specs.Walks.{signals-walk, lasts-walk, zeros}
+use Rattle.check_signals.specs.Walks.{signals-found, lasts-found, zeros}
 use Rattle.check_waits.specs.Waits.{waits-found, Sources}
 use Rattle.check_run.specs.Run.{Bounded}
 use Rattle.check_run.proofs.Bounds.{run-past}
@@ -28,44 +27,49 @@ use Rattle.check_passes.specs.Answering.{rules-by, Sources-by, order-by,
 use Rattle.check_passes.specs.Leaving.{Results-room, Results-left}
 use Rattle.check_passes.proofs.Inside.{order-inside}
 
+-- ---- the first of two that is given
+pub first-only : {a : Refusal} (b : Refusal) {r : Told} → Tells a 0 r → (r .number ≡ 0 → ⊥) → Tells (or-else a b) 0 r
+first-only {a} b {r} h z =
+    subst (λ (f : Refusal). Tells f 0 r) (sym (or-else-first a b (other-given a (λ e. z (h .number ∙ e))))) h
+
 -- ---- 6 to 8
-module _ (n signals : ℕ) (owner queue wsem wval ssem sval sop : List ℕ) where
-  pub rules-first : (m i : ℕ) → refusal m i ≡ signals-walk owner queue ssem sval sop signals 0 zeros → (m ≡ 0 → ⊥) →
-      Tells (rules-by n signals owner queue wsem wval ssem sval sop) 0 (told m i)
-  unfolding rules-by
-  rules-first m i e z = tells (or-else-first _ _ (ap given (sym e) ∙ refusal-given m i z) ∙ sym e)
+module _ (n semaphores signals : ℕ) (owner queue wsem wval ssem sval sop : List ℕ) {r : Told}
+    (first : Tells (signals-found semaphores signals owner queue ssem sval sop zeros) 0 r) where
+  module _ (z : r .number ≡ 0 → ⊥) where
+    stops : given (signals-found semaphores signals owner queue ssem sval sop zeros) ≡ true
+    stops = other-given _ (λ e. z (first .number ∙ e))
 
-  pub rules-second : (m i : ℕ) {last : List ℕ} {r : Told} →
-      refusal m i ≡ signals-walk owner queue ssem sval sop signals 0 zeros → m ≡ 0 →
-      last ≡ lasts-walk owner queue ssem sval sop signals 0 zeros → Tells (waits-found n signals wsem wval last) 0 r →
-      Tells (rules-by n signals owner queue wsem wval ssem sval sop) 0 r
-  unfolding rules-by refusal
-  rules-second m i {last} {r} e z l h =
-      subst (λ (f : Refusal). Tells f 0 r)
-      (sym (or-else-second _ _ (ap (λ (x : Refusal). x .number) (sym e) ∙ z)
-      ∙ ap (λ (x : List ℕ). waits-found n signals wsem wval x) (sym l))) h
+    pub rules-first : Tells (rules-by n semaphores signals owner queue wsem wval ssem sval sop) 0 r
+    unfolding rules-by
+    rules-first = first-only _ first z
 
-  pub sources-refused : (m i : ℕ) → refusal m i ≡ signals-walk owner queue ssem sval sop signals 0 zeros → (m ≡ 0 → ⊥) →
-      Sources-by n signals owner queue wsem wval ssem sval sop wsem
-  sources-refused m i e z = record {
-    refused = λ g. refl;
-    resolved = λ f. clash (given (signals-walk owner queue ssem sval sop signals 0 zeros))
-        (ap given (sym e) ∙ refusal-given m i z) f;
-  }
+    pub sources-refused : Sources-by n semaphores signals owner queue wsem wval ssem sval sop wsem
+    sources-refused = record {
+      refused = λ g. refl;
+      resolved = λ f. clash (given (signals-found semaphores signals owner queue ssem sval sop zeros)) stops f;
+    }
 
-  pub sources-resolved : (m i : ℕ) {source last : List ℕ} {r : Told} →
-      refusal m i ≡ signals-walk owner queue ssem sval sop signals 0 zeros → m ≡ 0 →
-      last ≡ lasts-walk owner queue ssem sval sop signals 0 zeros → Tells (waits-found n signals wsem wval last) 0 r →
-      Sources n signals (r .number) ssem sval sop wsem wval source →
-      Sources-by n signals owner queue wsem wval ssem sval sop source
-  unfolding refusal
-  sources-resolved m i {source} {last} {r} e z l h left = record {
-    refused = λ g. clash (given (signals-walk owner queue ssem sval sop signals 0 zeros)) g
-        (zero-not-given (signals-walk owner queue ssem sval sop signals 0 zeros)
-        (ap (λ (x : Refusal). x .number) (sym e) ∙ z));
-    resolved = λ f. subst (λ (k : ℕ). Sources n signals k ssem sval sop wsem wval source)
-        (h .number ∙ ap (λ (x : List ℕ). waits-found n signals wsem wval x .number) l) left;
-  }
+  module _ (z : r .number ≡ 0) {last : List ℕ}
+      (l : last ≡ lasts-found semaphores signals owner queue ssem sval sop zeros) {t : Told}
+      (h : Tells (waits-found n semaphores signals ssem sval sop wsem wval last) 0 t) where
+    none : signals-found semaphores signals owner queue ssem sval sop zeros .number ≡ 0
+    none = sym (first .number) ∙ z
+
+    pub rules-second : Tells (rules-by n semaphores signals owner queue wsem wval ssem sval sop) 0 t
+    unfolding rules-by
+    rules-second =
+        subst (λ (f : Refusal). Tells f 0 t)
+        (sym (or-else-second _ _ none
+        ∙ ap (λ (x : List ℕ). waits-found n semaphores signals ssem sval sop wsem wval x) (sym l))) h
+
+    pub sources-resolved : {source : List ℕ} → Sources n semaphores signals (t .number) ssem sval sop wsem wval source →
+        Sources-by n semaphores signals owner queue wsem wval ssem sval sop source
+    sources-resolved {source} left = record {
+      refused = λ g. clash (given (signals-found semaphores signals owner queue ssem sval sop zeros)) g
+          (zero-not-given (signals-found semaphores signals owner queue ssem sval sop zeros) none);
+      resolved = λ f. subst (λ (k : ℕ). Sources n semaphores signals k ssem sval sop wsem wval source)
+          (h .number ∙ ap (λ (x : List ℕ). waits-found n semaphores signals ssem sval sop wsem wval x .number) l) left;
+    }
 
 -- ---- 10 and 11
 module _ (n ran marks i : ℕ) (queue mark mop rows : List ℕ) where
@@ -157,7 +161,3 @@ pub first-then : {a : Refusal} (b : Refusal) {n marks : ℕ} {queue mark mop t t
 first-then {a} b {n} {marks} {queue} {mark} {mop} {t} {t′} {l} {l′} {s} {r} h z x =
     subst (λ (f : Refusal). Answers-by f n marks queue mark mop r t t′ l l′)
     (sym (or-else-second a b (sym (h .number) ∙ z))) x
-
-pub first-only : {a : Refusal} (b : Refusal) {r : Told} → Tells a 0 r → (r .number ≡ 0 → ⊥) → Tells (or-else a b) 0 r
-first-only {a} b {r} h z =
-    subst (λ (f : Refusal). Tells f 0 r) (sym (or-else-first a b (other-given a (λ e. z (h .number ∙ e))))) h

@@ -2,8 +2,9 @@
 use mathlib.Core.Path.{_≡_, sym, _∙_, subst}
 use mathlib.Core.List.{List}
 use Prim.Native.Nat.{ℕ, _≤_}
-use lib.ListN.{length}
-use Rattle.plan_format.specs.Sizes.{most-operations}
+use native.Mathlib.Omega.{arith}
+use lib.ListN.{length, length-replicate}
+use Rattle.plan_format.specs.Sizes.{most-operations, most-semaphores}
 use Rattle.plan_format.specs.Plan.{Plan}
 use Rattle.plan_format.specs.Sound.{Sound}
 use Rattle.plan_format.specs.declared.Told.{Told}
@@ -12,45 +13,47 @@ use Rattle.plan_format.proofs.Positions.{in-range, few-waits}
 use Rattle.plan_order.specs.Runs.{standard}
 use Rattle.check_columns.specs.Columns.{Columns}
 use Rattle.check_columns.proofs.Limits.{few-operations}
-use Rattle.check_signals.specs.declared.Signalled.{Signalled}
-use Rattle.check_signals.specs.Walks.{Signals-given, Judged}
+use Rattle.check_signals.specs.Walks.{Signals-given, Judged, zeros}
 use Rattle.check_waits.specs.Waits.{Waits-given}
 use Rattle.check_run.specs.Run.{Run-given, Rows-of}
 use Rattle.check_passes.specs.Given.{Check-given, Rules-given, Ruled, Order-given, Judge-given}
 
 -- ---- 6 to 8
-module _ {p : Plan} {n signals : ℕ} {owner queue wsem wval ssem sval sop : List ℕ}
-    (g : Rules-given p n signals owner queue wsem wval ssem sval sop) where
-  pub signals-given : Signals-given p signals owner queue ssem sval sop
+module _ {p : Plan} {n semaphores signals : ℕ} {owner queue wsem wval ssem sval sop : List ℕ}
+    (g : Rules-given p n semaphores signals owner queue wsem wval ssem sval sop) where
+  pub signals-given : Signals-given p semaphores signals owner queue ssem sval sop zeros
   signals-given = record {
-    few-owners = g .limits .few-semaphores;
+    own-semaphores = g .own-semaphores;
+    room = omega (arith, g .limits .few-semaphores, length-replicate {A = ℕ} most-semaphores 0);
     in-range = in-range (g .limits);
     owners-shown = g .owners-shown;
     queues-shown = g .queues-shown;
     signals-shown = g .signals-shown;
   }
 
-  pub waits-given : {j : Signalled} → Judged p j → j .number ≡ 0 →
-      Waits-given p n signals ssem sval sop wsem wval (j .last)
+  pub waits-given : {r : Told} {last : List ℕ} → Judged p r last → r .number ≡ 0 →
+      Waits-given p n semaphores signals ssem sval sop wsem wval last
   waits-given j z = record {
     operations = g .many;
     few = subst (λ (k : ℕ). k ≤ most-operations) (g .many) (few-operations (g .limits));
-    few-owners = g .limits .few-semaphores;
+    own-semaphores = g .own-semaphores;
+    few-semaphores = subst (λ (k : ℕ). k ≤ most-semaphores) (g .own-semaphores) (g .limits .few-semaphores);
     in-range = in-range (g .limits);
-    rules = sym (j .number) ∙ z;
+    rules = sym (j .told .number) ∙ z;
     signals-shown = g .signals-shown;
     waits-shown = g .waits-shown;
     highest-shown = j .highest-shown z;
   }
 
 -- ---- the whole check
-module _ {p : Plan} {n signals marks : ℕ} {owner : List ℕ} {cs : Columns}
-    (g : Check-given p n signals marks owner cs) where
-  pub rules-given : Rules-given p n signals owner (cs .queue) (cs .wait-semaphore) (cs .wait-value)
+module _ {p : Plan} {n semaphores signals marks : ℕ} {owner : List ℕ} {cs : Columns}
+    (g : Check-given p n semaphores signals marks owner cs) where
+  pub rules-given : Rules-given p n semaphores signals owner (cs .queue) (cs .wait-semaphore) (cs .wait-value)
       (cs .signal-semaphore) (cs .signal-value) (cs .signal-operation)
   rules-given = record {
     limits = g .limits;
     many = g .many;
+    own-semaphores = g .own-semaphores;
     owners-shown = g .owners-shown;
     queues-shown = g .shown .queues-shown;
     waits-shown = g .shown .waits-shown;

@@ -11,28 +11,27 @@ use Rattle.plan_format.specs.Sound.{rules-refusal}
 use Rattle.plan_format.specs.Stored.{room-for, Tells}
 use Rattle.plan_format.specs.declared.Told.{Told}
 use Rattle.plan_format.proofs.Judged.{zero-not-given, other-given, or-else-none}
-use Rattle.plan_format.proofs.Telling.{told, tells-as, tells-answerless}
+use Rattle.plan_format.proofs.Telling.{tells-answerless}
 use Rattle.plan_format.proofs.RoomMeaning.{room-for-none}
 use Rattle.plan_order.specs.Check.{room-refusal, Outcome, untouched, outcome, or-then, plan-outcome, table-left}
 use Rattle.plan_order.specs.Check.{list-left, left-in, Says, Plan-check-says}
-use Rattle.check_signals.specs.declared.Signalled.{Signalled}
 use Rattle.check_signals.specs.Walks.{Judged}
 use Rattle.check_waits.specs.Waits.{Resolved}
 use Rattle.check_waits.proofs.Rules.{six-seven-first, then-eight}
 use Rattle.check_passes.specs.Given.{Ruled}
 
 -- ---- 6 to 8
-module _ {p : Plan} {j : Signalled} (judged : Judged p j) {source : List ℕ} where
-  pub six-or-seven : (j .number ≡ 0 → ⊥) → Ruled p (told (j .number) (j .place)) source
+module _ {p : Plan} {r : Told} {last : List ℕ} (judged : Judged p r last) {source : List ℕ} where
+  pub six-or-seven : (r .number ≡ 0 → ⊥) → Ruled p r source
   six-or-seven z = record {
-    told = subst (λ (f : Refusal). Tells f 0 (told (j .number) (j .place)))
-        (sym (six-seven-first p (λ e. z (judged .number ∙ e)))) (tells-as (judged .number) (judged .place));
+    told = subst (λ (f : Refusal). Tells f 0 r) (sym (six-seven-first p (λ e. z (judged .told .number ∙ e))))
+        (judged .told);
     sources-shown = λ e. absurd (z e);
   }
 
-  pub eight : {w : Told} → j .number ≡ 0 → w .answer ≡ 0 → Resolved p w source → Ruled p w source
+  pub eight : {w : Told} → r .number ≡ 0 → w .answer ≡ 0 → Resolved p w source → Ruled p w source
   eight {w} z none resolved = record {
-    told = subst (λ (f : Refusal). Tells f 0 w) (sym (then-eight p (sym (judged .number) ∙ z)))
+    told = subst (λ (f : Refusal). Tells f 0 w) (sym (then-eight p (sym (judged .told .number) ∙ z)))
         (tells-answerless none (resolved .number) (resolved .place));
     sources-shown = resolved .sources-shown;
   }

@@ -11,24 +11,26 @@ use Rattle.plan_format.specs.Sizes.{most-operations, row-width, row-places}
 use Rattle.plan_format.specs.Refusal.{Refusal, refusal, none-given, given, or-else}
 use Rattle.plan_format.specs.Stored.{Tells}
 use Rattle.plan_format.specs.declared.Told.{Told}
-use Rattle.check_signals.specs.Walks.{signals-walk, lasts-walk, zeros}
+use Rattle.check_signals.specs.Walks.{signals-found, lasts-found, zeros}
 use Rattle.check_waits.specs.Waits.{waits-found, Sources}
 use Rattle.check_run.specs.Run.{Bounded}
 use Rattle.check_stuck.specs.Zeros.{first-zero}
 use Rattle.check_marks.specs.Passes.{first-broken}
 
 -- 6 or 7, else 8
-unfoldable pub rules-by : (n signals : ℕ) → (owner queue wsem wval ssem sval sop : List ℕ) → Refusal
-rules-by n signals owner queue wsem wval ssem sval sop =
-    or-else (signals-walk owner queue ssem sval sop signals 0 zeros)
-    (waits-found n signals wsem wval (lasts-walk owner queue ssem sval sop signals 0 zeros))
+unfoldable pub rules-by : (n semaphores signals : ℕ) → (owner queue wsem wval ssem sval sop : List ℕ) → Refusal
+rules-by n semaphores signals owner queue wsem wval ssem sval sop =
+    or-else (signals-found semaphores signals owner queue ssem sval sop zeros)
+    (waits-found n semaphores signals ssem sval sop wsem wval
+    (lasts-found semaphores signals owner queue ssem sval sop zeros))
 
 -- the column of the waits afterwards: as it was where 6 or 7 is given, else as the resolution leaves it
-pub record Sources-by (n signals : ℕ) (owner queue wsem wval ssem sval sop source : List ℕ) : Type 0 where
-  pub refused : given (signals-walk owner queue ssem sval sop signals 0 zeros) ≡ true → source ≡ wsem
-  pub resolved : given (signals-walk owner queue ssem sval sop signals 0 zeros) ≡ false →
-      Sources n signals (waits-found n signals wsem wval (lasts-walk owner queue ssem sval sop signals 0 zeros) .number)
-      ssem sval sop wsem wval source
+pub record Sources-by (n semaphores signals : ℕ) (owner queue wsem wval ssem sval sop source : List ℕ) : Type 0 where
+  pub refused : given (signals-found semaphores signals owner queue ssem sval sop zeros) ≡ true → source ≡ wsem
+  pub resolved : given (signals-found semaphores signals owner queue ssem sval sop zeros) ≡ false →
+      Sources n semaphores signals
+      (waits-found n semaphores signals ssem sval sop wsem wval
+      (lasts-found semaphores signals owner queue ssem sval sop zeros) .number) ssem sval sop wsem wval source
 
 -- 10 after fewer than n steps, else 11, by the rows
 unfoldable pub order-by : (n ran marks : ℕ) → (queue mark mop rows : List ℕ) → Refusal

@@ -16,16 +16,19 @@ use Rattle.check_columns.specs.Shown.{Columns-of}
 use Rattle.check_run.specs.Run.{Rows-of}
 
 -- the columns of a plan within the limits
-pub record Check-given (p : Plan) (n signals marks : ℕ) (owner : List ℕ) (cs : Columns) : Type 0 where
+pub record Check-given (p : Plan) (n semaphores signals marks : ℕ) (owner : List ℕ) (cs : Columns) : Type 0 where
   pub limits : Limits p
   pub many : count p ≡ n
+  pub own-semaphores : length (p .owners) ≡ semaphores
   pub owners-shown : Owner-column p owner
   pub shown : Columns-of p signals marks cs
 
 -- the same but for its marks
-pub record Rules-given (p : Plan) (n signals : ℕ) (owner queue wsem wval ssem sval sop : List ℕ) : Type 0 where
+pub record Rules-given (p : Plan) (n semaphores signals : ℕ)
+    (owner queue wsem wval ssem sval sop : List ℕ) : Type 0 where
   pub limits : Limits p
   pub many : count p ≡ n
+  pub own-semaphores : length (p .owners) ≡ semaphores
   pub owners-shown : Owner-column p owner
   pub queues-shown : Queue-column p queue
   pub waits-shown : Wait-columns p wsem wval

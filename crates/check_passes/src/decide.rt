@@ -1,5 +1,4 @@
 // A plan with none of refusals 1 to 8: the room, its standard run with the rows, and refusals 9 to 11.
-use check_columns::MarkColumn;
 use check_columns::QueueColumn;
 use check_columns::Rows;
 use check_columns::WaitColumn;
@@ -22,8 +21,8 @@ pub fn check_order(
     marks: usize,
     queue: &QueueColumn,
     source: &WaitColumn,
-    mark: &MarkColumn,
-    mop: &MarkColumn,
+    mark: &[u16],
+    mop: &[u16],
     table: &mut [u32],
     list: &mut [u32],
 ) -> Told
@@ -70,8 +69,8 @@ fn judge(
     ran: usize,
     marks: usize,
     queue: &QueueColumn,
-    mark: &MarkColumn,
-    mop: &MarkColumn,
+    mark: &[u16],
+    mop: &[u16],
     rows: &Rows,
 ) -> Told
     ensures told { λ r. ⌜ Tells

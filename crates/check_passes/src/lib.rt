@@ -3,14 +3,11 @@
 mod decide;
 mod leave;
 
-use check_columns::MarkColumn;
 use check_columns::OwnerColumn;
 use check_columns::QueueColumn;
-use check_columns::SignalColumn;
-use check_columns::SignalValues;
 use check_columns::WaitColumn;
-use check_columns::WaitValues;
 use plan_format::Told;
+use plan_format::limits::MOST_SEMAPHORES;
 ghost use mathlib.Core.Path.{_≡_};
 ghost use lib.ListN.{length};
 ghost use Rattle.plan_format.specs.Plan.{Plan};
@@ -27,36 +24,48 @@ ghost use Rattle.check_passes.specs.Given.{Check-given, Rules-given, Rul
 // which operations run, in which order, and what their rows are.
 pub fn judge_columns(
     n: u16,
+    semaphores: usize,
     signals: usize,
     marks: usize,
     owner: &OwnerColumn,
     queue: &QueueColumn,
     wait: &mut WaitColumn,
-    wval: &WaitValues,
-    ssem: &SignalColumn,
-    sval: &SignalValues,
-    sop: &SignalColumn,
-    mark: &MarkColumn,
-    mop: &MarkColumn,
+    wval: &[u64],
+    ssem: &[u16],
+    sval: &[u64],
+    sop: &[u16],
+    mark: &[u16],
+    mop: &[u16],
     table: &mut [u32],
     list: &mut [u32],
 ) -> Told
     ensures answers { λ r. ⌜ Answers-by (or-else
-        (rules-by n signals (now (owner .entry)) (now (queue .entry)) (now (wait .entry)) (now (wval .entry))
+        (rules-by n semaphores signals (now (owner .entry)) (now (queue .entry)) (now (wait .entry)) (now (wval .entry))
         (now (ssem .entry)) (now (sval .entry)) (now (sop .entry)))
         (room-refusal n (length (now (table .entry))) (length (now (list .entry)))))
         n marks (now (queue .entry)) (now (mark .entry)) (now (mop .entry)) r (now (table .entry)) (now (table .exit))
         (now (list .entry)) (now (list .exit)) ⌝ }
-    ensures sources { λ _. ⌜ Sources-by n signals (now (owner .entry)) (now (queue .entry)) (now (wait .entry))
-        (now (wval .entry)) (now (ssem .entry)) (now (sval .entry)) (now (sop .entry))
+    ensures sources { λ _. ⌜ Sources-by n semaphores signals (now (owner .entry)) (now (queue .entry))
+        (now (wait .entry)) (now (wval .entry)) (now (ssem .entry)) (now (sval .entry)) (now (sop .entry))
         (now (wait .exit)) ⌝ }
-    ensures of_plans { λ r. ⌜ ((p : Plan) → Check-given p n signals marks (now (owner .entry))
+    ensures of_plans { λ r. ⌜ ((p : Plan) → Check-given p n semaphores signals marks (now (owner .entry))
         (columns (now (queue .entry)) (now (wait .entry)) (now (wval .entry)) (now (ssem .entry)) (now (sval .entry))
         (now (sop .entry)) (now (mark .entry)) (now (mop .entry))) →
         Plan-check-says p r (now (table .entry)) (now (table .exit)) (now (list .entry)) (now (list .exit)) ×
         (rules-refusal p .number ≡ 0 → Source-column p (now (wait .exit)))) ⌝ }
 {
-    let ruled = rules(n, signals, owner, queue, wait, wval, ssem, sval, sop);
+    let ruled = rules(
+        n,
+        semaphores,
+        signals,
+        owner,
+        queue,
+        wait,
+        wval,
+        ssem,
+        sval,
+        sop,
+    );
     if ruled.number != 0 {
         return ruled;
     }
@@ -66,28 +75,39 @@ pub fn judge_columns(
 // 6 or 7, else 8, else none and, in place of the semaphore of each wait, the operation that it rests on.
 fn rules(
     n: u16,
+    semaphores: usize,
     signals: usize,
     owner: &OwnerColumn,
     queue: &QueueColumn,
     wait: &mut WaitColumn,
-    wval: &WaitValues,
-    ssem: &SignalColumn,
-    sval: &SignalValues,
-    sop: &SignalColumn,
+    wval: &[u64],
+    ssem: &[u16],
+    sval: &[u64],
+    sop: &[u16],
 ) -> Told
-    ensures told { λ r. ⌜ Tells (rules-by n signals (now (owner .entry)) (now (queue .entry)) (now (wait .entry))
-        (now (wval .entry)) (now (ssem .entry)) (now (sval .entry)) (now (sop .entry))) 0 r ⌝ }
-    ensures sources { λ _. ⌜ Sources-by n signals (now (owner .entry)) (now (queue .entry)) (now (wait .entry))
-        (now (wval .entry)) (now (ssem .entry)) (now (sval .entry)) (now (sop .entry))
+    ensures told { λ r. ⌜ Tells (rules-by n semaphores signals (now (owner .entry)) (now (queue .entry))
+        (now (wait .entry)) (now (wval .entry)) (now (ssem .entry)) (now (sval .entry)) (now (sop .entry))) 0 r ⌝ }
+    ensures sources { λ _. ⌜ Sources-by n semaphores signals (now (owner .entry)) (now (queue .entry))
+        (now (wait .entry)) (now (wval .entry)) (now (ssem .entry)) (now (sval .entry)) (now (sop .entry))
         (now (wait .exit)) ⌝ }
     ensures of_plans { λ r. ⌜ ((p : Plan) →
-        Rules-given p n signals (now (owner .entry)) (now (queue .entry)) (now (wait .entry)) (now (wval .entry))
-        (now (ssem .entry)) (now (sval .entry)) (now (sop .entry)) →
+        Rules-given p n semaphores signals (now (owner .entry)) (now (queue .entry)) (now (wait .entry))
+        (now (wval .entry)) (now (ssem .entry)) (now (sval .entry)) (now (sop .entry)) →
         Ruled p r (now (wait .exit))) ⌝ }
 {
-    let signalled = check_signals::judge(signals, owner, queue, ssem, sval, sop);
+    let mut last = [0u64; MOST_SEMAPHORES];
+    let signalled = check_signals::judge(
+        semaphores,
+        signals,
+        owner,
+        queue,
+        ssem,
+        sval,
+        sop,
+        &mut last,
+    );
     if signalled.number != 0 {
-        return plan_format::forwarded(signalled.number, signalled.place);
+        return signalled;
     }
-    check_waits::resolve(n, signals, ssem, sval, sop, wait, wval, &signalled.last)
+    check_waits::resolve(n, semaphores, signals, ssem, sval, sop, wait, wval, &last)
 }

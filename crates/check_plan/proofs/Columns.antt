@@ -1,14 +1,19 @@
 -- The counts and columns of a stored plan that are loaded from its bytes. Assumes nothing.
 use mathlib.Core.Path.{_≡_, sym, _∙_}
-use mathlib.Core.List.{List}
+use mathlib.Core.List.{List, []}
 use Prim.Native.Nat.{ℕ}
+use Rattle.plan_format.specs.Form.{first-form}
 use Rattle.plan_format.specs.Sound.{rules-refusal}
 use Rattle.plan_format.specs.Stored.{scanned, plan-in}
 use Rattle.plan_format.proofs.Judged.{zero-not-given}
 use Rattle.plan_format.proofs.Plans.{scanned-limits}
-use Rattle.check_columns.specs.Columns.{Columns, Owner-column, Source-column}
+use Rattle.check_columns.specs.Columns.{Columns, columns, Owner-column, Source-column}
+use Rattle.stored_numbers.specs.declared.Head.{Head}
+use Rattle.stored_numbers.specs.Reading.{Head-read}
+use Rattle.stored_numbers.proofs.ReadingEnds.{read-in-first}
 use Rattle.check_load.specs.Loading.{Loads}
 use Rattle.check_load.specs.declared.Loaded.{Loaded}
+use Rattle.check_load.proofs.Outcomes.{refused-at, refused-loads, head-refused}
 use Rattle.check_passes.specs.Given.{Check-given}
 use Rattle.check_plan.specs.Counting.{Counts-told, counts-of, opened-of}
 use Rattle.check_plan.specs.Opening.{Read-plan, lent}
@@ -40,10 +45,19 @@ module _ {bs head : List ℕ} {cs : Columns} {r : Loaded} (l : Loads bs r head c
     loaded-clean = sym (l .number) ∙ z
 
     pub loaded-given : (owner : List ℕ) → Owner-column (plan-in bs) owner →
-        Check-given (plan-in bs) (r .operations) (r .signals) (r .marks) owner cs
+        Check-given (plan-in bs) (r .operations) (r .semaphores) (r .signals) (r .marks) owner cs
     loaded-given owner o = record {
       limits = scanned-limits bs loaded-clean;
       many = sym (l .sizes .operations ∙ rw (zero-not-given (scanned bs .fault) loaded-clean));
+      own-semaphores = sym (l .sizes .semaphores ∙ rw (zero-not-given (scanned bs .fault) loaded-clean));
       owners-shown = o;
       shown = l .columns z;
     }
+
+-- a head that is refused: nothing is loaded, whatever the columns are
+module _ {bs nums : List ℕ} {h : Head} (head : Head-read first-form bs h nums) (bad : h .number ≡ 0 → ⊥) where
+  pub head-loads : (cs : Columns) → Loads bs (refused-at (h .number) (h .at)) nums cs
+  head-loads cs = refused-loads (head-refused head (read-in-first bs) bad) bad
+
+  pub head-counts : Counts-told bs (counts-of (refused-at (h .number) (h .at)) (h .number) (h .at))
+  head-counts = loaded-counts (head-loads (columns [] [] [] [] [] [] [] []))

@@ -8,6 +8,13 @@ use Rattle.check_load.specs.Loading.{Sizes}
 use Rattle.check_plan.specs.declared.Counted.{Counted}
 use Rattle.check_plan.specs.declared.Opened.{Opened}
 
+-- for how many operations columns are made, where a plan has no more
+abbrev pub small-room : ℕ
+small-room = 64
+
+abbrev pub middle-room : ℕ
+middle-room = 256
+
 -- the counts of queues, semaphores, buffers and operations, each 0 where the reader refuses the plan
 abbrev pub Sizes-told : (bytes : List ℕ) → Counted → Type 0
 Sizes-told bytes r = Sizes bytes (r .queues) (r .semaphores) (r .buffers) (r .operations)

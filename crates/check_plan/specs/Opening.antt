@@ -67,13 +67,15 @@ lent-columns c =
     columns (c .queue) (c .source) [] (c .signal-semaphore) (c .signal-value) (c .signal-operation) (c .mark)
     (c .mark-operation)
 
--- the numbers of the head are in front of what is lent for them, up to the refusal of the head too. Past the plan's own
--- places each column is as it was; where the reader refuses the plan, past the places of the operations that the head
--- tells, with three signals and seven marks to each
-pub record Lent-left (bytes : List ℕ) (o : Opened) (c c′ : Lent) : Type 0 where
-  pub head-is : c′ .head ≡ in-front (head-got bytes) (c .head)
+-- past the plan's own places each column is as it was; where the reader refuses the plan, past the places of the n
+-- operations that the head tells, with three signals and seven marks to each
+pub record Lent-kept (bytes : List ℕ) (n : ℕ) (o : Opened) (c c′ : Lent) : Type 0 where
   pub taken : scanned bytes .fault .number ≡ 0 →
       Kept-past (o .counted .operations) (o .signals) (o .marks) (lent-columns c) (lent-columns c′)
   pub refused : (scanned bytes .fault .number ≡ 0 → ⊥) →
-      Kept-past (head-operations bytes) (3 * head-operations bytes) (7 * head-operations bytes) (lent-columns c)
-      (lent-columns c′)
+      Kept-past n (3 * n) (7 * n) (lent-columns c) (lent-columns c′)
+
+-- the numbers of the head are in front of what is lent for them, up to the refusal of the head too
+pub record Lent-left (bytes : List ℕ) (o : Opened) (c c′ : Lent) : Type 0 where
+  pub head-is : c′ .head ≡ in-front (head-got bytes) (c .head)
+  pub kept : Lent-kept bytes (head-operations bytes) o c c′

@@ -1,5 +1,8 @@
 // R53 to R56, the check of a stored plan: shown as columns, and judged by them; its counts, and its columns for those
-// who ask on.
+// who ask on. The columns are made once the head is read, for 64, 256 or 1,024 operations, so that a small plan costs
+// no clearing of large ones.
+mod load;
+
 use check_columns::MarkColumn;
 use check_columns::QueueColumn;
 use check_columns::SignalColumn;
@@ -10,15 +13,32 @@ use plan_format::Told;
 use plan_format::limits::HEAD_NUMBERS;
 use plan_format::limits::HeadNumbers;
 use plan_format::limits::MARK_PLACES;
+use plan_format::limits::MOST_MARKS;
 use plan_format::limits::MOST_OPERATIONS;
 use plan_format::limits::MOST_SEMAPHORES;
+use plan_format::limits::MOST_SIGNALS;
+use plan_format::limits::MOST_WAITS;
 use plan_format::limits::SIGNAL_PLACES;
 use plan_format::limits::WAIT_PLACES;
+use stored_numbers::Head;
 ghost use mathlib.Core.Path.{_≡_};
+ghost use Prim.Native.Nat.{_/_, _≤_, min};
+ghost use lib.ListN.{length};
+ghost use Rattle.plan_format.specs.Sizes.{most-waits};
+ghost use Rattle.plan_format.specs.Form.{first-form};
 ghost use Rattle.plan_format.specs.Stored.{scanned, plan-in};
 ghost use Rattle.plan_order.specs.Promise.{Checked};
-ghost use Rattle.check_plan.specs.Counting.{Sizes-told, Counts-told, opened-of, counts-of};
-ghost use Rattle.check_plan.specs.Opening.{Read-plan, Opened-plan, Lent-left, lent};
+ghost use Rattle.check_columns.specs.Columns.{columns};
+ghost use Rattle.check_columns.specs.Shown.{Places-for};
+ghost use Rattle.stored_numbers.specs.Reading.{Head-read};
+ghost use Rattle.check_plan.specs.Counting.{small-room, middle-room, Sizes-told, Counts-told, opened-of};
+ghost use Rattle.check_plan.specs.Counting.{counts-of};
+ghost use Rattle.check_plan.specs.Opening.{Read-plan, Opened-plan, Lent-kept, Lent-left, lent};
+
+// For how many operations columns are made; for all that a plan can have where it has more than either.
+const SMALL_ROOM: usize = 64;
+
+const MIDDLE_ROOM: usize = 256;
 
 // How many queues, semaphores, buffers and operations a plan has; or a refusal and its place beside them. Each is 0
 // where the reader refuses the plan.
@@ -43,6 +63,10 @@ pub fn counts(plan: &[u8]) -> Counted
     ensures { λ r. ⌜ Counts-told (now (plan .entry)) r ⌝ }
 {
     let mut head = [0u64; HEAD_NUMBERS];
+    let h = stored_numbers::read_head(plan, &mut head);
+    if h.number != 0 {
+        return with_counts(load::refused(h.number, h.at), h.number, h.at as u64);
+    }
     let mut owner = [0u16; MOST_SEMAPHORES];
     let mut queue = [0u16; MOST_OPERATIONS];
     let mut wsem = [0u16; WAIT_PLACES];
@@ -52,9 +76,10 @@ pub fn counts(plan: &[u8]) -> Counted
     let mut sop = [0u16; SIGNAL_PLACES];
     let mut mark = [0u16; MARK_PLACES];
     let mut mop = [0u16; MARK_PLACES];
-    let l = check_load::load(
+    let l = load::columns(
         plan,
-        &mut head,
+        h,
+        &head,
         &mut owner,
         &mut queue,
         &mut wsem,
@@ -88,18 +113,108 @@ pub fn check_counted(plan: &[u8], table: &mut [u32], list: &mut [u32]) -> Counte
     ensures sizes { λ r. ⌜ Sizes-told (now (plan .entry)) r ⌝ }
 {
     let mut head = [0u64; HEAD_NUMBERS];
+    let h = stored_numbers::read_head(plan, &mut head);
+    if h.number != 0 {
+        return with_counts(load::refused(h.number, h.at), h.number, h.at as u64);
+    }
+    let many = h.operations as usize;
+    if many <= SMALL_ROOM {
+        return small(plan, h, &head, table, list);
+    }
+    if many <= MIDDLE_ROOM {
+        return middle(plan, h, &head, table, list);
+    }
+    large(plan, h, &head, table, list)
+}
+
+// With columns for 64 operations.
+fn small(plan: &[u8], h: Head, head: &HeadNumbers, table: &mut [u32], list: &mut [u32]) -> Counted
+    requires { ⌜ Head-read first-form (now plan) h (now head) × (h .number ≡ 0) × (h .operations ≤ small-room) ⌝ }
+    ensures checked { λ r. ⌜ Checked (now (plan .entry)) (record { number = r .number; place = r .place; answer = 0 })
+        (now (table .entry)) (now (table .exit)) (now (list .entry)) (now (list .exit)) ⌝ }
+    ensures sizes { λ r. ⌜ Sizes-told (now (plan .entry)) r ⌝ }
+{
     let mut queue = [0u16; MOST_OPERATIONS];
     let mut source = [0u16; WAIT_PLACES];
+    let mut wval = [0u64; MOST_WAITS * SMALL_ROOM];
+    let mut ssem = [0u16; MOST_SIGNALS * SMALL_ROOM];
+    let mut sval = [0u64; MOST_SIGNALS * SMALL_ROOM];
+    let mut sop = [0u16; MOST_SIGNALS * SMALL_ROOM];
+    let mut mark = [0u16; MOST_MARKS * SMALL_ROOM];
+    let mut mop = [0u16; MOST_MARKS * SMALL_ROOM];
+    let o = judged(
+        plan,
+        h,
+        head,
+        &mut queue,
+        &mut source,
+        &mut wval,
+        &mut ssem,
+        &mut sval,
+        &mut sop,
+        &mut mark,
+        &mut mop,
+        table,
+        list,
+    );
+    o.counted
+}
+
+// With columns for 256 operations.
+fn middle(plan: &[u8], h: Head, head: &HeadNumbers, table: &mut [u32], list: &mut [u32]) -> Counted
+    requires { ⌜ Head-read first-form (now plan) h (now head) × (h .number ≡ 0) × (h .operations ≤ middle-room) ⌝ }
+    ensures checked { λ r. ⌜ Checked (now (plan .entry)) (record { number = r .number; place = r .place; answer = 0 })
+        (now (table .entry)) (now (table .exit)) (now (list .entry)) (now (list .exit)) ⌝ }
+    ensures sizes { λ r. ⌜ Sizes-told (now (plan .entry)) r ⌝ }
+{
+    let mut queue = [0u16; MOST_OPERATIONS];
+    let mut source = [0u16; WAIT_PLACES];
+    let mut wval = [0u64; MOST_WAITS * MIDDLE_ROOM];
+    let mut ssem = [0u16; MOST_SIGNALS * MIDDLE_ROOM];
+    let mut sval = [0u64; MOST_SIGNALS * MIDDLE_ROOM];
+    let mut sop = [0u16; MOST_SIGNALS * MIDDLE_ROOM];
+    let mut mark = [0u16; MOST_MARKS * MIDDLE_ROOM];
+    let mut mop = [0u16; MOST_MARKS * MIDDLE_ROOM];
+    let o = judged(
+        plan,
+        h,
+        head,
+        &mut queue,
+        &mut source,
+        &mut wval,
+        &mut ssem,
+        &mut sval,
+        &mut sop,
+        &mut mark,
+        &mut mop,
+        table,
+        list,
+    );
+    o.counted
+}
+
+// With columns for as many operations as a plan can have.
+fn large(plan: &[u8], h: Head, head: &HeadNumbers, table: &mut [u32], list: &mut [u32]) -> Counted
+    requires { ⌜ Head-read first-form (now plan) h (now head) × (h .number ≡ 0) ⌝ }
+    ensures checked { λ r. ⌜ Checked (now (plan .entry)) (record { number = r .number; place = r .place; answer = 0 })
+        (now (table .entry)) (now (table .exit)) (now (list .entry)) (now (list .exit)) ⌝ }
+    ensures sizes { λ r. ⌜ Sizes-told (now (plan .entry)) r ⌝ }
+{
+    let mut queue = [0u16; MOST_OPERATIONS];
+    let mut source = [0u16; WAIT_PLACES];
+    let mut wval = [0u64; WAIT_PLACES];
     let mut ssem = [0u16; SIGNAL_PLACES];
     let mut sval = [0u64; SIGNAL_PLACES];
     let mut sop = [0u16; SIGNAL_PLACES];
     let mut mark = [0u16; MARK_PLACES];
     let mut mop = [0u16; MARK_PLACES];
-    let o = check_opened(
+    let o = judged(
         plan,
-        &mut head,
+        h,
+        head,
         &mut queue,
         &mut source,
+        &mut wval,
         &mut ssem,
         &mut sval,
         &mut sop,
@@ -147,15 +262,83 @@ pub fn check_opened(
         (lent (now (head .exit)) (now (queue .exit)) (now (source .exit)) (now (ssem .exit)) (now (sval .exit))
         (now (sop .exit)) (now (mark .exit)) (now (mop .exit))) ⌝ }
 {
-    let mut owner = [0u16; MOST_SEMAPHORES];
+    let h = stored_numbers::read_head(plan, head);
+    if h.number != 0 {
+        return with_lists(load::refused(h.number, h.at), h.number, h.at as u64);
+    }
     let mut wval = [0u64; WAIT_PLACES];
-    let l = check_load::load(
+    places(queue, source);
+    judged(
         plan,
+        h,
+        head,
+        queue,
+        source,
+        &mut wval,
+        ssem,
+        sval,
+        sop,
+        mark,
+        mop,
+        table,
+        list,
+    )
+}
+
+// For how many operations a column of queues and one of waits have places. A call tells the proof how long two lent
+// arrays are.
+fn places(queue: &[u16], source: &[u16]) -> usize
+    ensures { λ r. ⌜ r ≡ min (length (now (queue .entry))) (length (now (source .entry)) / most-waits) ⌝ }
+{
+    base_numbers::min_usize(queue.len(), source.len() / MOST_WAITS)
+}
+
+// The check of a plan whose head is read, in columns with places for its operations.
+fn judged(
+    plan: &[u8],
+    h: Head,
+    head: &HeadNumbers,
+    queue: &mut QueueColumn,
+    source: &mut WaitColumn,
+    wval: &mut [u64],
+    ssem: &mut [u16],
+    sval: &mut [u64],
+    sop: &mut [u16],
+    mark: &mut [u16],
+    mop: &mut [u16],
+    table: &mut [u32],
+    list: &mut [u32],
+) -> Opened
+    requires { ⌜ Head-read first-form (now plan) h (now head) × (h .number ≡ 0) ×
+        Places-for (h .operations) (columns (now queue) (now source) (now wval) (now ssem) (now sval) (now sop)
+        (now mark) (now mop)) ⌝ }
+    ensures checked { λ r. ⌜ Checked (now (plan .entry))
+        (record { number = r .counted .number; place = r .counted .place; answer = 0 }) (now (table .entry))
+        (now (table .exit)) (now (list .entry)) (now (list .exit)) ⌝ }
+    ensures sizes { λ r. ⌜ Sizes-told (now (plan .entry)) (r .counted) ⌝ }
+    ensures refused { λ r. ⌜ ((scanned (now (plan .entry)) .fault .number ≡ 0 → ⊥) →
+        (r .signals ≡ 0) × (r .marks ≡ 0)) ⌝ }
+    ensures read { λ r. ⌜ (scanned (now (plan .entry)) .fault .number ≡ 0 → Read-plan (plan-in (now (plan .entry))) r
+        (lent (now (head .entry)) (now (queue .exit)) (now (source .exit)) (now (ssem .exit)) (now (sval .exit))
+        (now (sop .exit)) (now (mark .exit)) (now (mop .exit)))) ⌝ }
+    ensures opened { λ r. ⌜ (r .counted .number ≡ 0 → Opened-plan (plan-in (now (plan .entry))) r
+        (lent (now (head .entry)) (now (queue .exit)) (now (source .exit)) (now (ssem .exit)) (now (sval .exit))
+        (now (sop .exit)) (now (mark .exit)) (now (mop .exit))) (now (table .exit))) ⌝ }
+    ensures kept { λ r. ⌜ Lent-kept (now (plan .entry)) (h .operations) r
+        (lent (now (head .entry)) (now (queue .entry)) (now (source .entry)) (now (ssem .entry)) (now (sval .entry))
+        (now (sop .entry)) (now (mark .entry)) (now (mop .entry)))
+        (lent (now (head .entry)) (now (queue .exit)) (now (source .exit)) (now (ssem .exit)) (now (sval .exit))
+        (now (sop .exit)) (now (mark .exit)) (now (mop .exit))) ⌝ }
+{
+    let mut owner = [0u16; MOST_SEMAPHORES];
+    let l = load::columns(
+        plan,
+        h,
         head,
         &mut owner,
         queue,
         source,
-        &mut wval,
+        wval,
         ssem,
         sval,
         sop,
@@ -167,12 +350,13 @@ pub fn check_opened(
     }
     let told = check_passes::judge_columns(
         l.operations,
+        l.semaphores as usize,
         l.signals as usize,
         l.marks as usize,
         &owner,
         queue,
         source,
-        &wval,
+        wval,
         ssem,
         sval,
         sop,

@@ -6,7 +6,7 @@ use mathlib.Core.List.{List, [], _∷_, _++_, List·Memᴰ, List·Memᴰ·not-ni
 use Prim.Native.Nat.{ℕ, suc, _+_, _≤_, _<_, max}
 use native.Mathlib.Omega.{arith}
 use lib.Dec.{leb, eqb}
-use lib.ListN.{length, getD, set, length-set, getD-replicate}
+use lib.ListN.{length, getD, set, length-set}
 use lib.Seq.{getD-set-same, getD-set-other}
 use borrow.Author.Tests.{leb-false, eqb-true, eqb-false}
 use Rattle.base_lists.proofs.Tests.{by-cases, either}
@@ -15,7 +15,6 @@ use Rattle.plan_format.specs.Plan.{Point, Operation, Plan, empty-operation, cou
 use Rattle.plan_format.specs.Sound.{highest-in, highest, owns, signals-number, signals-refusal, In-range}
 use Rattle.plan_order.specs.Precedence.{Signal, signals-of, signals-from, plan-signals}
 use Rattle.check_columns.specs.Columns.{no-point}
-use Rattle.check_signals.specs.Walks.{zeros}
 
 unfoldable pub flat : Plan → (last : List ℕ) → List Signal → Refusal
 flat p t [] = none-given
@@ -203,27 +202,29 @@ from-inside p i (o ∷ os) l ok y m =
     (λ t. of-inside p i 0 (o .signals) (omega arith) (ok 0 (omega arith)) y t)
     (λ t. from-inside p (suc i) os (omega arith) (λ k b. ok (suc k) (omega arith)) y t)
 
--- ---- a whole plan, from a table of zeros
-module _ (p : Plan) (few : length (p .owners) ≤ 64) (in-range : (i : ℕ) → i < count p → In-range p (op p i)) where
+-- ---- a whole plan, from a table with a zero for each of its semaphores
+module _ (p : Plan) (in-range : (i : ℕ) → i < count p → In-range p (op p i)) where
   tail : Tail p 0 (p .operations)
   unfolding op count
   tail = record { queues-there = λ k l. let e : 0 + k ≡ k = omega arith in rw e; named = λ k l. in-range k l .signals }
 
-  start : Table-holds p zeros (λ s. highest s [])
-  unfolding highest
-  start = record { room = omega (arith, few); values = λ s l. getD-replicate 64 s 0 0 (omega (arith, few)) }
-
-  pub plan-flat : signals-refusal 0 p [] (p .operations) ≡ flat p zeros (plan-signals p)
-  unfolding plan-signals
-  plan-flat = refusal-flat p 0 zeros [] (p .operations) start tail
-
-  pub plan-holds : signals-refusal 0 p [] (p .operations) .number ≡ 0 →
-      Table-holds p (after zeros (plan-signals p)) (λ s. highest s (p .operations))
-  unfolding plan-signals highest
-  plan-holds z =
-      holds-same (λ s. max 0 (highest s (p .operations))) (λ s. highest s (p .operations)) (λ s. omega arith)
-      (refusal-holds p 0 zeros [] (p .operations) start tail z)
-
   pub plan-inside : (y : Signal) → List·Memᴰ y (plan-signals p) → Inside p y
   unfolding plan-signals op count
   plan-inside = from-inside p 0 (p .operations) (omega arith) (λ k l. in-range k l .signals)
+
+  module _ (t : List ℕ) (room : length (p .owners) ≤ length t)
+      (none : (s : ℕ) → s < length (p .owners) → getD t s 0 ≡ 0) where
+    start : Table-holds p t (λ s. highest s [])
+    unfolding highest
+    start = record { room = room; values = none }
+
+    pub plan-flat : signals-refusal 0 p [] (p .operations) ≡ flat p t (plan-signals p)
+    unfolding plan-signals
+    plan-flat = refusal-flat p 0 t [] (p .operations) start tail
+
+    pub plan-holds : signals-refusal 0 p [] (p .operations) .number ≡ 0 →
+        Table-holds p (after t (plan-signals p)) (λ s. highest s (p .operations))
+    unfolding plan-signals highest
+    plan-holds z =
+        holds-same (λ s. max 0 (highest s (p .operations))) (λ s. highest s (p .operations)) (λ s. omega arith)
+        (refusal-holds p 0 t [] (p .operations) start tail z)

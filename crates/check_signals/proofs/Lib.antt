@@ -1,3 +1,4 @@
+pub mod Clearing
 pub mod Loops
 pub mod Flat
 pub mod Shows

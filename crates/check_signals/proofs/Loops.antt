@@ -3,10 +3,11 @@ use mathlib.Core.Path.{_≡_, sym, _∙_}
 use mathlib.Core.List.{List}
 use Prim.Native.Nat.{ℕ, suc, _+_, _-_, _≤_, _<_}
 use native.Mathlib.Omega.{arith}
-use lib.ListN.{getD, set}
+use lib.ListN.{length, getD, set}
 use borrow.Author.Tests.{le-leb, lt-leb, eq-eqb, ne-eqb}
 use Rattle.plan_format.specs.Refusal.{Refusal, refusal, none-given}
-use Rattle.check_signals.specs.Walks.{signals-walk, lasts-walk}
+use Rattle.check_signals.specs.Walks.{cleared, held-in, signals-walk, lasts-walk, signals-found}
+use Rattle.check_signals.specs.Walks.{lasts-found}
 
 -- from k on, with this table, the walk finds and leaves what the whole does
 pub record Signals-left (owner queue ssem sval sop : List ℕ) (m : ℕ) (first : List ℕ) (k : ℕ)
@@ -19,6 +20,19 @@ pub record Stops (owner queue ssem sval sop : List ℕ) (m : ℕ) (first : List 
     (last : List ℕ) : Type 0 where
   pub found : r ≡ signals-walk owner queue ssem sval sop m 0 first
   pub table : last ≡ lasts-walk owner queue ssem sval sop m 0 first
+
+-- what the walk finds and leaves, by all that is lent
+pub record Found (semaphores signals : ℕ) (owner queue ssem sval sop : List ℕ) (before : List ℕ) (r : Refusal)
+    (last : List ℕ) : Type 0 where
+  pub found : r ≡ signals-found semaphores signals owner queue ssem sval sop before
+  pub table : last ≡ lasts-found semaphores signals owner queue ssem sval sop before
+
+pub stops-found : {semaphores signals m : ℕ} {owner queue ssem sval sop before first last : List ℕ} {r : Refusal} →
+    first ≡ cleared semaphores before → m ≡ held-in signals (length ssem) (length sval) (length sop) →
+    Stops owner queue ssem sval sop m first r last →
+    Found semaphores signals owner queue ssem sval sop before r last
+unfolding signals-found lasts-found
+stops-found e em h = record { found = rw (← e, ← em) (h .found); table = rw (← e, ← em) (h .table) }
 
 module _ {owner queue ssem sval sop : List ℕ} {m : ℕ} {first : List ℕ} where
   pub signals-none : Signals-left owner queue ssem sval sop m first 0 first

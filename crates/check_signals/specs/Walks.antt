@@ -3,19 +3,21 @@
 use mathlib.Core.Path.{_≡_}
 use mathlib.Core.Bool.{cond}
 use mathlib.Core.List.{List, []}
-use Prim.Native.Nat.{ℕ, zero, suc, _≤_, _<_}
+use Prim.Native.Nat.{ℕ, zero, suc, _≤_, _<_, min}
 use lib.Dec.{leb, eqb}
 use lib.ListN.{length, getD, set, replicate}
 use Rattle.plan_format.specs.Sizes.{most-semaphores}
 use Rattle.plan_format.specs.Refusal.{Refusal, refusal, none-given}
+use Rattle.plan_format.specs.Stored.{Tells}
+use Rattle.plan_format.specs.declared.Told.{Told}
 use Rattle.plan_format.specs.Plan.{Plan, count, op}
 use Rattle.plan_format.specs.Sound.{highest, signals-refusal, In-range}
 use Rattle.check_columns.specs.Columns.{Owner-column, Queue-column, Signal-columns}
-use Rattle.check_signals.specs.declared.Signalled.{Signalled}
 
--- the columns show a plan whose operations name only what it has
-pub record Signals-given (p : Plan) (signals : ℕ) (owner queue ssem sval sop : List ℕ) : Type 0 where
-  pub few-owners : length (p .owners) ≤ most-semaphores
+-- the columns show a plan whose operations name only what it has, and a place is lent for each of its semaphores
+pub record Signals-given (p : Plan) (semaphores signals : ℕ) (owner queue ssem sval sop last : List ℕ) : Type 0 where
+  pub own-semaphores : length (p .owners) ≡ semaphores
+  pub room : length (p .owners) ≤ length last
   pub in-range : (i : ℕ) → i < count p → In-range p (op p i)
   pub owners-shown : Owner-column p owner
   pub queues-shown : Queue-column p queue
@@ -26,10 +28,14 @@ unfoldable pub Highest-column : Plan → (last : List ℕ) → Type 0
 Highest-column p last = (s : ℕ) → s < length (p .owners) → getD last s 0 ≡ highest s (p .operations)
 
 -- 6 or 7 as the rules give it; where neither is, the last value of a semaphore is its highest
-pub record Judged (p : Plan) (r : Signalled) : Type 0 where
-  pub number : r .number ≡ signals-refusal 0 p [] (p .operations) .number
-  pub place : r .place ≡ signals-refusal 0 p [] (p .operations) .place
-  pub highest-shown : r .number ≡ 0 → Highest-column p (r .last)
+pub record Judged (p : Plan) (r : Told) (last : List ℕ) : Type 0 where
+  pub told : Tells (signals-refusal 0 p [] (p .operations)) 0 r
+  pub highest-shown : r .number ≡ 0 → Highest-column p last
+
+-- nothing is signalled on the first semaphores; the places past them stay, and so does the length
+unfoldable pub cleared : (semaphores : ℕ) → (last : List ℕ) → List ℕ
+cleared zero last = last
+cleared (suc s) last = set (cleared s last) s 0
 
 -- 6 or 7 at the first of the signals from k on that is not its owner's or not above the last of its semaphore
 module _ (owner queue ssem sval sop : List ℕ) where
@@ -50,6 +56,21 @@ module _ (owner queue ssem sval sop : List ℕ) where
       (lasts-walk left (suc k) (set last (getD ssem k 0) (getD sval k 0))))
       last
 
--- nothing is signalled on any of the 64 semaphores
+-- of so many signals, as many as columns of these lengths hold
+unfoldable pub held-in : (signals ssem sval sop : ℕ) → ℕ
+held-in signals ssem sval sop = min signals (min ssem (min sval sop))
+
+-- 6 or 7, and the table afterwards, by the signals that the columns hold, from a table that is cleared
+unfoldable pub signals-found : (semaphores signals : ℕ) → (owner queue ssem sval sop last : List ℕ) → Refusal
+signals-found semaphores signals owner queue ssem sval sop last =
+    signals-walk owner queue ssem sval sop (held-in signals (length ssem) (length sval) (length sop)) 0
+    (cleared semaphores last)
+
+unfoldable pub lasts-found : (semaphores signals : ℕ) → (owner queue ssem sval sop last : List ℕ) → List ℕ
+lasts-found semaphores signals owner queue ssem sval sop last =
+    lasts-walk owner queue ssem sval sop (held-in signals (length ssem) (length sval) (length sop)) 0
+    (cleared semaphores last)
+
+-- nothing is signalled on any semaphore that a plan can have
 abbrev pub zeros : List ℕ
 zeros = replicate most-semaphores 0

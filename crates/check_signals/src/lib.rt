@@ -1,70 +1,74 @@
 // R43 and R44, refusals 6 and 7: each signal is its owner's, and above the last of its semaphore.
-use check_columns::LastValues;
 use check_columns::OwnerColumn;
 use check_columns::QueueColumn;
-use check_columns::SignalColumn;
-use check_columns::SignalValues;
-use plan_format::limits::MOST_SEMAPHORES;
+use plan_format::Told;
 ghost use mathlib.Core.Path.{_≡_};
-ghost use Rattle.plan_format.specs.Refusal.{refusal};
 ghost use Rattle.plan_format.specs.Plan.{Plan};
-ghost use Rattle.check_signals.specs.Walks.{Signals-given, Judged, signals-walk, lasts-walk, zeros};
+ghost use Rattle.plan_format.specs.Stored.{Tells};
+ghost use Rattle.check_signals.specs.Walks.{Signals-given, Judged, signals-found, lasts-found, cleared, held-in};
 
-// 6 or 7 and its place, 0 for none; and the last value of each semaphore.
-pub struct Signalled {
-    pub number: u32,
-    pub place: u64,
-    pub last: LastValues,
-}
-
-// 6 or 7 at the first signal that breaks a rule, or none; and the last values of the signals before it. By the columns
-// of a plan the refusal is the plan's, and where there is none the last values of its semaphores are the highest.
+// 6 or 7 at the first signal that breaks a rule, or none; and in `last`, of the plan's own semaphores, the last values
+// of the signals before it. By the columns of a plan the refusal is the plan's, and where there is none the last values
+// are the highest. Of more signals than the columns hold those that they hold are judged; a signal of a semaphore that
+// the plan lacks is judged by what is lent in its place.
 pub fn judge(
+    semaphores: usize,
     signals: usize,
     owner: &OwnerColumn,
     queue: &QueueColumn,
-    ssem: &SignalColumn,
-    sval: &SignalValues,
-    sop: &SignalColumn,
-) -> Signalled
-    ensures told { λ r. ⌜ refusal (r .number) (r .place) ≡
-        signals-walk (now (owner .entry)) (now (queue .entry)) (now (ssem .entry)) (now (sval .entry))
-        (now (sop .entry)) signals 0 zeros ⌝ }
-    ensures lasts { λ r. ⌜ r .last ≡
-        lasts-walk (now (owner .entry)) (now (queue .entry)) (now (ssem .entry)) (now (sval .entry))
-        (now (sop .entry)) signals 0 zeros ⌝ }
+    ssem: &[u16],
+    sval: &[u64],
+    sop: &[u16],
+    last: &mut [u64],
+) -> Told
+    ensures told { λ r. ⌜ Tells
+        (signals-found semaphores signals (now (owner .entry)) (now (queue .entry)) (now (ssem .entry))
+        (now (sval .entry)) (now (sop .entry)) (now (last .entry))) 0 r ⌝ }
+    ensures lasts { λ _. ⌜ now (last .exit) ≡
+        lasts-found semaphores signals (now (owner .entry)) (now (queue .entry)) (now (ssem .entry))
+        (now (sval .entry)) (now (sop .entry)) (now (last .entry)) ⌝ }
     ensures of_plans { λ r. ⌜ ((p : Plan) →
-        Signals-given p signals (now (owner .entry)) (now (queue .entry)) (now (ssem .entry)) (now (sval .entry))
-        (now (sop .entry)) → Judged p r) ⌝ }
+        Signals-given p semaphores signals (now (owner .entry)) (now (queue .entry)) (now (ssem .entry))
+        (now (sval .entry)) (now (sop .entry)) (now (last .entry)) → Judged p r (now (last .exit))) ⌝ }
 {
-    let mut last = [0u64; MOST_SEMAPHORES];
+    clear(semaphores, last);
+    let many = held(signals, ssem.len(), sval.len(), sop.len());
     let mut k = 0;
-    while k < signals {
-        let s = base_slices::get16(ssem, k);
-        let i = base_slices::get16(sop, k);
-        let value = base_slices::get64(sval, k);
+    while k < many {
+        let s = base_numbers::u16_to_usize(ssem[k]);
+        let i = base_numbers::u16_to_usize(sop[k]);
+        let value = sval[k];
         let owned_by = base_slices::get16(owner, s);
         let q = base_slices::get16(queue, i);
         if owned_by != q {
-            return Signalled {
-                number: 6,
-                place: i as u64,
-                last,
-            };
+            return plan_format::refused(6, i);
         }
-        if value <= base_slices::get64(&last, s) {
-            return Signalled {
-                number: 7,
-                place: i as u64,
-                last,
-            };
+        if value <= base_slices::get64(last, s) {
+            return plan_format::refused(7, i);
         }
-        base_slices::put64(&mut last, s, value);
+        base_slices::put64(last, s, value);
         k += 1;
     }
-    Signalled {
-        number: 0,
-        place: 0,
-        last,
+    plan_format::answered(0)
+}
+
+// How many of the signals the columns hold.
+fn held(signals: usize, ssem: usize, sval: usize, sop: usize) -> usize
+    ensures { λ r. ⌜ r ≡ held-in signals ssem sval sop ⌝ }
+{
+    base_numbers::min_usize(
+        signals,
+        base_numbers::min_usize(ssem, base_numbers::min_usize(sval, sop)),
+    )
+}
+
+// Zeros in the places of so many semaphores.
+fn clear(semaphores: usize, last: &mut [u64])
+    ensures { λ _. ⌜ now (last .exit) ≡ cleared semaphores (now (last .entry)) ⌝ }
+{
+    let mut s = 0;
+    while s < semaphores {
+        base_slices::put64(last, s, 0);
+        s += 1;
     }
 }

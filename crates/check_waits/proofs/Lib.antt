@@ -4,6 +4,6 @@ pub mod Sourcing
 pub mod Reached
 pub mod Rising
 pub mod Placed
-pub mod AnyColumns
 pub mod Resolved
+pub mod AnyColumns
 pub mod Rules

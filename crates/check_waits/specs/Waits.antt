@@ -11,15 +11,17 @@ use Rattle.plan_format.specs.Sizes.{most-semaphores, most-operations, most-wait
 use Rattle.plan_format.specs.Refusal.{Refusal, refusal, none-given}
 use Rattle.plan_format.specs.Plan.{Plan, count, op}
 use Rattle.plan_format.specs.Sound.{signals-refusal, waits-refusal, In-range}
+use Rattle.plan_format.specs.Stored.{Tells}
 use Rattle.plan_format.specs.declared.Told.{Told}
 use Rattle.check_columns.specs.Columns.{Wait-columns, Signal-columns, Source-column}
-use Rattle.check_signals.specs.Walks.{Highest-column}
+use Rattle.check_signals.specs.Walks.{Highest-column, held-in}
 
 -- the columns show a plan with neither refusal 6 nor 7, and the highest value of each semaphore
-pub record Waits-given (p : Plan) (n signals : ℕ) (ssem sval sop wsem wval last : List ℕ) : Type 0 where
+pub record Waits-given (p : Plan) (n semaphores signals : ℕ) (ssem sval sop wsem wval last : List ℕ) : Type 0 where
   pub operations : count p ≡ n
   pub few : n ≤ most-operations
-  pub few-owners : length (p .owners) ≤ most-semaphores
+  pub own-semaphores : length (p .owners) ≡ semaphores
+  pub few-semaphores : semaphores ≤ most-semaphores
   pub in-range : (i : ℕ) → i < count p → In-range p (op p i)
   pub rules : signals-refusal 0 p [] (p .operations) .number ≡ 0
   pub signals-shown : Signal-columns p signals ssem sval sop
@@ -33,21 +35,34 @@ pub record Resolved (p : Plan) (r : Told) (source : List ℕ) : Type 0 where
   pub sources-shown : r .number ≡ 0 → Source-column p source
 
 -- 8 at the first of the wait places from k on, three to an operation, that is above the last of its semaphore, one of
--- 64
+-- those that a plan can have
 unfoldable pub waits-walk : (wsem wval last : List ℕ) → (left k : ℕ) → Refusal
 waits-walk wsem wval last zero k = none-given
 waits-walk wsem wval last (suc left) k =
     cond (ltb (getD last (getD wsem k 0 % most-semaphores) 0) (getD wval k 0)) (refusal 8 (k / most-waits))
     (waits-walk wsem wval last left (suc k))
 
--- the columns have places for so many operations and signals
-unfoldable pub has-places : (n signals : ℕ) → Bool
-has-places n signals = leb n most-operations && leb signals signal-places
+-- the columns have places for so many operations, semaphores and signals
+unfoldable pub has-places : (n semaphores signals : ℕ) → (ssem sval sop wval : List ℕ) → Bool
+has-places n semaphores signals ssem sval sop wval =
+    leb n most-operations && (leb semaphores most-semaphores &&
+    (leb signals (held-in signal-places (length ssem) (length sval) (length sop)) &&
+    leb (most-waits * n) (length wval)))
 
--- 8 by the wait places of n operations; none where the columns have no places for them or for the signals
-unfoldable pub waits-found : (n signals : ℕ) → (wsem wval last : List ℕ) → Refusal
-waits-found n signals wsem wval last =
-    cond (has-places n signals) (waits-walk wsem wval last (most-waits * n) 0) none-given
+-- the same, by what it gives
+pub record Has-room (n semaphores signals : ℕ) (ssem sval sop wval : List ℕ) : Type 0 where
+  pub few : n ≤ most-operations
+  pub few-semaphores : semaphores ≤ most-semaphores
+  pub few-signals : signals ≤ signal-places
+  pub semaphore-room : signals ≤ length ssem
+  pub value-room : signals ≤ length sval
+  pub operation-room : signals ≤ length sop
+  pub wait-room : most-waits * n ≤ length wval
+
+-- 8 by the wait places of n operations; none where the columns have no places for them, the semaphores or the signals
+unfoldable pub waits-found : (n semaphores signals : ℕ) → (ssem sval sop wsem wval last : List ℕ) → Refusal
+waits-found n semaphores signals ssem sval sop wsem wval last =
+    cond (has-places n semaphores signals ssem sval sop wval) (waits-walk wsem wval last (most-waits * n) 0) none-given
 
 -- signal j is of semaphore s and reaches v, above 0: none before it does, and all from it on do
 pub record Rests-on-signal (ssem sval : List ℕ) (signals s v j : ℕ) : Type 0 where
@@ -61,20 +76,29 @@ pub record Rests-on-signal (ssem sval : List ℕ) (signals s v j : ℕ) : Type 0
 abbrev pub Rests-within : (signals : ℕ) → (sop : List ℕ) → (r : ℕ) → Type 0
 Rests-within signals sop r = (r ≡ no-operation) ⊎ ((j : ℕ) × (j < signals) × (r ≡ getD sop j 0))
 
+-- a wait of semaphore s for v rests on r
+pub record Rests (semaphores signals : ℕ) (ssem sval sop : List ℕ) (s v r : ℕ) : Type 0 where
+  pub zero : v ≡ 0 → r ≡ no-operation
+  pub unsignalled : ((j : ℕ) → j < signals → getD ssem j 0 ≡ s → ⊥) → r ≡ no-operation
+  pub lacking : semaphores ≤ s → r ≡ no-operation
+  pub within : Rests-within signals sop r
+  pub found : s < semaphores → (j : ℕ) → Rests-on-signal ssem sval signals s v j → r ≡ getD sop j 0
+
 -- the column of the waits afterwards, whatever the columns show: as long as before; past the places of n operations as
 -- before, and all of it where the columns have no places for the plan. Where nothing is refused a wait for 0 rests on
--- nothing, and so does one of a semaphore that has no signal; any other rests on nothing or on the operation of a
--- signal, and on the first signal of its semaphore that reaches it if those after it do
-pub record Sources (n signals number : ℕ) (ssem sval sop wsem wval source : List ℕ) : Type 0 where
+-- nothing, and so does one of a semaphore that has no signal or that the plan lacks; any other rests on nothing or on
+-- the operation of a signal, and on the first signal of its semaphore that reaches it if those after it do
+pub record Sources (n semaphores signals number : ℕ) (ssem sval sop wsem wval source : List ℕ) : Type 0 where
   pub long : length source ≡ length wsem
   pub past : (k : ℕ) → most-waits * n ≤ k → getD source k 0 ≡ getD wsem k 0
-  pub no-places : has-places n signals ≡ false → source ≡ wsem
-  pub zero : has-places n signals ≡ true → number ≡ 0 → (k : ℕ) → k < most-waits * n → getD wval k 0 ≡ 0 →
-      getD source k 0 ≡ no-operation
-  pub unsignalled : has-places n signals ≡ true → number ≡ 0 → (k : ℕ) → k < most-waits * n →
-      ((j : ℕ) → j < signals → getD ssem j 0 ≡ getD wsem k 0 % most-semaphores → ⊥) → getD source k 0 ≡ no-operation
-  pub within : has-places n signals ≡ true → number ≡ 0 → (k : ℕ) → k < most-waits * n →
-      Rests-within signals sop (getD source k 0)
-  pub found : has-places n signals ≡ true → number ≡ 0 → (k j : ℕ) → k < most-waits * n →
-      Rests-on-signal ssem sval signals (getD wsem k 0 % most-semaphores) (getD wval k 0) j →
-      getD source k 0 ≡ getD sop j 0
+  pub no-places : has-places n semaphores signals ssem sval sop wval ≡ false → source ≡ wsem
+  pub rests : has-places n semaphores signals ssem sval sop wval ≡ true → number ≡ 0 → (k : ℕ) →
+      k < most-waits * n →
+      Rests semaphores signals ssem sval sop (getD wsem k 0 % most-semaphores) (getD wval k 0) (getD source k 0)
+
+-- all of it: 8 or none, the column of the waits, and what that is by the columns of a plan
+pub record Waits-answered (n semaphores signals : ℕ) (ssem sval sop wsem wval last : List ℕ) (r : Told)
+    (source : List ℕ) : Type 0 where
+  pub told : Tells (waits-found n semaphores signals ssem sval sop wsem wval last) 0 r
+  pub left : Sources n semaphores signals (r .number) ssem sval sop wsem wval source
+  pub of-plans : (p : Plan) → Waits-given p n semaphores signals ssem sval sop wsem wval last → Resolved p r source

@@ -2,7 +2,8 @@
 use mathlib.Core.List.{List}
 use Prim.Native.Nat.{ℕ}
 use Rattle.ask_frontier.specs.declared.Sent.{Sent}
-use Rattle.c_lent.specs.Lent.{told-of, frontier-of, Handed}
+use Rattle.c_told.specs.Told.{told-of}
+use Rattle.c_lent.specs.Lent.{frontier-of, Handed}
 
 abbrev pub Sent-says : Sent → (told frontier : List ℕ) → Type 0
 Sent-says r told frontier = Handed (r .number) (r .place) (r .frontier) told frontier

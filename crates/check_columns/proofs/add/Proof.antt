@@ -11,7 +11,16 @@ use Rattle.check_columns.proofs.add.Statement.{statement}
 use Rattle.check_columns.proofs.add.Tie as tie
 
 returns : tie.Need-returns
-returns c = (λ l. absurd (omega (arith, c .if1 .taken)), λ _. (refl, refl, refl))
+returns c = (λ l. absurd (omega (arith, l .0, c .if1 .taken)), λ _. (refl, refl, refl))
+
+mul-if2 : tie.Need-mul-if2
+mul-if2 c = search needs
+
+add-if2 : tie.Need-add-if2
+add-if2 c = search needs
+
+returns-2 : tie.Need-returns-2
+returns-2 c = (λ l. absurd (omega (arith, l .1, c .if2 .taken)), λ _. (refl, refl, refl))
 
 element-copy-out-u64-to-usize : tie.Need-element-copy-out-u64-to-usize
 element-copy-out-u64-to-usize c = search needs
@@ -44,53 +53,83 @@ add-marks-at-2 : tie.Need-add-marks-at-2
 add-marks-at-2 c = search needs
 
 put-marks-requires : tie.Need-put-marks-requires
-put-marks-requires c κs = search needs
+put-marks-requires c κs =
+    let signalled = c .before .before .before .before .before .before .before .before in
+    let waited = signalled .before .before .before .before .before .before in
+    let inside = waited .before .before .before .before .before .before .before .before in
+    let start = inside .before .before .before .before .before .before .before in (
+      omega (arith, signalled .put-signals .ensures .0, waited .put-waits .ensures .0),
+      omega (arith, inside .if1 .left),
+      omega (arith, start .fits .marks),
+    )
 
-add-t25 : tie.Need-add-t25
-add-t25 c =
-    let midway = c .before .before .before .before .before .before .before in
-    let earlier = midway .before .before .before .before .before .before .before .before in
-    omega (arith, c .before .before .before .put-signals .ensures .0, earlier .fits .signals)
+add-t22 : tie.Need-add-t22
+add-t22 c =
+    let marked = c .before .before .before .before in
+    let signalled = marked .before .before .before .before .before .before .before .before .before in
+    let waited = signalled .before .before .before .before .before .before in
+    let stored = waited .before .before .before in
+    let inside = stored .before .before .before .before in
+    let start = inside .before .before .before .before .before .before .before .before in
+    omega (arith, signalled .put-signals .ensures .0, start .fits .signals)
 
-add-t39 : tie.Need-add-t39
-add-t39 c =
-    let midway = c .before .before .before .before .before .before .before in
-    let earlier = midway .before .before .before .before .before .before .before .before in
-    omega (arith, c .put-marks .ensures .0, earlier .fits .marks)
+add-t23 : tie.Need-add-t23
+add-t23 c =
+    let marked = c .before .before .before .before in
+    let signalled = marked .before .before .before .before .before .before .before .before .before in
+    let waited = signalled .before .before .before .before .before .before in
+    let stored = waited .before .before .before in
+    let inside = stored .before .before .before .before in
+    let start = inside .before .before .before .before .before .before .before .before in
+    omega (arith, marked .put-marks .ensures .0, start .fits .marks)
 
-returns-2 : tie.Need-returns-2
-returns-2 c =
-    let earlier = c .before .before .before .before .before .before in
-    let first = earlier .before .before .before .before .before .before .before in
-    let a = first .before .before .args in
-    let (w, waits) = earlier .before .put-waits .ensures in
-    let (s, signals) = c .before .before .before .put-signals .ensures in
-    let (m, marks) = c .put-marks .ensures in (
+same-length : tie.Need-same-length
+same-length c = search needs
+
+same-length-2 : tie.Need-same-length-2
+same-length-2 c = search needs
+
+same-length-3 : tie.Need-same-length-3
+same-length-3 c = search needs
+
+same-length-4 : tie.Need-same-length-4
+same-length-4 c = search needs
+
+same-length-5 : tie.Need-same-length-5
+same-length-5 c = search needs
+
+same-length-6 : tie.Need-same-length-6
+same-length-6 c = search needs
+
+returns-3 : tie.Need-returns-3
+returns-3 c =
+    let marked = c .before .before .before .before in
+    let signalled = marked .before .before .before .before .before .before .before .before .before in
+    let waited = signalled .before .before .before .before .before .before in
+    let stored = waited .before .before .before in
+    let inside = stored .before .before .before .before in
+    let start = inside .before .before .before .before .before .before .before .before in
+    let a = start .args in
+    let (w, waits) = waited .put-waits .ensures in
+    let (s, signals) = signalled .put-signals .ensures in
+    let (m, marks) = marked .put-marks .ensures in (
       λ _. record {
         queues-added = record {
-          stored = earlier .before .before .before .before .put16 .ensures
-              ∙ ap (λ (z : ℕ). set (a .queue .now) (a .i) (z % 65536))
-              (earlier .before .before .before .before .before .u64-to-usize .ensures);
-          size = first .put16-arg .given .0 .1;
+          stored = stored .put16 .ensures
+              ∙ ap (λ (z : ℕ). set (a .queue .now) (a .i) (z % 65536)) (stored .before .u64-to-usize .ensures);
         };
-        wait-semaphores-added = wait-semaphores-put _ 0 w s m (a .i) (waits .0)
-            (earlier .before .before .before .put-waits-arg .given .0 .1);
-        wait-values-added = wait-values-put _ 0 w s m (a .i) (waits .1)
-            (earlier .before .before .put-waits-arg2 .given .0 .1);
-        signal-semaphores-added = signal-semaphores-put _ 0 w s m (a .i) (signals .0)
-            (earlier .put-signals-arg .given .0 .1);
-        signal-values-added = signal-values-put _ 0 w s m (a .i) (signals .1 .0)
-            (c .before .before .before .before .before .put-signals-arg2 .given .0 .1);
-        signal-operations-added = signal-operations-put _ 0 w s m (a .i) (signals .1 .1)
-            (c .before .before .before .before .put-signals-arg3 .given .0 .1);
-        marks-added = marks-put _ 0 w s m (a .i) (marks .0) (c .before .before .put-marks-arg .given .0 .1);
-        mark-operations-added = mark-operations-put _ 0 w s m (a .i) (marks .1)
-            (c .before .put-marks-arg2 .given .0 .1);
+        wait-semaphores-added = wait-semaphores-put _ 0 w s m (a .i) (waits .0);
+        wait-values-added = wait-values-put _ 0 w s m (a .i) (waits .1);
+        signal-semaphores-added = signal-semaphores-put _ 0 w s m (a .i) (signals .0);
+        signal-values-added = signal-values-put _ 0 w s m (a .i) (signals .1 .0);
+        signal-operations-added = signal-operations-put _ 0 w s m (a .i) (signals .1 .1);
+        marks-added = marks-put _ 0 w s m (a .i) (marks .0);
+        mark-operations-added = mark-operations-put _ 0 w s m (a .i) (marks .1);
         next = refl;
         more-signals = signals-more _ 0 w s m _;
         more-marks = marks-more _ 0 w s m _;
       },
-      λ h. absurd (omega (arith, first .before .if1 .left)),
+      λ h. absurd (h (omega (arith, inside .before .if1 .left), omega (arith, inside .if2 .left))),
     )
 
 pub add-spec : {M : Type 1} → statement M
@@ -98,6 +137,9 @@ add-spec =
     tie.close
     (tie.spec
     returns
+    mul-if2
+    add-if2
+    returns-2
     element-copy-out-u64-to-usize
     u64-to-usize-requires
     put16-requires
@@ -109,6 +151,12 @@ add-spec =
     mul-marks-at
     add-marks-at-2
     put-marks-requires
-    add-t25
-    add-t39
-    returns-2)
+    add-t22
+    add-t23
+    same-length
+    same-length-2
+    same-length-3
+    same-length-4
+    same-length-5
+    same-length-6
+    returns-3)

@@ -7,20 +7,19 @@ use Rattle.check_passes.proofs.Columns.{signals-given, waits-given}
 use Rattle.check_passes.proofs.rules.Statement.{statement}
 use Rattle.check_passes.proofs.rules.Tie as tie
 
+slice-aggregate-judge : tie.Need-slice-aggregate-judge
+slice-aggregate-judge c = search needs
+
 judge-requires : tie.Need-judge-requires
 judge-requires c κs = search needs
 
-forwarded-requires : tie.Need-forwarded-requires
-forwarded-requires c κs = search needs
-
 returns : tie.Need-returns
 returns c =
-    let found = c .before .before .judge .ensures in
-    let taken = c .before .if1 .taken in
-    rw (c .forwarded .ensures) (
-      rules-first _ _ _ _ _ _ _ _ _ _ _ (found .0) taken,
+    let found = c .before .before .before .judge .ensures in
+    let taken = c .if1 .taken in (
+      rules-first _ _ _ _ _ _ _ _ _ _ (found .0) taken,
       (
-        sources-refused _ _ _ _ _ _ _ _ _ _ _ (found .0) taken,
+        sources-refused _ _ _ _ _ _ _ _ _ _ (found .0) taken,
         λ p given. six-or-seven (found .1 .1 p (signals-given given)) taken,
       ),
     )
@@ -30,12 +29,13 @@ resolve-requires c κs = search needs
 
 returns-2 : tie.Need-returns-2
 returns-2 c =
-    let none = c .before .before .before .before .if1 .left in
-    let found = c .before .before .before .before .before .judge .ensures in
+    let tested = c .before .before .before in
+    let none = tested .if1 .left in
+    let found = tested .before .before .before .judge .ensures in
     let waits = c .resolve .ensures in (
-      rules-second _ _ _ _ _ _ _ _ _ _ _ (found .0) none (found .1 .0) (waits .0),
+      rules-second _ _ _ _ _ _ _ _ _ _ (found .0) none (found .1 .0) (waits .0),
       (
-        sources-resolved _ _ _ _ _ _ _ _ _ _ _ (found .0) none (found .1 .0) (waits .0) (waits .1 .0),
+        sources-resolved _ _ _ _ _ _ _ _ _ _ (found .0) none (found .1 .0) (waits .0) (waits .1 .0),
         λ p given.
             let judged = found .1 .1 p (signals-given given) in
             eight judged none (answer-none (waits .0)) (waits .1 .1 p (waits-given given judged none)),
@@ -43,4 +43,4 @@ returns-2 c =
     )
 
 pub rules-spec : {M : Type 1} → statement M
-rules-spec = tie.close (tie.spec judge-requires forwarded-requires returns resolve-requires returns-2)
+rules-spec = tie.close (tie.spec slice-aggregate-judge judge-requires returns resolve-requires returns-2)

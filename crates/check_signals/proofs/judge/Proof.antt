@@ -1,25 +1,66 @@
 -- `check_signals::judge` walks the signals: the invariant is what is left of the walk. Assumes nothing.
-use mathlib.Core.Path.{_≡_, refl, ap, _∙_}
-use Prim.Native.Nat.{_-_}
+use mathlib.Core.Path.{_≡_, refl, sym, ap, _∙_}
+use Prim.Native.Nat.{_-_, _≤_}
+use native.Mathlib.Omega.{arith}
 use borrow.Author.Needs.{needs}
 use lib.ListN.{length, length-set}
 use Rattle.plan_format.specs.Refusal.{refusal, none-given}
-use Rattle.check_signals.specs.Walks.{zeros}
+use Rattle.plan_format.proofs.Telling.{tells}
+use Rattle.check_signals.specs.Walks.{held-in}
+use Rattle.check_signals.proofs.Clearing.{cleared-long}
 use Rattle.check_signals.proofs.Shows.{judged}
-use Rattle.check_signals.proofs.Loops.{Signals-left, signals-none, signals-six, signals-seven, signals-more}
-use Rattle.check_signals.proofs.Loops.{signals-end}
+use Rattle.check_signals.proofs.Loops.{Signals-left, stops-found, signals-none, signals-six, signals-seven}
+use Rattle.check_signals.proofs.Loops.{signals-more, signals-end}
 use Rattle.check_signals.proofs.judge.Statement.{statement}
 use Rattle.check_signals.proofs.judge.Tie as tie
 
 abbrev Inv-loop : tie.InvT-loop
-Inv-loop signals owner queue ssem sval sop last₀ k₀ last k =
-    (length last ≡ 64) × Signals-left owner queue ssem sval sop signals zeros k last
+Inv-loop semaphores signals owner queue ssem sval sop last₀ many k₀ last k =
+    (length last ≡ length last₀) × Signals-left owner queue ssem sval sop many last₀ k last × (many ≤ length ssem) ×
+    (many ≤ length sval) × (many ≤ length sop)
 
 abbrev μ-loop : tie.MeasureT-loop
-μ-loop signals owner queue ssem sval sop last₀ k₀ last k = signals - k
+μ-loop semaphores signals owner queue ssem sval sop last₀ many k₀ last k = many - k
+
+clear-requires : tie.Need-clear-requires Inv-loop μ-loop
+clear-requires c κs = search needs
+
+held-requires : tie.Need-held-requires Inv-loop μ-loop
+held-requires c κs = search needs
 
 loop-holds : tie.Need-loop-holds Inv-loop μ-loop
-loop-holds c = (refl, signals-none)
+unfolding held-in
+loop-holds c = (
+  refl,
+  signals-none,
+  omega (arith, c .held .ensures),
+  omega (arith, c .held .ensures),
+  omega (arith, c .held .ensures),
+)
+
+mul-u16-to-usize : tie.Need-mul-u16-to-usize Inv-loop μ-loop
+mul-u16-to-usize c = search needs
+
+shared-slice-read-u16-to-usize : tie.Need-shared-slice-read-u16-to-usize Inv-loop μ-loop
+shared-slice-read-u16-to-usize c = search needs
+
+u16-to-usize-requires : tie.Need-u16-to-usize-requires Inv-loop μ-loop
+u16-to-usize-requires c κs = search needs
+
+mul-u16-to-usize-2 : tie.Need-mul-u16-to-usize-2 Inv-loop μ-loop
+mul-u16-to-usize-2 c = search needs
+
+shared-slice-read-u16-to-usize-2 : tie.Need-shared-slice-read-u16-to-usize-2 Inv-loop μ-loop
+shared-slice-read-u16-to-usize-2 c = search needs
+
+u16-to-usize-requires-2 : tie.Need-u16-to-usize-requires-2 Inv-loop μ-loop
+u16-to-usize-requires-2 c κs = search needs
+
+mul-value : tie.Need-mul-value Inv-loop μ-loop
+mul-value c = search needs
+
+shared-slice-read-value : tie.Need-shared-slice-read-value Inv-loop μ-loop
+shared-slice-read-value c = search needs
 
 get16-requires : tie.Need-get16-requires Inv-loop μ-loop
 get16-requires c κs = search needs
@@ -27,44 +68,56 @@ get16-requires c κs = search needs
 get16-requires-2 : tie.Need-get16-requires-2 Inv-loop μ-loop
 get16-requires-2 c κs = search needs
 
-get64-requires : tie.Need-get64-requires Inv-loop μ-loop
-get64-requires c κs = search needs
+refused-requires : tie.Need-refused-requires Inv-loop μ-loop
+refused-requires c κs = search needs
 
-get16-requires-3 : tie.Need-get16-requires-3 Inv-loop μ-loop
-get16-requires-3 c κs = search needs
-
-get16-requires-4 : tie.Need-get16-requires-4 Inv-loop μ-loop
-get16-requires-4 c κs = search needs
+same-length : tie.Need-same-length Inv-loop μ-loop
+same-length c =
+    let read = c .before .before in
+    let head = read .before .before .before .before .before .before .before .before .before .before in
+    head .loop .inv .0 ∙ ap length (head .before .before .before .before .clear .ensures) ∙ cleared-long _ _
 
 returns : tie.Need-returns Inv-loop μ-loop
 returns c =
-    let read = c .before in
-    let earlier = read .before .before .before .before .before .before in
-    let first = earlier .before .before in
-    let e = signals-six (first .before .before .before .loop .inv .1) (first .before .before .loop-test .taken)
-    (first .get16 .ensures) (earlier .get162 .ensures) (read .before .before .before .before .get64 .ensures)
-    (read .before .before .get163 .ensures) (read .get164 .ensures) (c .if1 .taken) in
-    (e .found, (e .table, λ p shown. judged shown _ e))
+    let read = c .before .before in
+    let owned = read .before .before in
+    let operation = owned .before .before .before in
+    let semaphore = operation .before .before in
+    let turn = semaphore .before .before in
+    let head = turn .before in
+    let e = stops-found (head .before .before .before .before .clear .ensures) (head .before .held .ensures)
+    (signals-six (head .loop .inv .1) (turn .loop-test .taken)
+    (semaphore .u16-to-usize .ensures .0) (operation .u16-to-usize2 .ensures .0) refl (owned .get16 .ensures)
+    (read .get162 .ensures) (c .before .if1 .taken)) in
+    rw (c .refused .ensures) (tells (sym (e .found)), (e .table, λ p shown. judged shown (e .found) (e .table)))
 
-slice-aggregate-get64 : tie.Need-slice-aggregate-get64 Inv-loop μ-loop
-slice-aggregate-get64 c = search needs
+get64-requires : tie.Need-get64-requires Inv-loop μ-loop
+get64-requires c κs = search needs
 
-get64-requires-2 : tie.Need-get64-requires-2 Inv-loop μ-loop
-get64-requires-2 c κs = search needs
+refused-requires-2 : tie.Need-refused-requires-2 Inv-loop μ-loop
+refused-requires-2 c κs = search needs
+
+same-length-2 : tie.Need-same-length-2 Inv-loop μ-loop
+same-length-2 c =
+    let read = c .before .before .before .before .before in
+    let head = read .before .before .before .before .before .before .before .before .before .before in
+    head .loop .inv .0 ∙ ap length (head .before .before .before .before .clear .ensures) ∙ cleared-long _ _
 
 returns-2 : tie.Need-returns-2 Inv-loop μ-loop
 returns-2 c =
-    let read = c .before .before .before .before in
-    let earlier = read .before .before .before .before .before .before in
-    let first = earlier .before .before in
-    let e = signals-seven (first .before .before .before .loop .inv .1) (first .before .before .loop-test .taken)
-    (first .get16 .ensures) (earlier .get162 .ensures) (read .before .before .before .before .get64 .ensures)
-    (read .before .before .get163 .ensures) (read .get164 .ensures) (c .before .before .before .if1 .left)
-    (c .before .get642 .ensures) (c .if2 .taken) in
-    (e .found, (e .table, λ p shown. judged shown _ e))
-
-slice-aggregate-put64 : tie.Need-slice-aggregate-put64 Inv-loop μ-loop
-slice-aggregate-put64 c = search needs
+    let tested = c .before .before in
+    let read = tested .before .before .before in
+    let owned = read .before .before in
+    let operation = owned .before .before .before in
+    let semaphore = operation .before .before in
+    let turn = semaphore .before .before in
+    let head = turn .before in
+    let e = stops-found (head .before .before .before .before .clear .ensures) (head .before .held .ensures)
+    (signals-seven (head .loop .inv .1) (turn .loop-test .taken)
+    (semaphore .u16-to-usize .ensures .0) (operation .u16-to-usize2 .ensures .0) refl (owned .get16 .ensures)
+    (read .get162 .ensures) (tested .before .before .if1 .left) (tested .get64 .ensures)
+    (c .before .if2 .taken)) in
+    rw (c .refused2 .ensures) (tells (sym (e .found)), (e .table, λ p shown. judged shown (e .found) (e .table)))
 
 put64-requires : tie.Need-put64-requires Inv-loop μ-loop
 put64-requires c κs = search needs
@@ -77,23 +130,40 @@ loop-less c = search needs
 
 loop-again : tie.Need-loop-again Inv-loop μ-loop
 loop-again c =
-    let start-of = c .before .before .before .before .before .before in
-    let read = start-of .before in
-    let earlier = read .before .before .before .before .before .before in
-    let first = earlier .before .before in (
-      ap length (c .before .put64 .ensures) ∙ simp length-set (first .before .before .before .loop .inv .0),
-      signals-more (first .before .before .before .loop .inv .1) (first .before .before .loop-test .taken)
-          (first .get16 .ensures) (earlier .get162 .ensures) (read .before .before .before .before .get64 .ensures)
-          (read .before .before .get163 .ensures) (read .get164 .ensures) (start-of .if1 .left)
-          (c .before .before .before .before .get642 .ensures) (c .before .before .before .if2 .left)
-          (c .before .put64 .ensures),
+    let stored = c .before .before in
+    let tested = stored .before .before .before in
+    let read = tested .before .before .before in
+    let owned = read .before .before in
+    let operation = owned .before .before .before in
+    let semaphore = operation .before .before in
+    let turn = semaphore .before .before in
+    let head = turn .before in (
+      ap length (stored .put64 .ensures) ∙ simp length-set (head .loop .inv .0),
+      signals-more (head .loop .inv .1) (turn .loop-test .taken)
+          (semaphore .u16-to-usize .ensures .0) (operation .u16-to-usize2 .ensures .0) refl (owned .get16 .ensures)
+          (read .get162 .ensures)
+          (tested .before .before .if1 .left) (tested .get64 .ensures) (stored .before .before .if2 .left)
+          (stored .put64 .ensures),
+      head .loop .inv .2,
+      head .loop .inv .3,
+      head .loop .inv .4,
     )
+
+answered-requires : tie.Need-answered-requires Inv-loop μ-loop
+answered-requires c κs = search needs
+
+same-length-3 : tie.Need-same-length-3 Inv-loop μ-loop
+same-length-3 c =
+    let head = c .before .before in
+    head .loop .inv .0 ∙ ap length (head .before .before .before .before .clear .ensures) ∙ cleared-long _ _
 
 returns-3 : tie.Need-returns-3 Inv-loop μ-loop
 unfolding none-given refusal
 returns-3 c =
-    let e = signals-end (c .before .loop .inv .1) (c .loop-test .left) in
-    (e .found, (e .table, λ p shown. judged shown _ e))
+    let head = c .before .before in
+    let e = stops-found (head .before .before .before .before .clear .ensures) (head .before .held .ensures)
+    (signals-end (head .loop .inv .1) (c .before .loop-test .left)) in
+    rw (c .answered .ensures) (tells (sym (e .found)), (e .table, λ p shown. judged shown (e .found) (e .table)))
 
 pub judge-spec : {M : Type 1} → statement M
 judge-spec =
@@ -101,19 +171,30 @@ judge-spec =
     (tie.spec
     Inv-loop
     μ-loop
+    clear-requires
+    held-requires
     loop-holds
+    mul-u16-to-usize
+    shared-slice-read-u16-to-usize
+    u16-to-usize-requires
+    mul-u16-to-usize-2
+    shared-slice-read-u16-to-usize-2
+    u16-to-usize-requires-2
+    mul-value
+    shared-slice-read-value
     get16-requires
     get16-requires-2
-    get64-requires
-    get16-requires-3
-    get16-requires-4
+    refused-requires
+    same-length
     returns
-    slice-aggregate-get64
-    get64-requires-2
+    get64-requires
+    refused-requires-2
+    same-length-2
     returns-2
-    slice-aggregate-put64
     put64-requires
     add-k
     loop-less
     loop-again
+    answered-requires
+    same-length-3
     returns-3)
