@@ -51,8 +51,8 @@
  * THREADS AND STACK. There is no state between calls, so calls on separate
  * memory may run at the same time on any threads. A call uses less than
  * CUNDVREST_STACK bytes of its thread's stack, whatever the input. Measured:
- * read 184 kB, frontier 144 kB, check, reuse, suggest and trace 142 kB, write
- * 64 kB, the others 3 kB.
+ * read 191 kB, frontier 156 kB, check, reuse, suggest and trace 153 kB, write
+ * 70 kB, the others 3 kB.
  */
 #ifndef CUNDVREST_H
 #define CUNDVREST_H
@@ -89,8 +89,11 @@ extern "C" {
 #define CUNDVREST_REFUSED_BAD_TRACE 22
 
 /* The longest stored plan in bytes, and the most numbers of a read one. */
-#define CUNDVREST_MOST_BYTES 63686
-#define CUNDVREST_MOST_NUMBERS 22868
+#define CUNDVREST_MOST_BYTES 69768
+#define CUNDVREST_MOST_NUMBERS 23828
+
+/* The most semaphores of a plan. A plan with more than 64 begins with byte 242. */
+#define CUNDVREST_MOST_SEMAPHORES 1024
 
 /* The most operations of a plan; how many numbers table and list have for each. */
 #define CUNDVREST_MOST_OPERATIONS 1024
@@ -123,9 +126,9 @@ extern "C" {
 #define CUNDVREST_NOT_FIRST 4
 #define CUNDVREST_WAIT_NOT_MET 5
 
-/* The numbers of the state that cundvrest_trace writes: 16 queues, then 64
+/* The numbers of the state that cundvrest_trace writes: 16 queues, then 1,024
  * semaphores; and of what it finds. */
-#define CUNDVREST_STATE 80
+#define CUNDVREST_STATE 1040
 #define CUNDVREST_FOUND 6
 
 /* The longest recorded trace in bytes. */
@@ -219,7 +222,7 @@ void cundvrest_frontier(const uint8_t *plan, size_t plan_len,
  *
  * state: how far each queue and each semaphore had come before that step, or at
  * the end: how many operations of each of 16 queues had run, then the highest
- * value signalled on each of 64 semaphores; 0 for those that the plan lacks.
+ * value signalled on each of 1,024 semaphores; 0 for those that the plan lacks.
  * Past CUNDVREST_STATE numbers nothing is touched.
  *
  * The plan is checked first: refusals 1 to 11. Then 9 with CUNDVREST_STATE for a

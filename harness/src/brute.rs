@@ -86,7 +86,7 @@ fn signal_fault(plan: &Plan) -> Option<(u64, Position)> {
 
 /// R45: the first operation with a wait that no signal reaches.
 fn wait_fault(plan: &Plan) -> Option<Position> {
-    let highest = |semaphore: u8| {
+    let highest = |semaphore: u16| {
         let signals = plan.operations.iter().flat_map(|o| &o.signals);
         let values = signals.filter(|s| s.semaphore == semaphore);
         values.map(|s| s.value).max().unwrap_or(0)
@@ -101,7 +101,7 @@ fn wait_fault(plan: &Plan) -> Option<Position> {
 // Runs.
 
 /// R22: how far a semaphore has come in a run.
-fn highest_so_far(plan: &Plan, run: &[Position], semaphore: u8) -> u64 {
+fn highest_so_far(plan: &Plan, run: &[Position], semaphore: u16) -> u64 {
     let mut highest = 0;
     for &operation in run {
         for signal in &plan.operations[operation].signals {

@@ -6,11 +6,13 @@ use crate::plan::{Mark, Plan};
 use crate::reference::{self, Reference};
 use crate::side::{Found, Raw, Rooms, Side, Told, Wait, EMPTY, EPOCHS, LENGTH, TAINT};
 
+mod forms;
 mod suggest;
 mod trace;
 
 /// The mistakes that the rules exclude, a row's own column, and mistakes of the
-/// trace question, of the question for a wait and of the lookup.
+/// trace question, of the question for a wait, of the lookup and of the second
+/// form.
 #[derive(Clone, Copy, PartialEq, Eq, Debug)]
 pub enum Fault {
     /// A wait takes over what the latest signal knows (R17).
@@ -57,11 +59,21 @@ pub enum Fault {
     HeldNeedsNone,
     /// An absent axis is looked up as one listed with epoch 0 (R60).
     AbsentIsZero,
+    /// A semaphore's position loses its higher byte.
+    PositionOfOneByte,
+    /// A plan of 64 semaphores is written in the second form (R8).
+    SecondFormFor64,
+    /// Places in a plan in the second form do not count the first byte.
+    LeadNotCounted,
+    /// A plan in the second form is refused, as it was before there was one.
+    FirstFormOnly,
+    /// A state for 64 semaphores is enough.
+    StateFor64,
 }
 
 impl Fault {
     /// Fault 1 is the first.
-    pub const ALL: [Fault; 22] = [
+    pub const ALL: [Fault; 27] = [
         Fault::NewestSignal,
         Fault::FirstUseOnly,
         Fault::OwnColumnMissing,
@@ -84,6 +96,11 @@ impl Fault {
         Fault::RefusalKeepsWait,
         Fault::HeldNeedsNone,
         Fault::AbsentIsZero,
+        Fault::PositionOfOneByte,
+        Fault::SecondFormFor64,
+        Fault::LeadNotCounted,
+        Fault::FirstFormOnly,
+        Fault::StateFor64,
     ];
 
     /// The plan the reference is given instead.
@@ -91,6 +108,7 @@ impl Fault {
         match self {
             Fault::NewestSignal => wait_for_newest(plan),
             Fault::FirstUseOnly => keep_first_uses(plan),
+            Fault::PositionOfOneByte => cut_positions(plan),
             _ => {}
         }
     }
@@ -106,6 +124,15 @@ fn wait_for_newest(plan: &mut Plan) {
     for wait in plan.operations.iter_mut().flat_map(|o| &mut o.waits) {
         if wait.value > 0 {
             wait.value = wait.value.max(highest[usize::from(wait.semaphore)]);
+        }
+    }
+}
+
+/// Each position of a semaphore modulo 256.
+fn cut_positions(plan: &mut Plan) {
+    for operation in &mut plan.operations {
+        for point in operation.waits.iter_mut().chain(&mut operation.signals) {
+            point.semaphore %= 256;
         }
     }
 }
@@ -182,15 +209,20 @@ impl Side for Faulty {
 
     fn read(&self, plan: &[u8], room: &mut [u64], told: &mut Told) {
         Reference.read(plan, room, told);
+        forms::spoil(self.0, plan, told);
     }
 
     fn write(&self, numbers: &[u64], room: &mut [u8], told: &mut Told) {
-        Reference.write(numbers, room, told);
+        match self.0 {
+            Fault::SecondFormFor64 => forms::write_wide(numbers, room, told),
+            _ => Reference.write(numbers, room, told),
+        }
     }
 
     fn check(&self, plan: &[u8], rooms: &mut Rooms, told: &mut Told) {
         Reference.check(&self.rewritten(plan), rooms, told);
         self.spoil(told, plan, rooms);
+        forms::spoil(self.0, plan, told);
     }
 
     fn reuse(&self, plan: &[u8], queue: u32, buffer: u32, rooms: &mut Rooms, told: &mut Told) {

@@ -1,6 +1,6 @@
 //! Plans and frontiers made from a seed.
 
-use crate::plan::{Mark, Operation, Plan, Point};
+use crate::plan::{Form, Mark, Operation, Plan, Point};
 use crate::side::{Raw, EMPTY, EPOCHS, LENGTH, TAINT};
 
 mod shape;
@@ -285,10 +285,16 @@ pub fn random_plan(rng: &mut Rng, most_operations: usize) -> Plan {
         1 => rng.between(4, 16),
         _ => rng.between(2, 4),
     };
-    let semaphores = if queues == 0 {
-        0
-    } else {
-        *rng.pick(&[0, 1, 2, 3, 4, 5, 6, 8, 64])
+    let semaphores = match rng.below(40) {
+        _ if queues == 0 => 0,
+        0..3 => 64,
+        // The second form: the fewest, few more, and as many as two bytes or
+        // the limit allow.
+        3..5 => 65,
+        5 => rng.between(66, 255),
+        6 => rng.between(256, 1023),
+        7 => 1024,
+        _ => *rng.pick(&[0, 1, 2, 3, 4, 5, 6, 8]),
     };
     let operations = if queues == 0 || rng.percent(4) {
         0
@@ -347,7 +353,7 @@ fn add_signals(rng: &mut Rng, plan: &mut Plan, chance: usize) {
                 break; // At the end of the range: nothing is higher.
             }
             last[semaphore] = value;
-            let semaphore = semaphore as u8;
+            let semaphore = semaphore as u16;
             operation.signals.push(Point { semaphore, value });
         }
     }
@@ -392,7 +398,7 @@ fn recent_signal(rng: &mut Rng, owners: &[u8], queue: u8, signals: &[Point]) -> 
 
 fn wait_for_zero(rng: &mut Rng, plan: &Plan) -> Option<Point> {
     (!plan.owners.is_empty()).then(|| Point {
-        semaphore: rng.below(plan.owners.len()) as u8,
+        semaphore: rng.below(plan.owners.len()) as u16,
         value: 0,
     })
 }
@@ -466,7 +472,7 @@ fn spoil(rng: &mut Rng, plan: &mut Plan) {
         .collect();
     let semaphore = rng.below(semaphores);
     let point = Point {
-        semaphore: semaphore as u8,
+        semaphore: semaphore as u16,
         value: match rng.below(3) {
             0 => highest[semaphore].saturating_add(1),
             1 => rng.below(4) as u64,
@@ -539,7 +545,7 @@ fn camera_pipeline_with(rng: &mut Rng, cameras: usize, frames: usize, rings: [us
             // Until a ring's slot was freed by the stage after.
             let slot_free = |ring: usize| {
                 frame.checked_sub(rings[ring]).map(|earlier| Point {
-                    semaphore: stages[ring] as u8,
+                    semaphore: stages[ring] as u16,
                     value: value(earlier),
                 })
             };
@@ -558,7 +564,7 @@ fn camera_pipeline_with(rng: &mut Rng, cameras: usize, frames: usize, rings: [us
                         stages[stage - 2]
                     };
                     operation.waits.push(Point {
-                        semaphore: before as u8,
+                        semaphore: before as u16,
                         value: if stage == 1 {
                             frame as u64 + 1
                         } else {
@@ -581,7 +587,7 @@ fn camera_pipeline_with(rng: &mut Rng, cameras: usize, frames: usize, rings: [us
                     });
                 }
                 operation.signals.push(Point {
-                    semaphore: queue as u8,
+                    semaphore: queue as u16,
                     value: if stage == 0 {
                         frame as u64 + 1
                     } else {
@@ -646,17 +652,24 @@ pub enum Family {
     WokenAtOnce,
     RandomCounts,
     Worst,
+    ManySemaphores,
+    ManyRandomCounts,
 }
 
 impl Family {
-    pub const ALL: [Family; 6] = [
+    pub const ALL: [Family; 8] = [
         Family::Greatest,
         Family::OneSemaphore,
         Family::AgainstPlanOrder,
         Family::WokenAtOnce,
         Family::RandomCounts,
         Family::Worst,
+        Family::ManySemaphores,
+        Family::ManyRandomCounts,
     ];
+
+    /// Those with every list at its limit, one in each form.
+    pub const GREATEST: [Family; 2] = [Family::Greatest, Family::ManySemaphores];
 
     pub fn name(self) -> &'static str {
         match self {
@@ -666,34 +679,26 @@ impl Family {
             Family::WokenAtOnce => "many queues woken at once",
             Family::RandomCounts => "random counts",
             Family::Worst => "worst found by search",
+            Family::ManySemaphores => "greatest, 1,024 semaphores",
+            Family::ManyRandomCounts => "random, 1,024 semaphores",
         }
     }
 
     pub fn plan(self, rng: &mut Rng, operations: usize) -> Plan {
         match self {
-            Family::Greatest => greatest(rng, operations),
+            Family::Greatest => Shape::GREATEST.plan(rng, operations),
             Family::OneSemaphore => one_semaphore(rng, operations),
             Family::AgainstPlanOrder => against_plan_order(rng, operations),
             Family::WokenAtOnce => woken_at_once(rng, operations),
-            Family::RandomCounts => random_counts(rng, operations),
+            Family::RandomCounts => Shape::GREATEST.random_counts().plan(rng, operations),
             Family::Worst => Shape::WORST.plan(rng, operations),
+            Family::ManySemaphores => Shape::GREATEST_OF_ALL.plan(rng, operations),
+            Family::ManyRandomCounts => {
+                let shape = Shape::GREATEST_OF_ALL.random_counts();
+                shape.plan(rng, operations)
+            }
         }
     }
-}
-
-/// Every list at its limit. With 1,024 operations it has 63,686 bytes.
-pub fn greatest(rng: &mut Rng, operations: usize) -> Plan {
-    Shape::GREATEST.plan(rng, operations)
-}
-
-/// As many waits, signals and marks in each operation as the die says.
-fn random_counts(rng: &mut Rng, operations: usize) -> Plan {
-    let lists = [[0, 3], [0, 2], [0, 4]];
-    let shape = Shape {
-        lists,
-        ..Shape::GREATEST
-    };
-    shape.plan(rng, operations)
 }
 
 /// All signals and waits are on one semaphore: queue 0 signals it twice in each
@@ -756,12 +761,12 @@ fn against_plan_order(rng: &mut Rng, operations: usize) -> Plan {
                 ..Operation::default()
             };
             let signal = Point {
-                semaphore: queue as u8,
+                semaphore: queue as u16,
                 value: step,
             };
             operation.signals.push(signal);
             if queue < 15 {
-                let semaphore = queue as u8 + 1;
+                let semaphore = queue as u16 + 1;
                 operation.waits.push(Point {
                     semaphore,
                     value: step,
@@ -793,7 +798,7 @@ fn woken_at_once(rng: &mut Rng, operations: usize) -> Plan {
         let mut operation = Operation::default();
         if position % 16 == 0 {
             operation.queue = 15;
-            let semaphore = (round % 3) as u8;
+            let semaphore = (round % 3) as u16;
             operation.signals.push(Point {
                 semaphore,
                 value: round + 1,
@@ -805,7 +810,7 @@ fn woken_at_once(rng: &mut Rng, operations: usize) -> Plan {
                 let Some(earlier) = round.checked_sub(back) else {
                     continue;
                 };
-                let semaphore = (earlier % 3) as u8;
+                let semaphore = (earlier % 3) as u16;
                 operation.waits.push(Point {
                     semaphore,
                     value: earlier + 1,
@@ -829,7 +834,8 @@ fn woken_at_once(rng: &mut Rng, operations: usize) -> Plan {
 /// where a signal comes after, and others where none does. Passes.
 pub fn few_signals(rng: &mut Rng, operations: usize) -> Plan {
     let one_in = *rng.pick(&[12, 12, 100]);
-    Shape::GREATEST.plan_with(rng, operations, |rng| {
+    let shape = *rng.pick(&[Shape::GREATEST, Shape::GREATEST_OF_ALL]);
+    shape.plan_with(rng, operations, |rng| {
         let signals = match rng.below(one_in) {
             0 => rng.between(1, 2),
             _ => 0,
@@ -878,10 +884,12 @@ pub fn other_byte(rng: &mut Rng, byte: u8) -> u8 {
 /// taken out, or appended, an axis written over another.
 pub fn damaged(rng: &mut Rng, bytes: &[u8]) -> Vec<u8> {
     let mut bytes = bytes.to_vec();
-    if bytes[0] >= 2 && rng.percent(10) {
-        let from = 1 + 8 * rng.below(bytes[0].into());
-        let to = 1 + 8 * rng.below(bytes[0].into());
-        bytes.copy_within(from..from + 8, to);
+    let first = usize::from(bytes.starts_with(Form::Second.lead()));
+    let queues = usize::from(bytes[first]);
+    if queues >= 2 && rng.percent(10) {
+        let axis = |queue| first + 1 + 8 * queue;
+        let from = axis(rng.below(queues));
+        bytes.copy_within(from..from + 8, axis(rng.below(queues)));
     }
     for _ in 0..rng.between(1, 3) {
         let at = rng.below(bytes.len() + 1);
@@ -899,19 +907,38 @@ pub fn damaged(rng: &mut Rng, bytes: &[u8]) -> Vec<u8> {
     bytes
 }
 
-/// Bytes that are no plan, small ones more often than not.
+/// Bytes that are no plan, small ones more often than not; some begin as the
+/// second form does.
 pub fn random_bytes(rng: &mut Rng) -> Vec<u8> {
+    let mut bytes = match rng.below(5) {
+        0 => Form::Second.lead().to_vec(),
+        _ => Vec::new(),
+    };
     let length = rng.between(0, 80);
     let small = rng.percent(80);
-    (0..length)
-        .map(|_| {
-            if small {
-                rng.below(3) as u8
-            } else {
-                rng.word() as u8
-            }
-        })
-        .collect()
+    bytes.extend((0..length).map(|_| {
+        if small {
+            rng.below(3) as u8
+        } else {
+            rng.word() as u8
+        }
+    }));
+    bytes
+}
+
+/// A plan as if it were stored in the other form, or without its lead, or with
+/// another first byte.
+pub fn in_other_form(rng: &mut Rng, plan: &Plan) -> Vec<u8> {
+    let mut bytes = plan.bytes();
+    match rng.below(4) {
+        0 => bytes[0] = *rng.pick(&[240, 241, 242, 243, 255]),
+        1 if plan.form() == Form::Second => {
+            bytes.remove(0);
+        }
+        1 => bytes.insert(0, 242),
+        _ => bytes = plan.bytes_in(plan.form().other()),
+    }
+    bytes
 }
 
 /// A list of numbers for the writer, damaged: also by what fits no byte.

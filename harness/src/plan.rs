@@ -4,10 +4,43 @@
 
 use std::fmt;
 
+/// In which form a plan is stored. In the second, positions of semaphores and
+/// their count take two bytes, and byte 242 is in front of all.
+#[derive(Clone, Copy, PartialEq, Eq, Debug)]
+pub enum Form {
+    First,
+    Second,
+}
+
+impl Form {
+    pub fn other(self) -> Form {
+        match self {
+            Form::First => Form::Second,
+            Form::Second => Form::First,
+        }
+    }
+
+    /// What is in front of the sections.
+    pub fn lead(self) -> &'static [u8] {
+        match self {
+            Form::First => &[],
+            Form::Second => &[242],
+        }
+    }
+
+    /// Bytes of a semaphore's position, and of their count.
+    fn width(self) -> usize {
+        match self {
+            Form::First => 1,
+            Form::Second => 2,
+        }
+    }
+}
+
 /// A wait or a signal.
 #[derive(Clone, Copy, PartialEq, Eq, Debug)]
 pub struct Point {
-    pub semaphore: u8,
+    pub semaphore: u16,
     pub value: u64,
 }
 
@@ -35,25 +68,39 @@ pub struct Plan {
 }
 
 impl Plan {
+    /// The form in which the plan is stored: the first if it has room for the
+    /// semaphores.
+    pub fn form(&self) -> Form {
+        match self.owners.len() {
+            0..=64 => Form::First,
+            _ => Form::Second,
+        }
+    }
+
     /// Every field in stored order, with its width in bytes.
-    fn fields(&self) -> Vec<(u64, usize)> {
+    fn fields(&self, form: Form) -> Vec<(u64, usize)> {
         let mut fields = vec![(self.axes.len() as u64, 1)];
         fields.extend(self.axes.iter().map(|&axis| (axis, 8)));
-        fields.push((self.owners.len() as u64, 1));
+        fields.push((self.owners.len() as u64, form.width()));
         fields.extend(self.owners.iter().map(|&owner| (u64::from(owner), 1)));
         fields.push((self.sizes.len() as u64, 2));
         fields.extend(self.sizes.iter().map(|&size| (u64::from(size), 4)));
         fields.push((self.operations.len() as u64, 2));
         for operation in &self.operations {
-            operation.add_fields(&mut fields);
+            operation.add_fields(form, &mut fields);
         }
         fields
     }
 
     /// The stored plan.
     pub fn bytes(&self) -> Vec<u8> {
-        let mut bytes = Vec::new();
-        for (value, width) in self.fields() {
+        self.bytes_in(self.form())
+    }
+
+    /// The plan as if it were stored in this form.
+    pub fn bytes_in(&self, form: Form) -> Vec<u8> {
+        let mut bytes = form.lead().to_vec();
+        for (value, width) in self.fields(form) {
             bytes.extend_from_slice(&value.to_le_bytes()[..width]);
         }
         bytes
@@ -61,7 +108,8 @@ impl Plan {
 
     /// The read plan: one number for each field.
     pub fn numbers(&self) -> Vec<u64> {
-        self.fields().into_iter().map(|(value, _)| value).collect()
+        let fields = self.fields(self.form()).into_iter();
+        fields.map(|(value, _)| value).collect()
     }
 
     /// The plan of a list of numbers that a reader has handed back.
@@ -84,12 +132,12 @@ impl Plan {
 }
 
 impl Operation {
-    fn add_fields(&self, fields: &mut Vec<(u64, usize)>) {
+    fn add_fields(&self, form: Form, fields: &mut Vec<(u64, usize)>) {
         fields.push((u64::from(self.queue), 1));
         for points in [&self.waits, &self.signals] {
             fields.push((points.len() as u64, 1));
             for point in points {
-                fields.push((u64::from(point.semaphore), 1));
+                fields.push((u64::from(point.semaphore), form.width()));
                 fields.push((point.value, 8));
             }
         }
@@ -105,7 +153,7 @@ impl Operation {
         let mut points = || {
             (0..take())
                 .map(|_| Point {
-                    semaphore: take() as u8,
+                    semaphore: take() as u16,
                     value: take(),
                 })
                 .collect()

@@ -24,7 +24,7 @@ pub type Wait = [u64; 2];
 
 /// How many numbers of a lent state are written: the operations run by queue,
 /// then the highest value signalled by semaphore.
-pub const STATE: usize = 16 + 64;
+pub const STATE: usize = 16 + 1024;
 
 /// What a call hands back, as the C interface lends it: number, place, answer.
 /// A refusal's answer is 0, and so is that of a call with nothing to answer.

@@ -112,7 +112,7 @@ fn some_plans(rng: &mut Rng) -> Vec<Plan> {
     let mut plans: Vec<Plan> = (0..200).map(|_| generate::random_plan(rng, 40)).collect();
     plans.push(generate::camera_pipeline(rng, 3, 10));
     plans.extend(Family::ALL.map(|family| family.plan(rng, 64)));
-    plans.push(generate::greatest(rng, 1024));
+    plans.extend(Family::GREATEST.map(|family| family.plan(rng, 1024)));
     plans
 }
 
@@ -218,9 +218,6 @@ fn families_pass_at_every_size() {
             assert_eq!(told, Told::PASSED, "{family:?} {operations}");
         }
     }
-    let greatest = generate::greatest(&mut Rng::new(5), 1024);
-    assert_eq!(greatest.bytes().len(), 63_686);
-    assert_eq!(greatest.numbers().len(), 22_868);
 }
 
 #[test]

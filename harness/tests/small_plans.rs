@@ -196,7 +196,7 @@ fn t13_dominance() {
 
 #[test]
 fn the_greatest_signal() {
-    let one = |signals: &[(u8, u64)]| {
+    let one = |signals: &[(u16, u64)]| {
         let operations = vec![operation(0, &[], signals, &[])];
         check(&plan(1, &[0], 0, operations)).0
     };

@@ -91,7 +91,7 @@ fn each_answer() {
 fn signals_of_the_freeing_operation() {
     // Two in the freeing operation: the first in its list, not the lower one.
     let both = [(1, 9), (0, 1)];
-    let plan_with = |signals: &[(u8, u64)]| {
+    let plan_with = |signals: &[(u16, u64)]| {
         let operations = vec![operation(0, &[], signals, &[("use", 0), ("free", 0)])];
         plan(2, &[0, 0], 1, operations)
     };
@@ -160,7 +160,7 @@ fn longest(signals_after: bool) -> Plan {
     let signal = |value| operation(0, &[], &[(0, value)], &[]);
     let mut operations: Vec<Operation> = (1..=1022).map(signal).collect();
     operations.push(operation(1, &[(0, 1022)], &[], &[("free", 0)]));
-    let after: &[(u8, u64)] = if signals_after { &[(1, 4)] } else { &[] };
+    let after: &[(u16, u64)] = if signals_after { &[(1, 4)] } else { &[] };
     operations.push(operation(1, &[], after, &[]));
     plan(3, &[0, 1], 1, operations)
 }

@@ -134,15 +134,20 @@ fn the_plan_is_refused_first() {
 fn lent_lengths() {
     // Whatever the trace: 9 for the state, with rows and run.
     for trace in [&[][..], &[0, 0], &[1, 0, 0, 0], &[3, 0, 0, 0, 1, 0, 2, 0]] {
-        for length in [0, 1, 16, 64, 79] {
+        for length in [0, 1, 16, 79, 80, STATE - 1] {
             let (told, found, left, state) = ask_lent(&t3(), trace, [48, 6, length]);
-            assert_eq!((told, found), (Told::refused(9, 80), [0; 6]));
+            assert_eq!((told, found), (Told::refused(9, 1040), [0; 6]));
             assert_eq!(left.table[32..36], [1, 1, 1, 0]);
             assert_eq!(left.list, [0, 1, 2, 1, 1, 1]);
             assert_eq!(state, vec![WIDE_PATTERN; length]);
         }
         // Table, then list, then state.
-        for (lengths, needed) in [([47, 5, 79], 48), ([48, 5, 79], 6), ([47, 6, 80], 48)] {
+        let short = STATE - 1;
+        for (lengths, needed) in [
+            ([47, 5, short], 48),
+            ([48, 5, short], 6),
+            ([47, 6, STATE], 48),
+        ] {
             let left = ask_lent(&t3(), trace, lengths);
             let [table, list, state] = lengths;
             let untouched = (
@@ -154,7 +159,7 @@ fn lent_lengths() {
             assert_eq!(left, untouched);
         }
     }
-    let (told, ..) = ask_lent(&t3(), &[0, 0], [48, 6, 80]);
+    let (told, ..) = ask_lent(&t3(), &[0, 0], [48, 6, STATE]);
     assert_eq!(told, Told::answered(UNFINISHED));
     // T9: zeros in table and list, the state untouched.
     let left = ask_lent(&t9(), &[0, 0], [32, 4, 79]);

@@ -4,7 +4,7 @@ import enum
 from dataclasses import dataclass
 from typing import Optional
 
-from .parts import Wait
+from .parts import FIRST_SEMAPHORES, Wait
 
 WORDS = {
     1: 'a field is cut short', 2: 'a count is over its limit', 3: 'bytes follow the last section',
@@ -169,3 +169,10 @@ class Trace:
     @property
     def departs(self):
         return self.followed.departs
+
+    def reached(self):
+        """(semaphore, how far it had come) for each, and how many are left out: where there are more than the first form
+        has, those at 0."""
+        every = list(zip(self.plan.semaphores, self.semaphores))
+        some = [(semaphore, value) for semaphore, value in every if value or len(every) <= FIRST_SEMAPHORES]
+        return some, len(every) - len(some)

@@ -121,8 +121,9 @@ def _state(said, trace, speaker, order, title):
     if rows:
         said.steps(rows)
     if trace.semaphores:
-        reached = ', '.join(f'{s.name} {v}' for s, v in zip(order.plan.semaphores, trace.semaphores))
-        said.says(f'Semaphores: {reached}.', PROVED)
+        reached, others = trace.reached()
+        words = [f'{semaphore.name} {value}' for semaphore, value in reached]
+        said.says(f'Semaphores: {", ".join(words + ([f"{others} others 0"] if others else []))}.', PROVED)
     said.claim(PROVED, 'how far each queue and semaphore has come, by the proved trace function')
 
 

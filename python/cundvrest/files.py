@@ -4,6 +4,7 @@ import re
 import stat
 from contextlib import contextmanager
 
+from .fields import is_second
 from .text import Problem, TextError
 
 MOST_BYTES = 1 << 24        # of a text; a stored plan is far shorter
@@ -31,9 +32,10 @@ def are_one(path, other):
 
 
 def is_text(data, path=''):
-    """Is this a text, and not a stored plan? A stored plan begins with at most 16 queues and has a zero byte, in its
-    count of buffers. What begins with the word plan is a text, so that what damages it is shown in its line."""
-    if data[:1] <= b'\x10' and b'\0' in data:
+    """Is this a text, and not a stored plan? A stored plan begins with at most 16 queues, or with the byte of the second
+    form, and has a zero byte, in its count of buffers. What begins with the word plan is a text, so that what damages
+    it is shown in its line."""
+    if (data[:1] <= b'\x10' or is_second(data)) and b'\0' in data:
         return False
     if not data:
         return path.endswith('.txt')

@@ -215,7 +215,9 @@ def state(picture, svg, y):
     cells = [(queue.name, f'{ran} of {len(queued)}')
              for queue, ran, queued in zip(plan.queues, trace.queues, picture.order.queued)]
     y = _cells(picture, svg, y - 6, cells)
-    return _cells(picture, svg, y, [(s.name, str(v)) for s, v in zip(plan.semaphores, trace.semaphores)]) + 6
+    reached, others = trace.reached()
+    cells = [(semaphore.name, str(value)) for semaphore, value in reached]
+    return _cells(picture, svg, y, cells + ([(f'{others} others', '0')] if others else [])) + 6
 
 
 def _cells(picture, svg, y, cells):

@@ -2,7 +2,8 @@
 from dataclasses import dataclass, field
 from typing import NamedTuple
 
-LIMITS = {'queue': 16, 'semaphore': 64, 'buffer': 256, 'operation': 1024, 'wait': 3, 'signal': 2, 'mark': 4}
+LIMITS = {'queue': 16, 'semaphore': 1024, 'buffer': 256, 'operation': 1024, 'wait': 3, 'signal': 2, 'mark': 4}
+FIRST_SEMAPHORES = 64       # of a plan in the first stored form; one with more is stored in the second
 
 
 class Wait(NamedTuple):

@@ -20,8 +20,9 @@ from unittest import mock
 ROOT = os.path.dirname(os.path.dirname(os.path.dirname(os.path.abspath(__file__))))
 sys.path.insert(0, os.path.join(ROOT, 'python'))
 from cundvrest import (Advice, Dominance, Followed, Frontier, LibraryError, Operation, Passed, Plan,  # noqa: E402
-                       Refused, TextError, Trace, Verdict, __main__ as command, __version__, files, library,
-                       text)
+                       Refused, TextError, Trace, Verdict, __main__ as command, __version__, fields, files,
+                       library, text)
+from cundvrest.explain_asked import explain_trace  # noqa: E402
 from cundvrest.plan import LIMITS, WORDS  # noqa: E402
 
 PLANS = os.path.join(ROOT, 'plans')
@@ -54,7 +55,7 @@ def random_plan(rng):
     plan = Plan()
     for axis in rng.sample([*range(20), *(GREATEST - k for k in range(20))], some(16)):
         plan.queue(axis=axis)
-    for _ in range(some(64) if plan.queues else 0):
+    for _ in range(some(rng.choice([64, 65, 1024])) if plan.queues else 0):
         plan.semaphore(owner=rng.randrange(len(plan.queues)))
     for _ in range(some(256)):
         plan.buffer(size=rng.choice([0, 64, 2**32 - 1]))
@@ -260,7 +261,8 @@ class Errors(unittest.TestCase):
             return ''.join(f'queue q{k} axis {k}\n' for k in range(n))
         cases = [
             ('plan\n' + queues(17) + 'end', 2, '18:7'),
-            ('plan\n' + queues(1) + 'semaphore ' + ' '.join(f's{k}' for k in range(65)) + ' owner q0\nend', 2, '3:257'),
+            ('plan\n' + queues(1) + 'semaphore ' + ' '.join(f's{k}' for k in range(1025)) + ' owner q0\nend', 2,
+             '3:5045'),
             ('plan\nbuffer ' + ' '.join(f'b{k}' for k in range(257)) + ' size 1\nend', 2, '2:1178'),
             ('plan\n' + queues(1) + 1025 * 'q0:\n' + 'end', 2, '1027:1'),
             ('plan\n' + queues(1) + 'semaphore s owner q0\nq0: wait s>=1 s>=2 s>=3 s>=4\nend', 2, '4:25'),
@@ -326,6 +328,73 @@ class Numbers(unittest.TestCase):
         self.assertRaises(ValueError, plan.reuse, 'camra', 0)
 
 
+def wide(semaphores, operations=40):
+    """A plan with so many semaphores that passes: two queues hand each other a buffer, by a semaphore for each turn."""
+    plan = Plan()
+    for name in ('there', 'back'):
+        plan.queue(name)
+    for s in range(semaphores):
+        plan.semaphore(owner=s % 2)
+    plan.buffer('ball', 1)
+    for j in range(operations):
+        s = semaphores - operations + j if semaphores >= operations else j
+        waits = [(s - 1, 1)] if j else []
+        plan.add((s % 2), waits, marks=[('ball', False), ('ball', True)], signal=[(s, 1)])
+    return plan
+
+
+class SecondForm(unittest.TestCase):
+    """Plans with more than 64 semaphores."""
+    exact = RoundTrips.exact
+
+    def test_round_trips(self):
+        for semaphores in (64, 65, 255, 256, 257, 1023, 1024):
+            with self.subTest(semaphores):
+                plan = wide(semaphores)
+                self.exact(plan)
+                stored = plan.bytes()
+                self.assertEqual(stored[0] == fields.SECOND_FORM, semaphores > 64)
+                self.assertFalse(files.is_text(stored))
+                self.assertEqual(len(plan.check().run), len(plan.operations))
+        with self.assertRaises(Refused) as caught:
+            wide(1025).bytes()
+        self.assertEqual((caught.exception.number, caught.exception.place), (2, 3))
+        self.assertIn('1025 semaphores; the limit is 1024', str(caught.exception))
+
+    def test_bytes(self):
+        """What is refused while it is read, with the field's name in words."""
+        one_wait = bytes.fromhex('f2 01 0100000000000000 4100') + bytes(65) + bytes.fromhex('0000 0100 00 01')
+        for stored, number, place, words in (
+                (bytes.fromhex('f2'), 1, 1, 'the number of queues is missing'),
+                (bytes.fromhex('f2 11'), 2, 1, 'the number of queues is 17 at byte 1; the limit is 16'),
+                (bytes.fromhex('f2 00 40'), 1, 2, 'the number of semaphores begins at byte 2 and takes 2'),
+                (bytes.fromhex('f2 00 4000'), 2, 2, 'is 64 at byte 2; a plan that begins with byte 242 has 65 to 1024'),
+                (bytes.fromhex('f2 00 0104'), 2, 2, 'is 1025 at byte 2; a plan that begins with byte 242 has 65 to'),
+                (bytes.fromhex('f2 00 4100'), 1, 4, 'semaphore 0: its owner is missing'),
+                (bytes.fromhex('f2 00 4100 00'), 4, 4, 'semaphore 0: its owner is 0 at byte 4; the plan has no queue'),
+                (bytes.fromhex('00 41'), 2, 1, 'is 65 at byte 1; the limit is 64, or 1024 for a plan that begins'),
+                (bytes.fromhex('f3 00'), 2, 0, 'the number of queues is 243 at byte 0; the limit is 16'),
+                (one_wait + b'\x41\0', 4, 83, 'operation 0, wait 0: its semaphore is 65 at byte 83'),
+                (one_wait + b'\x41', 1, 83, 'operation 0, wait 0: its semaphore begins at byte 83 and takes 2')):
+            with self.subTest(stored[:6].hex()), self.assertRaises(Refused) as caught:
+                Plan.read(stored)
+            self.assertEqual((caught.exception.number, caught.exception.place), (number, place))
+            self.assertIn(words, caught.exception.explain(strict=True).headline)
+
+    def test_words_and_pictures(self):
+        """A plan of 1,024 semaphores is explained, drawn and traced; a state has its semaphores above 0 alone."""
+        plan = wide(1024)
+        self.assertTrue(plan._repr_svg_().startswith('<svg'))
+        with self.assertRaises(Refused) as caught:
+            plan.with_operation(39, waits=[]).check()
+        self.assertEqual(caught.exception.number, 11)
+        self.assertIn('wait s1022>=1', str(caught.exception.explain(strict=True)))
+        traced = plan.trace(range(3))
+        self.assertEqual([(s.name, value) for s, value in traced.reached()[0]], [(f's{984 + k}', 1) for k in range(3)])
+        self.assertEqual(traced.reached()[1], 1021)
+        self.assertIn('1021 others 0', str(explain_trace(plan, range(3))))
+
+
 class Header(unittest.TestCase):
     """The package has the numbers of include/cundvrest.h: sizes, answers, refusals."""
 
@@ -333,7 +402,8 @@ class Header(unittest.TestCase):
         header = content(os.path.join(ROOT, 'include', 'cundvrest.h')).decode()
         found = {name: int(value) for name, value in re.findall(r'^#define CUNDVREST_(\w+) (\d+)$', header, re.M)}
         wanted = [('MOST_BYTES', library.MOST_BYTES), ('MOST_NUMBERS', library.MOST_NUMBERS),
-                  ('MOST_OPERATIONS', library.MOST_OPERATIONS), ('TABLE_WIDTH', library.WIDTH),
+                  ('MOST_OPERATIONS', library.MOST_OPERATIONS), ('MOST_SEMAPHORES', LIMITS['semaphore']),
+                  ('TABLE_WIDTH', library.WIDTH),
                   ('FRONTIER', library.FRONTIER), ('STATE', library.STATE), ('FOUND', library.FOUND),
                   ('STACK', library._STACK // 2), ('LISTED', library.LISTED)]
         wanted += [('UNKNOWN_OPERATION' if answer is Followed.UNKNOWN else answer.name, answer.value)

@@ -52,9 +52,9 @@ def check(stored):
 def follow(stored, run):
     """(number, answer, found) of the trace function."""
     trace = b''.join(number.to_bytes(2, 'little') for number in (len(run), *run))
-    told, found, state = (ctypes.c_uint64 * 3)(), (ctypes.c_uint64 * 6)(), (ctypes.c_uint64 * 80)()
+    told, found, state = (ctypes.c_uint64 * 3)(), (ctypes.c_uint64 * 6)(), (ctypes.c_uint64 * library.STATE)()
     so.cundvrest_trace(stored, ctypes.c_size_t(len(stored)), trace, ctypes.c_size_t(len(trace)), *rooms(), state,
-                       ctypes.c_size_t(80), found, told)
+                       ctypes.c_size_t(library.STATE), found, told)
     return told[0], told[2], found[:3]
 
 

@@ -25,10 +25,6 @@ abbrev pub Part : Type 0
 Part = (i at : ℕ) → List ℕ
 
 module _ (numbers : List ℕ) where
-  -- ---- owners, one after the other
-  abbrev pub owner-numbers : (many at : ℕ) → List ℕ
-  owner-numbers many at = tabulate-from many 0 (λ j. getD numbers (at + j) 0 % 65536)
-
   -- ---- pairs of numbers after their count, at a place
   abbrev pub first-at : (at j : ℕ) → ℕ
   first-at at j = getD numbers (at + 1 + 2 * j) 0

@@ -2,32 +2,26 @@
 use plan_format::limits::MARK_PLACES;
 use plan_format::limits::MOST_BUFFERS;
 use plan_format::limits::MOST_OPERATIONS;
-use plan_format::limits::MOST_SEMAPHORES;
 use plan_format::limits::MOST_WAITS;
-use plan_format::limits::PLAN_NUMBERS;
 use plan_format::limits::ROW_PLACES;
 use plan_format::limits::SIGNAL_PLACES;
 use plan_format::limits::WAIT_PLACES;
 use plan_format::limits::Window;
 ghost use mathlib.Core.Path.{_≡_};
 ghost use mathlib.Core.Bool.{cond};
-ghost use Prim.Native.Nat.{ℕ, _+_, _*_, _%_, _<_, _≤_, min};
+ghost use Prim.Native.Nat.{_+_, _*_, _%_, _<_, _≤_};
 ghost use lib.Dec.{ltb};
-ghost use lib.ListN.{length, getD, take, drop};
+ghost use lib.ListN.{length, getD};
 ghost use lib.Seq.{sets};
-ghost use Rattle.plan_format.specs.Sizes.{most-queues, most-semaphores, most-operations, most-waits};
-ghost use Rattle.plan_format.specs.Sizes.{wait-places, plan-numbers};
-ghost use Rattle.plan_format.specs.Plan.{Plan, queues};
-ghost use Rattle.check_columns.specs.Columns.{columns, Owner-column};
-ghost use Rattle.check_columns.specs.Filling.{owner-numbers, wait-semaphores, wait-values, signal-semaphores};
+ghost use Rattle.plan_format.specs.Sizes.{most-operations, most-waits, wait-places};
+ghost use Rattle.check_columns.specs.Columns.{columns};
+ghost use Rattle.check_columns.specs.Filling.{wait-semaphores, wait-values, signal-semaphores};
 ghost use Rattle.check_columns.specs.Filling.{signal-values, codes-of-marks, repeated, next-at, Wait-placed};
 ghost use Rattle.check_columns.specs.Filling.{Added};
 
-// The columns of a plan: an owner for each semaphore, a queue for each operation; for each place of a wait a semaphore
-// or the operation that the wait rests on, and a value; for each signal a semaphore or its operation, and a value; for
-// each mark its code or its operation.
-pub type OwnerColumn = [u16; MOST_SEMAPHORES];
-
+// The columns of a plan: a queue for each operation; for each place of a wait a semaphore or the operation that the
+// wait rests on, and a value; for each signal a semaphore or its operation, and a value; for each mark its code or its
+// operation.
 pub type QueueColumn = [u16; MOST_OPERATIONS];
 
 pub type WaitColumn = [u16; WAIT_PLACES];
@@ -40,9 +34,6 @@ pub type SignalValues = [u64; SIGNAL_PLACES];
 
 pub type MarkColumn = [u16; MARK_PLACES];
 
-// The last value of each semaphore.
-pub type LastValues = [u64; MOST_SEMAPHORES];
-
 // The rows of the operations, one after the other.
 pub type Rows = [u16; ROW_PLACES];
 
@@ -53,36 +44,6 @@ pub const MARK_CODES: usize = 2 * MOST_BUFFERS;
 pub struct Filled {
     pub signals: usize,
     pub marks: usize,
-}
-
-// Fills the column of owners: `many` numbers from `first` on, cut to sixteen bits. It takes 64 at most, and a plan's
-// owners begin at 22,868 at most.
-pub fn owners(numbers: &[u64], first: usize, many: usize, owner: &mut OwnerColumn)
-    ensures stored { λ _. ⌜ now (owner .exit) ≡
-        sets (now (owner .entry)) 0
-        (owner-numbers (now (numbers .entry)) (min many most-semaphores) (min first plan-numbers)) ⌝ }
-    ensures of_plans { λ _. ⌜ ((p : Plan) → p .owners ≡ take many (drop first (now (numbers .entry))) →
-        first ≤ plan-numbers → many ≤ most-semaphores → queues p ≤ most-queues →
-        ((s : ℕ) → s < length (p .owners) → getD (p .owners) s 0 < queues p) → Owner-column p (now (owner .exit))) ⌝ }
-{
-    owned(
-        numbers,
-        base_numbers::min_usize(first, PLAN_NUMBERS),
-        base_numbers::min_usize(many, MOST_SEMAPHORES),
-        owner,
-    );
-}
-
-// Stores numbers from a place on.
-fn owned(numbers: &[u64], at: usize, many: usize, owner: &mut [u16])
-    requires { ⌜ (at ≤ plan-numbers) × (many ≤ most-semaphores) ⌝ }
-    ensures { λ _. ⌜ now (owner .exit) ≡ sets (now (owner .entry)) 0 (owner-numbers (now (numbers .entry)) many at) ⌝ }
-{
-    let mut j = 0;
-    while j < many {
-        base_slices::put16(owner, j, number(numbers, at + j));
-        j += 1;
-    }
 }
 
 // Stores operation i, read into a window, after the signals and marks of those before it; gives how many there are
@@ -233,13 +194,6 @@ fn put_marks(
         j += 1;
     }
     many
-}
-
-// The number at a place, 0 past the end.
-fn number(numbers: &[u64], at: usize) -> usize
-    ensures { λ r. ⌜ r ≡ getD (now (numbers .entry)) at 0 ⌝ }
-{
-    base_slices::get64(numbers, at) as usize
 }
 
 // The lower sixteen bits.

@@ -401,7 +401,7 @@ module _ {F : Form} {bs : List ℕ} {h : Head} {nums : List ℕ} (head : Head-re
       let t = read-refused form plan (padded-long all (omega (arith, head .few))) z .told in
       (t .number, t .place)
 
-  head-long : h .number ≡ 0 → (h .queues ≤ head-numbers) × (2 + h .queues + h .semaphores ≤ length nums)
+  pub head-long : h .number ≡ 0 → (h .queues ≤ head-numbers) × (2 + h .queues + h .semaphores ≤ length nums)
   head-long z =
       let front = head .heading z in
       let rest = front .owners ++ (h .buffers ∷ (front .sizes ++ (h .operations ∷ []))) in
@@ -412,13 +412,3 @@ module _ {F : Form} {bs : List ℕ} {h : Head} {nums : List ℕ} (head : Head-re
         omega (arith, head .few, length-take (h .got) nums, long),
         omega (arith, length-take (h .got) nums, long, owned, front .owners-long),
       )
-
-  pub head-few : h .number ≡ 0 → h .queues ≤ head-numbers
-  head-few z = head-long z .0
-
-  pub head-semaphores : h .number ≡ 0 → {owners : List ℕ} →
-      owners ≡ take (h .semaphores) (drop (2 + h .queues) nums) → length owners ≡ h .semaphores
-  head-semaphores z e =
-      let after = drop (2 + h .queues) nums in
-      ap (λ (x : List ℕ). length x) e
-      ∙ omega (arith, head-long z .1, length-take (h .semaphores) after, length-drop (2 + h .queues) nums)

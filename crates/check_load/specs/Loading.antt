@@ -6,6 +6,7 @@ use mathlib.Core.List.{List}
 use Prim.Native.Nat.{ℕ, _*_}
 use lib.ListN.{length}
 use Rattle.plan_format.specs.Sizes.{most-waits}
+use Rattle.plan_format.specs.Form.{form-by, is-second}
 use Rattle.plan_format.specs.Grammar.{last-got}
 use Rattle.plan_format.specs.Plan.{count}
 use Rattle.plan_format.specs.Refusal.{given}
@@ -13,7 +14,8 @@ use Rattle.plan_format.specs.Stored.{scanned, plan-in}
 use Rattle.plan_order.specs.Meaning.{Past-kept}
 use Rattle.check_columns.specs.Columns.{Columns, Head-column}
 use Rattle.check_columns.specs.Shown.{Columns-of}
-use Rattle.stored_numbers.specs.Reading.{head-scan, unless-refused}
+use Rattle.stored_numbers.specs.Reading.{Head-read, head-scan, unless-refused}
+use Rattle.stored_numbers.specs.declared.Head.{Head}
 use Rattle.check_load.specs.declared.Loaded.{Loaded}
 
 -- the counts of queues, semaphores, buffers and operations, each 0 where the reader refuses the plan
@@ -31,6 +33,11 @@ pub record Loads (bytes : List ℕ) (r : Loaded) (head : List ℕ) (cs : Columns
   pub none : (r .number ≡ 0 → ⊥) → (r .signals ≡ 0) × (r .marks ≡ 0)
   pub head-shown : r .number ≡ 0 → Head-column (plan-in bytes) head
   pub columns : r .number ≡ 0 → Columns-of (plan-in bytes) (r .signals) (r .marks) cs
+
+-- R8, R53: the head of a stored plan, read in the form that its first byte tells
+pub record Head-known (bytes : List ℕ) (h : Head) (head : List ℕ) : Type 0 where
+  pub form : h .wide ≡ is-second bytes
+  pub read : Head-read (form-by (h .wide)) bytes h head
 
 -- ---- what is left
 -- past so many operations, signals and marks each column is as it was

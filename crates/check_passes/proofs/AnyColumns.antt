@@ -17,13 +17,15 @@ use Rattle.plan_format.specs.Stored.{Tells}
 use Rattle.plan_format.specs.declared.Told.{Told}
 use Rattle.plan_format.proofs.Telling.{told, tells}
 use Rattle.plan_format.proofs.Judged.{zero-not-given, other-given, not-given-zero, or-else-first, or-else-second}
-use Rattle.check_signals.specs.Walks.{signals-found, lasts-found, zeros}
+use Rattle.plan_format.proofs.Judged.{refusal-given}
+use Rattle.check_signals.specs.Walks.{signals-found, lasts-found}
 use Rattle.check_waits.specs.Waits.{waits-found, Sources}
 use Rattle.check_run.specs.Run.{Bounded}
 use Rattle.check_run.proofs.Bounds.{run-past}
 use Rattle.check_stuck.specs.Zeros.{first-zero}
 use Rattle.check_marks.specs.Passes.{first-broken}
-use Rattle.check_passes.specs.Answering.{rules-by, Sources-by, order-by, Run-judged, Answers-by}
+use Rattle.check_passes.specs.Answering.{zeros, rules-by, Sources-by, order-by, Run-judged}
+use Rattle.check_passes.specs.Answering.{Answers-by}
 use Rattle.check_passes.specs.Leaving.{Results-room, Results-left}
 use Rattle.check_passes.proofs.Inside.{order-inside}
 
@@ -34,9 +36,9 @@ first-only {a} b {r} h z =
 
 -- ---- 6 to 8
 module _ (n semaphores signals : ℕ) (owner queue wsem wval ssem sval sop : List ℕ) {r : Told}
-    (first : Tells (signals-found semaphores signals owner queue ssem sval sop zeros) 0 r) where
+    (first : Tells (signals-found semaphores signals owner queue ssem sval sop (zeros semaphores)) 0 r) where
   module _ (z : r .number ≡ 0 → ⊥) where
-    stops : given (signals-found semaphores signals owner queue ssem sval sop zeros) ≡ true
+    stops : given (signals-found semaphores signals owner queue ssem sval sop (zeros semaphores)) ≡ true
     stops = other-given _ (λ e. z (first .number ∙ e))
 
     pub rules-first : Tells (rules-by n semaphores signals owner queue wsem wval ssem sval sop) 0 r
@@ -46,13 +48,14 @@ module _ (n semaphores signals : ℕ) (owner queue wsem wval ssem sval sop : Lis
     pub sources-refused : Sources-by n semaphores signals owner queue wsem wval ssem sval sop wsem
     sources-refused = record {
       refused = λ g. refl;
-      resolved = λ f. clash (given (signals-found semaphores signals owner queue ssem sval sop zeros)) stops f;
+      resolved = λ f.
+          clash (given (signals-found semaphores signals owner queue ssem sval sop (zeros semaphores))) stops f;
     }
 
   module _ (z : r .number ≡ 0) {last : List ℕ}
-      (l : last ≡ lasts-found semaphores signals owner queue ssem sval sop zeros) {t : Told}
+      (l : last ≡ lasts-found semaphores signals owner queue ssem sval sop (zeros semaphores)) {t : Told}
       (h : Tells (waits-found n semaphores signals ssem sval sop wsem wval last) 0 t) where
-    none : signals-found semaphores signals owner queue ssem sval sop zeros .number ≡ 0
+    none : signals-found semaphores signals owner queue ssem sval sop (zeros semaphores) .number ≡ 0
     none = sym (first .number) ∙ z
 
     pub rules-second : Tells (rules-by n semaphores signals owner queue wsem wval ssem sval sop) 0 t
@@ -65,8 +68,8 @@ module _ (n semaphores signals : ℕ) (owner queue wsem wval ssem sval sop : Lis
     pub sources-resolved : {source : List ℕ} → Sources n semaphores signals (t .number) ssem sval sop wsem wval source →
         Sources-by n semaphores signals owner queue wsem wval ssem sval sop source
     sources-resolved {source} left = record {
-      refused = λ g. clash (given (signals-found semaphores signals owner queue ssem sval sop zeros)) g
-          (zero-not-given (signals-found semaphores signals owner queue ssem sval sop zeros) none);
+      refused = λ g. clash (given (signals-found semaphores signals owner queue ssem sval sop (zeros semaphores))) g
+          (zero-not-given (signals-found semaphores signals owner queue ssem sval sop (zeros semaphores)) none);
       resolved = λ f. subst (λ (k : ℕ). Sources n semaphores signals k ssem sval sop wsem wval source)
           (h .number ∙ ap (λ (x : List ℕ). waits-found n semaphores signals ssem sval sop wsem wval x .number) l) left;
     }

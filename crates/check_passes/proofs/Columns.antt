@@ -1,10 +1,13 @@
 -- What the passes are given: the columns of a plan within the limits, then ruled and resolved. Assumes nothing.
 use mathlib.Core.Path.{_≡_, sym, _∙_, subst}
 use mathlib.Core.List.{List}
-use Prim.Native.Nat.{ℕ, _≤_}
+use Prim.Native.Nat.{ℕ, _≤_, _<_}
 use native.Mathlib.Omega.{arith}
-use lib.ListN.{length, length-replicate}
-use Rattle.plan_format.specs.Sizes.{most-operations, most-semaphores}
+use lib.Dec.{leb}
+use lib.ListN.{length, replicate, length-replicate}
+use borrow.Author.Tests.{le-leb, leb-true, lt-leb}
+use Rattle.base_lists.proofs.Tests.{by-cases}
+use Rattle.plan_format.specs.Sizes.{most-operations, most-semaphores, first-semaphores}
 use Rattle.plan_format.specs.Plan.{Plan}
 use Rattle.plan_format.specs.Sound.{Sound}
 use Rattle.plan_format.specs.declared.Told.{Told}
@@ -13,18 +16,35 @@ use Rattle.plan_format.proofs.Positions.{in-range, few-waits}
 use Rattle.plan_order.specs.Runs.{standard}
 use Rattle.check_columns.specs.Columns.{Columns}
 use Rattle.check_columns.proofs.Limits.{few-operations}
-use Rattle.check_signals.specs.Walks.{Signals-given, Judged, zeros}
+use Rattle.check_signals.specs.Walks.{Signals-given, Judged}
 use Rattle.check_waits.specs.Waits.{Waits-given}
 use Rattle.check_run.specs.Run.{Run-given, Rows-of}
+use Rattle.check_passes.specs.Answering.{zeros}
 use Rattle.check_passes.specs.Given.{Check-given, Rules-given, Ruled, Order-given, Judge-given}
 
 -- ---- 6 to 8
+-- places for last values: those that are made have room for each semaphore
+pub zeros-few : (semaphores : ℕ) → semaphores ≤ first-semaphores → replicate first-semaphores 0 ≡ zeros semaphores
+unfolding zeros
+zeros-few semaphores few = rw (le-leb semaphores first-semaphores few)
+
+pub zeros-many : (semaphores : ℕ) → first-semaphores < semaphores → replicate most-semaphores 0 ≡ zeros semaphores
+unfolding zeros
+zeros-many semaphores many = rw (lt-leb semaphores first-semaphores many)
+
+zeros-long : (semaphores : ℕ) {owners : ℕ} → owners ≡ semaphores → owners ≤ most-semaphores →
+    owners ≤ length (zeros semaphores)
+unfolding zeros
+zeros-long semaphores e few = by-cases (leb semaphores first-semaphores)
+    (λ t. rw t (omega (arith, leb-true semaphores first-semaphores t, length-replicate {A = ℕ} first-semaphores 0)))
+    (λ f. rw f (omega (arith, length-replicate {A = ℕ} most-semaphores 0)))
+
 module _ {p : Plan} {n semaphores signals : ℕ} {owner queue wsem wval ssem sval sop : List ℕ}
     (g : Rules-given p n semaphores signals owner queue wsem wval ssem sval sop) where
-  pub signals-given : Signals-given p semaphores signals owner queue ssem sval sop zeros
+  pub signals-given : Signals-given p semaphores signals owner queue ssem sval sop (zeros semaphores)
   signals-given = record {
     own-semaphores = g .own-semaphores;
-    room = omega (arith, g .limits .few-semaphores, length-replicate {A = ℕ} most-semaphores 0);
+    room = zeros-long semaphores (g .own-semaphores) (g .limits .few-semaphores);
     in-range = in-range (g .limits);
     owners-shown = g .owners-shown;
     queues-shown = g .queues-shown;

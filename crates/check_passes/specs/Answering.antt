@@ -4,33 +4,41 @@ use mathlib.Core.Path.{_≡_}
 use mathlib.Core.Bool.{true, false, _||_, cond}
 use mathlib.Core.List.{List}
 use Prim.Native.Nat.{ℕ, _*_, _<_}
-use lib.Dec.{ltb}
+use lib.Dec.{ltb, leb}
 use lib.ListN.{length, take, replicate}
 use Rattle.base_lists.specs.Lists.{in-front}
-use Rattle.plan_format.specs.Sizes.{most-operations, row-width, row-places}
+use Rattle.plan_format.specs.Sizes.{most-semaphores, most-operations, first-semaphores, row-width}
+use Rattle.plan_format.specs.Sizes.{row-places}
 use Rattle.plan_format.specs.Refusal.{Refusal, refusal, none-given, given, or-else}
 use Rattle.plan_format.specs.Stored.{Tells}
 use Rattle.plan_format.specs.declared.Told.{Told}
-use Rattle.check_signals.specs.Walks.{signals-found, lasts-found, zeros}
+use Rattle.check_signals.specs.Walks.{signals-found, lasts-found}
 use Rattle.check_waits.specs.Waits.{waits-found, Sources}
 use Rattle.check_run.specs.Run.{Bounded}
 use Rattle.check_stuck.specs.Zeros.{first-zero}
 use Rattle.check_marks.specs.Passes.{first-broken}
 
+-- nothing is signalled on any semaphore: a place for each that a plan can have, or that one in the first form can have
+-- where the plan has no more
+unfoldable pub zeros : (semaphores : ℕ) → List ℕ
+zeros semaphores = replicate (cond (leb semaphores first-semaphores) first-semaphores most-semaphores) 0
+
 -- 6 or 7, else 8
 unfoldable pub rules-by : (n semaphores signals : ℕ) → (owner queue wsem wval ssem sval sop : List ℕ) → Refusal
 rules-by n semaphores signals owner queue wsem wval ssem sval sop =
-    or-else (signals-found semaphores signals owner queue ssem sval sop zeros)
+    or-else (signals-found semaphores signals owner queue ssem sval sop (zeros semaphores))
     (waits-found n semaphores signals ssem sval sop wsem wval
-    (lasts-found semaphores signals owner queue ssem sval sop zeros))
+    (lasts-found semaphores signals owner queue ssem sval sop (zeros semaphores)))
 
 -- the column of the waits afterwards: as it was where 6 or 7 is given, else as the resolution leaves it
 pub record Sources-by (n semaphores signals : ℕ) (owner queue wsem wval ssem sval sop source : List ℕ) : Type 0 where
-  pub refused : given (signals-found semaphores signals owner queue ssem sval sop zeros) ≡ true → source ≡ wsem
-  pub resolved : given (signals-found semaphores signals owner queue ssem sval sop zeros) ≡ false →
+  pub refused : given (signals-found semaphores signals owner queue ssem sval sop (zeros semaphores)) ≡ true →
+      source ≡ wsem
+  pub resolved : given (signals-found semaphores signals owner queue ssem sval sop (zeros semaphores)) ≡ false →
       Sources n semaphores signals
       (waits-found n semaphores signals ssem sval sop wsem wval
-      (lasts-found semaphores signals owner queue ssem sval sop zeros) .number) ssem sval sop wsem wval source
+      (lasts-found semaphores signals owner queue ssem sval sop (zeros semaphores)) .number) ssem sval sop wsem wval
+      source
 
 -- 10 after fewer than n steps, else 11, by the rows
 unfoldable pub order-by : (n ran marks : ℕ) → (queue mark mop rows : List ℕ) → Refusal

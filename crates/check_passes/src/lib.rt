@@ -3,10 +3,10 @@
 mod decide;
 mod leave;
 
-use check_columns::OwnerColumn;
 use check_columns::QueueColumn;
 use check_columns::WaitColumn;
 use plan_format::Told;
+use plan_format::limits::FIRST_SEMAPHORES;
 use plan_format::limits::MOST_SEMAPHORES;
 ghost use mathlib.Core.Path.{_≡_};
 ghost use lib.ListN.{length};
@@ -16,7 +16,7 @@ ghost use Rattle.plan_format.specs.Sound.{rules-refusal};
 ghost use Rattle.plan_format.specs.Stored.{Tells};
 ghost use Rattle.plan_order.specs.Check.{room-refusal, Plan-check-says};
 ghost use Rattle.check_columns.specs.Columns.{columns, Source-column};
-ghost use Rattle.check_passes.specs.Answering.{rules-by, Sources-by, Answers-by};
+ghost use Rattle.check_passes.specs.Answering.{zeros, rules-by, Sources-by, Answers-by};
 ghost use Rattle.check_passes.specs.Given.{Check-given, Rules-given, Ruled};
 
 // Refusals 6 and 7, then 8, then 9, then the order: the answer, what is left in table and list, and the operation that
@@ -27,7 +27,7 @@ pub fn judge_columns(
     semaphores: usize,
     signals: usize,
     marks: usize,
-    owner: &OwnerColumn,
+    owner: &[u64],
     queue: &QueueColumn,
     wait: &mut WaitColumn,
     wval: &[u64],
@@ -77,7 +77,7 @@ fn rules(
     n: u16,
     semaphores: usize,
     signals: usize,
-    owner: &OwnerColumn,
+    owner: &[u64],
     queue: &QueueColumn,
     wait: &mut WaitColumn,
     wval: &[u64],
@@ -95,19 +95,66 @@ fn rules(
         (now (wval .entry)) (now (ssem .entry)) (now (sval .entry)) (now (sop .entry)) →
         Ruled p r (now (wait .exit))) ⌝ }
 {
+    if semaphores <= FIRST_SEMAPHORES {
+        let mut last = [0u64; FIRST_SEMAPHORES];
+        return ruled(
+            n,
+            semaphores,
+            signals,
+            owner,
+            queue,
+            wait,
+            wval,
+            ssem,
+            sval,
+            sop,
+            &mut last,
+        );
+    }
     let mut last = [0u64; MOST_SEMAPHORES];
-    let signalled = check_signals::judge(
+    ruled(
+        n,
         semaphores,
         signals,
         owner,
         queue,
+        wait,
+        wval,
         ssem,
         sval,
         sop,
         &mut last,
-    );
+    )
+}
+
+// The same, with the places for last values lent.
+fn ruled(
+    n: u16,
+    semaphores: usize,
+    signals: usize,
+    owner: &[u64],
+    queue: &QueueColumn,
+    wait: &mut WaitColumn,
+    wval: &[u64],
+    ssem: &[u16],
+    sval: &[u64],
+    sop: &[u16],
+    last: &mut [u64],
+) -> Told
+    requires { ⌜ now last ≡ zeros semaphores ⌝ }
+    ensures told { λ r. ⌜ Tells (rules-by n semaphores signals (now (owner .entry)) (now (queue .entry))
+        (now (wait .entry)) (now (wval .entry)) (now (ssem .entry)) (now (sval .entry)) (now (sop .entry))) 0 r ⌝ }
+    ensures sources { λ _. ⌜ Sources-by n semaphores signals (now (owner .entry)) (now (queue .entry))
+        (now (wait .entry)) (now (wval .entry)) (now (ssem .entry)) (now (sval .entry)) (now (sop .entry))
+        (now (wait .exit)) ⌝ }
+    ensures of_plans { λ r. ⌜ ((p : Plan) →
+        Rules-given p n semaphores signals (now (owner .entry)) (now (queue .entry)) (now (wait .entry))
+        (now (wval .entry)) (now (ssem .entry)) (now (sval .entry)) (now (sop .entry)) →
+        Ruled p r (now (wait .exit))) ⌝ }
+{
+    let signalled = check_signals::judge(semaphores, signals, owner, queue, ssem, sval, sop, last);
     if signalled.number != 0 {
         return signalled;
     }
-    check_waits::resolve(n, semaphores, signals, ssem, sval, sop, wait, wval, &last)
+    check_waits::resolve(n, semaphores, signals, ssem, sval, sop, wait, wval, last)
 }

@@ -1,17 +1,20 @@
 -- The counts and columns of a stored plan that are loaded from its bytes. Assumes nothing.
-use mathlib.Core.Path.{_≡_, sym, _∙_}
+use mathlib.Core.Path.{_≡_, sym, _∙_, subst}
 use mathlib.Core.List.{List, []}
-use Prim.Native.Nat.{ℕ}
-use Rattle.plan_format.specs.Form.{first-form}
+use Prim.Native.Nat.{ℕ, _-_}
+use native.Mathlib.Omega.{arith}
+use lib.ListN.{length, take, drop, length-drop}
+use lib.Seq.{take-all}
+use Rattle.plan_format.specs.Plan.{Plan}
 use Rattle.plan_format.specs.Sound.{rules-refusal}
 use Rattle.plan_format.specs.Stored.{scanned, plan-in}
 use Rattle.plan_format.proofs.Judged.{zero-not-given}
 use Rattle.plan_format.proofs.Plans.{scanned-limits}
 use Rattle.check_columns.specs.Columns.{Columns, columns, Owner-column, Source-column}
+use Rattle.check_columns.proofs.Ownership.{owners-shown}
 use Rattle.stored_numbers.specs.declared.Head.{Head}
-use Rattle.stored_numbers.specs.Reading.{Head-read}
-use Rattle.stored_numbers.proofs.ReadingEnds.{read-in-first}
-use Rattle.check_load.specs.Loading.{Loads}
+use Rattle.stored_numbers.proofs.ReadingEnds.{read-in-told}
+use Rattle.check_load.specs.Loading.{Head-known, Loads}
 use Rattle.check_load.specs.declared.Loaded.{Loaded}
 use Rattle.check_load.proofs.Outcomes.{refused-at, refused-loads, head-refused}
 use Rattle.check_passes.specs.Given.{Check-given}
@@ -55,9 +58,16 @@ module _ {bs head : List ℕ} {cs : Columns} {r : Loaded} (l : Loads bs r head c
     }
 
 -- a head that is refused: nothing is loaded, whatever the columns are
-module _ {bs nums : List ℕ} {h : Head} (head : Head-read first-form bs h nums) (bad : h .number ≡ 0 → ⊥) where
+module _ {bs nums : List ℕ} {h : Head} (head : Head-known bs h nums) (bad : h .number ≡ 0 → ⊥) where
   pub head-loads : (cs : Columns) → Loads bs (refused-at (h .number) (h .at)) nums cs
-  head-loads cs = refused-loads (head-refused head (read-in-first bs) bad) bad
+  head-loads cs = refused-loads (head-refused (head .read) (read-in-told bs (head .form)) bad) bad
 
   pub head-counts : Counts-told bs (counts-of (refused-at (h .number) (h .at)) (h .number) (h .at))
   head-counts = loaded-counts (head-loads (columns [] [] [] [] [] [] [] []))
+
+-- the owners in the part of the head from a place on
+pub owners-part : (p : Plan) (head : List ℕ) (first many : ℕ) → p .owners ≡ take many (drop first head) →
+    Owner-column p (take (length head - first) (drop first head))
+owners-part p head first many are =
+    let all = take-all (length head - first) (drop first head) (omega (arith, length-drop first head)) in
+    subst (λ (l : List ℕ). Owner-column p l) (sym all) (owners-shown p (drop first head) many are)

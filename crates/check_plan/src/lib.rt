@@ -15,22 +15,24 @@ use plan_format::limits::HeadNumbers;
 use plan_format::limits::MARK_PLACES;
 use plan_format::limits::MOST_MARKS;
 use plan_format::limits::MOST_OPERATIONS;
-use plan_format::limits::MOST_SEMAPHORES;
 use plan_format::limits::MOST_SIGNALS;
 use plan_format::limits::MOST_WAITS;
 use plan_format::limits::SIGNAL_PLACES;
 use plan_format::limits::WAIT_PLACES;
+use stored_numbers::FIRST_HEAD_NUMBERS;
+use stored_numbers::FirstHeadNumbers;
 use stored_numbers::Head;
 ghost use mathlib.Core.Path.{_≡_};
+ghost use mathlib.Core.Bool.{false};
 ghost use Prim.Native.Nat.{_/_, _≤_, min};
 ghost use lib.ListN.{length};
 ghost use Rattle.plan_format.specs.Sizes.{most-waits};
-ghost use Rattle.plan_format.specs.Form.{first-form};
+ghost use Rattle.plan_format.specs.Form.{is-second};
 ghost use Rattle.plan_format.specs.Stored.{scanned, plan-in};
 ghost use Rattle.plan_order.specs.Promise.{Checked};
 ghost use Rattle.check_columns.specs.Columns.{columns};
 ghost use Rattle.check_columns.specs.Shown.{Places-for};
-ghost use Rattle.stored_numbers.specs.Reading.{Head-read};
+ghost use Rattle.check_load.specs.Loading.{Head-known};
 ghost use Rattle.check_plan.specs.Counting.{small-room, middle-room, Sizes-told, Counts-told, opened-of};
 ghost use Rattle.check_plan.specs.Counting.{counts-of};
 ghost use Rattle.check_plan.specs.Opening.{Read-plan, Opened-plan, Lent-kept, Lent-left, lent};
@@ -67,7 +69,6 @@ pub fn counts(plan: &[u8]) -> Counted
     if h.number != 0 {
         return with_counts(load::refused(h.number, h.at), h.number, h.at as u64);
     }
-    let mut owner = [0u16; MOST_SEMAPHORES];
     let mut queue = [0u16; MOST_OPERATIONS];
     let mut wsem = [0u16; WAIT_PLACES];
     let mut wval = [0u64; WAIT_PLACES];
@@ -79,8 +80,6 @@ pub fn counts(plan: &[u8]) -> Counted
     let l = load::columns(
         plan,
         h,
-        &head,
-        &mut owner,
         &mut queue,
         &mut wsem,
         &mut wval,
@@ -112,24 +111,83 @@ pub fn check_counted(plan: &[u8], table: &mut [u32], list: &mut [u32]) -> Counte
         (now (table .entry)) (now (table .exit)) (now (list .entry)) (now (list .exit)) ⌝ }
     ensures sizes { λ r. ⌜ Sizes-told (now (plan .entry)) r ⌝ }
 {
+    if stored_numbers::is_second(plan) {
+        return in_second_form(plan, table, list);
+    }
+    in_first_form(plan, table, list)
+}
+
+// Of a plan in the first form, in columns by the number of its operations.
+fn in_first_form(plan: &[u8], table: &mut [u32], list: &mut [u32]) -> Counted
+    requires { ⌜ is-second (now plan) ≡ false ⌝ }
+    ensures checked { λ r. ⌜ Checked (now (plan .entry)) (record { number = r .number; place = r .place; answer = 0 })
+        (now (table .entry)) (now (table .exit)) (now (list .entry)) (now (list .exit)) ⌝ }
+    ensures sizes { λ r. ⌜ Sizes-told (now (plan .entry)) r ⌝ }
+{
+    let mut head = [0u64; FIRST_HEAD_NUMBERS];
+    let h = stored_numbers::read_first_head(plan, &mut head);
+    if h.number != 0 {
+        return with_counts(load::refused(h.number, h.at), h.number, h.at as u64);
+    }
+    by_room(plan, h, &head, table, list)
+}
+
+// The same once the head is read.
+fn by_room(
+    plan: &[u8],
+    h: Head,
+    head: &FirstHeadNumbers,
+    table: &mut [u32],
+    list: &mut [u32],
+) -> Counted
+    requires { ⌜ Head-known (now plan) h (now head) × (h .number ≡ 0) ⌝ }
+    ensures checked { λ r. ⌜ Checked (now (plan .entry)) (record { number = r .number; place = r .place; answer = 0 })
+        (now (table .entry)) (now (table .exit)) (now (list .entry)) (now (list .exit)) ⌝ }
+    ensures sizes { λ r. ⌜ Sizes-told (now (plan .entry)) r ⌝ }
+{
+    let many = h.operations as usize;
+    if many <= SMALL_ROOM {
+        return small(plan, h, head, table, list);
+    }
+    if many <= MIDDLE_ROOM {
+        return middle(plan, h, head, table, list);
+    }
+    large(plan, h, head, table, list)
+}
+
+// Of a plan in the second form, in columns for as many operations as a plan can have.
+fn in_second_form(plan: &[u8], table: &mut [u32], list: &mut [u32]) -> Counted
+    ensures checked { λ r. ⌜ Checked (now (plan .entry)) (record { number = r .number; place = r .place; answer = 0 })
+        (now (table .entry)) (now (table .exit)) (now (list .entry)) (now (list .exit)) ⌝ }
+    ensures sizes { λ r. ⌜ Sizes-told (now (plan .entry)) r ⌝ }
+{
     let mut head = [0u64; HEAD_NUMBERS];
     let h = stored_numbers::read_head(plan, &mut head);
     if h.number != 0 {
         return with_counts(load::refused(h.number, h.at), h.number, h.at as u64);
     }
-    let many = h.operations as usize;
-    if many <= SMALL_ROOM {
-        return small(plan, h, &head, table, list);
-    }
-    if many <= MIDDLE_ROOM {
-        return middle(plan, h, &head, table, list);
-    }
-    large(plan, h, &head, table, list)
+    in_large_room(plan, h, &head, table, list)
+}
+
+// The same once the head is read.
+fn in_large_room(
+    plan: &[u8],
+    h: Head,
+    head: &HeadNumbers,
+    table: &mut [u32],
+    list: &mut [u32],
+) -> Counted
+    requires { ⌜ Head-known (now plan) h (now head) × (h .number ≡ 0) ⌝ }
+    ensures checked { λ r. ⌜ Checked (now (plan .entry)) (record { number = r .number; place = r .place; answer = 0 })
+        (now (table .entry)) (now (table .exit)) (now (list .entry)) (now (list .exit)) ⌝ }
+    ensures sizes { λ r. ⌜ Sizes-told (now (plan .entry)) r ⌝ }
+{
+    large(plan, h, head, table, list)
 }
 
 // With columns for 64 operations.
-fn small(plan: &[u8], h: Head, head: &HeadNumbers, table: &mut [u32], list: &mut [u32]) -> Counted
-    requires { ⌜ Head-read first-form (now plan) h (now head) × (h .number ≡ 0) × (h .operations ≤ small-room) ⌝ }
+fn small(plan: &[u8], h: Head, head: &[u64], table: &mut [u32], list: &mut [u32]) -> Counted
+    requires { ⌜ Head-known (now plan) h (now head) × (h .number ≡ 0) × (h .operations ≤ small-room) ⌝ }
     ensures checked { λ r. ⌜ Checked (now (plan .entry)) (record { number = r .number; place = r .place; answer = 0 })
         (now (table .entry)) (now (table .exit)) (now (list .entry)) (now (list .exit)) ⌝ }
     ensures sizes { λ r. ⌜ Sizes-told (now (plan .entry)) r ⌝ }
@@ -161,8 +219,8 @@ fn small(plan: &[u8], h: Head, head: &HeadNumbers, table: &mut [u32], list: &mut
 }
 
 // With columns for 256 operations.
-fn middle(plan: &[u8], h: Head, head: &HeadNumbers, table: &mut [u32], list: &mut [u32]) -> Counted
-    requires { ⌜ Head-read first-form (now plan) h (now head) × (h .number ≡ 0) × (h .operations ≤ middle-room) ⌝ }
+fn middle(plan: &[u8], h: Head, head: &[u64], table: &mut [u32], list: &mut [u32]) -> Counted
+    requires { ⌜ Head-known (now plan) h (now head) × (h .number ≡ 0) × (h .operations ≤ middle-room) ⌝ }
     ensures checked { λ r. ⌜ Checked (now (plan .entry)) (record { number = r .number; place = r .place; answer = 0 })
         (now (table .entry)) (now (table .exit)) (now (list .entry)) (now (list .exit)) ⌝ }
     ensures sizes { λ r. ⌜ Sizes-told (now (plan .entry)) r ⌝ }
@@ -194,8 +252,8 @@ fn middle(plan: &[u8], h: Head, head: &HeadNumbers, table: &mut [u32], list: &mu
 }
 
 // With columns for as many operations as a plan can have.
-fn large(plan: &[u8], h: Head, head: &HeadNumbers, table: &mut [u32], list: &mut [u32]) -> Counted
-    requires { ⌜ Head-read first-form (now plan) h (now head) × (h .number ≡ 0) ⌝ }
+fn large(plan: &[u8], h: Head, head: &[u64], table: &mut [u32], list: &mut [u32]) -> Counted
+    requires { ⌜ Head-known (now plan) h (now head) × (h .number ≡ 0) ⌝ }
     ensures checked { λ r. ⌜ Checked (now (plan .entry)) (record { number = r .number; place = r .place; answer = 0 })
         (now (table .entry)) (now (table .exit)) (now (list .entry)) (now (list .exit)) ⌝ }
     ensures sizes { λ r. ⌜ Sizes-told (now (plan .entry)) r ⌝ }
@@ -297,7 +355,7 @@ fn places(queue: &[u16], source: &[u16]) -> usize
 fn judged(
     plan: &[u8],
     h: Head,
-    head: &HeadNumbers,
+    head: &[u64],
     queue: &mut QueueColumn,
     source: &mut WaitColumn,
     wval: &mut [u64],
@@ -309,7 +367,7 @@ fn judged(
     table: &mut [u32],
     list: &mut [u32],
 ) -> Opened
-    requires { ⌜ Head-read first-form (now plan) h (now head) × (h .number ≡ 0) ×
+    requires { ⌜ Head-known (now plan) h (now head) × (h .number ≡ 0) ×
         Places-for (h .operations) (columns (now queue) (now source) (now wval) (now ssem) (now sval) (now sop)
         (now mark) (now mop)) ⌝ }
     ensures checked { λ r. ⌜ Checked (now (plan .entry))
@@ -330,30 +388,18 @@ fn judged(
         (lent (now (head .entry)) (now (queue .exit)) (now (source .exit)) (now (ssem .exit)) (now (sval .exit))
         (now (sop .exit)) (now (mark .exit)) (now (mop .exit))) ⌝ }
 {
-    let mut owner = [0u16; MOST_SEMAPHORES];
-    let l = load::columns(
-        plan,
-        h,
-        head,
-        &mut owner,
-        queue,
-        source,
-        wval,
-        ssem,
-        sval,
-        sop,
-        mark,
-        mop,
-    );
+    let l = load::columns(plan, h, queue, source, wval, ssem, sval, sop, mark, mop);
     if l.number != 0 {
         return with_lists(l, l.number, l.place as u64);
     }
+    let first = 2 + h.queues as usize;
+    let owner = &head[first..];
     let told = check_passes::judge_columns(
         l.operations,
         l.semaphores as usize,
         l.signals as usize,
         l.marks as usize,
-        &owner,
+        owner,
         queue,
         source,
         wval,

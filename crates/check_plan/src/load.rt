@@ -1,10 +1,8 @@
 // A stored plan read straight into its columns: each operation into a window of numbers, and from there after the
 // operations before it.
-use check_columns::OwnerColumn;
 use check_columns::QueueColumn;
 use check_columns::WaitColumn;
 use check_load::Loaded;
-use plan_format::limits::HeadNumbers;
 use plan_format::limits::WINDOW;
 use stored_numbers::Head;
 ghost use mathlib.Core.Path.{_≡_};
@@ -12,12 +10,10 @@ ghost use mathlib.Core.List.{List};
 ghost use Prim.Native.Nat.{ℕ, _+_, _≤_};
 ghost use lib.ListN.{take, drop};
 ghost use Rattle.plan_format.specs.Sizes.{most-operations};
-ghost use Rattle.plan_format.specs.Form.{first-form};
 ghost use Rattle.plan_format.specs.Stored.{plan-in};
-ghost use Rattle.check_columns.specs.Columns.{columns, Owner-column};
+ghost use Rattle.check_columns.specs.Columns.{columns};
 ghost use Rattle.check_columns.specs.Shown.{Places-for};
-ghost use Rattle.stored_numbers.specs.Reading.{Head-read};
-ghost use Rattle.check_load.specs.Loading.{Loads, Keeps};
+ghost use Rattle.check_load.specs.Loading.{Head-known, Loads, Keeps};
 
 // A refusal at a place.
 pub fn refused(number: u32, place: usize) -> Loaded
@@ -74,38 +70,6 @@ fn whole(h: Head, operations: u16, signals: u16, marks: u16) -> Loaded
 pub fn columns(
     plan: &[u8],
     h: Head,
-    head: &HeadNumbers,
-    owner: &mut OwnerColumn,
-    queue: &mut QueueColumn,
-    wsem: &mut WaitColumn,
-    wval: &mut [u64],
-    ssem: &mut [u16],
-    sval: &mut [u64],
-    sop: &mut [u16],
-    mark: &mut [u16],
-    mop: &mut [u16],
-) -> Loaded
-    requires { ⌜ Head-read first-form (now plan) h (now head) × (h .number ≡ 0) ×
-        Places-for (h .operations) (columns (now queue) (now wsem) (now wval) (now ssem) (now sval) (now sop)
-        (now mark) (now mop)) ⌝ }
-    ensures loads { λ r. ⌜ Loads (now (plan .entry)) r (now (head .exit))
-        (columns (now (queue .exit)) (now (wsem .exit)) (now (wval .exit)) (now (ssem .exit)) (now (sval .exit))
-        (now (sop .exit)) (now (mark .exit)) (now (mop .exit))) ⌝ }
-    ensures owners { λ r. ⌜ (r .number ≡ 0 → Owner-column (plan-in (now (plan .entry))) (now (owner .exit))) ⌝ }
-    ensures keeps { λ r. ⌜ Keeps (h .operations) r
-        (columns (now (queue .entry)) (now (wsem .entry)) (now (wval .entry)) (now (ssem .entry)) (now (sval .entry))
-        (now (sop .entry)) (now (mark .entry)) (now (mop .entry)))
-        (columns (now (queue .exit)) (now (wsem .exit)) (now (wval .exit)) (now (ssem .exit)) (now (sval .exit))
-        (now (sop .exit)) (now (mark .exit)) (now (mop .exit))) ⌝ }
-{
-    check_columns::owners(head, 2 + h.queues as usize, h.semaphores as usize, owner);
-    operations(plan, h, queue, wsem, wval, ssem, sval, sop, mark, mop)
-}
-
-// Fills the columns of the operations after a head.
-fn operations(
-    plan: &[u8],
-    h: Head,
     queue: &mut QueueColumn,
     wsem: &mut WaitColumn,
     wval: &mut [u64],
@@ -118,7 +82,7 @@ fn operations(
     requires { ⌜ (h .operations ≤ most-operations) ×
         Places-for (h .operations) (columns (now queue) (now wsem) (now wval) (now ssem) (now sval) (now sop)
         (now mark) (now mop)) ⌝ }
-    ensures { λ r. ⌜ ((nums : List ℕ) → Head-read first-form (now (plan .entry)) h nums → h .number ≡ 0 →
+    ensures { λ r. ⌜ ((nums : List ℕ) → Head-known (now (plan .entry)) h nums → h .number ≡ 0 →
         Loads (now (plan .entry)) r nums (columns (now (queue .exit)) (now (wsem .exit)) (now (wval .exit))
         (now (ssem .exit)) (now (sval .exit)) (now (sop .exit)) (now (mark .exit)) (now (mop .exit))) ×
         (r .number ≡ 0 → plan-in (now (plan .entry)) .owners ≡ take (h .semaphores) (drop (2 + h .queues) nums))
@@ -138,6 +102,7 @@ fn operations(
         let o = stored_numbers::read_operation(
             plan,
             at,
+            h.wide,
             h.queues,
             h.semaphores,
             h.buffers,

@@ -5,8 +5,7 @@ use mathlib.Core.Bool.{cond}
 use mathlib.Core.List.{List, []}
 use Prim.Native.Nat.{ℕ, zero, suc, _≤_, _<_, min}
 use lib.Dec.{leb, eqb}
-use lib.ListN.{length, getD, set, replicate}
-use Rattle.plan_format.specs.Sizes.{most-semaphores}
+use lib.ListN.{length, getD, set}
 use Rattle.plan_format.specs.Refusal.{Refusal, refusal, none-given}
 use Rattle.plan_format.specs.Stored.{Tells}
 use Rattle.plan_format.specs.declared.Told.{Told}
@@ -70,7 +69,3 @@ unfoldable pub lasts-found : (semaphores signals : ℕ) → (owner queue ssem sv
 lasts-found semaphores signals owner queue ssem sval sop last =
     lasts-walk owner queue ssem sval sop (held-in signals (length ssem) (length sval) (length sop)) 0
     (cleared semaphores last)
-
--- nothing is signalled on any semaphore that a plan can have
-abbrev pub zeros : List ℕ
-zeros = replicate most-semaphores 0

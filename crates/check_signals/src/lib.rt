@@ -1,8 +1,8 @@
 // R43 and R44, refusals 6 and 7: each signal is its owner's, and above the last of its semaphore.
-use check_columns::OwnerColumn;
 use check_columns::QueueColumn;
 use plan_format::Told;
 ghost use mathlib.Core.Path.{_≡_};
+ghost use lib.ListN.{getD};
 ghost use Rattle.plan_format.specs.Plan.{Plan};
 ghost use Rattle.plan_format.specs.Stored.{Tells};
 ghost use Rattle.check_signals.specs.Walks.{Signals-given, Judged, signals-found, lasts-found, cleared, held-in};
@@ -14,7 +14,7 @@ ghost use Rattle.check_signals.specs.Walks.{Signals-given, Judged, signa
 pub fn judge(
     semaphores: usize,
     signals: usize,
-    owner: &OwnerColumn,
+    owner: &[u64],
     queue: &QueueColumn,
     ssem: &[u16],
     sval: &[u64],
@@ -38,7 +38,7 @@ pub fn judge(
         let s = base_numbers::u16_to_usize(ssem[k]);
         let i = base_numbers::u16_to_usize(sop[k]);
         let value = sval[k];
-        let owned_by = base_slices::get16(owner, s);
+        let owned_by = owner_of(owner, s);
         let q = base_slices::get16(queue, i);
         if owned_by != q {
             return plan_format::refused(6, i);
@@ -50,6 +50,13 @@ pub fn judge(
         k += 1;
     }
     plan_format::answered(0)
+}
+
+// The owner of a semaphore, 0 past the end.
+fn owner_of(owner: &[u64], s: usize) -> usize
+    ensures { λ r. ⌜ r ≡ getD (now (owner .entry)) s 0 ⌝ }
+{
+    base_slices::get64(owner, s) as usize
 }
 
 // How many of the signals the columns hold.

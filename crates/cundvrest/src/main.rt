@@ -7,14 +7,14 @@ mod usage;
 
 use arguments::Asked;
 use libc::STDOUT_FILENO;
-use plan_format::limits::PLAN_BYTES;
+use plan_format::limits::MOST_INPUT;
 use plan_format::limits::PLAN_NUMBERS;
 use plan_format::limits::TRACE_BYTES;
 use print_input::Question;
 
-// One byte, and one number, more than the longest plan has, and one byte more than the longest trace: so many decide
-// the answer to an input of any length.
-const FIRST_BYTES: usize = PLAN_BYTES + 1;
+// One byte more than is judged in the second form, one number more than the longest plan has, and one byte more than
+// the longest trace: so many decide the answer to an input of any length.
+const FIRST_BYTES: usize = MOST_INPUT + 1;
 
 const FIRST_NUMBERS: usize = PLAN_NUMBERS + 1;
 

@@ -23,7 +23,7 @@ It prints one of these, numbers in decimal; N is the refusal and P its place.
   passed 0, then size QUEUES SEMAPHORES BUFFERS OPERATIONS, run, ready, and a row for each operation
   verdict N fresh|reusable|held|not-ordered     wait none-needed|SEMAPHORE VALUE|none-would-help
   trace full, unfinished STEPS or departs STEP RULE OPERATION, then queues and semaphores: how far each had come
-  frontier whole|tainted AXIS:EPOCH ..          refused N P
+  frontier whole|tainted AXIS:EPOCH ..          refused N P    too long, of 65,537 bytes or more that begin with 242
      1 cut short       2 count over its limit   3 bytes follow        4 not in its list      5 axis twice
      6 not the owner   7 signal not higher      8 wait for no signal 10 stuck               11 broken mark  22 bad trace
     12 no such queue  13 no such buffer        21 no such operation  15 capacity not 1..16  19 no signal frees it
@@ -31,7 +31,7 @@ It prints one of these, numbers in decimal; N is the refusal and P its place.
 Over files: check, explain, draw, text, store, rows (cundvrest check --help). Exit status of the launcher ./cundvrest:
   0 yes, go on    passed; fresh or reusable; no wait needed, or one to add; a frontier, numbers, a plan; a full trace
   1 no            refused; held or not-ordered; no wait would help; a trace that is unfinished or departs
-  2 not judged    wrong words, or input or output that fails: a line on standard error says what
+  2 not judged    too long; or wrong words, input or output that fails: a line on standard error says what
 ",
     )
 }

@@ -1,4 +1,5 @@
--- The numbers and the bytes of every plan within the limits parse. Assumes nothing.
+-- The numbers and the bytes of every plan within the limits parse, in every form that has room for its semaphores.
+-- Assumes nothing.
 use mathlib.Core.Path.{_≡_, refl, ap}
 use mathlib.Core.Bool.{cond}
 use mathlib.Core.List.{List, [], _∷_, _++_, append-assoc, append-nil, flatMap}
@@ -8,21 +9,22 @@ use lib.ListN.{length, getD, take}
 use Rattle.base_lists.specs.Lists.{member}
 use Rattle.base_lists.proofs.Tests.{is-false}
 use Rattle.base_lists.proofs.Places.{take-place}
-use Rattle.plan_format.specs.Sizes.{most-queues, most-semaphores, most-buffers}
+use Rattle.plan_format.specs.Sizes.{most-queues, most-buffers}
 use Rattle.plan_format.specs.Grammar.{Check, digits}
-use Rattle.plan_format.specs.Form.{first-form, queue-count, semaphore-count, buffer-count, any-number, new-axis}
+use Rattle.plan_format.specs.Form.{Form, queue-count, semaphore-count, buffer-count, any-number, new-axis}
 use Rattle.plan_format.specs.Form.{a-queue, a-semaphore, a-buffer, a-kind, point, mark, operation, plan-grammar}
 use Rattle.plan_format.specs.Plan.{Point, Mark, Operation, Plan}
 use Rattle.plan_format.specs.Limits.{Each, In-bytes, Point-within, Mark-within, Operation-within, Within}
 use Rattle.plan_format.specs.Limits.{counted-numbers, one-number, point-numbers, mark-numbers, operation-numbers}
 use Rattle.plan_format.specs.Limits.{numbers-of, counted-bytes, point-bytes, mark-bytes, operation-bytes}
-use Rattle.plan_format.specs.Limits.{bytes-of}
+use Rattle.plan_format.specs.Limits.{sections-bytes}
 use Rattle.plan_format.proofs.Parses.{Takes, Exact, Then, Many, Field, Counted, Parses}
 use Rattle.plan_format.proofs.Fields.{count-passes}
 use Rattle.plan_format.proofs.Entries.{Row, row-head, row-tail}
 use Rattle.plan_format.proofs.Blocks.{Kept, kept-now, kept-more, passes-below}
 use Rattle.plan_format.proofs.Sections.{sections-kept}
 use Rattle.plan_format.proofs.PlanNumbers.{ones}
+use Rattle.plan_format.proofs.Forms.{Proper, Admits}
 
 -- ---- one field, one thing after another, entries, and entries after their count
 field-of : (w : ℕ) (c : Check) (got : List ℕ) (v : ℕ) → v < 256 ^ w → c got v ≡ 0 →
@@ -86,13 +88,16 @@ module _ {A : Type 0} (G : List ℕ → Type 0) (stays : (got vs : List ℕ) →
       counted-of P f g got xs c (many-of xs (got ++ (length xs ∷ [])) (stays got (length xs ∷ []) k) e)
 
 -- ---- operations
-module _ (q s b : ℕ) (lq : q ≤ most-queues) (ls : s ≤ most-semaphores) (lb : b ≤ most-buffers) where
+module _ (F : Form) (q s b : ℕ) (lq : q ≤ most-queues) (ls : s < 256 ^ F .semaphore-width) (lb : b ≤ most-buffers) where
+  abbrev width : ℕ
+  width = F .semaphore-width
+
   point-of : (got : List ℕ) (x : Point) → Kept q s b got → Point-within In-bytes s x →
-      Parses Exact (point first-form) got (point-numbers x) (point-bytes x)
-  unfolding point first-form point-numbers point-bytes a-semaphore any-number
+      Parses Exact (point F) got (point-numbers x) (point-bytes width x)
+  unfolding point point-numbers point-bytes a-semaphore any-number
   point-of got x k e =
-      then-of got (x .semaphore ∷ []) (x .value ∷ []) (digits 1 (x .semaphore)) (digits 8 (x .value))
-      (field-of 1 a-semaphore got (x .semaphore) (omega (arith, e .semaphore, ls))
+      then-of got (x .semaphore ∷ []) (x .value ∷ []) (digits width (x .semaphore)) (digits 8 (x .value))
+      (field-of width a-semaphore got (x .semaphore) (omega (arith, e .semaphore, ls))
       (passes-below (semaphore-count got) (x .semaphore) s (kept-now q s b got k .semaphores) (e .semaphore)))
       (field-of 8 any-number (got ++ (x .semaphore ∷ [])) (x .value) (e .value) refl)
 
@@ -108,20 +113,20 @@ module _ (q s b : ℕ) (lq : q ≤ most-queues) (ls : s ≤ most-semaphores) (lb
 
   points-of : {l m w : ℕ} (xs : List Point) (got : List ℕ) → Kept q s b got → Counts-to l m w (length xs) →
       Each (Point-within In-bytes s) xs →
-      Counted Exact l m w (Parses Exact (point first-form)) got (counted-numbers point-numbers xs)
-      (counted-bytes w point-bytes xs)
-  points-of = list-of (Kept q s b) (kept-more q s b) (Point-within In-bytes s) (Parses Exact (point first-form))
-      point-numbers point-bytes point-of
+      Counted Exact l m w (Parses Exact (point F)) got (counted-numbers point-numbers xs)
+      (counted-bytes w (point-bytes width) xs)
+  points-of = list-of (Kept q s b) (kept-more q s b) (Point-within In-bytes s) (Parses Exact (point F))
+      point-numbers (point-bytes width) point-of
 
   operation-of : (got : List ℕ) (o : Operation) → Kept q s b got → Operation-within In-bytes q s b o →
-      Parses Exact (operation first-form) got (operation-numbers o) (operation-bytes o)
-  unfolding operation first-form operation-numbers operation-bytes a-queue
+      Parses Exact (operation F) got (operation-numbers o) (operation-bytes width o)
+  unfolding operation operation-numbers operation-bytes a-queue
   operation-of got o k e =
       let ws = counted-numbers point-numbers (o .waits) in
       let ss = counted-numbers point-numbers (o .signals) in
       let ms = counted-numbers mark-numbers (o .marks) in
-      let ws′ = counted-bytes 1 point-bytes (o .waits) in
-      let ss′ = counted-bytes 1 point-bytes (o .signals) in
+      let ws′ = counted-bytes 1 (point-bytes width) (o .waits) in
+      let ss′ = counted-bytes 1 (point-bytes width) (o .signals) in
       let ms′ = counted-bytes 1 mark-bytes (o .marks) in
       let got₁ = got ++ (o .queue ∷ []) in
       let got₂ = got₁ ++ ws in
@@ -182,9 +187,12 @@ unfolding any-number one-number
 size-of got v k h = field-of 4 any-number got v h refl
 
 -- ---- the whole
-pub plan-parses : (p : Plan) → Within p → Parses Exact (plan-grammar first-form) [] (numbers-of p) (bytes-of p)
-unfolding plan-grammar first-form numbers-of bytes-of
-plan-parses p e =
+pub plan-parses : (F : Form) → Proper F → (p : Plan) → Admits F (length (p .owners)) → Within p →
+    Parses Exact (plan-grammar F) [] (numbers-of p) (sections-bytes (F .semaphore-width) p)
+unfolding plan-grammar numbers-of sections-bytes
+plan-parses F proper p a e =
+    let w = F .semaphore-width in
+    let fits : length (p .owners) < 256 ^ w = omega (arith, a .most, proper .roomy) in
     let q = length (p .axes) in
     let s = length (p .owners) in
     let b = length (p .sizes) in
@@ -194,10 +202,10 @@ plan-parses p e =
     let v₃ = counted-numbers one-number (p .sizes) in
     let v₄ = counted-numbers operation-numbers (p .operations) in
     let d₁ = counted-bytes 1 (digits 8) (p .axes) in
-    let d₂ = counted-bytes 1 (digits 1) (p .owners) in
+    let d₂ = counted-bytes w (digits 1) (p .owners) in
     let d₃ = counted-bytes 2 (digits 4) (p .sizes) in
-    let d₄ = counted-bytes 2 operation-bytes (p .operations) in
-    let O : Takes = Parses Exact (operation first-form) in
+    let d₄ = counted-bytes 2 (operation-bytes w) (p .operations) in
+    let O : Takes = Parses Exact (operation F) in
     let got₃ = (v₁ ++ v₂) ++ v₃ in
     then-of [] v₁ (v₂ ++ (v₃ ++ v₄)) d₁ (d₂ ++ (d₃ ++ d₄))
     (counted-of (Field Exact 8 new-axis) one-number (digits 8) [] (p .axes)
@@ -206,18 +214,16 @@ plan-parses p e =
     (then-of v₁ v₂ (v₃ ++ v₄) d₂ (d₃ ++ d₄)
     (list-of (Queues q) (queues-stay q)
     (λ v. v < q) (Field Exact 1 a-queue) one-number (digits 1) (owner-of q (e .few-queues)) (p .owners) v₁
-    (heads p)
-    (record { least = omega arith; most = omega (arith, e .few-semaphores); fits = omega (arith, e .few-semaphores) })
-    (e .owners))
+    (heads p) (record { least = a .least; most = a .most; fits = fits }) (e .owners))
     (then-of (v₁ ++ v₂) v₃ v₄ d₃ d₄
     (list-of (λ _. Unit {0}) (λ _ _ _. tt)
     (λ v. v < 2 ^ 32) (Field Exact 4 any-number) one-number (digits 4) size-of (p .sizes) (v₁ ++ v₂) tt
     (record { least = omega arith; most = omega (arith, e .few-buffers); fits = omega (arith, e .few-buffers) })
     (e .sizes))
-    (counted-of O operation-numbers operation-bytes got₃ (p .operations)
+    (counted-of O operation-numbers (operation-bytes w) got₃ (p .operations)
     (record { least = omega arith; most = omega (arith, e .few-operations); fits = omega (arith, e .few-operations) })
-    (many-of (Kept q s b) (kept-more q s b) (Operation-within In-bytes q s b) O operation-numbers operation-bytes
-    (operation-of q s b (e .few-queues) (e .few-semaphores) (e .few-buffers)) (p .operations) (got₃ ++ (n ∷ []))
+    (many-of (Kept q s b) (kept-more q s b) (Operation-within In-bytes q s b) O operation-numbers (operation-bytes w)
+    (operation-of F q s b (e .few-queues) fits (e .few-buffers)) (p .operations) (got₃ ++ (n ∷ []))
     (sections-kept q s b (p .axes) (p .owners) (p .sizes) refl refl refl v₁ v₂ v₃ n (section (p .axes))
     (section (p .owners)) (section (p .sizes)))
     (e .operations)))))

@@ -1,196 +1,244 @@
--- A largest plan: every list as long as its limit allows; so the greatest sizes are reached. Assumes nothing.
+-- A largest plan: every list as long as its limit allows; so the greatest sizes of every form are reached. Assumes
+-- nothing.
 use mathlib.Core.Path.{_≡_, refl, ap, _∙_}
-use mathlib.Core.Bool.{Bool, true}
-use mathlib.Core.List.{List, [], _∷_, _++_, append-assoc, append-nil}
-use Prim.Native.Nat.{ℕ, zero, suc, _+_, _*_, _^_, _<_}
-use native.Mathlib.Nat.{not-suc-le-zero}
+use mathlib.Core.List.{List, [], _∷_, flatMap}
+use Prim.Native.Nat.{ℕ, zero, suc, _+_, _*_, _≤_, _<_}
+use native.Mathlib.Nat.{suc-mul}
 use native.Mathlib.Omega.{arith}
-use lib.Dec.{ltb, eqb, lit<, lit≤}
-use lib.ListN.{length, getD, take, length-append}
-use borrow.Author.Tests.{ltb-true, eqb-true, eqb-false}
-use Rattle.base_lists.specs.Lists.{member, all-below, tabulate-from}
-use Rattle.base_lists.proofs.Tests.{by-cases, and-left, and-right}
+use lib.Dec.{lit<, lit≤}
+use lib.ListN.{length, getD, replicate, length-append, length-replicate}
+use Rattle.base_lists.specs.Lists.{tabulate-from}
+use Rattle.base_lists.proofs.Tables.{tabulate-length, tabulate-at}
+use Rattle.plan_format.specs.Sizes.{most-queues, most-semaphores, most-buffers, most-operations, most-waits}
+use Rattle.plan_format.specs.Sizes.{most-signals, most-marks}
 use Rattle.plan_format.specs.Refusal.{none-given}
-use Rattle.plan_format.specs.Grammar.{Grammar, counted, scan}
-use Rattle.plan_format.specs.Form.{first-form, queue-count, semaphore-count, buffer-count, any-number, below}
-use Rattle.plan_format.specs.Form.{new-axis, a-queue, a-semaphore, a-buffer, a-kind, point, mark, operation}
-use Rattle.plan_format.specs.Form.{plan-grammar}
-use Rattle.plan_format.specs.Stored.{listed, spelled}
-use Rattle.plan_format.proofs.Parses.{Takes, Exact, Then, Field, Counted, Parses}
-use Rattle.plan_format.proofs.Entries.{Row}
-use Rattle.plan_format.proofs.Making.{Spells-in, a-field, after, a-list, repeated, repeated-long, entries}
-use Rattle.plan_format.proofs.Making.{row-entries}
-use Rattle.plan_format.proofs.Blocks.{Kept, kept-now, kept-more, passes-below}
-use Rattle.plan_format.proofs.Sections.{sections-kept}
-use Rattle.plan_format.proofs.RoundTrip.{spelled-parsed, numbers-whole}
+use Rattle.plan_format.specs.Grammar.{digits, most-bytes, most-numbers, Scan, scan}
+use Rattle.plan_format.specs.Form.{Form, second-form, form-with, point, mark, operation, plan-grammar}
+use Rattle.plan_format.specs.Plan.{Point, Mark, Operation, Plan}
+use Rattle.plan_format.specs.Limits.{Each, In-bytes, Point-within, Mark-within, Operation-within, Within}
+use Rattle.plan_format.specs.Limits.{counted-numbers, one-number, point-numbers, mark-numbers, operation-numbers}
+use Rattle.plan_format.specs.Limits.{numbers-of, counted-bytes, point-bytes, mark-bytes, operation-bytes}
+use Rattle.plan_format.specs.Limits.{sections-bytes, stored-by, form-of, bytes-of}
+use Rattle.plan_format.specs.Promise.{Greatest-sizes}
+use Rattle.plan_format.proofs.Bytes.{length-digits}
+use Rattle.plan_format.proofs.Taking.{takes-plans}
+use Rattle.plan_format.proofs.Forms.{second-stored}
+use Rattle.plan_format.proofs.Sizes.{second-sized, scanned-sizes, listed-sizes}
 
--- ---- the largest plan
-axes : List ℕ
-axes = tabulate-from 16 0 (λ i. i)
+-- ---- lists of one thing, and their lengths
+each-replicate : {A : Type 0} (W : A → Type 0) (n : ℕ) (x : A) → W x → Each W (replicate n x)
+each-replicate W zero x w = tt
+each-replicate W (suc n) x w = (w, each-replicate W n x w)
 
-owners : List ℕ
-owners = repeated 64 (0 ∷ [])
+flat-long : {A : Type 0} (f : A → List ℕ) (k : ℕ) → ((x : A) → length (f x) ≡ k) → (xs : List A) →
+    length (flatMap f xs) ≡ length xs * k
+unfolding flatMap
+flat-long f k e [] = omega arith
+flat-long f k e (x ∷ xs) =
+    length-append (f x) (flatMap f xs) ∙ omega (arith, e x, flat-long f k e xs, suc-mul (length xs) k)
 
-sizes : List ℕ
-sizes = repeated 256 (0 ∷ [])
+-- ---- the largest plan with so many semaphores
+abbrev largest-point : Point
+largest-point = record { semaphore = 0; value = 0 }
 
-pair : List ℕ
-pair = 0 ∷ 0 ∷ []
+abbrev largest-mark : Mark
+largest-mark = record { buffer = 0; kind = 0 }
 
-filled : (m : ℕ) → List ℕ
-filled m = m ∷ repeated m pair
-
-largest-operation : List ℕ
-largest-operation = 0 ∷ (filled 3 ++ (filled 2 ++ filled 4))
-
--- 16 axes, 64 owners, 256 sizes, 1,024 operations of 3 waits, 2 signals and 4 marks
-pub largest : List ℕ
-largest = (16 ∷ axes) ++ ((64 ∷ owners) ++ ((256 ∷ sizes) ++ (1024 ∷ repeated 1024 largest-operation)))
-
-all-below-at : (n : ℕ) (f : ℕ → Bool) → all-below n f ≡ true → (i : ℕ) → i < n → f i ≡ true
-unfolding all-below
-all-below-at zero f e i l = absurd (not-suc-le-zero l)
-all-below-at (suc n) f e i l =
-    by-cases (eqb i n) (λ t. ap f (eqb-true i n t) ∙ and-left (f n) (all-below n f) e)
-    (λ d. all-below-at n f (and-right (f n) (all-below n f) e) i (omega (arith, eqb-false i n d)))
-
-axes-row : Row new-axis (16 ∷ []) 16 axes
-unfolding axes tabulate-from all-below new-axis member
-axes-row = record {
-  long = refl;
-  pass = λ i l. eqb-true _ 0 (all-below-at 16 (λ k. eqb (new-axis (16 ∷ take k axes) (getD axes k 0)) 0) refl i l);
+abbrev largest-operation : Operation
+largest-operation = record {
+  queue = 0;
+  waits = replicate most-waits largest-point;
+  signals = replicate most-signals largest-point;
+  marks = replicate most-marks largest-mark;
 }
 
-axes-small : (i : ℕ) → i < 16 → getD axes i 0 < 256 ^ 8
-unfolding axes tabulate-from all-below
-axes-small i l = ltb-true _ _ (all-below-at 16 (λ k. ltb (getD axes k 0) (256 ^ 8)) refl i l)
+axes : List ℕ
+axes = tabulate-from most-queues 0 (λ i. i)
 
-abbrev K : List ℕ → Type 0
-K = Kept 16 64 256
+pub largest : (semaphores : ℕ) → Plan
+largest s = record {
+  axes = axes;
+  owners = replicate s 0;
+  sizes = replicate most-buffers 0;
+  operations = replicate most-operations largest-operation;
+}
 
-point-entry : (got : List ℕ) → K got → Spells-in (Parses Exact (point first-form)) 9 got pair
-unfolding point first-form pair a-semaphore any-number
-point-entry got k =
-    after (Field Exact 1 a-semaphore) (Field Exact 8 any-number) 1 8 got (0 ∷ []) (0 ∷ [])
-    (a-field 1 a-semaphore got 0 (lit< tt)
-    (passes-below (semaphore-count got) 0 64 (kept-now 16 64 256 got k .semaphores) (lit< tt)))
-    (a-field 8 any-number (got ++ (0 ∷ [])) 0 (lit< tt) refl)
+each-tabulate : (W : ℕ → Type 0) (n i : ℕ) → ((k : ℕ) → k < i + n → W k) → Each W (tabulate-from n i (λ k. k))
+unfolding tabulate-from
+each-tabulate W zero i h = tt
+each-tabulate W (suc n) i h = (h i (omega arith), each-tabulate W n (suc i) (λ k l. h k (omega arith)))
 
-mark-entry : (got : List ℕ) → K got → Spells-in (Parses Exact mark) 3 got pair
-unfolding mark pair a-buffer a-kind below
-mark-entry got k =
-    after (Field Exact 2 a-buffer) (Field Exact 1 a-kind) 2 1 got (0 ∷ []) (0 ∷ [])
-    (a-field 2 a-buffer got 0 (lit< tt)
-    (passes-below (buffer-count got) 0 256 (kept-now 16 64 256 got k .buffers) (lit< tt)))
-    (a-field 1 a-kind (got ++ (0 ∷ [])) 0 (lit< tt) refl)
+axes-long : length axes ≡ most-queues
+unfolding axes
+axes-long = tabulate-length (λ i. i) most-queues 0
 
--- k points or marks after their count
-pairs-list : (g : Grammar) (n m : ℕ) → ((got : List ℕ) → K got → Spells-in (Parses Exact g) n got pair) → m < 256 ^ 1 →
-    (got : List ℕ) → K got →
-    Spells-in (Parses Exact (counted 0 m 1 g)) (1 + m * n) got (filled m)
-unfolding filled
-pairs-list g n m entry l got k =
-    a-list 0 m 1 (Parses Exact g) (m * n) m got (repeated m pair) (omega arith) (omega arith) l
-    (entries K (kept-more 16 64 256) (Parses Exact g) n pair entry m (got ++ (m ∷ []))
-    (kept-more 16 64 256 got (m ∷ []) k))
+axis-at : (i : ℕ) → i < length axes → getD axes i 0 ≡ i
+unfolding axes
+axis-at i l = tabulate-at (λ k. k) most-queues 0 i 0 (omega (arith, axes-long)) ∙ omega arith
 
-operation-entry : (got : List ℕ) → K got → Spells-in (Parses Exact (operation first-form)) 61 got largest-operation
-unfolding operation first-form largest-operation a-queue
-operation-entry got k =
-    let P = Parses Exact (counted 0 3 1 (point first-form)) in
-    let Q = Parses Exact (counted 0 2 1 (point first-form)) in
-    let R = Parses Exact (counted 0 4 1 mark) in
-    let got₁ = got ++ (0 ∷ []) in
-    let got₂ = got₁ ++ filled 3 in
-    let k₁ = kept-more 16 64 256 got (0 ∷ []) k in
-    let k₂ = kept-more 16 64 256 got₁ (filled 3) k₁ in
-    after (Field Exact 1 a-queue) (Then P (Then Q R)) 1 60 got (0 ∷ []) (filled 3 ++ (filled 2 ++ filled 4))
-    (a-field 1 a-queue got 0 (lit< tt)
-    (passes-below (queue-count got) 0 16 (kept-now 16 64 256 got k .queues) (lit< tt)))
-    (after P (Then Q R) 28 32 got₁ (filled 3) (filled 2 ++ filled 4)
-    (pairs-list (point first-form) 9 3 point-entry (lit< tt) got₁ k₁)
-    (after Q R 19 13 got₂ (filled 2) (filled 4) (pairs-list (point first-form) 9 2 point-entry (lit< tt) got₂ k₂)
-    (pairs-list mark 3 4 mark-entry (lit< tt) (got₂ ++ filled 2) (kept-more 16 64 256 got₂ (filled 2) k₂))))
+operation-within : (q s b : ℕ) → 0 < q → 0 < s → 0 < b → Operation-within In-bytes q s b largest-operation
+operation-within q s b lq ls lb =
+    let a-point : Point-within In-bytes s largest-point = record { semaphore = ls; value = lit< tt } in
+    record {
+      queue = lq;
+      few-waits = lit≤ tt;
+      waits = each-replicate (Point-within In-bytes s) most-waits largest-point a-point;
+      few-signals = lit≤ tt;
+      signals = each-replicate (Point-within In-bytes s) most-signals largest-point a-point;
+      few-marks = lit≤ tt;
+      marks = each-replicate (Mark-within b) most-marks largest-mark (record { buffer = lb; kind = lit≤ tt });
+    }
 
--- ---- the whole
--- the queues are known from the first number on
-abbrev Sixteen : List ℕ → Type 0
-Sixteen got = (more : List ℕ) → queue-count (got ++ more) ≡ 16
+pub largest-within : (s : ℕ) → 0 < s → s ≤ most-semaphores → Within (largest s)
+unfolding largest
+largest-within s some few =
+    let q = length axes in
+    let m = length (replicate {A = ℕ} s 0) in
+    let n = length (replicate {A = ℕ} most-buffers 0) in
+    let l = length-replicate {A = ℕ} s 0 in
+    let b = length-replicate {A = ℕ} most-buffers 0 in
+    record {
+      few-queues = omega (arith, axes-long);
+      axes = unfold axes in (each-tabulate (In-bytes 8) most-queues 0 (λ k h. omega arith));
+      axes-distinct = λ i k h m e. omega (arith, e, axis-at i (omega arith), axis-at k m);
+      few-semaphores = omega (arith, l);
+      owners = each-replicate (λ v. v < q) s 0 (omega (arith, axes-long));
+      few-buffers = omega (arith, b);
+      sizes = each-replicate (In-bytes 4) most-buffers 0 (lit< tt);
+      few-operations = omega (arith, length-replicate most-operations largest-operation);
+      operations = each-replicate (Operation-within In-bytes q m n) most-operations largest-operation
+          (operation-within q m n (omega (arith, axes-long)) (omega (arith, l)) (omega (arith, b)));
+    }
 
-owner-entry : (got : List ℕ) → Sixteen got → Spells-in (Field Exact 1 a-queue) 1 got (0 ∷ [])
-unfolding a-queue
-owner-entry got k =
-    a-field 1 a-queue got 0 (lit< tt) (passes-below (queue-count got) 0 16 (rw append-nil at (k [])) (lit< tt))
+-- ---- its sizes
+-- the bytes of a list after its count, and its numbers
+counted-long : {A : Type 0} (w : ℕ) (f : A → List ℕ) (k : ℕ) → ((x : A) → length (f x) ≡ k) → (xs : List A) →
+    length (counted-bytes w f xs) ≡ w + length xs * k
+unfolding counted-bytes
+counted-long w f k e xs = length-append (digits w (length xs)) (flatMap f xs)
+    ∙ omega (arith, length-digits w (length xs), flat-long f k e xs)
 
-axes-spell : Spells-in (Counted Exact 0 16 1 (Field Exact 8 new-axis)) 129 [] (16 ∷ axes)
-axes-spell = a-list 0 16 1 (Field Exact 8 new-axis) 128 16 [] axes (lit≤ tt) (lit≤ tt) (lit< tt)
-    (row-entries 8 new-axis 16 (16 ∷ []) axes axes-row axes-small)
+numbers-long : {A : Type 0} (f : A → List ℕ) (k : ℕ) → ((x : A) → length (f x) ≡ k) → (xs : List A) →
+    length (counted-numbers f xs) ≡ 1 + length xs * k
+unfolding counted-numbers
+numbers-long f k e xs = omega (arith, flat-long f k e xs)
 
-owners-spell : Spells-in (Counted Exact 0 64 1 (Field Exact 1 a-queue)) 65 (16 ∷ axes) (64 ∷ owners)
-unfolding owners queue-count
-owners-spell =
-    a-list 0 64 1 (Field Exact 1 a-queue) 64 64 (16 ∷ axes) owners (lit≤ tt) (lit≤ tt) (lit< tt)
-    (entries Sixteen (λ got vs k more. rw append-assoc (k (vs ++ more))) (Field Exact 1 a-queue) 1
-    (0 ∷ []) owner-entry 64 ((16 ∷ axes) ++ (64 ∷ []))
-    (λ more. refl))
+-- as many of one thing
+same-long : {A : Type 0} (f : A → List ℕ) (n : ℕ) (x : A) → length (flatMap f (replicate n x)) ≡ n * length (f x)
+unfolding flatMap
+same-long f zero x = omega arith
+same-long f (suc n) x =
+    length-append (f x) (flatMap f (replicate n x)) ∙ omega (arith, same-long f n x, suc-mul n (length (f x)))
 
-sizes-spell : (got : List ℕ) → Spells-in (Counted Exact 0 256 2 (Field Exact 4 any-number)) 1026 got (256 ∷ sizes)
-unfolding sizes any-number
-sizes-spell got =
-    a-list 0 256 2 (Field Exact 4 any-number) 1024 256 got sizes (lit≤ tt) (lit≤ tt) (lit< tt)
-    (entries (λ _. Unit {0}) (λ _ _ _. tt) (Field Exact 4 any-number) 4 (0 ∷ [])
-    (λ g _. a-field 4 any-number g 0 (lit< tt) refl) 256
-    (got ++ (256 ∷ [])) tt)
+one-long : (v : ℕ) → length (one-number v) ≡ 1
+unfolding one-number
+one-long v = refl
 
-operations-spell : (got : List ℕ) → K (got ++ (1024 ∷ [])) →
-    Spells-in (Counted Exact 0 1024 2 (Parses Exact (operation first-form))) 62466 got
-    (1024 ∷ repeated 1024 largest-operation)
-operations-spell got k =
-    a-list 0 1024 2 (Parses Exact (operation first-form)) 62464 1024 got (repeated 1024 largest-operation) (lit≤ tt)
-    (lit≤ tt) (lit< tt)
-    (entries K (kept-more 16 64 256) (Parses Exact (operation first-form)) 61 largest-operation operation-entry 1024
-    (got ++ (1024 ∷ [])) k)
+module _ (w : ℕ) where
+  point-long : (x : Point) → length (point-bytes w x) ≡ w + 8
+  unfolding point-bytes
+  point-long x = length-append (digits w (x .semaphore)) (digits 8 (x .value))
+      ∙ omega (arith, length-digits w (x .semaphore), length-digits 8 (x .value))
 
-owners-long : length owners ≡ 64
-unfolding owners
-owners-long = repeated-long 64 (0 ∷ [])
+  mark-long : (m : Mark) → length (mark-bytes m) ≡ 3
+  unfolding mark-bytes
+  mark-long m = length-append (digits 2 (m .buffer)) (digits 1 (m .kind))
+      ∙ omega (arith, length-digits 2 (m .buffer), length-digits 1 (m .kind))
 
-sizes-long : length sizes ≡ 256
-unfolding sizes
-sizes-long = repeated-long 256 (0 ∷ [])
+  operation-long : length (operation-bytes w largest-operation)
+      ≡ 4 + (most-waits + most-signals) * (w + 8) + most-marks * 3
+  unfolding operation-bytes
+  operation-long =
+      simp length-append
+      (omega (
+        arith,
+        length-digits 1 0,
+        counted-long 1 (point-bytes w) (w + 8) point-long (replicate most-waits largest-point),
+        counted-long 1 (point-bytes w) (w + 8) point-long (replicate most-signals largest-point),
+        counted-long 1 mark-bytes 3 mark-long (replicate most-marks largest-mark),
+      ))
 
-operation-long : length largest-operation ≡ 22
-unfolding largest-operation filled repeated pair
-operation-long = refl
+two-long : (x : Point) → length (point-numbers x) ≡ 2
+unfolding point-numbers
+two-long x = refl
 
-plan-spells : Spells-in (Parses Exact (plan-grammar first-form)) 63686 [] largest
-unfolding plan-grammar first-form largest axes tabulate-from
-plan-spells =
-    let A : Takes = Counted Exact 0 16 1 (Field Exact 8 new-axis) in
-    let B : Takes = Counted Exact 0 64 1 (Field Exact 1 a-queue) in
-    let C : Takes = Counted Exact 0 256 2 (Field Exact 4 any-number) in
-    let E : Takes = Counted Exact 0 1024 2 (Parses Exact (operation first-form)) in
-    let fourth : List ℕ = 1024 ∷ repeated 1024 largest-operation in
-    let third : List ℕ = (256 ∷ sizes) ++ fourth in
-    let got = (16 ∷ axes) ++ (64 ∷ owners) in
-    after A (Then B (Then C E)) 129 63557 [] (16 ∷ axes) ((64 ∷ owners) ++ third) axes-spell
-    (after B (Then C E) 65 63492 (16 ∷ axes) (64 ∷ owners) third owners-spell
-    (after C E 1026 62466 got (256 ∷ sizes) fourth (sizes-spell got) (operations-spell (got ++ (256 ∷ sizes))
-    (sections-kept 16 64 256 axes owners sizes refl owners-long sizes-long (16 ∷ axes) (64 ∷ owners)
-    (256 ∷ sizes) 1024 refl refl refl))))
+pair-long : (m : Mark) → length (mark-numbers m) ≡ 2
+unfolding mark-numbers
+pair-long m = refl
 
-pub largest-long : length largest ≡ 22868
-unfolding largest axes tabulate-from
-largest-long =
+block-long : length (operation-numbers largest-operation) ≡ 4 + 2 * (most-waits + most-signals + most-marks)
+unfolding operation-numbers
+block-long =
     simp length-append
-    (omega (arith, owners-long, sizes-long, repeated-long 1024 largest-operation ∙ ap (λ n. 1024 * n) operation-long))
+    (omega (
+      arith,
+      numbers-long point-numbers 2 two-long (replicate most-waits largest-point),
+      numbers-long point-numbers 2 two-long (replicate most-signals largest-point),
+      numbers-long mark-numbers 2 pair-long (replicate most-marks largest-mark),
+    ))
 
-pub largest-listed : listed largest ≡ scan [] 22868 largest none-given
-unfolding listed
-largest-listed = numbers-whole first-form largest (plan-spells .ds) (plan-spells .parsed)
-    ∙ ap (λ n. scan [] n largest none-given) largest-long
+module _ (F : Form) where
+  abbrev width : ℕ
+  width = F .semaphore-width
 
-pub largest-spelled : length (spelled largest) ≡ 63686
-unfolding spelled first-form
-largest-spelled = ap length (spelled-parsed first-form largest (plan-spells .ds) (plan-spells .parsed))
-    ∙ plan-spells .long
+  abbrev many : ℕ
+  many = F .semaphores-most
+
+  pub largest-bytes : length (stored-by F (largest many)) ≡ length (F .lead) + most-bytes (plan-grammar F)
+  unfolding stored-by sections-bytes largest most-bytes plan-grammar operation point mark counted-bytes
+  largest-bytes =
+      simp length-append
+      (omega (
+        arith,
+        length-digits 1 (length axes),
+        flat-long (digits 8) 8 (length-digits 8) axes,
+        axes-long,
+        length-digits width (length (replicate {A = ℕ} many 0)),
+        flat-long (digits 1) 1 (length-digits 1) (replicate many 0),
+        length-replicate {A = ℕ} many 0,
+        length-digits 2 (length (replicate {A = ℕ} most-buffers 0)),
+        flat-long (digits 4) 4 (length-digits 4) (replicate most-buffers 0),
+        length-replicate {A = ℕ} most-buffers 0,
+        length-digits 2 (length (replicate most-operations largest-operation)),
+        same-long (operation-bytes width) most-operations largest-operation,
+        operation-long width,
+      ))
+
+  pub largest-numbers : length (numbers-of (largest many)) ≡ most-numbers (plan-grammar F)
+  unfolding numbers-of largest most-numbers plan-grammar operation point mark counted-numbers
+  largest-numbers =
+      simp length-append
+      (omega (
+        arith,
+        flat-long one-number 1 one-long axes,
+        axes-long,
+        flat-long one-number 1 one-long (replicate many 0),
+        length-replicate {A = ℕ} many 0,
+        flat-long one-number 1 one-long (replicate most-buffers 0),
+        length-replicate {A = ℕ} most-buffers 0,
+        same-long operation-numbers most-operations largest-operation,
+        block-long,
+      ))
+
+-- ---- the greatest sizes
+owners-long : (s : ℕ) → length (largest s .owners) ≡ s
+unfolding largest
+owners-long s = length-replicate {A = ℕ} s 0
+
+pub greatest-sizes : Greatest-sizes
+unfolding scan none-given bytes-of form-of second-form
+greatest-sizes =
+    let stored = takes-plans .every in
+    let m = most-semaphores in
+    let own : form-with (length (largest m .owners)) ≡ second-form =
+    ap form-with (owners-long m) ∙ second-stored .own m (record { least = lit≤ tt; most = lit≤ tt }) in
+    record {
+      bytes = λ p w. scanned-sizes (bytes-of p) (ap (λ (s : Scan). s .fault .number) (stored p w .read)) .0;
+      numbers = λ p w. listed-sizes (numbers-of p) (ap (λ (s : Scan). s .fault .number) (stored p w .taken)) .0;
+      reached = (
+        largest m,
+        largest-within m (lit< tt) (lit≤ tt),
+        ap (λ (F : Form). length (stored-by F (largest m))) own ∙ largest-bytes second-form ∙ second-sized .bytes-most,
+        largest-numbers second-form ∙ second-sized .numbers-most,
+      );
+    }

@@ -13,7 +13,8 @@ use Rattle.plan_format.specs.RefusalNumbers.{None-or, reading-numbers, r
 use Rattle.plan_format.specs.Grammar.{Grammar, field, seq, counted, nothing, Source, Scan, bytes, numbers}
 use Rattle.plan_format.specs.Grammar.{scan, refused, field-number, read-field, last-got, times, count-check}
 use Rattle.plan_format.specs.Grammar.{read-by, ended}
-use Rattle.plan_format.specs.Form.{Form, first-form, queue-count, semaphore-count, buffer-count, any-number}
+use Rattle.plan_format.specs.Form.{Form, form-in, list-form, queue-count, semaphore-count, buffer-count}
+use Rattle.plan_format.specs.Form.{any-number}
 use Rattle.plan_format.specs.Form.{below, new-axis, a-queue, a-semaphore, a-buffer, a-kind, point, mark}
 use Rattle.plan_format.specs.Form.{operation, plan-grammar, scanned-by}
 use Rattle.plan_format.specs.Stored.{scanned, listed, plan-in, plan-refusal}
@@ -134,11 +135,11 @@ fault-number S F xs =
 
 pub scanned-number : (bs : List ℕ) → None-or reading-numbers (scanned bs .fault .number)
 unfolding scanned
-scanned-number bs = fault-number bytes first-form bs
+scanned-number bs = fault-number bytes (form-in bs) bs
 
 pub listed-number : (xs : List ℕ) → None-or reading-numbers (listed xs .fault .number)
 unfolding listed
-listed-number xs = fault-number numbers first-form xs
+listed-number xs = fault-number numbers list-form xs
 
 -- ---- those of a stored plan
 pub plan-number : (bs : List ℕ) → None-or plan-gives (plan-refusal bs .number)

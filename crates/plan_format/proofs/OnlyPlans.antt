@@ -10,8 +10,8 @@ use lib.ListN.{length, getD, take}
 use lib.Seq.{getD-take, length-take-le}
 use Rattle.base_lists.specs.Lists.{member}
 use Rattle.base_lists.proofs.Members.{member-here, member-there}
-use Rattle.plan_format.specs.Sizes.{most-queues, most-semaphores, most-buffers, most-operations, most-waits}
-use Rattle.plan_format.specs.Sizes.{most-signals, most-marks}
+use Rattle.plan_format.specs.Sizes.{most-queues, most-buffers, most-operations, most-waits, most-signals}
+use Rattle.plan_format.specs.Sizes.{most-marks}
 use Rattle.plan_format.specs.Grammar.{Check}
 use Rattle.plan_format.specs.Form.{Form, queue-count, any-number, new-axis, a-queue, point, mark, operation}
 use Rattle.plan_format.specs.Form.{plan-grammar}
@@ -24,6 +24,7 @@ use Rattle.plan_format.proofs.Entries.{Row, listing, many-fields}
 use Rattle.plan_format.proofs.Blocks.{Kept, kept-more, below-lt, is-queue, is-semaphore, is-buffer, is-kind}
 use Rattle.plan_format.proofs.Sections.{header-kept}
 use Rattle.plan_format.proofs.PlanNumbers.{ones}
+use Rattle.plan_format.proofs.Forms.{Proper, Admits}
 use Rattle.plan_format.proofs.EveryPlan.{Queues, queues-stay}
 
 -- ---- axes
@@ -49,8 +50,9 @@ record Entries {A : Type 0} (W : A → Type 0) (f : A → List ℕ) (k : ℕ) (v
   each : Each W list
   numbers-are : vs ≡ flatMap f list
 
-record Listed {A : Type 0} (W : A → Type 0) (f : A → List ℕ) (m : ℕ) (vs : List ℕ) : Type 0 where
+record Listed {A : Type 0} (W : A → Type 0) (f : A → List ℕ) (l m : ℕ) (vs : List ℕ) : Type 0 where
   list : List A
+  many : l ≤ length list
   few : length list ≤ m
   each : Each W list
   numbers-are : vs ≡ counted-numbers f list
@@ -71,7 +73,7 @@ module _ {A : Type 0} (G : List ℕ → Type 0) (stays : (got vs : List ℕ) →
         numbers-are = p .numbers-are ∙ ap₂ {C = List ℕ} (λ y z. y ++ z) e (r .numbers-are);
       }
 
-  list-is : (D : Spelt) (l m w : ℕ) (got vs ds : List ℕ) → G got → Counted D l m w P got vs ds → Listed W f m vs
+  list-is : (D : Spelt) (l m w : ℕ) (got vs ds : List ℕ) → G got → Counted D l m w P got vs ds → Listed W f l m vs
   unfolding counted-numbers
   list-is D l m w got vs ds g p =
       let c = listing D l m w P got vs ds p in
@@ -79,6 +81,7 @@ module _ {A : Type 0} (G : List ℕ → Type 0) (stays : (got vs : List ℕ) →
       (stays got (c .count ∷ []) g) (c .many) in
       record {
         list = r .list;
+        many = omega (arith, r .long, c .least);
         few = omega (arith, r .long, c .most);
         each = r .each;
         numbers-are = c .numbers-are ∙ ap₂ {C = List ℕ} (λ n z. n ∷ z) (sym (r .long)) (r .numbers-are);
@@ -115,7 +118,7 @@ module _ (D : Spelt) (fits : Fits) (spelt-fits : (w v : ℕ) (ds : List ℕ) →
         )
 
     points-are : (m : ℕ) (got vs ds : List ℕ) → Kept q s b got → Counted D 0 m 1 (Parses D (point F)) got vs ds →
-        Listed (Point-within fits s) point-numbers m vs
+        Listed (Point-within fits s) point-numbers 0 m vs
     points-are m = list-is (Kept q s b) (kept-more q s b) (Point-within fits s) (Parses D (point F)) point-numbers
         point-is D 0 m 1
 
@@ -190,11 +193,10 @@ module _ (D : Spelt) (fits : Fits) (spelt-fits : (w v : ℕ) (ds : List ℕ) →
       (subst (λ z. Row new-axis (z ∷ []) z axes) many (subst (λ z. Row new-axis (c .count ∷ []) (c .count) z) list row))
 
   -- ---- the whole
-  pub parsed-plan : (F : Form) → F .semaphores-most ≤ most-semaphores → (xs ds : List ℕ) →
-      Parses D (plan-grammar F) [] xs ds →
-      (p : Plan) × Plan-within fits p × (xs ≡ numbers-of p)
+  pub parsed-plan : (F : Form) → Proper F → (xs ds : List ℕ) → Parses D (plan-grammar F) [] xs ds →
+      (p : Plan) × Plan-within fits p × Admits F (length (p .owners)) × (xs ≡ numbers-of p)
   unfolding plan-grammar numbers-of
-  parsed-plan F enough xs ds p =
+  parsed-plan F proper xs ds p =
       let p₁ = p .second in
       let p₂ = p₁ .second in
       let got₂ = p .vs₁ ++ p₁ .vs₁ in
@@ -226,13 +228,14 @@ module _ (D : Spelt) (fits : Fits) (spelt-fits : (w v : ℕ) (ds : List ℕ) →
           few-queues = a .few;
           axes = a .each;
           axes-distinct = axes-apart (p .vs₁) (p .ds₁) (a .list) (p .first) e₁;
-          few-semaphores = omega (arith, o .few, enough);
+          few-semaphores = omega (arith, o .few, proper .few);
           owners = o .each;
           few-buffers = z .few;
           sizes = z .each;
           few-operations = n .few;
           operations = n .each;
         },
+        record { least = o .many; most = o .few },
         glued {b = counted-numbers one-number (o .list)} {d = counted-numbers operation-numbers (n .list)}
             (p .numbers-are) (a .numbers-are) (p₁ .numbers-are) (o .numbers-are)
             (p₂ .numbers-are) (z .numbers-are) (n .numbers-are),

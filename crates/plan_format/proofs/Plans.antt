@@ -2,11 +2,9 @@
 -- nothing.
 use mathlib.Core.Path.{_≡_, sym, ap, _∙_, subst}
 use mathlib.Core.List.{List}
-use Prim.Native.Nat.{ℕ, _≤_}
-use native.Mathlib.Omega.{arith}
-use Rattle.plan_format.specs.Sizes.{most-semaphores}
+use Prim.Native.Nat.{ℕ}
 use Rattle.plan_format.specs.Grammar.{bytes, numbers}
-use Rattle.plan_format.specs.Form.{Form, first-form, scanned-by}
+use Rattle.plan_format.specs.Form.{Form, form-in, list-form, scanned-by}
 use Rattle.plan_format.specs.Plan.{Plan, count, queues, plan-of}
 use Rattle.plan_format.specs.Limits.{In-bytes, Unbounded, Within, Limits, numbers-of}
 use Rattle.plan_format.specs.Sound.{Sound, rules-refusal}
@@ -15,9 +13,10 @@ use Rattle.plan_format.proofs.Judged.{or-else-none}
 use Rattle.plan_format.proofs.Parses.{Exact, Loose}
 use Rattle.plan_format.proofs.Sources.{loose-bytes}
 use Rattle.plan_format.proofs.Whole.{whole-of}
-use Rattle.plan_format.proofs.RoundTrip.{numbers-read}
+use Rattle.plan_format.proofs.ParsedForms.{numbers-read}
 use Rattle.plan_format.proofs.Sections.{Sections, sections}
 use Rattle.plan_format.proofs.PlanNumbers.{plan-back}
+use Rattle.plan_format.proofs.Forms.{Proper, list-proper, proper-in}
 use Rattle.plan_format.proofs.OnlyPlans.{parsed-plan}
 use Rattle.plan_format.proofs.Positions.{in-range}
 
@@ -28,11 +27,11 @@ module _ (F : Form) (bs : List ℕ) (e : scanned-by bytes F bs .fault .number �
       sections Loose F (scanned-by bytes F bs .got) (w .ds) (w .parsed)
 
   -- also where an element is no byte
-  pub bytes-limits : F .semaphores-most ≤ most-semaphores → Limits (plan-of (scanned-by bytes F bs .got))
+  pub bytes-limits : Proper F → Limits (plan-of (scanned-by bytes F bs .got))
   unfolding loose-bytes
-  bytes-limits enough =
+  bytes-limits proper =
       let w = whole-of bytes Loose loose-bytes F bs tt e in
-      let (p, l, is) = parsed-plan Loose Unbounded (λ _ _ _ _. tt) F enough (scanned-by bytes F bs .got) (w .ds)
+      let (p, l, a, is) = parsed-plan Loose Unbounded (λ _ _ _ _. tt) F proper (scanned-by bytes F bs .got) (w .ds)
       (w .parsed) in
       subst Limits (sym (ap (λ z. plan-of z) is ∙ plan-back p)) l
 
@@ -41,25 +40,25 @@ module _ (F : Form) (xs : List ℕ) (e : scanned-by numbers F xs .fault .number 
   numbers-sections = let (ds, p) = numbers-read F xs e in sections Exact F xs ds p
 
   -- numbers that are taken are those of the plan that they tell
-  pub numbers-within : F .semaphores-most ≤ most-semaphores → Within (plan-of xs) × (xs ≡ numbers-of (plan-of xs))
-  numbers-within enough =
+  pub numbers-within : Proper F → Within (plan-of xs) × (xs ≡ numbers-of (plan-of xs))
+  numbers-within proper =
       let (ds, parsed) = numbers-read F xs e in
-      let (p, w, is) = parsed-plan Exact In-bytes (λ _ _ _ s. s .fits) F enough xs ds parsed in
+      let (p, w, a, is) = parsed-plan Exact In-bytes (λ _ _ _ s. s .fits) F proper xs ds parsed in
       let told : p ≡ plan-of xs = sym (ap (λ z. plan-of z) is ∙ plan-back p) in
       (subst Within told w, is ∙ ap numbers-of told)
 
--- ---- the first form
-pub scanned-sections : (bs : List ℕ) → scanned bs .fault .number ≡ 0 → Sections first-form (scanned bs .got)
+-- ---- the form that the first byte tells, and the form of a list
+pub scanned-sections : (bs : List ℕ) → scanned bs .fault .number ≡ 0 → Sections (form-in bs) (scanned bs .got)
 unfolding scanned
-scanned-sections bs e = bytes-sections first-form bs e
+scanned-sections bs e = bytes-sections (form-in bs) bs e
 
 pub scanned-limits : (bs : List ℕ) → scanned bs .fault .number ≡ 0 → Limits (plan-in bs)
-unfolding scanned plan-in first-form
-scanned-limits bs e = bytes-limits first-form bs e (omega arith)
+unfolding scanned plan-in
+scanned-limits bs e = bytes-limits (form-in bs) bs e (proper-in bs)
 
 pub listed-within : (xs : List ℕ) → listed xs .fault .number ≡ 0 → Within (plan-of xs) × (xs ≡ numbers-of (plan-of xs))
-unfolding listed first-form
-listed-within xs e = numbers-within first-form xs e (omega arith)
+unfolding listed
+listed-within xs e = numbers-within list-form xs e list-proper
 
 -- ---- soundness: what refusals 6 to 8 leave of a plan within the limits
 pub limits-sound : (p : Plan) → Limits p → rules-refusal p .number ≡ 0 → Sound p

@@ -1,28 +1,29 @@
 -- A grammar reads no further than its greatest size: a plan's first bytes decide what is read and its refusals.
 -- Assumes nothing.
 use mathlib.Core.Path.{_≡_, refl, sym, ap, _∙_, subst}
-use mathlib.Core.Bool.{cond}
+use mathlib.Core.Bool.{false, cond}
 use mathlib.Core.List.{List, [], _++_}
 use Prim.Native.Nat.{ℕ, zero, suc, _+_, _*_, _-_, _≤_, _<_}
 use native.Mathlib.Nat.{suc-mul, mul-le-mul-right}
 use native.Mathlib.Omega.{arith}
 use lib.Dec.{leb, eqb}
-use lib.ListN.{length, take, drop, length-append, length-drop, take-append-drop, List·getD-append}
+use lib.ListN.{length, getD, take, drop, length-append, length-drop, take-append-drop, List·getD-append}
 use lib.Seq.{take-append-le, drop-append-le, length-take-le, take-all}
-use borrow.Author.Tests.{le-ltb, leb-true, leb-false, ne-eqb}
+use borrow.Author.Tests.{le-ltb, ltb-false, leb-true, leb-false, ne-eqb, eqb-false}
 use Rattle.base_lists.proofs.Tests.{by-cases}
-use Rattle.plan_format.specs.Sizes.{plan-bytes, plan-numbers}
+use Rattle.plan_format.specs.Sizes.{plan-bytes, plan-numbers, second-lead, most-input}
 use Rattle.plan_format.specs.Refusal.{Refusal, none-given, given}
 use Rattle.plan_format.specs.Grammar.{Check, Grammar, field, seq, counted, nothing, Source, bytes, numbers, Scan}
 use Rattle.plan_format.specs.Grammar.{scan, refused, field-number, read-field, last-got, times, count-check}
-use Rattle.plan_format.specs.Grammar.{read-by, ended, value}
-use Rattle.plan_format.specs.Form.{Form, first-form, plan-grammar, scanned-by}
+use Rattle.plan_format.specs.Grammar.{read-by, ended, value, most-bytes}
+use Rattle.plan_format.specs.Form.{Form, list-form, is-second, form-in, plan-grammar, scanned-by}
 use Rattle.plan_format.specs.Plan.{plan-of}
-use Rattle.plan_format.specs.Stored.{scanned, listed, plan-in, plan-refusal}
+use Rattle.plan_format.specs.Stored.{scanned, listed, plan-in, too-long, plan-refusal}
 use Rattle.plan_format.proofs.Judged.{not-given-zero}
 use Rattle.plan_format.proofs.Fields.{field-done, count-limits}
 use Rattle.plan_format.proofs.Reading.{last-is}
-use Rattle.plan_format.proofs.Sizes.{Most, bytes-most, numbers-most, longest-plan, most-plan-numbers}
+use Rattle.plan_format.proofs.Forms.{form-front, first-told}
+use Rattle.plan_format.proofs.Sizes.{Most, bytes-most, numbers-most, first-sized, sized-in, longest-list}
 use Rattle.plan_format.proofs.Sizes.{listed-sizes}
 
 -- two readings with the same fault and the same numbers
@@ -187,37 +188,57 @@ module _ (S : Source) (front-is : Fronted S) (T : Most (S .wide)) where
         got = ap (λ (z : Scan). z .got) e ∙ ended-got b (read-by S (plan-grammar F) s);
       })
 
--- ---- the first form: one byte, or one number, past the greatest size
+-- ---- one byte, or one number, past the greatest size
+bytes-decide : (n : ℕ) (bs : List ℕ) → length (form-in bs .lead) + most-bytes (plan-grammar (form-in bs)) < n →
+    Reads-alike (scanned bs) (scanned (take n bs))
+unfolding scanned bytes bytes-most
+bytes-decide n bs l =
+    subst (λ (F : Form). Reads-alike (scanned-by bytes (form-in bs) bs) (scanned-by bytes F (take n bs)))
+    (sym (form-front n bs (omega arith)))
+    (prefix-decides bytes (λ w a b h. ap value (take-append-le w a b h)) bytes-most (form-in bs) n bs (omega arith))
+
 pub first-bytes-decide : (bs : List ℕ) → Reads-alike (scanned bs) (scanned (take (plan-bytes + 1) bs))
-unfolding scanned bytes bytes-most first-form
-first-bytes-decide bs =
-    prefix-decides bytes (λ w a b l. ap value (take-append-le w a b l)) bytes-most first-form 63687 bs
-    (omega (arith, longest-plan))
+first-bytes-decide bs = bytes-decide (plan-bytes + 1) bs (omega (arith, sized-in bs .bytes-within))
 
 pub first-numbers-decide : (xs : List ℕ) → Reads-alike (listed xs) (listed (take (plan-numbers + 1) xs))
-unfolding listed numbers numbers-most first-form
+unfolding listed numbers numbers-most
 first-numbers-decide xs =
-    prefix-decides numbers (λ w a b l. List·getD-append a b 0 0 l) numbers-most first-form 22869 xs
-    (omega (arith, most-plan-numbers))
+    prefix-decides numbers (λ w a b l. List·getD-append a b 0 0 l) numbers-most list-form (plan-numbers + 1) xs
+    (omega (arith, longest-list))
 
--- bytes whose first are the same are the same plan, with the same refusals 1 to 8
-module _ (bs cs : List ℕ) (same : take (plan-bytes + 1) bs ≡ take (plan-bytes + 1) cs) where
-  pub bytes-alike : Reads-alike (scanned bs) (scanned cs)
-  bytes-alike =
-      let a = first-bytes-decide bs in
-      let b = first-bytes-decide cs in
-      record {
-        fault = a .fault ∙ ap (λ z. scanned z .fault) same ∙ sym (b .fault);
-        got = a .got ∙ ap (λ z. scanned z .got) same ∙ sym (b .got);
-      }
+-- an input that is not too long is decided by one byte more than the program judges
+pub judged-bytes-decide : (bs : List ℕ) → too-long bs ≡ false →
+    Reads-alike (scanned bs) (scanned (take (most-input + 1) bs))
+unfolding too-long is-second
+judged-bytes-decide bs h =
+    by-cases (is-second bs)
+    (λ t. let few : length bs ≤ most-input = ltb-false most-input (length bs) (rw t at h) in
+    let e = sym (take-all (most-input + 1) bs (omega arith)) in
+    record { fault = ap (λ z. scanned z .fault) e; got = ap (λ z. scanned z .got) e })
+    (λ f. bytes-decide (most-input + 1) bs
+    (subst (λ (F : Form). length (F .lead) + most-bytes (plan-grammar F) < most-input + 1)
+    (sym (first-told bs (eqb-false (getD bs 0 0) second-lead f))) (omega (arith, first-sized .bytes-most))))
 
+-- bytes whose first are the same are read alike
+pub bytes-alike : (bs cs : List ℕ) → take (plan-bytes + 1) bs ≡ take (plan-bytes + 1) cs →
+    Reads-alike (scanned bs) (scanned cs)
+bytes-alike bs cs same =
+    let a = first-bytes-decide bs in
+    let b = first-bytes-decide cs in
+    record {
+      fault = a .fault ∙ ap (λ z. scanned z .fault) same ∙ sym (b .fault);
+      got = a .got ∙ ap (λ z. scanned z .got) same ∙ sym (b .got);
+    }
+
+-- bytes that are read alike are the same plan, with the same refusals 1 to 8
+module _ (bs cs : List ℕ) (alike : Reads-alike (scanned bs) (scanned cs)) where
   pub plan-alike : plan-in bs ≡ plan-in cs
   unfolding plan-in
-  plan-alike = ap plan-of (bytes-alike .got)
+  plan-alike = ap plan-of (alike .got)
 
   pub refusal-alike : plan-refusal bs ≡ plan-refusal cs
   unfolding plan-refusal
-  refusal-alike = rw (bytes-alike .fault, plan-alike)
+  refusal-alike = rw (alike .fault, plan-alike)
 
 -- numbers whose first are the same are refused alike, and are the same where they are not
 module _ (xs ys : List ℕ) (same : take (plan-numbers + 1) xs ≡ take (plan-numbers + 1) ys) where

@@ -12,11 +12,12 @@ use Rattle.base_lists.proofs.Tests.{by-cases, either}
 use Rattle.plan_format.specs.Refusal.{refusal, none-given, given}
 use Rattle.plan_format.specs.RefusalNumbers.{None-or, reading-numbers}
 use Rattle.plan_format.specs.Grammar.{Grammar, Source, Scan, bytes, numbers, scan, refused, read-by, ended}
-use Rattle.plan_format.specs.Form.{Form, first-form, plan-grammar, scanned-by}
+use Rattle.plan_format.specs.Form.{Form, form-in, list-form, plan-grammar, scanned-by}
 use Rattle.plan_format.specs.Stored.{scanned, listed, plan-in, plan-refusal}
 use Rattle.plan_format.specs.Sound.{rules-refusal}
 use Rattle.plan_format.specs.Meaning.{Refuses, Cursor, Reads, Stops, start, Reading-means, Bytes-mean}
 use Rattle.plan_format.specs.Meaning.{Numbers-mean, Plan-refusal-means}
+use Rattle.plan_format.proofs.Forms.{led-in}
 use Rattle.plan_format.proofs.Judged.{refusal-given, other-given, or-else-first, or-else-second}
 use Rattle.plan_format.proofs.Faults.{ended-stays}
 use Rattle.plan_format.proofs.Numbers.{scanned-number, listed-number, plan-number}
@@ -134,12 +135,12 @@ module _ (S : Source) (F : Form) (xs : List ℕ) where
   }
 
 pub scanned-means : (bs : List ℕ) → Bytes-mean bs
-unfolding scanned scanned-by first-form bytes
-scanned-means bs = reading-means bytes first-form bs (omega arith) (scanned-number bs)
+unfolding scanned scanned-by bytes
+scanned-means bs = reading-means bytes (form-in bs) bs (omega (arith, led-in bs)) (scanned-number bs)
 
 pub listed-means : (xs : List ℕ) → Numbers-mean xs
-unfolding listed scanned-by first-form numbers
-listed-means xs = reading-means numbers first-form xs (omega arith) (listed-number xs)
+unfolding listed scanned-by numbers
+listed-means xs = reading-means numbers list-form xs (omega arith) (listed-number xs)
 
 -- 1 to 5 first, then 6 to 8
 pub plan-refusal-means : (bs : List ℕ) → Plan-refusal-means bs (plan-refusal bs)

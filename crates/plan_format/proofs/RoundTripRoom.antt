@@ -17,9 +17,9 @@ use Rattle.plan_format.specs.Stored.{Write-says, read-refusal, write-ref
 use Rattle.plan_format.specs.declared.Told.{Told}
 use Rattle.plan_format.specs.Meaning.{Read-means, Write-means}
 use Rattle.plan_format.proofs.Judged.{zero-not-given, or-else-none}
-use Rattle.plan_format.proofs.RoundTrip.{listed-scanned, spelled-scanned, scanned-spelled}
 use Rattle.plan_format.proofs.Plans.{listed-within}
 use Rattle.plan_format.proofs.Taking.{takes-plans}
+use Rattle.plan_format.proofs.RoundTrip.{listed-scanned, spelled-scanned, scanned-spelled}
 use Rattle.plan_format.proofs.RoomMeaning.{read-refuses, write-refuses, read-filled, write-filled}
 use Rattle.plan_format.proofs.ReadingMeaning.{scanned-means, listed-means}
 

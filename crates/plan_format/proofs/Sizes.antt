@@ -5,10 +5,12 @@ use Prim.Native.Nat.{ℕ, suc, _+_, _*_, _≤_, zero-le}
 use native.Mathlib.Nat.{le-refl, suc-mul, mul-le-mul-right}
 use native.Mathlib.Omega.{arith}
 use lib.ListN.{length, length-append, length-drop}
-use Rattle.plan_format.specs.Sizes.{plan-numbers, plan-bytes}
+use Rattle.plan_format.specs.Sizes.{block-bytes, plan-numbers, plan-bytes}
+use Rattle.plan_format.specs.Refusal.{none-given}
 use Rattle.plan_format.specs.Grammar.{Check, Grammar, field, seq, counted, nothing, bytes, numbers, count-check}
-use Rattle.plan_format.specs.Grammar.{most-bytes, most-numbers}
-use Rattle.plan_format.specs.Form.{Form, first-form, point, mark, operation, plan-grammar, scanned-by, spelled-by}
+use Rattle.plan_format.specs.Grammar.{Scan, scan, most-bytes, most-numbers}
+use Rattle.plan_format.specs.Form.{Form, first-form, second-form, list-form, form-in, point, mark, operation}
+use Rattle.plan_format.specs.Form.{plan-grammar, scanned-by}
 use Rattle.plan_format.specs.Stored.{scanned, listed, spelled}
 use Rattle.plan_format.proofs.Bytes.{length-digits}
 use Rattle.plan_format.proofs.Parses.{Takes, _⊆_, Spelt, Exact, Loose, Nothing, Then, Holds, Parses, then-first}
@@ -16,7 +18,9 @@ use Rattle.plan_format.proofs.Parses.{parsed-give}
 use Rattle.plan_format.proofs.Fields.{count-limits}
 use Rattle.plan_format.proofs.Sources.{loose-bytes}
 use Rattle.plan_format.proofs.Whole.{whole-of}
-use Rattle.plan_format.proofs.RoundTrip.{spelled-parsed, numbers-read}
+use Rattle.plan_format.proofs.ParsedForms.{numbers-read}
+use Rattle.plan_format.proofs.Forms.{form-cases}
+use Rattle.plan_format.proofs.RoundTrip.{scanned-spelled}
 
 -- the most places that a grammar takes, where a field of a width takes so many
 pub record Most (wide : ℕ → ℕ) : Type 0 where
@@ -141,45 +145,60 @@ module _ (F : Form) (xs : List ℕ) (e : scanned-by numbers F xs .fault .number 
   pub taken-numbers-most : length xs ≤ most-numbers (plan-grammar F)
   taken-numbers-most = let (ds, p) = numbers-read F xs e in parsed-numbers (plan-grammar F) [] xs ds Exact p
 
-  pub spelled-bytes-most : length (spelled-by F xs) ≤ length (F .lead) + most-bytes (plan-grammar F)
-  spelled-bytes-most =
-      let (ds, p) = numbers-read F xs e in
-      omega (
-        arith,
-        ap length (spelled-parsed F xs ds p),
-        length-append (F .lead) ds,
-        exact-long (plan-grammar F) [] xs ds p,
-      )
-
--- ---- R7, greatest sizes, of the first form
-pub longest-operation : most-bytes (operation first-form) ≡ 61
-unfolding most-bytes operation point mark first-form
+-- ---- R7, greatest sizes, of each form
+pub longest-operation : most-bytes (operation second-form) ≡ block-bytes
+unfolding most-bytes operation point mark second-form
 longest-operation = refl
 
-pub longest-plan : most-bytes (plan-grammar first-form) ≡ 63686
-unfolding most-bytes plan-grammar operation point mark first-form
-longest-plan = refl
+pub longest-first-operation : most-bytes (operation first-form) ≡ 61
+unfolding most-bytes operation point mark first-form
+longest-first-operation = refl
 
-pub most-plan-numbers : most-numbers (plan-grammar first-form) ≡ 22868
-unfolding most-numbers plan-grammar operation point mark first-form
-most-plan-numbers = refl
+-- the bytes of a plan, the lead included, and its numbers
+pub record Sized (F : Form) (bytes numbers : ℕ) : Type 0 where
+  pub bytes-most : length (F .lead) + most-bytes (plan-grammar F) ≡ bytes
+  pub numbers-most : most-numbers (plan-grammar F) ≡ numbers
 
-no-lead : length (first-form .lead) ≡ 0
-unfolding first-form
-no-lead = refl
+pub first-sized : Sized first-form 63686 22868
+unfolding most-bytes most-numbers plan-grammar operation point mark first-form
+first-sized = record { bytes-most = refl; numbers-most = refl }
+
+pub second-sized : Sized second-form plan-bytes plan-numbers
+unfolding most-bytes most-numbers plan-grammar operation point mark second-form
+second-sized = record { bytes-most = refl; numbers-most = refl }
+
+pub longest-list : most-numbers (plan-grammar list-form) ≡ plan-numbers
+unfolding most-numbers plan-grammar operation point mark list-form
+longest-list = refl
+
+-- no form has more than the second
+pub record Sized-within (F : Form) : Type 0 where
+  pub bytes-within : length (F .lead) + most-bytes (plan-grammar F) ≤ plan-bytes
+  pub numbers-within : most-numbers (plan-grammar F) ≤ plan-numbers
+
+pub sized-in : (bs : List ℕ) → Sized-within (form-in bs)
+sized-in = form-cases Sized-within
+    (record {
+      bytes-within = omega (arith, first-sized .bytes-most);
+      numbers-within = omega (arith, first-sized .numbers-most);
+    })
+    (record {
+      bytes-within = omega (arith, second-sized .bytes-most);
+      numbers-within = omega (arith, second-sized .numbers-most);
+    })
 
 pub scanned-sizes : (bs : List ℕ) → scanned bs .fault .number ≡ 0 →
     (length bs ≤ plan-bytes) × (length (scanned bs .got) ≤ plan-numbers)
 unfolding scanned
 scanned-sizes bs e = (
-  omega (arith, no-lead, longest-plan, read-bytes-most first-form bs e),
-  rw most-plan-numbers at (read-numbers-most first-form bs e),
+  omega (arith, sized-in bs .bytes-within, read-bytes-most (form-in bs) bs e),
+  omega (arith, sized-in bs .numbers-within, read-numbers-most (form-in bs) bs e),
 )
 
 pub listed-sizes : (xs : List ℕ) → listed xs .fault .number ≡ 0 →
     (length xs ≤ plan-numbers) × (length (spelled xs) ≤ plan-bytes)
-unfolding listed spelled
+unfolding listed scan none-given
 listed-sizes xs e = (
-  rw most-plan-numbers at (taken-numbers-most first-form xs e),
-  omega (arith, no-lead, longest-plan, spelled-bytes-most first-form xs e),
+  rw longest-list at (taken-numbers-most list-form xs e),
+  scanned-sizes (spelled xs) (ap (λ (s : Scan). s .fault .number) (scanned-spelled xs e)) .0,
 )

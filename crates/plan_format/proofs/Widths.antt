@@ -1,5 +1,5 @@
 -- Every number of a plan fits the widest field: so it fits 64 bits. Assumes nothing.
-use mathlib.Core.Path.{_≡_, refl}
+use mathlib.Core.Path.{_≡_}
 use mathlib.Core.Bool.{true}
 use mathlib.Core.List.{List, [], _∷_, _++_}
 use Prim.Native.Nat.{ℕ, zero, suc, _^_, _≤_, _<_, zero-le}
@@ -8,10 +8,12 @@ use native.Mathlib.Omega.{arith}
 use lib.Dec.{lit<}
 use lib.ListN.{getD}
 use Rattle.plan_format.specs.Grammar.{Check, Grammar, field, seq, counted, nothing, count-check}
-use Rattle.plan_format.specs.Form.{first-form, point, mark, operation, plan-grammar}
+use Rattle.plan_format.specs.Form.{first-form, second-form, list-form, form-in, point, mark, operation}
+use Rattle.plan_format.specs.Form.{plan-grammar}
 use Rattle.plan_format.specs.Stored.{all-bytes, scanned, listed}
 use Rattle.plan_format.proofs.Parses.{Takes, _⊆_, Exact, Nothing, Then, Holds, Parses, then-first, parsed-give}
-use Rattle.plan_format.proofs.RoundTrip.{bytes-read, numbers-read}
+use Rattle.plan_format.proofs.ParsedForms.{bytes-read, numbers-read}
+use Rattle.plan_format.proofs.Forms.{form-cases, led-as}
 
 -- no field is wider than n
 abbrev pub Narrow : (n : ℕ) → Grammar → Type 0
@@ -71,18 +73,22 @@ module _ (n : ℕ) where
   pub parsed-small : (g : Grammar) → Narrow n g → Parses Exact g ⊆ Small n
   parsed-small g z got vs ds p = small g got vs ds p z
 
-first-narrow : Narrow 8 (plan-grammar first-form)
-unfolding plan-grammar operation point mark first-form
-first-narrow = omega arith
+narrow-in : (bs : List ℕ) → Narrow 8 (plan-grammar (form-in bs))
+unfolding plan-grammar operation point mark first-form second-form
+narrow-in = form-cases (λ F. Narrow 8 (plan-grammar F)) (omega arith) (omega arith)
+
+list-narrow : Narrow 8 (plan-grammar list-form)
+unfolding plan-grammar operation point mark list-form
+list-narrow = omega arith
 
 pub scanned-small : (bs : List ℕ) → all-bytes bs ≡ true → scanned bs .fault .number ≡ 0 → (i : ℕ) →
     getD (scanned bs .got) i 0 < 2 ^ 64
-unfolding scanned first-form
-scanned-small bs b e = let (ds, p, is) = bytes-read first-form bs b refl e in
-    parsed-small 8 (plan-grammar first-form) first-narrow []
-    (scanned bs .got) ds p
+unfolding scanned
+scanned-small bs b e =
+    let (ds, p, is) = bytes-read (form-in bs) bs b (led-as bs) e in
+    parsed-small 8 (plan-grammar (form-in bs)) (narrow-in bs) [] (scanned bs .got) ds p
 
 pub listed-small : (xs : List ℕ) → listed xs .fault .number ≡ 0 → (i : ℕ) → getD xs i 0 < 2 ^ 64
 unfolding listed
-listed-small xs e = let (ds, p) = numbers-read first-form xs e in
-    parsed-small 8 (plan-grammar first-form) first-narrow [] xs ds p
+listed-small xs e =
+    let (ds, p) = numbers-read list-form xs e in parsed-small 8 (plan-grammar list-form) list-narrow [] xs ds p

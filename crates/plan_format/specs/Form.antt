@@ -1,19 +1,23 @@
--- R1, R2: the stored form of a plan, four sections, each with its count in front. Assumes nothing: these are
+-- R1, R2, R8: the two stored forms of a plan, four sections, each with its count in front. Assumes nothing: these are
 -- definitions.
 --
 --   section     count    most   entry
 --   queues      1 byte   16     axis 8
---   semaphores  1 byte   64     owner 1
+--   semaphores  w bytes  64     owner 1
 --   buffers     2 bytes  256    size 4
---   operations  2 bytes  1,024  queue 1; up to 3 waits and 2 signals of 1 + 8, up to 4 marks of 2 + 1, counts 1
-use mathlib.Core.Bool.{cond}
-use mathlib.Core.List.{List, [], _++_}
+--   operations  2 bytes  1,024  queue 1; up to 3 waits and 2 signals of w + 8, up to 4 marks of 2 + 1, counts 1
+--
+-- In the first form w is 1. In the second, which begins with the byte 242, w is 2, and there are 65 to 1,024
+-- semaphores.
+use mathlib.Core.Bool.{Bool, cond}
+use mathlib.Core.List.{List, [], _∷_, _++_}
 use Prim.Native.Nat.{ℕ, _+_, _*_}
-use lib.Dec.{ltb}
+use lib.Dec.{ltb, eqb}
 use lib.ListN.{length, getD, drop}
 use Rattle.base_lists.specs.Lists.{member}
 use Rattle.plan_format.specs.Sizes.{most-queues, most-semaphores, most-buffers, most-operations, most-waits}
-use Rattle.plan_format.specs.Sizes.{most-signals, most-marks}
+use Rattle.plan_format.specs.Sizes.{most-signals, most-marks, first-semaphores, second-lead, first-width}
+use Rattle.plan_format.specs.Sizes.{second-width}
 use Rattle.plan_format.specs.Refusal.{none-given}
 use Rattle.plan_format.specs.Grammar.{Check, Grammar, field, seq, counted, Source, Scan, scan, read-by, ended}
 use Rattle.plan_format.specs.Grammar.{spell-by}
@@ -27,7 +31,54 @@ pub record Form : Type 0 where
   pub semaphores-most : ℕ
 
 unfoldable pub first-form : Form
-first-form = record { lead = []; semaphore-width = 1; semaphores-least = 0; semaphores-most = most-semaphores }
+first-form =
+    record {
+      lead = [];
+      semaphore-width = first-width;
+      semaphores-least = 0;
+      semaphores-most = first-semaphores;
+    }
+
+unfoldable pub second-form : Form
+second-form =
+    record {
+      lead = second-lead ∷ [];
+      semaphore-width = second-width;
+      semaphores-least = first-semaphores + 1;
+      semaphores-most = most-semaphores;
+    }
+
+-- R10, the writer: its list is judged before the form is chosen, with all semaphores that a plan may have
+unfoldable pub list-form : Form
+list-form =
+    record {
+      lead = [];
+      semaphore-width = second-width;
+      semaphores-least = 0;
+      semaphores-most = most-semaphores;
+    }
+
+-- a list as it is tried for the wide form, or for the narrow one
+unfoldable pub list-by : (wide : Bool) → Form
+list-by b = cond b list-form first-form
+
+-- the wide form, or the narrow one, and the bytes of a semaphore's position in it
+unfoldable pub form-by : (wide : Bool) → Form
+form-by b = cond b second-form first-form
+
+abbrev pub width-by : (wide : Bool) → ℕ
+width-by b = form-by b .semaphore-width
+
+-- R8, the form of some bytes: the first byte tells it
+unfoldable pub is-second : (bytes : List ℕ) → Bool
+is-second bs = eqb (getD bs 0 0) second-lead
+
+abbrev pub form-in : (bytes : List ℕ) → Form
+form-in bs = form-by (is-second bs)
+
+-- R8, the form of a plan: the first, unless it has too many semaphores for that
+abbrev pub form-with : (semaphores : ℕ) → Form
+form-with s = form-by (ltb first-semaphores s)
 
 -- where the counts are among the numbers read
 unfoldable pub queue-count : (got : List ℕ) → ℕ

@@ -9,4 +9,5 @@ pub mod Limits
 pub mod Sound
 pub mod Stored
 pub mod Promise
+pub mod AsBefore
 pub mod Meaning

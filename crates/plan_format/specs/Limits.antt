@@ -7,6 +7,7 @@ use lib.ListN.{length, getD}
 use Rattle.plan_format.specs.Sizes.{most-queues, most-semaphores, most-buffers, most-operations, most-waits}
 use Rattle.plan_format.specs.Sizes.{most-signals, most-marks}
 use Rattle.plan_format.specs.Grammar.{digits}
+use Rattle.plan_format.specs.Form.{Form, form-with}
 use Rattle.plan_format.specs.Plan.{Point, Mark, Operation, Plan}
 
 abbrev pub Each : {A : Type 0} → (A → Type 0) → List A → Type 0
@@ -88,23 +89,35 @@ numbers-of p =
     ++ (counted-numbers one-number (p .owners)
     ++ (counted-numbers one-number (p .sizes) ++ counted-numbers operation-numbers (p .operations)))
 
--- ---- R1 to R3, bytes of a plan: section by section after its count, each number with its lowest byte first
+-- ---- R1 to R3, bytes of a plan: section by section after its count, each number with its lowest byte first; a
+-- semaphore's position and the count of semaphores in as many bytes as the form says
 unfoldable pub counted-bytes : {A : Type 0} → (count-width : ℕ) → (entry : A → List ℕ) → List A → List ℕ
 counted-bytes w f xs = digits w (length xs) ++ flatMap f xs
 
-unfoldable pub point-bytes : Point → List ℕ
-point-bytes x = digits 1 (x .semaphore) ++ digits 8 (x .value)
+unfoldable pub point-bytes : (width : ℕ) → Point → List ℕ
+point-bytes w x = digits w (x .semaphore) ++ digits 8 (x .value)
 
 unfoldable pub mark-bytes : Mark → List ℕ
 mark-bytes m = digits 2 (m .buffer) ++ digits 1 (m .kind)
 
-unfoldable pub operation-bytes : Operation → List ℕ
-operation-bytes o =
-    digits 1 (o .queue) ++ (counted-bytes 1 point-bytes (o .waits)
-    ++ (counted-bytes 1 point-bytes (o .signals) ++ counted-bytes 1 mark-bytes (o .marks)))
+unfoldable pub operation-bytes : (width : ℕ) → Operation → List ℕ
+operation-bytes w o =
+    digits 1 (o .queue) ++ (counted-bytes 1 (point-bytes w) (o .waits)
+    ++ (counted-bytes 1 (point-bytes w) (o .signals) ++ counted-bytes 1 mark-bytes (o .marks)))
+
+unfoldable pub sections-bytes : (width : ℕ) → Plan → List ℕ
+sections-bytes w p =
+    counted-bytes 1 (digits 8) (p .axes)
+    ++ (counted-bytes w (digits 1) (p .owners)
+    ++ (counted-bytes 2 (digits 4) (p .sizes) ++ counted-bytes 2 (operation-bytes w) (p .operations)))
+
+-- the lead of a form, then the sections at its width
+unfoldable pub stored-by : Form → Plan → List ℕ
+stored-by F p = F .lead ++ sections-bytes (F .semaphore-width) p
+
+-- R8: in the form for its semaphores
+unfoldable pub form-of : Plan → Form
+form-of p = form-with (length (p .owners))
 
 unfoldable pub bytes-of : Plan → List ℕ
-bytes-of p =
-    counted-bytes 1 (digits 8) (p .axes)
-    ++ (counted-bytes 1 (digits 1) (p .owners)
-    ++ (counted-bytes 2 (digits 4) (p .sizes) ++ counted-bytes 2 operation-bytes (p .operations)))
+bytes-of p = stored-by (form-of p) p

@@ -11,7 +11,7 @@ use Rattle.plan_format.specs.RefusalNumbers.{None-or, reading-numbers, r
 use Rattle.plan_format.specs.RefusalNumbers.{writer-gives}
 use Rattle.plan_format.specs.Grammar.{Grammar, field, seq, counted, nothing, Source, bytes, numbers, Scan, scan}
 use Rattle.plan_format.specs.Grammar.{count-check}
-use Rattle.plan_format.specs.Form.{Form, first-form, plan-grammar, any-number, new-axis, a-queue}
+use Rattle.plan_format.specs.Form.{Form, form-in, list-form, plan-grammar, any-number, new-axis, a-queue}
 use Rattle.plan_format.specs.Form.{a-semaphore, a-buffer, a-kind, queue-count, semaphore-count, buffer-count}
 use Rattle.plan_format.specs.Plan.{Point, Plan, op, plan-of}
 use Rattle.plan_format.specs.Limits.{Within, numbers-of, bytes-of}
@@ -153,10 +153,10 @@ pub record Reading-means (S : Source) (F : Form) (xs : List ℕ) (s : Scan) : Ty
 
 -- what 1 to 5 mean of bytes, and of a list of numbers
 abbrev pub Bytes-mean : List ℕ → Type 0
-Bytes-mean bs = Reading-means bytes first-form bs (scanned bs)
+Bytes-mean bs = Reading-means bytes (form-in bs) bs (scanned bs)
 
 abbrev pub Numbers-mean : List ℕ → Type 0
-Numbers-mean xs = Reading-means numbers first-form xs (listed xs)
+Numbers-mean xs = Reading-means numbers list-form xs (listed xs)
 
 -- ---- 6 to 8
 abbrev pub signal-at : Plan → (i k : ℕ) → Point

@@ -3,8 +3,9 @@ use mathlib.Core.Path.{_≡_}
 use mathlib.Core.Bool.{true}
 use mathlib.Core.Logic.{_↔_}
 use mathlib.Core.List.{List, []}
-use Prim.Native.Nat.{ℕ}
+use Prim.Native.Nat.{ℕ, _≤_}
 use lib.ListN.{length}
+use Rattle.plan_format.specs.Sizes.{plan-bytes, plan-numbers}
 use Rattle.plan_format.specs.Refusal.{none-given}
 use Rattle.plan_format.specs.Grammar.{scan}
 use Rattle.plan_format.specs.Plan.{Plan, plan-of}
@@ -26,6 +27,12 @@ pub record Stored-plan (p : Plan) : Type 0 where
   pub taken : listed (numbers-of p) ≡ scan [] (length (numbers-of p)) (numbers-of p) none-given
   pub plan-taken : plan-of (numbers-of p) ≡ p
   pub written : spelled (numbers-of p) ≡ bytes-of p
+
+-- R7, greatest sizes: no plan takes more bytes or numbers, and there is a plan that takes as many of both
+pub record Greatest-sizes : Type 0 where
+  pub bytes : (p : Plan) → Within p → length (bytes-of p) ≤ plan-bytes
+  pub numbers : (p : Plan) → Within p → length (numbers-of p) ≤ plan-numbers
+  pub reached : (p : Plan) × Within p × (length (bytes-of p) ≡ plan-bytes) × (length (numbers-of p) ≡ plan-numbers)
 
 -- R1 to R11: reader and writer take every plan within the limits, and nothing else
 pub record Takes-plans : Type 0 where

@@ -25,6 +25,15 @@ size-field = field 4 any-number
 unfoldable pub point-below : (width semaphores : ℕ) → Grammar
 point-below w m = seq (field w (limited m 4)) (field 8 any-number)
 
+-- the lists of points of an operation, the first so many of them: its waits, then its signals
+unfoldable pub most-in : (list : ℕ) → ℕ
+most-in zero = most-waits
+most-in (suc i) = most-signals
+
+unfoldable pub lists-below : (width semaphores lists : ℕ) → Grammar
+lists-below w m zero = nothing
+lists-below w m (suc i) = seq (lists-below w m i) (counted 0 (most-in i) 1 (point-below w m))
+
 unfoldable pub mark-below : (buffers : ℕ) → Grammar
 mark-below b = seq (field 2 (limited b 4)) (field 1 (limited 2 4))
 

@@ -7,13 +7,27 @@ abbrev pub most-queues : ℕ
 most-queues = 16
 
 abbrev pub most-semaphores : ℕ
-most-semaphores = 64
+most-semaphores = 1024
 
 abbrev pub most-buffers : ℕ
 most-buffers = 256
 
 abbrev pub most-operations : ℕ
 most-operations = 1024
+
+-- R8, forms: how many semaphores the first form has room for, the byte that the second form begins with, and the bytes
+-- of a semaphore's position and of the semaphore count in each
+abbrev pub first-semaphores : ℕ
+first-semaphores = 64
+
+abbrev pub second-lead : ℕ
+second-lead = 242
+
+abbrev pub first-width : ℕ
+first-width = 1
+
+abbrev pub second-width : ℕ
+second-width = 2
 
 -- R2: what one operation has at most
 abbrev pub most-waits : ℕ
@@ -59,15 +73,19 @@ block-numbers = 4 + 2 * (most-waits + most-signals + most-marks)
 abbrev pub plan-numbers : ℕ
 plan-numbers = head-numbers + most-operations * block-numbers
 
--- and the most bytes, each count, position and number in the bytes of its field
+-- and the most bytes, in the second form: its lead, and each count, position and number in the bytes of its field
 abbrev pub head-bytes : ℕ
-head-bytes = 6 + 8 * most-queues + most-semaphores + 4 * most-buffers
+head-bytes = 6 + second-width + 8 * most-queues + most-semaphores + 4 * most-buffers
 
 abbrev pub block-bytes : ℕ
-block-bytes = 4 + 9 * (most-waits + most-signals) + 3 * most-marks
+block-bytes = 4 + (second-width + 8) * (most-waits + most-signals) + 3 * most-marks
 
 abbrev pub plan-bytes : ℕ
 plan-bytes = head-bytes + most-operations * block-bytes
+
+-- R75: the most bytes of an input in the second form that the program judges
+abbrev pub most-input : ℕ
+most-input = 65536
 
 -- a recorded trace: the bytes of a step and of the count of steps, the most steps, and the most bytes
 abbrev pub step-bytes : ℕ

@@ -1,15 +1,17 @@
 -- Stored plans as bytes and as lists of numbers: what the reader and the writer answer and leave. Assumes nothing:
 -- these are definitions.
 use mathlib.Core.Path.{_≡_}
-use mathlib.Core.Bool.{Bool, cond}
+use mathlib.Core.Bool.{Bool, _&&_, cond}
 use mathlib.Core.List.{List}
 use Prim.Native.Nat.{ℕ}
 use lib.Dec.{ltb}
 use lib.ListN.{length}
 use Rattle.base_lists.specs.Lists.{all, in-front}
+use Rattle.plan_format.specs.Sizes.{most-input}
 use Rattle.plan_format.specs.Refusal.{Refusal, refusal, none-given, given, or-else}
 use Rattle.plan_format.specs.Grammar.{bytes, numbers, Scan}
-use Rattle.plan_format.specs.Form.{first-form, scanned-by, spelled-by}
+use Rattle.plan_format.specs.Form.{is-second, form-in, form-with, list-form, semaphore-count, scanned-by}
+use Rattle.plan_format.specs.Form.{spelled-by}
 use Rattle.plan_format.specs.Plan.{Plan, plan-of}
 use Rattle.plan_format.specs.Sound.{rules-refusal}
 use Rattle.plan_format.specs.declared.Told.{Told}
@@ -20,17 +22,21 @@ all-bytes bs = all (λ b. ltb b 256) bs
 
 -- R10: the reading of bytes, and of a list of numbers
 unfoldable pub scanned : List ℕ → Scan
-scanned bs = scanned-by bytes first-form bs
+scanned bs = scanned-by bytes (form-in bs) bs
 
 unfoldable pub listed : List ℕ → Scan
-listed xs = scanned-by numbers first-form xs
+listed xs = scanned-by numbers list-form xs
 
 unfoldable pub plan-in : List ℕ → Plan
 plan-in bs = plan-of (scanned bs .got)
 
--- R10, the writer: the stored bytes of a list of numbers
+-- R8, R10, the writer: the stored bytes of a list of numbers, in the form for its semaphores
 unfoldable pub spelled : List ℕ → List ℕ
-spelled xs = spelled-by first-form xs
+spelled xs = spelled-by (form-with (semaphore-count xs)) xs
+
+-- R75: more bytes in the second form than the program judges
+unfoldable pub too-long : List ℕ → Bool
+too-long bs = is-second bs && ltb most-input (length bs)
 
 -- R53, R54: refusals 1 to 5, then 6 to 8
 unfoldable pub plan-refusal : List ℕ → Refusal

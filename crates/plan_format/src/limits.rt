@@ -3,11 +3,21 @@
 // What a plan has at most.
 pub const MOST_QUEUES: usize = 16;
 
-pub const MOST_SEMAPHORES: usize = 64;
+pub const MOST_SEMAPHORES: usize = 1024;
 
 pub const MOST_BUFFERS: usize = 256;
 
 pub const MOST_OPERATIONS: usize = 1024;
+
+// How many semaphores the first form has room for, the byte that the second form begins with, and the bytes of a
+// semaphore's position and of the semaphore count in each.
+pub const FIRST_SEMAPHORES: usize = 64;
+
+pub const SECOND_LEAD: u8 = 242;
+
+pub const FIRST_WIDTH: usize = 1;
+
+pub const SECOND_WIDTH: usize = 2;
 
 // What one operation has at most.
 pub const MOST_WAITS: usize = 3;
@@ -40,12 +50,21 @@ pub const BLOCK_NUMBERS: usize = 4 + 2 * (MOST_WAITS + MOST_SIGNALS + MOST_MARKS
 
 pub const PLAN_NUMBERS: usize = HEAD_NUMBERS + MOST_OPERATIONS * BLOCK_NUMBERS;
 
-// And the most bytes, each count, position and number in the bytes of its field.
-pub const HEAD_BYTES: usize = 6 + 8 * MOST_QUEUES + MOST_SEMAPHORES + 4 * MOST_BUFFERS;
+// And the most bytes, in the second form: its lead, and each count, position and number in the bytes of its field.
+pub const HEAD_BYTES: usize = 6
+    + SECOND_WIDTH
+    + 8 * MOST_QUEUES
+    + MOST_SEMAPHORES
+    + 4 * MOST_BUFFERS;
 
-pub const BLOCK_BYTES: usize = 4 + 9 * (MOST_WAITS + MOST_SIGNALS) + 3 * MOST_MARKS;
+pub const BLOCK_BYTES: usize = 4
+    + (SECOND_WIDTH + 8) * (MOST_WAITS + MOST_SIGNALS)
+    + 3 * MOST_MARKS;
 
 pub const PLAN_BYTES: usize = HEAD_BYTES + MOST_OPERATIONS * BLOCK_BYTES;
+
+// The most bytes of an input in the second form that the program judges.
+pub const MOST_INPUT: usize = 65536;
 
 // A recorded trace: the bytes of a step and of the count of steps, the most steps, and the most bytes.
 pub const STEP_BYTES: usize = 2;

@@ -9,16 +9,18 @@ use borrow.Author.Tests.{eqb-true}
 use Rattle.base_lists.proofs.Tests.{by-cases, and-left, and-right}
 use Rattle.order.specs.Runs.{step-of}
 use Rattle.order.proofs.Turns.{run-last}
-use Rattle.plan_format.specs.Plan.{count}
+use Rattle.plan_format.specs.Plan.{Plan, count}
+use Rattle.plan_format.specs.Limits.{bytes-of}
 use Rattle.plan_format.specs.Refusal.{Refusal, none-given, given}
 use Rattle.plan_format.specs.Sound.{Sound}
 use Rattle.plan_format.specs.Stored.{all-bytes, plan-in, plan-refusal}
 use Rattle.plan_format.proofs.Plans.{sound-in}
+use Rattle.plan_format.proofs.Taking.{takes-plans}
 use Rattle.plan_order.specs.Check.{room-refusal, order-refusal, zeros, rows-and-run, outcome, or-then}
 use Rattle.plan_order.specs.Check.{check-outcome}
 use Rattle.plan_order.specs.Promise.{Safe, Demand-3, unrefused, Demand-3-stored, Before-right, Before-forces}
 use Rattle.plan_order.specs.Promise.{Standard-right, good, passed, Passed-keeps, Passed-runs, Never-stuck, Raises}
-use Rattle.plan_order.specs.Promise.{Stuck-truly, Broken-truly, None-itself}
+use Rattle.plan_order.specs.Promise.{Stuck-truly, Broken-truly, None-itself, Demand-3-of-plans}
 use Rattle.plan_order.specs.Precedence.{Before}
 use Rattle.plan_order.specs.Runs.{enabled, ready, is-run, is-full}
 use Rattle.plan_order.proofs.Demand2.{before-forces, standard-right}
@@ -117,3 +119,11 @@ demand-3-stored bs t l h =
         (λ z. rw z (subst (λ (k : ℕ). Demand-3 (plan-in bs) 0 k) (d .passed-place (eqb-true (f .number) 0 z))
         (subst (λ (k : ℕ). Demand-3 (plan-in bs) k (f .place)) (eqb-true (f .number) 0 z) d)))
         (λ z. rw z d)
+
+-- and of every plan that can be stored, in whichever form
+pub demand-3-of-plans : Demand-3-of-plans
+unfolding Demand-3-of-plans Demand-3-stored
+demand-3-of-plans p w t l h =
+    let f = check-outcome (bytes-of p) t l .refusal in
+    subst (λ (z : Plan). Demand-3 z (f .number) (f .place)) (takes-plans .every p w .plan-read)
+    (demand-3-stored (bytes-of p) t l h)

@@ -15,7 +15,7 @@ use Rattle.plan_format.specs.Plan.{Plan, queues, plan-of}
 use Rattle.plan_format.specs.Refusal.{Refusal, refusal, none-given, given, or-else}
 use Rattle.plan_format.specs.RefusalNumbers.{None-or, reuse-numbers}
 use Rattle.plan_format.specs.Grammar.{bytes, scan, refused, field-number, read-field, read-by, ended}
-use Rattle.plan_format.specs.Form.{first-form, plan-grammar, scanned-by}
+use Rattle.plan_format.specs.Form.{first-form, form-by, is-second, plan-grammar, scanned-by}
 use Rattle.plan_format.specs.Stored.{scanned, plan-in, plan-refusal}
 use Rattle.plan_format.specs.Meaning.{Refuses}
 use Rattle.plan_format.specs.declared.Told.{Told}
@@ -32,7 +32,8 @@ use Rattle.plan_order.proofs.VerdictMeaning.{one-use, number-most, verd
 -- no bytes, and a queue that they do not have: the plan is refused
 unread-first : reuse-outcome [] 0 0 0 0 ≡ outcome (refusal 1 0) untouched
 unfolding reuse-outcome question-refusal check-outcome or-then outcome plan-refusal or-else given none-given refusal
-    queues plan-in plan-of scanned scanned-by bytes scan refused read-by read-field field-number ended first-form
+    queues plan-in plan-of scanned scanned-by bytes scan refused read-by read-field field-number ended form-by
+    is-second first-form
     plan-grammar
 unread-first = refl
 

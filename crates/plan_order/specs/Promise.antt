@@ -11,12 +11,13 @@ use lib.ListN.{length, getD, take}
 use Rattle.base_lists.specs.Lists.{member}
 use Rattle.base_lists.specs.Places.{Counts}
 use Rattle.order.specs.Runs.{step-of}
-use Rattle.plan_format.specs.Sizes.{row-width, plan-bytes}
+use Rattle.plan_format.specs.Sizes.{row-width, plan-bytes, most-input}
 use Rattle.plan_format.specs.Refusal.{given}
 use Rattle.plan_format.specs.RefusalNumbers.{None-or, order-numbers}
 use Rattle.plan_format.specs.Plan.{Plan, count, op}
 use Rattle.plan_format.specs.Sound.{Sound}
-use Rattle.plan_format.specs.Stored.{all-bytes, plan-in, plan-refusal}
+use Rattle.plan_format.specs.Limits.{Within, bytes-of}
+use Rattle.plan_format.specs.Stored.{all-bytes, plan-in, too-long, plan-refusal}
 use Rattle.plan_order.specs.Precedence.{direct, Before, before, at-or-before}
 use Rattle.plan_order.specs.Rows.{epoch, row, rows}
 use Rattle.plan_order.specs.Runs.{is-run, is-full, ahead, ready, raises-in-order, next, standard, run-list}
@@ -72,6 +73,13 @@ unrefused bs t l = not (given (plan-refusal bs)) && not (given (room-refusal (co
 
 unfoldable pub Demand-3-stored : (bytes : List ℕ) → (table list number place : ℕ) → Type 0
 Demand-3-stored bs t l n i = unrefused bs t l ≡ true → Demand-3 (plan-in bs) n i
+
+-- R8: of every plan within the limits, through its bytes in whichever form it is stored
+unfoldable pub Demand-3-of-plans : Type 0
+Demand-3-of-plans =
+    (p : Plan) → Within p → (table list : ℕ) → unrefused (bytes-of p) table list ≡ true →
+    Demand-3 p (check-outcome (bytes-of p) table list .refusal .number)
+    (check-outcome (bytes-of p) table list .refusal .place)
 
 -- ---- DEMAND 2
 -- R20: an entry of the table is the number of the queue's operations that are j or before j, by chains
@@ -185,6 +193,8 @@ pub record Judged-alike (bs cs : List ℕ) : Type 0 where
   pub run-of : run-list (plan-in bs) ≡ run-list (plan-in cs)
   pub verdict-of : (q b : ℕ) → verdict (plan-in bs) q b ≡ verdict (plan-in cs) q b
 
--- R75, long input: one byte more than the longest plan has decides all that is answered
-unfoldable pub First-bytes : Type 0
-First-bytes = (bs : List ℕ) → Judged-alike bs (take (plan-bytes + 1) bs)
+-- R75, long input: one byte more than the longest plan has decides all that is answered; where the input is not too
+-- long, one byte more than the program judges
+pub record First-bytes (bs : List ℕ) : Type 0 where
+  pub of-all : Judged-alike bs (take (plan-bytes + 1) bs)
+  pub of-judged : too-long bs ≡ false → Judged-alike bs (take (most-input + 1) bs)

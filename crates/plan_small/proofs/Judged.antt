@@ -1,4 +1,5 @@
--- T1 to T13, the plan with first byte 17 and the signals of 2^64−1: one list, one claim. Assumes nothing.
+-- T1 to T13, the plan with first byte 17, the signals of 2^64−1, and plans and bytes of the second form: one list, one
+-- claim. Assumes nothing.
 use mathlib.Core.Path.{_≡_, refl}
 use mathlib.Core.List.{map, flatten}
 use mathlib.Core.Option.{orElse}
@@ -10,15 +11,15 @@ use Rattle.order.specs.Greedy.{with-next, greedy}
 use Rattle.order.specs.Closure.{any-of, fresh, round, rounds, predecessors}
 use Rattle.plan_format.specs.Refusal.{refusal, none-given, given, or-else}
 use Rattle.plan_format.specs.Grammar.{value, digits, bytes, scan, refused, field-number, read-field, last-got, times}
-use Rattle.plan_format.specs.Grammar.{count-check, read-by, ended}
+use Rattle.plan_format.specs.Grammar.{count-check, read-by, ended, numbers, spell-field, spell-by}
 use Rattle.plan_format.specs.Form.{first-form, queue-count, semaphore-count, buffer-count, any-number, below, new-axis}
 use Rattle.plan_format.specs.Form.{a-queue, a-semaphore, a-buffer, a-kind, point, mark, operation as Form-operation}
-use Rattle.plan_format.specs.Form.{plan-grammar, scanned-by}
+use Rattle.plan_format.specs.Form.{plan-grammar, scanned-by, second-form, list-form, form-by, is-second}
 use Rattle.plan_format.specs.Plan.{count, op, queues, points-in, marks-in, heading, operation-in, operation-long}
 use Rattle.plan_format.specs.Plan.{operations-in, plan-of}
 use Rattle.plan_format.specs.Sound.{highest-in, highest, is-queue, owns, signals-number, signals-refusal, too-high}
 use Rattle.plan_format.specs.Sound.{any-too-high, waits-refusal, rules-refusal}
-use Rattle.plan_format.specs.Stored.{scanned, plan-in, plan-refusal, room-for}
+use Rattle.plan_format.specs.Stored.{scanned, listed, spelled, plan-in, plan-refusal, room-for}
 use Rattle.plan_order.specs.Precedence.{signals-of, signals-from, plan-signals, reaches, nearer, nearest, resolution-of}
 use Rattle.plan_order.specs.Precedence.{resolve, rests-on, any-rests-on, same-queue, direct, all-before, before}
 use Rattle.plan_order.specs.Rows.{column, row, rows}
@@ -35,7 +36,9 @@ use Rattle.frontier.specs.Frontiers.{merge-number, merge, met as entry-met, rea
 use Rattle.frontier.specs.Frontiers.{answer as dominance-answer, dominance-number, dominance}
 use Rattle.plan_small.specs.Cases.{section, at, use-of, free-of, operation, plan, wide, checked, judge, asked}
 use Rattle.plan_small.specs.Cases.{case, t1, t2, first-17, t3-stored, t3, t4, t5, t6, signals-to, t7, t8-stored}
-use Rattle.plan_small.specs.Cases.{t8, t9, t10, t11, entry, t12, t13, greatest-signal, cases}
+use Rattle.plan_small.specs.Cases.{t8, t9, t10, t11, entry, t12, t13, greatest-signal, cases, at-wide}
+use Rattle.plan_small.specs.Cases.{second-head, second-plan, write-answer, second-plans, second-refused}
+use Rattle.plan_small.specs.Cases.{other-leads, second-positions, with-semaphores, written-forms}
 
 -- R79: T3 takes 96 bytes
 pub t3-length : length t3-stored ≡ 96
@@ -57,5 +60,7 @@ unfolding flatten orElse checked asked entry t12 t13 section
     free-after use-asks later-asks asks-from asks asked-of met all-asks has-broken broken room-refusal refused-at
     order-refusal outcome or-then check-outcome rising-from find put union exceeds exceeding cut slot slots entries
     all-zero row-formed slots-formed pack joined merge-number merge entry-met all-reached dominance-answer
-    dominance-number dominance
+    dominance-number dominance at-wide second-head second-plan write-answer second-plans second-refused other-leads
+    second-positions with-semaphores written-forms numbers spell-field spell-by second-form list-form form-by is-second
+    listed spelled
 judged = refl

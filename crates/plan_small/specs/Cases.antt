@@ -1,4 +1,5 @@
--- R79: the small plans and frontiers, T1 to T13, each with its answer. Assumes nothing: these are definitions.
+-- R79: the small plans and frontiers, T1 to T13 and those of the second form, each with its answer. Assumes nothing:
+-- these are definitions.
 use mathlib.Core.Bool.{true, false, cond}
 use mathlib.Core.List.{List, [], _∷_, _++_, map, flatten}
 use Prim.Native.Nat.{ℕ, _-_}
@@ -11,7 +12,7 @@ use Rattle.frontier.specs.declared.Dominance.{Dominance}
 use Rattle.frontier.specs.declared.Dominance.the-variants.{No, Unknown}
 use Rattle.plan_format.specs.Refusal.{given}
 use Rattle.plan_format.specs.Grammar.{digits}
-use Rattle.plan_format.specs.Stored.{plan-in}
+use Rattle.plan_format.specs.Stored.{plan-in, listed, spelled}
 use Rattle.plan_order.specs.Rows.{rows}
 use Rattle.plan_order.specs.Runs.{standard, ready-numbers}
 use Rattle.plan_order.specs.Check.{check-outcome}
@@ -20,9 +21,12 @@ use Rattle.plan_order.specs.Check.{check-outcome}
 unfoldable pub section : (width : ℕ) → (entries : List (List ℕ)) → List ℕ
 section w es = digits w (length es) ++ flatten es
 
--- a value of a semaphore, waited for or signalled
+-- a value of a semaphore, waited for or signalled, in the first form and in the second
 unfoldable pub at : (semaphore value : ℕ) → List ℕ
 at s v = s ∷ digits 8 v
+
+unfoldable pub at-wide : (semaphore value : ℕ) → List ℕ
+at-wide s v = digits 2 s ++ digits 8 v
 
 unfoldable pub use-of : (buffer : ℕ) → List ℕ
 use-of b = digits 2 b ++ (0 ∷ [])
@@ -38,15 +42,26 @@ plan axes owners sizes operations =
     section 1 (map (λ a. digits 8 a) axes) ++ section 1 (map (λ o. o ∷ []) owners)
     ++ section 2 (map (λ b. digits 4 b) sizes) ++ section 2 operations
 
+-- the first two sections in the second form, with so many semaphores of queue 0; and a plan
+unfoldable pub second-head : (axes : List ℕ) → (semaphores : ℕ) → List ℕ
+second-head axes s = 242 ∷ section 1 (map (λ a. digits 8 a) axes) ++ section 2 (replicate s (0 ∷ []))
+
+unfoldable pub second-plan : (axes : List ℕ) → (semaphores : ℕ) → (sizes : List ℕ) → (operations : List (List ℕ)) →
+    List ℕ
+second-plan axes s sizes operations =
+    second-head axes s ++ section 2 (map (λ b. digits 4 b) sizes) ++ section 2 operations
+
 -- ---- questions and answers
 pub data Question : Type 0 where
   check : (bytes : List ℕ) → Question
+  write : (numbers : List ℕ) → Question
   merge-of : (f g : Frontier) → (capacity : ℕ) → Question
   dominance-of : (f g : Frontier) → Question
 
 pub data Answer : Type 0 where
   passed : (run ready rows : List ℕ) → Answer
   refused : (number place : ℕ) → Answer
+  written : (bytes : List ℕ) → Answer
   merged : Merged → Answer
   dominates : Dominance → Answer
 
@@ -60,8 +75,14 @@ checked bs =
     let p = plan-in bs in
     cond (given f) (refused (f .number) (f .place)) (passed (standard p) (ready-numbers p [] (standard p)) (rows p))
 
+unfoldable pub write-answer : (numbers : List ℕ) → Answer
+write-answer xs =
+    let f = listed xs .fault in
+    cond (given f) (refused (f .number) (f .place)) (written (spelled xs))
+
 unfoldable pub judge : Question → Answer
 judge (check bs) = checked bs
+judge (write xs) = write-answer xs
 judge (merge-of f g k) = merged (merge f g k)
 judge (dominance-of f g) = dominates (dominance f g)
 
@@ -183,6 +204,56 @@ greatest-signal =
     ∷ case (plan (1 ∷ []) (0 ∷ []) [] (signals-to (18446744073709551615 ∷ 18446744073709551615 ∷ []))) (refused 7 1)
     ∷ case (plan (1 ∷ []) (0 ∷ []) [] (signals-to (18446744073709551615 ∷ 1 ∷ []))) (refused 7 1) ∷ []
 
+-- 65 semaphores: an operation on queue 1 waits for one on queue 0, by the last semaphore; an operation waits for its
+-- own signal; a buffer is freed on queue 0 and used on queue 1 without a wait
+unfoldable pub second-plans : List Case
+second-plans =
+    case (second-plan (1 ∷ 2 ∷ []) 65 []
+    (operation 0 [] (at-wide 64 1 ∷ []) [] ∷ operation 1 (at-wide 64 1 ∷ []) [] [] ∷ []))
+    (passed (0 ∷ 1 ∷ []) (1 ∷ 1 ∷ []) (wide ((1 ∷ []) ∷ (1 ∷ 1 ∷ []) ∷ [])))
+    ∷ case (second-plan (1 ∷ []) 65 [] (operation 0 (at-wide 64 1 ∷ []) (at-wide 64 1 ∷ []) [] ∷ [])) (refused 10 0)
+    ∷ case (second-plan (1 ∷ 2 ∷ []) 65 (64 ∷ [])
+    (operation 0 [] [] (use-of 0 ∷ free-of 0 ∷ []) ∷ operation 1 [] [] (use-of 0 ∷ []) ∷ [])) (refused 11 1) ∷ []
+
+-- bytes that begin with 242 and are no plan: cut short, 17 queues, 64, none or 1,025 semaphores, no queue to own one
+unfoldable pub second-refused : List Case
+second-refused =
+    case (242 ∷ []) (refused 1 1)
+    ∷ case (242 ∷ 17 ∷ []) (refused 2 1)
+    ∷ case (242 ∷ 0 ∷ 64 ∷ []) (refused 1 2)
+    ∷ case (242 ∷ 0 ∷ 64 ∷ 0 ∷ []) (refused 2 2)
+    ∷ case (242 ∷ 0 ∷ 64 ∷ 0 ∷ replicate 68 0) (refused 2 2)
+    ∷ case (242 ∷ 0 ∷ 0 ∷ 0 ∷ []) (refused 2 2)
+    ∷ case (242 ∷ 0 ∷ 0 ∷ 0 ∷ replicate 4 0) (refused 2 2)
+    ∷ case (242 ∷ 0 ∷ 1 ∷ 4 ∷ []) (refused 2 2)
+    ∷ case (242 ∷ 0 ∷ 65 ∷ 0 ∷ []) (refused 1 4)
+    ∷ case (242 ∷ 0 ∷ 65 ∷ 0 ∷ 0 ∷ []) (refused 4 4) ∷ []
+
+-- 65 semaphores in the first form; a first byte that begins no form
+unfoldable pub other-leads : List Case
+other-leads =
+    case (0 ∷ 65 ∷ []) (refused 2 1)
+    ∷ case (243 ∷ []) (refused 2 0)
+    ∷ case (243 ∷ replicate 8 0) (refused 2 0)
+    ∷ case (241 ∷ replicate 8 0) (refused 2 0) ∷ []
+
+-- one queue, 65 semaphores, and an operation at 81 with one wait: position 65, or only one byte of a position
+unfoldable pub second-positions : List Case
+second-positions =
+    case (second-plan (1 ∷ []) 65 [] (operation 0 (at-wide 65 1 ∷ []) [] [] ∷ [])) (refused 4 83)
+    ∷ case (second-head (1 ∷ []) 65 ++ (0 ∷ 0 ∷ 1 ∷ 0 ∷ 0 ∷ 1 ∷ 64 ∷ [])) (refused 1 83) ∷ []
+
+-- the writer: 1,025 semaphores; 64 and 65 of one queue
+unfoldable pub with-semaphores : (semaphores : ℕ) → List ℕ
+with-semaphores s = 1 ∷ 7 ∷ s ∷ replicate s 0 ++ (0 ∷ 0 ∷ [])
+
+unfoldable pub written-forms : List Case
+written-forms =
+    asked (write (0 ∷ 1025 ∷ 0 ∷ 0 ∷ [])) (refused 2 1)
+    ∷ asked (write (with-semaphores 64)) (written (plan (7 ∷ []) (replicate 64 0) [] []))
+    ∷ asked (write (with-semaphores 65)) (written (second-plan (7 ∷ []) 65 [] [])) ∷ []
+
 unfoldable pub cases : List Case
 cases =
     t1 ++ t2 ++ first-17 ++ t3 ++ t4 ++ t5 ++ t6 ++ t7 ++ t8 ++ t9 ++ t10 ++ t11 ++ t12 ++ t13 ++ greatest-signal
+    ++ second-plans ++ second-refused ++ other-leads ++ second-positions ++ written-forms

@@ -12,7 +12,7 @@ use Rattle.base_lists.specs.Lists.{member}
 use Rattle.base_lists.proofs.Tests.{by-cases, clash, is-false, and-left, and-right, and-both, either}
 use Rattle.plan_format.specs.Sizes.{step-bytes, state-size}
 use Rattle.plan_format.specs.Grammar.{value, bytes, scan, refused, field-number, read-field, read-by, ended}
-use Rattle.plan_format.specs.Form.{first-form, plan-grammar, scanned-by}
+use Rattle.plan_format.specs.Form.{first-form, form-by, is-second, plan-grammar, scanned-by}
 use Rattle.plan_format.specs.Plan.{plan-of}
 use Rattle.plan_format.specs.Refusal.{Refusal, refusal, none-given, given, or-else}
 use Rattle.plan_format.specs.RefusalNumbers.{None-or, trace-numbers}
@@ -29,14 +29,15 @@ use Rattle.plan_trace.specs.Question.{own-refusal, trace-outcome}
 use Rattle.plan_trace.specs.Meaning.{Ill-formed, Well-formed, Outcome-means}
 
 -- 9 with the size of the state comes before 22
-room-before-form : map (own-refusal []) (79 ∷ 80 ∷ []) ≡ refusal 9 80 ∷ refusal 22 0 ∷ []
+room-before-form : map (own-refusal []) (1039 ∷ 1040 ∷ []) ≡ refusal 9 1040 ∷ refusal 22 0 ∷ []
 unfolding own-refusal or-else given room-for trace-refusal trace-formed step-count value refusal none-given
 room-before-form = refl
 
 -- no bytes of a plan and none of a trace: the plan is refused, and nothing is touched
 plan-before-question : trace-outcome [] [] 0 0 0 ≡ outcome (refusal 1 0) untouched
 unfolding trace-outcome own-refusal check-outcome or-then outcome plan-refusal or-else given none-given refusal plan-in
-    plan-of scanned scanned-by bytes scan refused read-by read-field field-number ended first-form plan-grammar room-for
+    plan-of scanned scanned-by bytes scan refused read-by read-field field-number ended form-by is-second first-form
+    plan-grammar room-for
     trace-refusal trace-formed step-count value
 plan-before-question = refl
 

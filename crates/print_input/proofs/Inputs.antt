@@ -6,9 +6,9 @@ use lib.ListN.{length}
 use Rattle.base_lists.proofs.Tests.{by-cases}
 use Rattle.plan_format.specs.Plan.{Plan}
 use Rattle.plan_format.specs.Refusal.{given, or-else}
-use Rattle.plan_format.specs.Stored.{listed, plan-in, write-refusal}
+use Rattle.plan_format.specs.Stored.{scanned, listed, plan-in, write-refusal}
 use Rattle.plan_format.proofs.Judged.{not-given-zero}
-use Rattle.plan_format.proofs.Prefix.{bytes-alike, plan-alike, numbers-alike, taken-alike}
+use Rattle.plan_format.proofs.Prefix.{Reads-alike, plan-alike, numbers-alike, taken-alike}
 use Rattle.plan_order.proofs.FirstBytes.{judged-alike, check-says-alike, reuse-says-alike}
 use Rattle.plan_order.proofs.Checks.{checked}
 use Rattle.plan_suggest.proofs.Promises.{suggest-right}
@@ -20,15 +20,15 @@ use Rattle.ask_frontier.specs.Sent.{sent, sent-outcome, Frontier-says}
 use Rattle.ask_frontier.specs.declared.Sent.{Sent}
 use Rattle.ask_frontier.proofs.SentQuestion.{frontier-right}
 use Rattle.print_stored.specs.Texts.{read-text, write-text}
-use Rattle.print_input.specs.Inputs.{Answered, Same-bytes, Same-numbers}
+use Rattle.print_input.specs.Inputs.{Answered, Same-numbers}
 use Rattle.print_input.specs.declared.Question.{Question}
 use Rattle.print_input.specs.declared.Question.the-variants.{Check, Reuse, Suggest, Frontier, Read}
 
-module _ (bs cs : List ℕ) (same : Same-bytes bs cs) where
+module _ (bs cs : List ℕ) (read : Reads-alike (scanned bs) (scanned cs)) where
   pub sizes-alike : (c : Counted) → Sizes-told bs c → Sizes-told cs c
   sizes-alike c s =
-      let f = bytes-alike bs cs same .fault in
-      let p = plan-alike bs cs same in
+      let f = read .fault in
+      let p = plan-alike bs cs read in
       record {
         queues = rw (sym f, sym p) (s .queues);
         semaphores = rw (sym f, sym p) (s .semaphores);
@@ -39,21 +39,21 @@ module _ (bs cs : List ℕ) (same : Same-bytes bs cs) where
   -- the outcome of the question for a frontier, and the frontier itself
   pub sent-outcome-alike : (j c t l : ℕ) → sent-outcome bs j c t l ≡ sent-outcome cs j c t l
   unfolding sent-outcome
-  sent-outcome-alike j c t l = rw (judged-alike bs cs same .check t l, plan-alike bs cs same)
+  sent-outcome-alike j c t l = rw (judged-alike bs cs read .check t l, plan-alike bs cs read)
 
   pub sent-alike : (j c : ℕ) → sent (plan-in bs) j c ≡ sent (plan-in cs) j c
-  sent-alike j c = ap (λ (p : Plan). sent p j c) (plan-alike bs cs same)
+  sent-alike j c = ap (λ (p : Plan). sent p j c) (plan-alike bs cs read)
 
   frontier-says-alike : (j c : ℕ) (r : Sent) (t x l y : List ℕ) → Frontier-says bs j c r t x l y →
       Frontier-says cs j c r t x l y
   frontier-says-alike j c r t x l y s =
       let o = sent-outcome-alike j c (length t) (length l) in
-      let p = plan-alike bs cs same in
+      let p = plan-alike bs cs read in
       record { says = rw (sym o, sym p) (s .says); frontier-is = rw (sym o, sym p) (s .frontier-is) }
 
   read-alike : read-text bs ≡ read-text cs
   unfolding read-text
-  read-alike = rw (bytes-alike bs cs same .fault, bytes-alike bs cs same .got)
+  read-alike = rw (read .fault, read .got)
 
   pub answered-alike : (q : Question) (o x : List ℕ) (e : ℕ) → Answered q bs o x e → Answered q cs o x e
   unfolding Answered
@@ -62,7 +62,7 @@ module _ (bs cs : List ℕ) (same : Same-bytes bs cs) where
     table = w .table;
     list = w .list;
     checked = checked cs _ _ (w .table) _ (w .list)
-        (check-says-alike bs cs same _ _ (w .table) _ (w .list) (w .checked .says));
+        (check-says-alike bs cs read _ _ (w .table) _ (w .list) (w .checked .says));
     sizes = sizes-alike (w .counts) (w .sizes);
     text = w .text;
   }
@@ -71,7 +71,7 @@ module _ (bs cs : List ℕ) (same : Same-bytes bs cs) where
     table = w .table;
     list = w .list;
     asked = asked cs q b (w .told) _ (w .table) _ (w .list)
-        (reuse-says-alike bs cs same q b (w .told) _ (w .table) _ (w .list) (w .asked .says));
+        (reuse-says-alike bs cs read q b (w .told) _ (w .table) _ (w .list) (w .asked .says));
     text = w .text;
   }
   answered-alike (Suggest q b) o x e w = record {
@@ -79,7 +79,7 @@ module _ (bs cs : List ℕ) (same : Same-bytes bs cs) where
     table = w .table;
     list = w .list;
     right = suggest-right cs q b _ _ _ (w .table) _ (w .list)
-        (suggest-says-alike bs cs same q b _ _ _ (w .table) _ (w .list) (w .right .says));
+        (suggest-says-alike bs cs read q b _ _ _ (w .table) _ (w .list) (w .right .says));
     text = w .text;
   }
   answered-alike (Frontier j c) o x e w = record {

@@ -1,7 +1,12 @@
 // R75, what is printed for an input of any length, which is known by its first bytes or its first numbers.
+use plan_format::limits::MOST_INPUT;
+use plan_format::limits::SECOND_LEAD;
+ghost use mathlib.Core.Path.{_≡_};
 ghost use lib.ListN.{take};
+ghost use Rattle.base_text.specs.Text.{Puts};
+ghost use Rattle.plan_format.specs.Stored.{too-long};
 ghost use Rattle.print_trace.specs.Printed.{Trace-printed};
-ghost use Rattle.print_input.specs.Inputs.{Answered, Answered-whole, Written-whole, Traced-whole};
+ghost use Rattle.print_input.specs.Inputs.{Answered, Answered-whole, Written-whole, Traced-whole, too-long-text};
 
 // What is asked of a plan.
 pub enum Question {
@@ -30,10 +35,33 @@ pub fn answered(question: Question, plan: &[u8], out: &mut [u8]) -> usize
     }
 }
 
+// Whether the first n bytes are of the second form, and more than the program judges.
+fn is_long(bytes: &[u8], n: usize) -> bool
+    ensures { λ r. ⌜ r ≡ too-long (take n (now (bytes .entry))) ⌝ }
+{
+    if n <= MOST_INPUT {
+        return false;
+    }
+    if bytes.len() <= MOST_INPUT {
+        return false;
+    }
+    bytes[0] == SECOND_LEAD
+}
+
+// The line in place of an answer.
+fn say_long(out: &mut [u8]) -> usize
+    ensures { λ r. ⌜ Puts too-long-text (now (out .entry)) 0 (now (out .exit)) r ⌝ }
+{
+    base_text::words(out, 0, b"too long\n")
+}
+
 // The answer on every input that begins as the first n bytes do.
 pub fn on_first(question: Question, bytes: &[u8], n: usize, out: &mut [u8]) -> usize
     ensures { λ r. ⌜ Answered-whole question (take n (now (bytes .entry))) (now (out .entry)) (now (out .exit)) r ⌝ }
 {
+    if is_long(bytes, n) {
+        return say_long(out);
+    }
     if n < bytes.len() {
         return answered(question, &bytes[..n], out);
     }
@@ -53,6 +81,9 @@ pub fn traced(plan: &[u8], n: usize, trace: &[u8], m: usize, out: &mut [u8]) -> 
     ensures { λ r. ⌜ Traced-whole (take n (now (plan .entry))) (take m (now (trace .entry))) (now (out .entry))
         (now (out .exit)) r ⌝ }
 {
+    if is_long(plan, n) {
+        return say_long(out);
+    }
     if n < plan.len() {
         return with_plan(&plan[..n], trace, m, out);
     }

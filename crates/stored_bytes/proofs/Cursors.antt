@@ -111,6 +111,21 @@ writes-counted {g} {xs} {c} {start} {bytes = bytes} {bytes₁} {w = w} {most} m 
       past = q .past ∙ past-later _ _ bytes₁ bytes (q .more) (p .writes .past);
     }
 
+-- at most so many, and more room than that
+pub writes-within : {g : Grammar} {xs : List ℕ} {c r : Cursor} {bytes bytes-now : List ℕ} {m : ℕ} (n : ℕ) → m ≤ n →
+    Writes g m xs c bytes r bytes-now → Writes g n xs c bytes r bytes-now
+writes-within n l p =
+    record {
+      read = p .read;
+      spell = p .spell;
+      inside = p .inside;
+      more = p .more;
+      few = omega (arith, p .few);
+      by-eight = p .by-eight;
+      as-long = p .as-long;
+      past = p .past;
+    }
+
 -- a loop that met a refusal has written all that can be written
 pub writes-stopped : {xs : List ℕ} {start r : Cursor} {bytes bytes-now : List ℕ} (g : Grammar) (m : ℕ) (i n : ℕ) →
     (r .number ≡ 0 → ⊥) → i ≤ n → Writes (repeat i g) (m * i) xs start bytes r bytes-now →

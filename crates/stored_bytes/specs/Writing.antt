@@ -1,19 +1,18 @@
 -- What the writer's functions say: the reading and the spelling that a cursor stands for, and the bytes of a number.
 -- Assumes nothing: these are definitions.
 use mathlib.Core.Path.{_≡_}
-use mathlib.Core.Bool.{cond}
+use mathlib.Core.Bool.{Bool, cond}
 use mathlib.Core.List.{List, [], _++_}
 use Prim.Native.Nat.{ℕ, _+_, _-_, _*_, _≤_}
 use lib.Dec.{eqb}
 use lib.ListN.{length, getD, take, drop}
 use Rattle.base_lists.specs.Lists.{in-front}
-use Rattle.plan_format.specs.Sizes.{most-queues, most-buffers, most-operations, most-waits, most-signals, most-marks}
-use Rattle.plan_format.specs.Sizes.{plan-bytes}
+use Rattle.plan_format.specs.Sizes.{second-width, plan-bytes}
 use Rattle.plan_format.specs.Refusal.{Refusal, refusal, none-given}
-use Rattle.plan_format.specs.Grammar.{Grammar, field, digits, numbers, Scan, scan, last-got, read-by, Spelling}
-use Rattle.plan_format.specs.Grammar.{spell-by}
-use Rattle.plan_format.specs.Form.{Form, plan-grammar}
-use Rattle.plan_format.specs.Stored.{listed, spelled, Tells}
+use Rattle.plan_format.specs.Grammar.{Check, Grammar, field, counted, digits, numbers, Scan, scan}
+use Rattle.plan_format.specs.Grammar.{last-got, read-by, Spelling, spell-by}
+use Rattle.plan_format.specs.Form.{Form, list-by, form-by, plan-grammar, scanned-by, spelled-by}
+use Rattle.plan_format.specs.Stored.{Tells}
 use Rattle.plan_format.specs.declared.Told.{Told}
 use Rattle.plan_format.specs.Sections.{limited}
 use Rattle.stored_bytes.specs.declared.cursor.Cursor.{Cursor}
@@ -60,31 +59,48 @@ pub record Write-limited (width limit over : ℕ) (xs : List ℕ) (c : Cursor) (
   pub value-read : r .number ≡ 0 → getD (drop (c .at) xs) 0 0 ≡ r .value
   pub value-below : r .value ≤ limit - 1
 
--- the most bytes of a point, of an operation and of the three sections before the operations
-unfoldable pub point-most : Form → ℕ
-point-most F = F .semaphore-width + 8
+-- the most bytes of a point
+abbrev pub point-most : ℕ
+point-most = second-width + 8
 
-unfoldable pub operation-most : Form → ℕ
-operation-most F = 1 + ((1 + point-most F * most-waits) + ((1 + point-most F * most-signals) + (1 + 3 * most-marks)))
+-- the section of owners, in the form's bytes
+abbrev pub owned : Form → Check → Grammar
+owned F c = counted (F .semaphores-least) (F .semaphores-most) (F .semaphore-width) (field 1 c)
 
-unfoldable pub front-most : Form → ℕ
-front-most F = (1 + 8 * most-queues) + (F .semaphore-width + 1 * F .semaphores-most) + (2 + 4 * most-buffers)
+-- a form's lead was put in front of the array
+pub record Lead-put (lead bytes : List ℕ) (k : ℕ) (bytes-now : List ℕ) : Type 0 where
+  pub long : k ≡ length lead
+  pub front : take k bytes-now ≡ lead
+  pub as-long : length bytes-now ≡ length bytes
+  pub past : drop k bytes-now ≡ drop k bytes
 
--- the whole list was read and spelled, but for its end; the lead bytes are not among the bytes
-pub record Plan-written (F : Form) (xs bytes : List ℕ) (r : Cursor) (bytes-now : List ℕ) : Type 0 where
-  pub read : read-by numbers (plan-grammar F) (scan xs 0 [] none-given) ≡ here xs r
-  pub spell : r .number ≡ 0 → spell-by (plan-grammar F) (record { left = xs; made = [] }) ≡ spelling xs r bytes-now
+-- the whole list was read and spelled after the lead, but for its end
+pub record Plan-written (wide : Bool) (xs bytes : List ℕ) (r : Cursor) (bytes-now : List ℕ) : Type 0 where
+  pub read : read-by numbers (plan-grammar (list-by wide)) (scan xs 0 [] none-given) ≡ here xs r
+  pub spell : r .number ≡ 0 →
+      spell-by (plan-grammar (list-by wide)) (record { left = xs; made = form-by wide .lead }) ≡ spelling xs r bytes-now
   pub inside : r .at ≤ length xs
-  pub few : r .put ≤ front-most F + (2 + operation-most F * most-operations)
-  pub by-eight : r .put ≤ 8 * r .at
+  pub few : r .put ≤ plan-bytes
+  pub by-eight : r .put ≤ length (form-by wide .lead) + 8 * r .at
   pub past : drop (r .put) bytes-now ≡ drop (r .put) bytes
 
--- R10, the writer before its room is judged: 1 to 5, or the length in bytes as the answer. Past the bytes the array
--- stays. Beside a refusal it stays past eight bytes for each number before the refused one; what is in front of that is
--- unspecified.
-pub record Bytes-written (xs bytes : List ℕ) (r : Told) (bytes-now : List ℕ) : Type 0 where
-  pub told : Tells (listed xs .fault) (length (spelled xs)) r
-  pub passed : r .number ≡ 0 → bytes-now ≡ in-front (spelled xs) bytes
-  pub refused : (r .number ≡ 0 → ⊥) → drop (8 * r .place) bytes-now ≡ drop (8 * r .place) bytes
+-- a list as one of the two forms judges it, and its bytes in that form
+unfoldable pub tried : (wide : Bool) → List ℕ → Scan
+tried b xs = scanned-by numbers (list-by b) xs
+
+abbrev pub tried-bytes : (wide : Bool) → List ℕ → List ℕ
+tried-bytes b xs = spelled-by (form-by b) xs
+
+-- how far the array is unspecified beside a refusal: the lead, and eight bytes for each number before the refused one
+abbrev pub unspecified : (wide : Bool) → (place : ℕ) → ℕ
+unspecified b place = length (form-by b .lead) + 8 * place
+
+-- R10, the writer in one form, before its room is judged: 1 to 5, or the length in bytes as the answer. Past the bytes
+-- the array stays, and beside a refusal past what is unspecified.
+pub record Bytes-written (wide : Bool) (xs bytes : List ℕ) (r : Told) (bytes-now : List ℕ) : Type 0 where
+  pub told : Tells (tried wide xs .fault) (length (tried-bytes wide xs)) r
+  pub passed : r .number ≡ 0 → bytes-now ≡ in-front (tried-bytes wide xs) bytes
+  pub refused : (r .number ≡ 0 → ⊥) →
+      drop (unspecified wide (r .place)) bytes-now ≡ drop (unspecified wide (r .place)) bytes
   pub few : r .answer ≤ plan-bytes
   pub long : length bytes-now ≡ plan-bytes

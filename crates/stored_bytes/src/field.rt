@@ -3,7 +3,7 @@
 use crate::cursor::Cursor;
 use crate::digits;
 ghost use Prim.Native.Nat.{_≤_};
-ghost use Rattle.plan_format.specs.Form.{any-number};
+ghost use Rattle.plan_format.specs.Form.{list-by, any-number};
 ghost use Rattle.plan_format.specs.Grammar.{field};
 ghost use Rattle.plan_format.specs.Sections.{axis-field, size-field};
 ghost use Rattle.stored_bytes.specs.Writing.{Write-room, Writes, Write-limited};
@@ -56,6 +56,27 @@ pub fn pair(numbers: &[u64], c: Cursor, limit: u64, over: u32, bytes: &mut [u8])
     }
     digits::put2(bytes, c.put, value);
     c.past(2, value)
+}
+
+// A semaphore's position or their count, in two bytes if `wide`, else in one: below `limit`, or refused by `over`.
+pub fn sized(
+    numbers: &[u64],
+    c: Cursor,
+    wide: bool,
+    limit: u64,
+    over: u32,
+    bytes: &mut [u8],
+) -> Cursor
+    requires { ⌜ Write-room 2 (now numbers) c (now bytes) ⌝ }
+    requires { ⌜ 1 ≤ over ⌝ }
+    ensures { λ r. ⌜ Write-limited (list-by wide .semaphore-width) limit over (now (numbers .entry)) c
+        (now (bytes .entry)) r (now (bytes .exit)) ⌝ }
+{
+    if wide {
+        pair(numbers, c, limit, over, bytes)
+    } else {
+        byte(numbers, c, limit, over, bytes)
+    }
 }
 
 // The size of a buffer: a number that fits four bytes.

@@ -6,10 +6,11 @@ use plan_format::limits::MOST_OPERATIONS;
 use plan_format::limits::MOST_SIGNALS;
 use plan_format::limits::MOST_WAITS;
 ghost use Prim.Native.Nat.{_+_, _*_};
-ghost use Rattle.plan_format.specs.Sizes.{most-operations, most-marks, block-bytes};
+ghost use Rattle.plan_format.specs.Sizes.{most-operations, most-waits, most-signals, most-marks, block-bytes};
+ghost use Rattle.plan_format.specs.Form.{list-by};
 ghost use Rattle.plan_format.specs.Grammar.{counted};
-ghost use Rattle.plan_format.specs.Sections.{point-below, mark-below, operation-below};
-ghost use Rattle.stored_bytes.specs.Writing.{Write-room, Writes};
+ghost use Rattle.plan_format.specs.Sections.{point-below, lists-below, mark-below, operation-below};
+ghost use Rattle.stored_bytes.specs.Writing.{Write-room, Writes, point-most};
 
 // What an operation has at most, and the least counts that are too many.
 const WAITS: u64 = MOST_WAITS as u64;
@@ -21,30 +22,61 @@ const TOO_MANY_MARKS: u64 = MOST_MARKS as u64 + 1;
 const TOO_MANY_OPERATIONS: u64 = MOST_OPERATIONS as u64 + 1;
 
 // A wait or a signal: a semaphore and a value.
-fn point(numbers: &[u64], c: Cursor, semaphores: u64, bytes: &mut [u8]) -> Cursor
-    requires { ⌜ Write-room 9 (now numbers) c (now bytes) ⌝ }
-    ensures { λ r. ⌜ Writes (point-below 1 semaphores) 9 (now (numbers .entry)) c (now (bytes .entry)) r
-        (now (bytes .exit)) ⌝ }
+fn point(numbers: &[u64], c: Cursor, wide: bool, semaphores: u64, bytes: &mut [u8]) -> Cursor
+    requires { ⌜ Write-room point-most (now numbers) c (now bytes) ⌝ }
+    ensures { λ r. ⌜ Writes (point-below (list-by wide .semaphore-width) semaphores) point-most (now (numbers .entry)) c
+        (now (bytes .entry)) r (now (bytes .exit)) ⌝ }
 {
-    let semaphore = field::byte(numbers, c, semaphores, 4, bytes);
+    let semaphore = field::sized(numbers, c, wide, semaphores, 4, bytes);
     field::point_value(numbers, semaphore, bytes)
 }
 
 // The waits or the signals: a count, at most `most`, and the points.
-fn points(numbers: &[u64], c: Cursor, most: u64, semaphores: u64, bytes: &mut [u8]) -> Cursor
-    requires { ⌜ Write-room (1 + 9 * most) (now numbers) c (now bytes) ⌝ }
-    ensures { λ r. ⌜ Writes (counted 0 most 1 (point-below 1 semaphores)) (1 + 9 * most) (now (numbers .entry)) c
-        (now (bytes .entry)) r (now (bytes .exit)) ⌝ }
+fn points(
+    numbers: &[u64],
+    c: Cursor,
+    most: u64,
+    wide: bool,
+    semaphores: u64,
+    bytes: &mut [u8],
+) -> Cursor
+    requires { ⌜ Write-room (1 + point-most * most) (now numbers) c (now bytes) ⌝ }
+    ensures { λ r. ⌜ Writes (counted 0 most 1 (point-below (list-by wide .semaphore-width) semaphores))
+        (1 + point-most * most) (now (numbers .entry)) c (now (bytes .entry)) r (now (bytes .exit)) ⌝ }
 {
     let start = field::byte(numbers, c, most + 1, 2, bytes);
     let count = start.value;
     let mut p = start;
     let mut i: u64 = 0;
     while i < count {
-        p = point(numbers, p, semaphores, bytes);
+        p = point(numbers, p, wide, semaphores, bytes);
         if p.number != 0 {
             return p;
         }
+        i += 1;
+    }
+    p
+}
+
+// The waits and the signals: two lists of points, which one call writes.
+fn waits_and_signals(
+    numbers: &[u64],
+    c: Cursor,
+    wide: bool,
+    semaphores: u64,
+    bytes: &mut [u8],
+) -> Cursor
+    requires { ⌜ Write-room (2 + point-most * (most-waits + most-signals)) (now numbers) c (now bytes) ⌝ }
+    ensures { λ r. ⌜ Writes (lists-below (list-by wide .semaphore-width) semaphores 2)
+        (2 + point-most * (most-waits + most-signals)) (now (numbers .entry)) c (now (bytes .entry)) r
+        (now (bytes .exit)) ⌝ }
+{
+    let mut most = WAITS;
+    let mut p = c;
+    let mut i: u64 = 0;
+    while i < 2 {
+        p = points(numbers, p, most, wide, semaphores, bytes);
+        most = SIGNALS;
         i += 1;
     }
     p
@@ -84,32 +116,34 @@ fn marks(numbers: &[u64], c: Cursor, buffers: u64, bytes: &mut [u8]) -> Cursor
 fn operation(
     numbers: &[u64],
     c: Cursor,
+    wide: bool,
     queues: u64,
     semaphores: u64,
     buffers: u64,
     bytes: &mut [u8],
 ) -> Cursor
     requires { ⌜ Write-room block-bytes (now numbers) c (now bytes) ⌝ }
-    ensures { λ r. ⌜ Writes (operation-below 1 queues semaphores buffers) block-bytes (now (numbers .entry)) c
-        (now (bytes .entry)) r (now (bytes .exit)) ⌝ }
+    ensures { λ r. ⌜ Writes (operation-below (list-by wide .semaphore-width) queues semaphores buffers) block-bytes
+        (now (numbers .entry)) c (now (bytes .entry)) r (now (bytes .exit)) ⌝ }
 {
     let queue = field::byte(numbers, c, queues, 4, bytes);
-    let waits = points(numbers, queue, WAITS, semaphores, bytes);
-    let signals = points(numbers, waits, SIGNALS, semaphores, bytes);
-    marks(numbers, signals, buffers, bytes)
+    let lists = waits_and_signals(numbers, queue, wide, semaphores, bytes);
+    marks(numbers, lists, buffers, bytes)
 }
 
 // The section of operations.
 pub fn operations(
     numbers: &[u64],
     c: Cursor,
+    wide: bool,
     queues: u64,
     semaphores: u64,
     buffers: u64,
     bytes: &mut [u8],
 ) -> Cursor
     requires { ⌜ Write-room (2 + block-bytes * most-operations) (now numbers) c (now bytes) ⌝ }
-    ensures { λ r. ⌜ Writes (counted 0 most-operations 2 (operation-below 1 queues semaphores buffers))
+    ensures { λ r. ⌜ Writes
+        (counted 0 most-operations 2 (operation-below (list-by wide .semaphore-width) queues semaphores buffers))
         (2 + block-bytes * most-operations) (now (numbers .entry)) c (now (bytes .entry)) r (now (bytes .exit)) ⌝ }
 {
     let start = field::pair(numbers, c, TOO_MANY_OPERATIONS, 2, bytes);
@@ -117,7 +151,7 @@ pub fn operations(
     let mut o = start;
     let mut i: u64 = 0;
     while i < count {
-        o = operation(numbers, o, queues, semaphores, buffers, bytes);
+        o = operation(numbers, o, wide, queues, semaphores, buffers, bytes);
         if o.number != 0 {
             return o;
         }

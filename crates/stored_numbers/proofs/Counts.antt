@@ -1,6 +1,7 @@
 -- The four sections of a plan: what the checks ask of the numbers read is what the reader took from its array. Assumes
 -- nothing.
-use mathlib.Core.Path.{_≡_, refl, sym, ap, _∙_}
+use mathlib.Core.Path.{_≡_, refl, sym, ap, _∙_, subst}
+use mathlib.Core.Bool.{Bool}
 use mathlib.Core.List.{List, [], _∷_, _++_, append-assoc}
 use Prim.Native.Nat.{ℕ, _+_, _≤_}
 use native.Mathlib.Omega.{arith}
@@ -8,14 +9,17 @@ use lib.ListN.{length, getD, take}
 use lib.Seq.{length-take-le}
 use Rattle.plan_format.specs.Sizes.{most-queues, most-buffers, most-operations}
 use Rattle.plan_format.specs.Refusal.{none-given}
-use Rattle.plan_format.specs.Grammar.{Check, Grammar, field, counted, bytes, Scan, scan, read-by}
-use Rattle.plan_format.specs.Form.{Form, queue-count, any-number, new-axis, a-queue, operation, plan-grammar}
+use Rattle.plan_format.specs.Grammar.{Grammar, counted, bytes, Scan, scan, read-by}
+use Rattle.plan_format.specs.Form.{Form, form-by, is-second, queue-count, any-number, new-axis, a-queue, operation}
+use Rattle.plan_format.specs.Form.{plan-grammar}
 use Rattle.plan_format.specs.Sections.{limited, axis-field, size-field, operation-below}
 use Rattle.plan_format.proofs.Alike.{alike-from}
 use Rattle.plan_format.proofs.Counts.{number-at, owners-alike, operations-alike, counts-of}
 use Rattle.plan_format.proofs.Follows.{Section, section}
+use Rattle.plan_format.proofs.Forms.{led-in}
 use Rattle.stored_numbers.specs.declared.cursor.Cursor.{Cursor}
-use Rattle.stored_numbers.specs.Reading.{fault-of, here, Past, Reads-on, begun, front-numbers, Heading, fronted}
+use Rattle.stored_numbers.specs.Reading.{fault-of, here, Past, Reads-on, begun, front-numbers, Heading, owned}
+use Rattle.stored_numbers.specs.Reading.{fronted}
 use Rattle.stored_numbers.specs.Reading.{Front-read}
 use Rattle.stored_numbers.proofs.Fields.{here-clean}
 use Rattle.stored_numbers.proofs.Cursors.{past-then, reads-past}
@@ -30,19 +34,19 @@ glued axes owners sizes q m b n e₁ e₂ e₃ =
     (e₃ ∙ ap (λ (l : List ℕ). l ++ (b ∷ sizes)) (e₂ ∙ ap (λ (l : List ℕ). l ++ (m ∷ owners)) e₁))
     ∙ ap (λ (l : List ℕ). q ∷ l) split
 
+-- the lead byte is there where it was told
+pub lead-inside : {wide : Bool} (bs : List ℕ) → wide ≡ is-second bs → length (form-by wide .lead) ≤ length bs
+lead-inside bs e = subst (λ (b : Bool). length (form-by b .lead) ≤ length bs) (sym e) (led-in bs)
+
 module _ (F : Form) where
   -- the cursor at the start, past the lead bytes
   abbrev pub origin : Cursor
   origin = record { number = 0; at = length (F .lead); got = 0; value = 0 }
 
-  -- the section of owners, in the form's bytes
-  abbrev pub owned : Check → Grammar
-  owned c = counted (F .semaphores-least) (F .semaphores-most) (F .semaphore-width) (field 1 c)
-
   module _ (bs : List ℕ) {c₁ c₂ c₃ : Cursor} {n₀ n₁ n₂ n₃ : List ℕ} {q m b : ℕ} (roomy : front-numbers F ≤ length n₀)
       (axes : Reads-on (counted 0 most-queues 1 axis-field) (1 + most-queues) bs origin n₀ c₁ n₁)
       (queues-are : q ≡ getD n₁ 0 0)
-      (owners : Reads-on (owned (limited q 4)) (1 + F .semaphores-most) bs c₁ n₁ c₂ n₂)
+      (owners : Reads-on (owned F (limited q 4)) (1 + F .semaphores-most) bs c₁ n₁ c₂ n₂)
       (semaphores-are : m ≡ getD n₂ (c₁ .got) 0)
       (sizes : Reads-on (counted 0 most-buffers 2 size-field) (1 + most-buffers) bs c₂ n₂ c₃ n₃)
       (buffers-are : b ≡ getD n₃ (c₂ .got) 0) where
@@ -77,10 +81,11 @@ module _ (F : Form) where
         ∙ number-at n₃ (c₃ .got) (c₂ .got) (take (c₂ .got) n₂) (C .count) (C .rest) (C .got)
         (length-take-le (c₂ .got) n₂ (omega (arith, roomy, axes .few, axes .as-long, owners .few, owners .as-long)))
 
-    owners-same : read-by bytes (owned a-queue) (here bs c₁ n₁) ≡ read-by bytes (owned (limited q 4)) (here bs c₁ n₁)
+    owners-same : read-by bytes (owned F a-queue) (here bs c₁ n₁) ≡ read-by bytes (owned F (limited q 4))
+        (here bs c₁ n₁)
     unfolding queue-count here scan
     owners-same =
-        alike-from bytes (owned a-queue) (owned (limited q 4)) (here bs c₁ n₁)
+        alike-from bytes (owned F a-queue) (owned F (limited q 4)) (here bs c₁ n₁)
         (λ e. let A = first e in owners-alike F (take (c₁ .got) n₁) q
         (λ rest. ap (λ (l : List ℕ). getD (l ++ rest) 0 0) (A .got) ∙ sym (queues-read A)))
 
@@ -128,7 +133,7 @@ module _ (F : Form) where
     unfolding fronted begun read-by here fault-of axis-field size-field
     fronted-read g =
         ap (λ (s : Scan). read-by bytes g
-        (read-by bytes (counted 0 most-buffers 2 size-field) (read-by bytes (owned a-queue) s))) (axes .read)
+        (read-by bytes (counted 0 most-buffers 2 size-field) (read-by bytes (owned F a-queue) s))) (axes .read)
         ∙ ap (λ (s : Scan). read-by bytes g (read-by bytes (counted 0 most-buffers 2 size-field) s))
         (owners-same ∙ owners .read)
         ∙ ap (λ (s : Scan). read-by bytes g s) (sizes .read)

@@ -14,7 +14,7 @@ use Rattle.plan_format.specs.Sections.{repeat, limited}
 use Rattle.plan_format.proofs.Counts.{count-limited}
 use Rattle.plan_format.proofs.Repeats.{read-counted, repeat-stops, field-same}
 use Rattle.stored_numbers.specs.declared.cursor.Cursor.{Cursor}
-use Rattle.stored_numbers.specs.Reading.{fault-of, here, Past, Reads-on, Read-limited}
+use Rattle.stored_numbers.specs.Reading.{fault-of, here, Past, Reads-on, Read-limited, Read-count}
 use Rattle.stored_numbers.proofs.Fields.{here-given, fault-none, value-last}
 
 -- ---- the array past the numbers
@@ -54,24 +54,42 @@ unfolding repeat read-by
 reads-none g m bs c nums h = record
     { read = refl; inside = h; more = omega arith; few = omega arith; as-long = refl; past = refl }
 
--- a count, and so many of a thing
-pub counted-read : (g : Grammar) {bs : List ℕ} {c start : Cursor} {nums nums₁ : List ℕ} {w : ℕ} (most : ℕ) →
-    Read-limited w (most + 1) 2 bs c nums start nums₁ → (n : ℕ) → n ≡ start .value →
-    read-by bytes (counted 0 most w g) (here bs c nums) ≡ read-by bytes (repeat n g) (here bs start nums₁)
+-- a count below a limit is one from 0 on
+pub limited-count : {bs : List ℕ} {c r : Cursor} {nums nums-now : List ℕ} {w most : ℕ} →
+    Read-limited w (most + 1) 2 bs c nums r nums-now → Read-count w 0 most bs c nums r nums-now
 unfolding here scan fault-of limited read-by
-counted-read g {bs} {c} {start} {nums} {nums₁} {w} most p n e =
-    read-counted bytes 0 most w n g (here bs c nums) (here bs start nums₁)
-    (field-same bytes w (λ v. count-check 0 most v) (λ v. limited (most + 1) 2 (take (c .got) nums) v) (here bs c nums)
-    (count-limited most (bytes .front w (drop (c .at) bs))) ∙ p .reads .read)
+limited-count {bs} {c} {r} {nums} {nums-now} {w} {most} p =
+    let q = p .reads in
+    record {
+      reads = record {
+        read = field-same bytes w (λ v. count-check 0 most v) (λ v. limited (most + 1) 2 (take (c .got) nums) v)
+            (here bs c nums) (count-limited most (bytes .front w (drop (c .at) bs))) ∙ q .read;
+        inside = q .inside;
+        more = q .more;
+        few = q .few;
+        as-long = q .as-long;
+        past = q .past;
+      };
+      valued = p .valued;
+      value-below = omega (arith, p .value-below);
+    }
+
+-- a count, and so many of a thing
+pub counted-read : (least : ℕ) (g : Grammar) {bs : List ℕ} {c start : Cursor} {nums nums₁ : List ℕ} {w most : ℕ} →
+    Read-count w least most bs c nums start nums₁ → (n : ℕ) → n ≡ start .value →
+    read-by bytes (counted least most w g) (here bs c nums) ≡ read-by bytes (repeat n g) (here bs start nums₁)
+unfolding here scan fault-of read-by
+counted-read least g {bs} {c} {start} {nums} {nums₁} {w} {most} p n e =
+    read-counted bytes least most w n g (here bs c nums) (here bs start nums₁) (p .reads .read)
     (λ z. value-last p (fault-none start z) ∙ sym e)
 
-pub reads-counted : {g : Grammar} {bs : List ℕ} {c start r : Cursor} {nums nums₁ nums₂ : List ℕ} {w most : ℕ} (m : ℕ) →
-    Read-limited w (most + 1) 2 bs c nums start nums₁ → (n : ℕ) → n ≡ start .value →
+pub reads-counted : (least : ℕ) {g : Grammar} {bs : List ℕ} {c start r : Cursor} {nums nums₁ nums₂ : List ℕ}
+    {w most : ℕ} (m : ℕ) → Read-count w least most bs c nums start nums₁ → (n : ℕ) → n ≡ start .value →
     Reads-on (repeat n g) (m * n) bs start nums₁ r nums₂ →
-    Reads-on (counted 0 most w g) (1 + m * most) bs c nums r nums₂
-reads-counted {g} {most = most} m p n e q =
+    Reads-on (counted least most w g) (1 + m * most) bs c nums r nums₂
+reads-counted least {g} {most = most} m p n e q =
     record {
-      read = counted-read g most p n e ∙ q .read;
+      read = counted-read least g p n e ∙ q .read;
       inside = q .inside;
       few =
           omega (
@@ -83,6 +101,19 @@ reads-counted {g} {most = most} m p n e q =
       more = omega (arith, p .reads .more, q .more);
       as-long = q .as-long ∙ p .reads .as-long;
       past = past-then (q .more) (reads-past (p .reads)) (reads-past q) .past;
+    }
+
+-- at most so many, and more room than that
+pub reads-within : {g : Grammar} {bs : List ℕ} {c r : Cursor} {nums nums-now : List ℕ} {m : ℕ} (n : ℕ) → m ≤ n →
+    Reads-on g m bs c nums r nums-now → Reads-on g n bs c nums r nums-now
+reads-within n l p =
+    record {
+      read = p .read;
+      inside = p .inside;
+      more = p .more;
+      few = omega (arith, p .few);
+      as-long = p .as-long;
+      past = p .past;
     }
 
 -- a loop that met a refusal has read all that can be read

@@ -13,13 +13,13 @@ use borrow.Author.Tests.{lt-ltb, le-ltb, ne-eqb, eqb-true, eqb-false}
 use Rattle.base_lists.proofs.Tests.{by-cases}
 use Rattle.plan_format.specs.Refusal.{refusal, none-given, given}
 use Rattle.plan_format.specs.Grammar.{Check, Grammar, field, value, bytes, Scan, scan, refused, field-number}
-use Rattle.plan_format.specs.Grammar.{read-field, last-got, read-by}
+use Rattle.plan_format.specs.Grammar.{read-field, last-got, count-check, read-by}
 use Rattle.plan_format.specs.Sections.{limited}
 use Rattle.plan_format.proofs.Faults.{read-stays}
 use Rattle.plan_format.proofs.Judged.{other-given}
 use Rattle.plan_format.proofs.Seams.{last-snoc}
 use Rattle.stored_numbers.specs.declared.cursor.Cursor.{Cursor}
-use Rattle.stored_numbers.specs.Reading.{fault-of, here, Reads-on, Word, Read-limited}
+use Rattle.stored_numbers.specs.Reading.{fault-of, here, Reads-on, Word, Read-checked}
 
 module _ (w : ℕ) (c : ℕ → ℕ) (rest : List ℕ) (p : ℕ) (got : List ℕ) where
   field-cut : length rest < w → read-field bytes w c (scan rest p got none-given) ≡ scan rest p got (refusal 1 p)
@@ -144,41 +144,63 @@ module _ {w : ℕ} {check : Check} {bs : List ℕ} {c : Cursor} {nums : List ℕ
           past = drop-set-lt (c .got + 1) nums (c .got) v (omega arith);
         }
 
--- ---- limited fields, whose number the cursor has
-pub value-last : {w limit over : ℕ} {bs : List ℕ} {c r : Cursor} {nums nums-now : List ℕ} →
-    Read-limited w limit over bs c nums r nums-now → r .number ≡ 0 → last-got (here bs r nums-now) ≡ r .value
+-- ---- fields whose number the cursor has
+pub value-last : {w : ℕ} {check : Check} {most : ℕ} {bs : List ℕ} {c r : Cursor} {nums nums-now : List ℕ} →
+    Read-checked w check most bs c nums r nums-now → r .number ≡ 0 → last-got (here bs r nums-now) ≡ r .value
 value-last {bs = bs} {r = r} {nums-now = nums-now} p z =
     sym (p .valued ∙ ap (λ (n : ℕ). cond (eqb n 0) (last-got (here bs r nums-now)) 0) z)
 
 value-none : (n x : ℕ) → (n ≡ 0 → ⊥) → 0 ≡ cond (eqb n 0) x 0
 value-none n x z = rw (ne-eqb n 0 z)
 
-module _ {w limit over : ℕ} {bs : List ℕ} {c : Cursor} {nums : List ℕ} where
-  pub limited-passed : (c .number ≡ 0 → ⊥) → c .at ≤ length bs →
-      Read-limited w limit over bs c nums (cursor (c .number) (c .at) (c .got) 0) nums
-  limited-passed z h = record { reads = passed z h; valued = value-none (c .number) _ z; value-below = omega arith }
+module _ {w : ℕ} {check : Check} {most : ℕ} {bs : List ℕ} {c : Cursor} {nums : List ℕ} where
+  pub checked-passed : (c .number ≡ 0 → ⊥) → c .at ≤ length bs →
+      Read-checked w check most bs c nums (cursor (c .number) (c .at) (c .got) 0) nums
+  checked-passed z h = record { reads = passed z h; valued = value-none (c .number) _ z; value-below = omega arith }
 
-  pub limited-cut : c .number ≡ 0 → c .at ≤ length bs → length bs - c .at < w →
-      Read-limited w limit over bs c nums (cursor 1 (c .at) (c .got) 0) nums
-  limited-cut e h l = record { reads = cut e h l; valued = refl; value-below = omega arith }
+  pub checked-cut : c .number ≡ 0 → c .at ≤ length bs → length bs - c .at < w →
+      Read-checked w check most bs c nums (cursor 1 (c .at) (c .got) 0) nums
+  checked-cut e h l = record { reads = cut e h l; valued = refl; value-below = omega arith }
 
   module _ (clean : c .number ≡ 0) (h : c .at ≤ length bs) (l : w ≤ length bs - c .at) {v : ℕ}
       (d : Word w bs (c .at) v) where
-    pub limited-over : 1 ≤ over → limit ≤ v → Read-limited w limit over bs c nums (cursor over (c .at) (c .got) 0) nums
-    unfolding limited
-    limited-over o m =
+    pub checked-wrong : {n : ℕ} → 1 ≤ n → check (take (c .got) nums) v ≡ n →
+        Read-checked w check most bs c nums (cursor n (c .at) (c .got) 0) nums
+    checked-wrong {n} o e =
         record {
-          reads = wrong clean h l d (rw (le-ltb v limit m)) (λ e. omega arith);
-          valued = value-none over _ (λ e. omega arith);
+          reads = wrong clean h l d e (λ z. omega arith);
+          valued = value-none n _ (λ z. omega arith);
           value-below = omega arith;
         }
 
-    pub limited-kept : c .got < length nums → v < limit →
-        Read-limited w limit over bs c nums (cursor 0 (c .at + w) (c .got + 1) v) (set nums (c .got) v)
-    unfolding limited here scan last-got
-    limited-kept k m =
+    pub checked-kept : c .got < length nums → check (take (c .got) nums) v ≡ 0 → v ≤ most →
+        Read-checked w check most bs c nums (cursor 0 (c .at + w) (c .got + 1) v) (set nums (c .got) v)
+    unfolding here scan last-got
+    checked-kept k e m =
         record {
-          reads = kept clean h l d k (rw (lt-ltb v limit m));
+          reads = kept clean h l d k e;
           valued = sym (rw (add-one (c .got), take-suc-set nums (c .got) v k) (last-snoc (take (c .got) nums) v));
-          value-below = omega arith;
+          value-below = m;
         }
+
+-- what a limit and a count's check say of a number
+pub over-limit : (limit over v : ℕ) (got : List ℕ) → limit ≤ v → limited limit over got v ≡ over
+unfolding limited
+over-limit limit over v got m = rw (le-ltb v limit m)
+
+pub below-limit : (limit over v : ℕ) (got : List ℕ) → v < limit → limited limit over got v ≡ 0
+unfolding limited
+below-limit limit over v got m = rw (lt-ltb v limit m)
+
+module _ (least most v : ℕ) where
+  pub count-under : v < least → count-check least most v ≡ 2
+  unfolding count-check
+  count-under m = rw (lt-ltb v least m)
+
+  pub count-over : least ≤ v → most < v → count-check least most v ≡ 2
+  unfolding count-check
+  count-over l m = rw (le-ltb v least l, lt-ltb most v m)
+
+  pub count-right : least ≤ v → v ≤ most → count-check least most v ≡ 0
+  unfolding count-check
+  count-right l m = rw (le-ltb v least l, le-ltb most v m)

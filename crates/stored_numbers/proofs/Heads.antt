@@ -1,6 +1,7 @@
 -- What is handed back of a reading: of what comes before the operations, with their count read after it, and of an
 -- operation. Assumes nothing.
 use mathlib.Core.Path.{_≡_, refl, sym, ap, _∙_, subst}
+use mathlib.Core.Bool.{Bool}
 use mathlib.Core.List.{List, [], _∷_, _++_, append-assoc}
 use Prim.Native.Nat.{ℕ, _+_, _≤_, min}
 use native.Mathlib.Omega.{arith}
@@ -13,7 +14,7 @@ use Rattle.base_lists.proofs.Tests.{by-cases}
 use Rattle.plan_format.specs.Sizes.{most-semaphores, most-operations, block-numbers}
 use Rattle.plan_format.specs.Refusal.{none-given}
 use Rattle.plan_format.specs.Grammar.{field, bytes, Scan, scan, last-got, times, count-check, read-by}
-use Rattle.plan_format.specs.Form.{Form, queue-count, semaphore-count, buffer-count}
+use Rattle.plan_format.specs.Form.{Form, form-by, is-second, queue-count, semaphore-count, buffer-count}
 use Rattle.plan_format.specs.Sections.{repeat, limited, operation-below}
 use Rattle.plan_format.proofs.Blocks.{Counts-given, kept-now}
 use Rattle.plan_format.proofs.Counts.{count-limited}
@@ -27,11 +28,12 @@ use Rattle.stored_numbers.specs.declared.End.{End}
 use Rattle.stored_numbers.specs.declared.Head.{Head}
 use Rattle.stored_numbers.specs.declared.cursor.Cursor.{Cursor}
 use Rattle.stored_numbers.specs.Reading.{fault-of, here, Past, Reads-on, Read-limited, begun, front-numbers}
-use Rattle.stored_numbers.specs.Reading.{Stopped, unless-refused, Heading, Front-read, head-grammar, head-scan-by}
+use Rattle.stored_numbers.specs.Reading.{Stopped, unless-refused, Heading, Front-read, head-grammar}
+use Rattle.stored_numbers.specs.Reading.{head-scan-by, head-scan}
 use Rattle.stored_numbers.specs.Reading.{Head-told, Head-read, head-cursor, operation-scan}
 use Rattle.stored_numbers.specs.Reading.{Operation-told, end-cursor, Operation-read}
 use Rattle.stored_numbers.proofs.Fields.{here-clean, here-given, fault-number, fault-none, value-last}
-use Rattle.stored_numbers.proofs.Cursors.{past-then, reads-past, counted-read}
+use Rattle.stored_numbers.proofs.Cursors.{past-then, reads-past, limited-count, counted-read}
 
 -- ---- what a cursor hands back of the reading that it stands for
 fault-told : (c : Cursor) → c .number ≡ fault-of c .number
@@ -79,8 +81,9 @@ module _ {F : Form} {bs : List ℕ} {c r : Cursor} {q m b : ℕ} {nums₀ nums n
     (front : Front-read F bs c q m b nums)
     (kept : Past (c .got) nums₀ nums) (roomy : r .got ≤ length nums-now)
     (count : Read-limited 2 (most-operations + 1) 2 bs c nums r nums-now) where
-  abbrev head : Head
-  head = record {
+  abbrev head : (wide : Bool) → Head
+  head w = record {
+    wide = w;
     number = r .number;
     at = r .at;
     got = r .got;
@@ -90,8 +93,9 @@ module _ {F : Form} {bs : List ℕ} {c r : Cursor} {q m b : ℕ} {nums₀ nums n
     operations = r .value;
   }
 
-  abbrev refused : Head
-  refused = record {
+  abbrev refused : (wide : Bool) → Head
+  refused w = record {
+    wide = w;
     number = r .number;
     at = r .at;
     got = r .got;
@@ -136,9 +140,9 @@ module _ {F : Form} {bs : List ℕ} {c r : Cursor} {q m b : ℕ} {nums₀ nums n
       let (clean, got) = counted-after z in subst (λ (l : List ℕ). Heading q m b (r .value) l) (sym got)
       (front .heading (r .value) clean)
 
-  pub head-told : r .number ≡ 0 → Head-told (head-scan-by F bs) nums₀ head nums-now
+  pub head-told : (w : Bool) → r .number ≡ 0 → Head-told (head-scan-by F bs) nums₀ (head w) nums-now
   unfolding here scan
-  head-told z =
+  head-told w z =
       let s = head-scan-by F bs in
       let counts = heading-counts (head-heading z) in
       let clean = sym (stopped .number-is) ∙ z in
@@ -152,11 +156,11 @@ module _ {F : Form} {bs : List ℕ} {c r : Cursor} {q m b : ℕ} {nums₀ nums n
         operations = sym (ap last-got head-is ∙ value-last count z) ∙ unless-clean s (last-got s) clean;
       }
 
-  pub head-read : F .semaphores-most ≤ most-semaphores → r .number ≡ 0 → Head-read F bs head nums-now
+  pub head-read : (w : Bool) → F .semaphores-most ≤ most-semaphores → r .number ≡ 0 → Head-read F bs (head w) nums-now
   unfolding head-cursor here fault-of front-numbers
-  head-read fits z = record {
+  head-read w fits z = record {
     plan =
-        front .plan ∙ counted-read (operation-below (F .semaphore-width) q m b) most-operations count (r .value) refl
+        front .plan ∙ counted-read 0 (operation-below (F .semaphore-width) q m b) (limited-count count) (r .value) refl
         ∙ read-repeat bytes (r .value) (operation-below (F .semaphore-width) q m b) (here bs r nums-now);
     heading = head-heading;
     inside = count .reads .inside;
@@ -169,8 +173,8 @@ module _ {F : Form} {bs : List ℕ} {c r : Cursor} {q m b : ℕ} {nums₀ nums n
   unfolding unless-refused
   refused-none z n = rw (head-is, here-given bs r nums-now z)
 
-  pub refused-told : (r .number ≡ 0 → ⊥) → Head-told (head-scan-by F bs) nums₀ refused nums-now
-  refused-told z =
+  pub refused-told : (w : Bool) → (r .number ≡ 0 → ⊥) → Head-told (head-scan-by F bs) nums₀ (refused w) nums-now
+  refused-told w z =
       record {
         stopped = stopped;
         queues = refused-none z _;
@@ -179,11 +183,12 @@ module _ {F : Form} {bs : List ℕ} {c r : Cursor} {q m b : ℕ} {nums₀ nums n
         operations = refused-none z _;
       }
 
-  pub refused-read : F .semaphores-most ≤ most-semaphores → (r .number ≡ 0 → ⊥) → Head-read F bs refused nums-now
+  pub refused-read : (w : Bool) → F .semaphores-most ≤ most-semaphores → (r .number ≡ 0 → ⊥) →
+      Head-read F bs (refused w) nums-now
   unfolding head-cursor here fault-of times front-numbers
-  refused-read fits z = record {
+  refused-read w fits z = record {
     plan =
-        front .plan ∙ counted-read (operation-below (F .semaphore-width) q m b) most-operations count (r .value) refl
+        front .plan ∙ counted-read 0 (operation-below (F .semaphore-width) q m b) (limited-count count) (r .value) refl
         ∙ read-stays bytes (repeat (r .value) (operation-below (F .semaphore-width) q m b)) (here bs r nums-now)
         (here-given bs r nums-now z);
     heading = λ e. absurd (z e);
@@ -191,6 +196,11 @@ module _ {F : Form} {bs : List ℕ} {c r : Cursor} {q m b : ℕ} {nums₀ nums n
     few = omega (arith, fits, front .few, count .reads .few);
     few-operations = omega arith;
   }
+
+-- the head in the form that was told
+pub head-in : {wide : Bool} (bs : List ℕ) → wide ≡ is-second bs → head-scan-by (form-by wide) bs ≡ head-scan bs
+unfolding head-scan
+head-in bs e = ap (λ (b : Bool). head-scan-by (form-by b) bs) e
 
 -- ---- an operation read at the place, or at the end of the bytes
 module _ (width q m b : ℕ) {a : ℕ} (at : ℕ) {bs w w-now : List ℕ} {r : Cursor} (place : a ≡ min at (length bs))

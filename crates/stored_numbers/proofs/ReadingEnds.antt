@@ -1,8 +1,9 @@
 -- What a reading that has come to its end answers: a refusal on the way, bytes after the end, or a whole plan. Assumes
 -- nothing.
 use mathlib.Core.Path.{_≡_, refl, sym, ap, _∙_, subst}
-use mathlib.Core.List.{List, _++_}
-use Prim.Native.Nat.{ℕ, _≤_, _<_}
+use mathlib.Core.Bool.{Bool}
+use mathlib.Core.List.{List, [], _++_}
+use Prim.Native.Nat.{ℕ, _*_, _≤_, _<_}
 use native.Mathlib.Omega.{arith}
 use lib.ListN.{length, take, drop, length-drop, take-append-drop}
 use lib.Seq.{length-take-le}
@@ -12,7 +13,7 @@ use Rattle.base_lists.proofs.Tests.{by-cases}
 use Rattle.plan_format.specs.Sizes.{plan-numbers}
 use Rattle.plan_format.specs.Refusal.{Refusal, refusal, none-given, given}
 use Rattle.plan_format.specs.Grammar.{bytes, Scan, scan, read-by, ended}
-use Rattle.plan_format.specs.Form.{Form, first-form, plan-grammar, scanned-by}
+use Rattle.plan_format.specs.Form.{Form, form-by, is-second, form-in, plan-grammar, scanned-by}
 use Rattle.plan_format.specs.Stored.{scanned, Tells}
 use Rattle.plan_format.specs.declared.Told.{Told}
 use Rattle.plan_format.proofs.HandedBack.{ended-none, ended-more, ended-got}
@@ -86,9 +87,14 @@ module _ (bs : List ℕ) (c : Cursor) (nums : List ℕ) where
 abbrev pub Read-in : Form → (bs : List ℕ) → Type 0
 Read-in F bs = scanned bs ≡ ended (read-by bytes (plan-grammar F) (begun F bs))
 
-pub read-in-first : (bs : List ℕ) → Read-in first-form bs
-unfolding scanned scanned-by begun first-form bytes
-read-in-first bs = refl
+-- the first byte tells it
+pub read-in : (bs : List ℕ) → Read-in (form-in bs) bs
+unfolding scanned scanned-by begun bytes
+read-in bs = ap (λ (k : ℕ). ended (read-by bytes (plan-grammar (form-in bs)) (scan (drop k bs) k [] none-given)))
+    (let e : 1 * length (form-in bs .lead) ≡ length (form-in bs .lead) = omega arith in e)
+
+pub read-in-told : {wide : Bool} (bs : List ℕ) → wide ≡ is-second bs → Read-in (form-by wide) bs
+read-in-told bs e = subst (λ (b : Bool). Read-in (form-by b) bs) (sym e) (read-in bs)
 
 -- ---- what is told of a whole plan
 module _ {F : Form} {bs : List ℕ} (form : Read-in F bs) {c : Cursor} {nums : List ℕ} (p : Plan-read F bs c nums) where

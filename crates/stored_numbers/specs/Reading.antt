@@ -10,9 +10,9 @@ use Rattle.base_lists.specs.Lists.{in-front}
 use Rattle.plan_format.specs.Sizes.{most-queues, most-buffers, most-operations, head-numbers}
 use Rattle.plan_format.specs.Sizes.{block-numbers, plan-numbers}
 use Rattle.plan_format.specs.Refusal.{Refusal, refusal, none-given, given}
-use Rattle.plan_format.specs.Grammar.{Grammar, field, seq, counted, value, bytes, Scan, scan, last-got, times}
+use Rattle.plan_format.specs.Grammar.{Check, Grammar, field, seq, counted, value, bytes, Scan, scan, last-got, times}
 use Rattle.plan_format.specs.Grammar.{count-check, read-by, ended}
-use Rattle.plan_format.specs.Form.{Form, first-form, queue-count, semaphore-count, buffer-count, any-number, new-axis}
+use Rattle.plan_format.specs.Form.{Form, form-in, queue-count, semaphore-count, buffer-count, any-number, new-axis}
 use Rattle.plan_format.specs.Form.{a-queue, plan-grammar}
 use Rattle.plan_format.specs.Sections.{limited, operation-below}
 use Rattle.plan_format.specs.Stored.{scanned, Tells}
@@ -53,16 +53,29 @@ pub record Word (width : ℕ) (bs : List ℕ) (at v : ℕ) : Type 0 where
   pub word : v ≡ value (take width (drop at bs))
   pub small : v < 256 ^ width
 
--- a limited field was read, and the cursor has its number, 0 beside a refusal
-pub record Read-limited (width limit over : ℕ) (bs : List ℕ) (c : Cursor) (nums : List ℕ) (r : Cursor)
+-- a field was read whose check takes no number over the most, and the cursor has its number, 0 beside a refusal
+pub record Read-checked (width : ℕ) (check : Check) (most : ℕ) (bs : List ℕ) (c : Cursor) (nums : List ℕ) (r : Cursor)
     (nums-now : List ℕ) : Type 0 where
-  pub reads : Reads-on (field width (limited limit over)) 1 bs c nums r nums-now
+  pub reads : Reads-on (field width check) 1 bs c nums r nums-now
   pub valued : r .value ≡ cond (eqb (r .number) 0) (last-got (here bs r nums-now)) 0
-  pub value-below : r .value ≤ limit - 1
+  pub value-below : r .value ≤ most
+
+-- a limited field, and a count
+abbrev pub Read-limited : (width limit over : ℕ) → (bs : List ℕ) → Cursor → (nums : List ℕ) → Cursor →
+    (nums-now : List ℕ) → Type 0
+Read-limited width limit over = Read-checked width (limited limit over) (limit - 1)
+
+abbrev pub Read-count : (width least most : ℕ) → (bs : List ℕ) → Cursor → (nums : List ℕ) → Cursor →
+    (nums-now : List ℕ) → Type 0
+Read-count width least most = Read-checked width (λ _ v. count-check least most v) most
 
 -- a reading at its start, past the form's lead bytes
 unfoldable pub begun : Form → (bs : List ℕ) → Scan
 begun F bs = let k = length (F .lead) in scan (drop k bs) k [] none-given
+
+-- the section of owners, in the form's bytes
+abbrev pub owned : Form → Check → Grammar
+owned F c = counted (F .semaphores-least) (F .semaphores-most) (F .semaphore-width) (field 1 c)
 
 -- the most numbers of three sections
 unfoldable pub front-numbers : Form → ℕ
@@ -91,8 +104,7 @@ unless-refused s n = cond (given (s .fault)) 0 n
 unfoldable pub fronted : Form → Grammar → Grammar
 fronted F g =
     seq (counted 0 most-queues 1 (field 8 new-axis))
-    (seq (counted (F .semaphores-least) (F .semaphores-most) (F .semaphore-width) (field 1 a-queue))
-    (seq (counted 0 most-buffers 2 (field 4 any-number)) g))
+    (seq (owned F a-queue) (seq (counted 0 most-buffers 2 (field 4 any-number)) g))
 
 -- what comes before the operations: three sections, and the count of the fourth
 unfoldable pub head-grammar : Form → Grammar
@@ -103,7 +115,7 @@ unfoldable pub head-scan-by : Form → (bs : List ℕ) → Scan
 head-scan-by F bs = read-by bytes (head-grammar F) (begun F bs)
 
 unfoldable pub head-scan : (bs : List ℕ) → Scan
-head-scan bs = head-scan-by first-form bs
+head-scan bs = head-scan-by (form-in bs) bs
 
 -- what `read_head` hands back of that reading, and the array
 pub record Head-told (s : Scan) (nums : List ℕ) (h : Head) (nums-now : List ℕ) : Type 0 where

@@ -2,11 +2,11 @@
 // and its place.
 use crate::cursor::Cursor;
 use crate::word;
-ghost use Prim.Native.Nat.{_≤_};
-ghost use Rattle.plan_format.specs.Form.{any-number};
+ghost use Prim.Native.Nat.{_-_, _≤_};
+ghost use Rattle.plan_format.specs.Form.{any-number, width-by};
 ghost use Rattle.plan_format.specs.Grammar.{field};
 ghost use Rattle.plan_format.specs.Sections.{axis-field, size-field};
-ghost use Rattle.stored_numbers.specs.Reading.{Read-room, Reads-on, Read-limited};
+ghost use Rattle.stored_numbers.specs.Reading.{Read-room, Reads-on, Read-limited, Read-count};
 
 // A byte below `limit`; any other is refused by `over`.
 pub fn byte(plan: &[u8], c: Cursor, limit: u64, over: u32, numbers: &mut [u64]) -> Cursor
@@ -47,6 +47,45 @@ pub fn pair(plan: &[u8], c: Cursor, limit: u64, over: u32, numbers: &mut [u64]) 
     let value = word::word2(plan, at);
     if limit <= value {
         return c.refused(over);
+    }
+    numbers[got] = value;
+    c.past(2, value)
+}
+
+// The position of a semaphore: two bytes if `wide`, else one; below `semaphores`, or refused by 4.
+pub fn position(plan: &[u8], c: Cursor, wide: bool, semaphores: u64, numbers: &mut [u64]) -> Cursor
+    requires { ⌜ Read-room 1 (now plan) c (now numbers) ⌝ }
+    ensures { λ r. ⌜ Read-limited (width-by wide) semaphores 4 (now (plan .entry)) c (now (numbers .entry)) r
+        (now (numbers .exit)) ⌝ }
+{
+    if wide {
+        pair(plan, c, semaphores, 4, numbers)
+    } else {
+        byte(plan, c, semaphores, 4, numbers)
+    }
+}
+
+// A count in two bytes, at least `least` and below `limit`; any other number is refused by 2.
+pub fn between(plan: &[u8], c: Cursor, least: u64, limit: u64, numbers: &mut [u64]) -> Cursor
+    requires { ⌜ Read-room 1 (now plan) c (now numbers) ⌝ }
+    requires { ⌜ 1 ≤ limit ⌝ }
+    ensures { λ r. ⌜ Read-count 2 least (limit - 1) (now (plan .entry)) c (now (numbers .entry)) r
+        (now (numbers .exit)) ⌝ }
+{
+    let at = c.at;
+    let got = c.got;
+    if c.number != 0 {
+        return c.refused(c.number);
+    }
+    if plan.len() - at < 2 {
+        return c.refused(1);
+    }
+    let value = word::word2(plan, at);
+    if value < least {
+        return c.refused(2);
+    }
+    if limit <= value {
+        return c.refused(2);
     }
     numbers[got] = value;
     c.past(2, value)

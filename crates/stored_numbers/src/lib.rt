@@ -9,21 +9,26 @@ mod word;
 use crate::cursor::Cursor;
 use plan_format::Told;
 use plan_format::answered;
+use plan_format::limits::FIRST_SEMAPHORES;
 use plan_format::limits::HEAD_NUMBERS;
+use plan_format::limits::MOST_BUFFERS;
 use plan_format::limits::MOST_OPERATIONS;
+use plan_format::limits::MOST_QUEUES;
 use plan_format::limits::PLAN_NUMBERS;
 use plan_format::limits::WINDOW;
 use plan_format::refused;
 ghost use mathlib.Core.Path.{_≡_};
 ghost use mathlib.Core.List.{List};
-ghost use Prim.Native.Nat.{ℕ, _≤_, min};
+ghost use mathlib.Core.Bool.{false};
+ghost use Prim.Native.Nat.{ℕ, _+_, _≤_, min};
 ghost use lib.ListN.{length, take};
 ghost use Rattle.base_lists.specs.Lists.{in-front};
-ghost use Rattle.plan_format.specs.Form.{first-form};
+ghost use Rattle.plan_format.specs.Form.{is-second, first-form, form-by, width-by};
 ghost use Rattle.plan_format.specs.Grammar.{ended};
 ghost use Rattle.plan_format.specs.Sizes.{most-operations, plan-numbers};
 ghost use Rattle.plan_format.specs.Stored.{scanned};
-ghost use Rattle.stored_numbers.specs.Reading.{here, head-scan, Head-told, Head-read, Operation-told};
+ghost use Rattle.stored_numbers.specs.Reading.{here, head-scan, head-scan-by, front-numbers};
+ghost use Rattle.stored_numbers.specs.Reading.{Head-told, Head-read, Operation-told};
 ghost use Rattle.stored_numbers.specs.Reading.{Operation-read, Ends, Numbers-read, rest-scan};
 
 // The most operations, and the least number of them that is too many.
@@ -31,8 +36,14 @@ const OPERATIONS: u64 = MOST_OPERATIONS as u64;
 
 const TOO_MANY_OPERATIONS: u64 = OPERATIONS + 1;
 
+// The most numbers before the operations of a plan in the first form.
+pub const FIRST_HEAD_NUMBERS: usize = 4 + MOST_QUEUES + FIRST_SEMAPHORES + MOST_BUFFERS;
+
+pub type FirstHeadNumbers = [u64; FIRST_HEAD_NUMBERS];
+
 // What comes before the operations: the refusal met there, or 0; the place where the reading stopped and how many
-// numbers are stored; the four counts, 0 beside a refusal.
+// numbers are stored; the four counts, 0 beside a refusal; and whether the plan is in the second form, in which a
+// semaphore's position takes two bytes.
 pub struct Head {
     pub number: u32,
     pub at: usize,
@@ -41,6 +52,7 @@ pub struct Head {
     pub semaphores: u64,
     pub buffers: u64,
     pub operations: u64,
+    pub wide: bool,
 }
 
 // Where the reading of an operation stopped: the refusal met there, or 0; the place; how many numbers are stored.
@@ -50,13 +62,44 @@ pub struct End {
     pub got: usize,
 }
 
+// Whether a plan is stored in the second form: its first byte tells.
+pub fn is_second(plan: &[u8]) -> bool
+    ensures { λ r. ⌜ r ≡ is-second (now (plan .entry)) ⌝ }
+{
+    section::in_second_form(plan)
+}
+
 // The numbers before the operations, in front of the array, with the four counts; or the first of refusals 1, 2, 4 and
 // 5 that is met there, and no counts. Past the numbers read the array stays.
 pub fn read_head(plan: &[u8], numbers: &mut [u64; HEAD_NUMBERS]) -> Head
+    ensures form { λ r. ⌜ r .wide ≡ is-second (now (plan .entry)) ⌝ }
     ensures told { λ r. ⌜ Head-told (head-scan (now (plan .entry))) (now (numbers .entry)) r (now (numbers .exit)) ⌝ }
-    ensures means { λ r. ⌜ Head-read first-form (now (plan .entry)) r (now (numbers .exit)) ⌝ }
+    ensures means { λ r. ⌜ Head-read (form-by (r .wide)) (now (plan .entry)) r (now (numbers .exit)) ⌝ }
 {
-    let f = section::first_sections(plan, numbers);
+    let wide = section::in_second_form(plan);
+    read_head_in(plan, wide, numbers)
+}
+
+// The same of bytes taken as a plan in the first form, whatever the first byte is: fewer numbers have to be cleared.
+pub fn read_first_head(plan: &[u8], numbers: &mut FirstHeadNumbers) -> Head
+    ensures form { λ r. ⌜ r .wide ≡ false ⌝ }
+    ensures told { λ r. ⌜ Head-told (head-scan-by first-form (now (plan .entry))) (now (numbers .entry)) r
+        (now (numbers .exit)) ⌝ }
+    ensures means { λ r. ⌜ Head-read (form-by (r .wide)) (now (plan .entry)) r (now (numbers .exit)) ⌝ }
+{
+    read_head_in(plan, false, numbers)
+}
+
+// The same in the form that is told.
+fn read_head_in(plan: &[u8], wide: bool, numbers: &mut [u64]) -> Head
+    requires { ⌜ front-numbers (form-by wide) + 1 ≤ length (now numbers) ⌝ }
+    requires { ⌜ length (form-by wide .lead) ≤ length (now plan) ⌝ }
+    ensures form { λ r. ⌜ r .wide ≡ wide ⌝ }
+    ensures told { λ r. ⌜ Head-told (head-scan-by (form-by wide) (now (plan .entry))) (now (numbers .entry)) r
+        (now (numbers .exit)) ⌝ }
+    ensures means { λ r. ⌜ Head-read (form-by (r .wide)) (now (plan .entry)) r (now (numbers .exit)) ⌝ }
+{
+    let f = section::first_sections(plan, wide, numbers);
     let before = f.cursor;
     let c = field::pair(plan, before, TOO_MANY_OPERATIONS, 2, numbers);
     if c.number != 0 {
@@ -68,6 +111,7 @@ pub fn read_head(plan: &[u8], numbers: &mut [u64; HEAD_NUMBERS]) -> Head
             semaphores: 0,
             buffers: 0,
             operations: 0,
+            wide,
         };
     }
     Head {
@@ -78,22 +122,25 @@ pub fn read_head(plan: &[u8], numbers: &mut [u64; HEAD_NUMBERS]) -> Head
         semaphores: f.semaphores,
         buffers: f.buffers,
         operations: c.value,
+        wide,
     }
 }
 
-// The numbers of the operation at a place, in front of the window, where the counts are as given; or the first of
-// refusals 1, 2 and 4. Past the numbers read the window stays.
+// The numbers of the operation at a place, in front of the window, where the width of a semaphore's position and the
+// counts are as given; or the first of refusals 1, 2 and 4. Past the numbers read the window stays.
 pub fn read_operation(
     plan: &[u8],
     at: usize,
+    wide: bool,
     queues: u64,
     semaphores: u64,
     buffers: u64,
     window: &mut [u64; WINDOW],
 ) -> End
-    ensures told { λ r. ⌜ Operation-told 1 queues semaphores buffers (now (plan .entry))
+    ensures told { λ r. ⌜ Operation-told (width-by wide) queues semaphores buffers (now (plan .entry))
         at (now (window .entry)) r (now (window .exit)) ⌝ }
-    ensures means { λ r. ⌜ Operation-read 1 queues semaphores buffers (now (plan .entry)) at r (now (window .exit)) ⌝ }
+    ensures means { λ r. ⌜ Operation-read (width-by wide) queues semaphores buffers (now (plan .entry)) at r
+        (now (window .exit)) ⌝ }
 {
     let start = Cursor {
         number: 0,
@@ -101,7 +148,7 @@ pub fn read_operation(
         got: 0,
         value: 0,
     };
-    let end = operation::operation(plan, start, queues, semaphores, buffers, window);
+    let end = operation::operation(plan, start, wide, queues, semaphores, buffers, window);
     End {
         number: end.number,
         at: end.at,
@@ -163,9 +210,10 @@ pub fn read_rest(
     head: &[u64; HEAD_NUMBERS],
     numbers: &mut [u64; PLAN_NUMBERS],
 ) -> Told
-    ensures told { λ r. ⌜ Ends (rest-scan 1 (now (plan .entry)) at h (now (head .entry))) r ⌝ }
+    ensures told { λ r. ⌜ Ends (rest-scan (width-by (h .wide)) (now (plan .entry)) at h (now (head .entry))) r ⌝ }
     ensures array { λ _. ⌜ now (numbers .exit) ≡
-        in-front (rest-scan 1 (now (plan .entry)) at h (now (head .entry)) .got) (now (numbers .entry)) ⌝ }
+        in-front (rest-scan (width-by (h .wide)) (now (plan .entry)) at h (now (head .entry)) .got)
+        (now (numbers .entry)) ⌝ }
     ensures few { λ r. ⌜ r .answer ≤ plan-numbers ⌝ }
 {
     let before = base_numbers::min_usize(h.got, HEAD_NUMBERS);
@@ -182,6 +230,7 @@ pub fn read_rest(
         plan,
         start,
         many,
+        h.wide,
         h.queues,
         h.semaphores,
         h.buffers,

@@ -6,9 +6,10 @@ use plan_format::limits::MOST_OPERATIONS;
 use plan_format::limits::MOST_SIGNALS;
 use plan_format::limits::MOST_WAITS;
 ghost use Prim.Native.Nat.{_+_, _*_};
+ghost use Rattle.plan_format.specs.Form.{width-by};
 ghost use Rattle.plan_format.specs.Grammar.{counted};
-ghost use Rattle.plan_format.specs.Sections.{repeat, point-below, mark-below, operation-below};
-ghost use Rattle.plan_format.specs.Sizes.{most-operations, most-marks, block-numbers};
+ghost use Rattle.plan_format.specs.Sections.{repeat, point-below, lists-below, mark-below, operation-below};
+ghost use Rattle.plan_format.specs.Sizes.{most-operations, most-waits, most-signals, most-marks, block-numbers};
 ghost use Rattle.stored_numbers.specs.Reading.{Read-room, Reads-on};
 
 // What an operation has at most, and the least counts that are too many.
@@ -21,30 +22,60 @@ const TOO_MANY_MARKS: u64 = MOST_MARKS as u64 + 1;
 const TOO_MANY_OPERATIONS: u64 = MOST_OPERATIONS as u64 + 1;
 
 // A wait or a signal: a semaphore and a value.
-fn point(plan: &[u8], c: Cursor, semaphores: u64, numbers: &mut [u64]) -> Cursor
+fn point(plan: &[u8], c: Cursor, wide: bool, semaphores: u64, numbers: &mut [u64]) -> Cursor
     requires { ⌜ Read-room 2 (now plan) c (now numbers) ⌝ }
-    ensures { λ r. ⌜ Reads-on (point-below 1 semaphores) 2 (now (plan .entry)) c (now (numbers .entry)) r
+    ensures { λ r. ⌜ Reads-on (point-below (width-by wide) semaphores) 2 (now (plan .entry)) c (now (numbers .entry)) r
         (now (numbers .exit)) ⌝ }
 {
-    let semaphore = field::byte(plan, c, semaphores, 4, numbers);
+    let semaphore = field::position(plan, c, wide, semaphores, numbers);
     field::point_value(plan, semaphore, numbers)
 }
 
 // The waits or the signals: a count, at most `most`, and the points.
-fn points(plan: &[u8], c: Cursor, most: u64, semaphores: u64, numbers: &mut [u64]) -> Cursor
+fn points(
+    plan: &[u8],
+    c: Cursor,
+    most: u64,
+    wide: bool,
+    semaphores: u64,
+    numbers: &mut [u64],
+) -> Cursor
     requires { ⌜ Read-room (1 + 2 * most) (now plan) c (now numbers) ⌝ }
-    ensures { λ r. ⌜ Reads-on (counted 0 most 1 (point-below 1 semaphores)) (1 + 2 * most) (now (plan .entry)) c
-        (now (numbers .entry)) r (now (numbers .exit)) ⌝ }
+    ensures { λ r. ⌜ Reads-on (counted 0 most 1 (point-below (width-by wide) semaphores)) (1 + 2 * most)
+        (now (plan .entry)) c (now (numbers .entry)) r (now (numbers .exit)) ⌝ }
 {
     let start = field::byte(plan, c, most + 1, 2, numbers);
     let count = start.value;
     let mut p = start;
     let mut i: u64 = 0;
     while i < count {
-        p = point(plan, p, semaphores, numbers);
+        p = point(plan, p, wide, semaphores, numbers);
         if p.number != 0 {
             return p;
         }
+        i += 1;
+    }
+    p
+}
+
+// The waits and the signals: two lists of points, which one call reads.
+fn waits_and_signals(
+    plan: &[u8],
+    c: Cursor,
+    wide: bool,
+    semaphores: u64,
+    numbers: &mut [u64],
+) -> Cursor
+    requires { ⌜ Read-room (2 + 2 * (most-waits + most-signals)) (now plan) c (now numbers) ⌝ }
+    ensures { λ r. ⌜ Reads-on (lists-below (width-by wide) semaphores 2) (2 + 2 * (most-waits + most-signals))
+        (now (plan .entry)) c (now (numbers .entry)) r (now (numbers .exit)) ⌝ }
+{
+    let mut most = WAITS;
+    let mut p = c;
+    let mut i: u64 = 0;
+    while i < 2 {
+        p = points(plan, p, most, wide, semaphores, numbers);
+        most = SIGNALS;
         i += 1;
     }
     p
@@ -84,19 +115,19 @@ fn marks(plan: &[u8], c: Cursor, buffers: u64, numbers: &mut [u64]) -> Cursor
 pub fn operation(
     plan: &[u8],
     c: Cursor,
+    wide: bool,
     queues: u64,
     semaphores: u64,
     buffers: u64,
     numbers: &mut [u64],
 ) -> Cursor
     requires { ⌜ Read-room block-numbers (now plan) c (now numbers) ⌝ }
-    ensures { λ r. ⌜ Reads-on (operation-below 1 queues semaphores buffers) block-numbers (now (plan .entry)) c
-        (now (numbers .entry)) r (now (numbers .exit)) ⌝ }
+    ensures { λ r. ⌜ Reads-on (operation-below (width-by wide) queues semaphores buffers) block-numbers
+        (now (plan .entry)) c (now (numbers .entry)) r (now (numbers .exit)) ⌝ }
 {
     let queue = field::byte(plan, c, queues, 4, numbers);
-    let waits = points(plan, queue, WAITS, semaphores, numbers);
-    let signals = points(plan, waits, SIGNALS, semaphores, numbers);
-    marks(plan, signals, buffers, numbers)
+    let lists = waits_and_signals(plan, queue, wide, semaphores, numbers);
+    marks(plan, lists, buffers, numbers)
 }
 
 // So many operations, one after another.
@@ -104,19 +135,20 @@ pub fn several(
     plan: &[u8],
     c: Cursor,
     many: u64,
+    wide: bool,
     queues: u64,
     semaphores: u64,
     buffers: u64,
     numbers: &mut [u64],
 ) -> Cursor
     requires { ⌜ Read-room (block-numbers * many) (now plan) c (now numbers) ⌝ }
-    ensures { λ r. ⌜ Reads-on (repeat many (operation-below 1 queues semaphores buffers)) (block-numbers * many)
-        (now (plan .entry)) c (now (numbers .entry)) r (now (numbers .exit)) ⌝ }
+    ensures { λ r. ⌜ Reads-on (repeat many (operation-below (width-by wide) queues semaphores buffers))
+        (block-numbers * many) (now (plan .entry)) c (now (numbers .entry)) r (now (numbers .exit)) ⌝ }
 {
     let mut o = c;
     let mut i: u64 = 0;
     while i < many {
-        o = operation(plan, o, queues, semaphores, buffers, numbers);
+        o = operation(plan, o, wide, queues, semaphores, buffers, numbers);
         if o.number != 0 {
             return o;
         }
@@ -129,16 +161,26 @@ pub fn several(
 pub fn operations(
     plan: &[u8],
     c: Cursor,
+    wide: bool,
     queues: u64,
     semaphores: u64,
     buffers: u64,
     numbers: &mut [u64],
 ) -> Cursor
     requires { ⌜ Read-room (1 + most-operations * block-numbers) (now plan) c (now numbers) ⌝ }
-    ensures { λ r. ⌜ Reads-on (counted 0 most-operations 2 (operation-below 1 queues semaphores buffers))
+    ensures { λ r. ⌜ Reads-on (counted 0 most-operations 2 (operation-below (width-by wide) queues semaphores buffers))
         (1 + most-operations * block-numbers) (now (plan .entry)) c (now (numbers .entry)) r (now (numbers .exit)) ⌝ }
 {
     let start = field::pair(plan, c, TOO_MANY_OPERATIONS, 2, numbers);
     let count = start.value;
-    several(plan, start, count, queues, semaphores, buffers, numbers)
+    several(
+        plan,
+        start,
+        count,
+        wide,
+        queues,
+        semaphores,
+        buffers,
+        numbers,
+    )
 }

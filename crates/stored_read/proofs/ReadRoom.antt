@@ -10,7 +10,7 @@ use mir.Syntax.{w8}
 use mir.Val.{Fits}
 use Rattle.base_lists.specs.Lists.{in-front}
 use Rattle.base_lists.proofs.Tests.{by-cases}
-use Rattle.plan_format.specs.Form.{first-form}
+use Rattle.plan_format.specs.Form.{form-by, is-second}
 use Rattle.plan_format.specs.Grammar.{Scan}
 use Rattle.plan_format.specs.Meaning.{Read-means}
 use Rattle.plan_format.specs.Refusal.{Refusal, given, or-else}
@@ -20,7 +20,7 @@ use Rattle.plan_format.specs.declared.Told.{Told}
 use Rattle.plan_format.proofs.HandedBack.{answer-long}
 use Rattle.plan_format.proofs.RoundTripRoom.{bytes-by, read-means}
 use Rattle.stored_numbers.specs.Reading.{head-scan, Head-told, Head-read, Ends, Numbers-read}
-use Rattle.stored_numbers.proofs.ReadingEnds.{read-in-first}
+use Rattle.stored_numbers.proofs.ReadingEnds.{read-in-told}
 use Rattle.stored_numbers.proofs.Rests.{rest-plan}
 use Rattle.stored_read.specs.declared.Heading.{Heading}
 use Rattle.stored_read.specs.Rest.{Heading-told, Rest-says}
@@ -59,13 +59,14 @@ module _ (bs : List ℕ) (fit : (i : ℕ) → Fits w8 (getD bs i 0)) (at : ℕ) 
   -- what `read_head` says of a part of the bytes
   abbrev pub Says : (part : List ℕ) → Type 0
   Says part =
-      Head-told (head-scan part) (replicate head-numbers 0) (h .head) (h .numbers)
-      × Head-read first-form part (h .head) (h .numbers)
+      (h .head .wide ≡ is-second part)
+      × (Head-told (head-scan part) (replicate head-numbers 0) (h .head) (h .numbers)
+      × Head-read (form-by (h .head .wide)) part (h .head) (h .numbers))
 
   heading-of : {part : List ℕ} → part ≡ drop at bs → Says part → Heading-told bs at h
   heading-of e p =
       let q = subst Says e p in
-      record { told = q .0; means = q .1; are-bytes = slice-bytes bs fit }
+      record { form = q .0; told = q .1 .0; means = q .1 .1; are-bytes = slice-bytes bs fit }
 
   pub heading-past : length bs < at → Says (take 0 bs) → Heading-told bs at h
   heading-past l p = heading-of (past-end bs at l) p
@@ -89,9 +90,9 @@ module _ (s : Scan) (r : Told) (old : List ℕ) {new : List ℕ} (t : Ends s r) 
 -- from where the head ends on, the rest makes the plan
 pub rest-reads : (bs : List ℕ) (h : Heading) → Heading-told bs 0 h → (t : Told) (o x : List ℕ) →
     Rest-says bs (h .head .at) h t o x → Read-says bs t o x × Read-means bs t o x
-unfolding Rest-says Read-says read-refusal first-form
+unfolding Rest-says Read-says read-refusal
 rest-reads bs h head t o x r =
     let says : Read-says bs t o x =
     subst (λ (s : Scan). Fills (or-else (s .fault) (room-for (length (s .got)) (length o))) (s .got) t o x)
-    (rest-plan (read-in-first bs) (head .means)) r in
+    (rest-plan (read-in-told bs (head .form)) (head .means)) r in
     (says, read-means bs (head .are-bytes) t o x says)

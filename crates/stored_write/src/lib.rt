@@ -10,6 +10,7 @@ ghost use Rattle.base_lists.specs.Lists.{in-front};
 ghost use Rattle.plan_format.specs.Meaning.{Write-means};
 ghost use Rattle.plan_format.specs.Sizes.{plan-bytes};
 ghost use Rattle.plan_format.specs.Stored.{Write-says};
+ghost use Rattle.stored_write.specs.Tried.{Tried};
 
 // The first `many` bytes, in front of the room.
 fn store(bytes: &[u8; PLAN_BYTES], many: usize, room: &mut [u8])
@@ -23,6 +24,18 @@ fn store(bytes: &[u8; PLAN_BYTES], many: usize, room: &mut [u8])
     }
 }
 
+// The bytes of a list of numbers in front of the array: the first form is tried and, where it refuses, the second; the
+// last try's answer is the answer.
+fn tried(numbers: &[u64], bytes: &mut [u8; PLAN_BYTES]) -> Told
+    ensures { λ r. ⌜ Tried (now (numbers .entry)) r (now (bytes .exit)) ⌝ }
+{
+    let first = stored_bytes::write_bytes(numbers, false, bytes);
+    if first.number == 0 {
+        return first;
+    }
+    stored_bytes::write_bytes(numbers, true, bytes)
+}
+
 // The bytes of a list of numbers in front of the room, with their length as the answer; or a refusal, and the room
 // untouched.
 pub fn write_plan(numbers: &[u64], room: &mut [u8]) -> Told
@@ -30,7 +43,7 @@ pub fn write_plan(numbers: &[u64], room: &mut [u8]) -> Told
     ensures means { λ r. ⌜ Write-means (now (numbers .entry)) r (now (room .entry)) (now (room .exit)) ⌝ }
 {
     let mut bytes = [0u8; PLAN_BYTES];
-    let told = stored_bytes::write_bytes(numbers, &mut bytes);
+    let told = tried(numbers, &mut bytes);
     if told.number != 0 {
         return told;
     }

@@ -156,7 +156,7 @@ fn main() {
     cuts();
     head(b"counts one over their limits\n");
     changed(0, 17);
-    changed(4, 65);
+    changed(4, 1025);
     changed(7, 257);
     changed(9, 1025);
     changed(11, 4);

@@ -5,7 +5,7 @@
 use harness::brute::{self, EveryRun, Judgement};
 use harness::faults::{self, Fault, Faulty};
 use harness::generate::{self, Family, Rng};
-use harness::plan::{Operation, Plan, Point};
+use harness::plan::{Form, Operation, Plan, Point};
 use harness::reference::{self, Reference};
 use harness::side::{
     told, Found, OwnRooms, Raw, Rooms, Side, Told, Wait, EPOCHS, LENGTH, STATE, TAINT,
@@ -19,7 +19,7 @@ const USAGE: &str = "\
 differ [--seed N] [--count N] [--fault N] [--trace]
   --seed N    the seed of the first case; the case after it has seed N + 1
   --count N   stop after this many plans (200000)
-  --fault N   compare with the reference under seeded fault 1 to 22 instead of
+  --fault N   compare with the reference under seeded fault 1 to 27 instead of
               with the C library
   --trace     print each case's seed before it is judged";
 
@@ -98,6 +98,32 @@ struct Tally {
     short_states: [u64; 2],
     /// Traces of 65,535 steps that were followed.
     longest_traces: u64,
+    second_form: SecondForm,
+}
+
+/// How often what concerns plans in the second form occurred.
+#[derive(Default)]
+struct SecondForm {
+    passed: u64,
+    /// Plans that begin as the second form does and have 64 semaphores or fewer.
+    too_few: u64,
+    written: u64,
+    by_brute_force: u64,
+    traced: u64,
+    waits: u64,
+}
+
+impl SecondForm {
+    fn counts(&self) -> [u64; 6] {
+        [
+            self.passed,
+            self.too_few,
+            self.written,
+            self.by_brute_force,
+            self.traced,
+            self.waits,
+        ]
+    }
 }
 
 /// Numbers 0 to 22.
@@ -154,6 +180,10 @@ impl Tally {
             "traces of {MOST_STEPS} steps: {}; state too short: {}, trace badly formed too: {}",
             self.longest_traces, self.short_states[0], self.short_states[1]
         );
+        println!(
+            "second form passed, too few, written, by brute force, traced, waits: {:?}",
+            self.second_form.counts()
+        );
         println!("dominance no, yes, unknown: {:?}", self.dominance);
         println!(
             "axes absent, listed: {:?}; listed in a badly formed frontier: {}",
@@ -189,6 +219,9 @@ impl Tally {
         }
         if self.short_states.contains(&0) || self.longest_traces == 0 {
             return Some("a state was never too short, or no trace was long".to_string());
+        }
+        if self.second_form.counts().contains(&0) {
+            return Some("something of the second form never occurred".to_string());
         }
         None
     }
@@ -431,25 +464,32 @@ impl Differ {
             bytes: some_length(rng, needed),
             ..Lengths::default()
         };
-        self.compare(
+        let told = self.compare(
             rng,
             Function::Write,
             lengths,
             |side, lent| side.write(numbers, lent.bytes.lend(), lent.told.lend_told()),
             || println!("numbers {numbers:?}"),
         )?;
+        let wide = told.number == 0 && in_second_form(self.ours.bytes.lend());
+        self.tally.second_form.written += u64::from(wide);
         Ok(())
     }
 
     fn check(&mut self, rng: &mut Rng, bytes: &[u8], counts: Counts) -> Compared<()> {
         let lengths = lent_to_check(rng, counts);
-        self.compare(
+        let told = self.compare(
             rng,
             Function::Check,
             lengths,
             |side, lent| side.check(bytes, &mut lent.rooms.lend(), lent.told.lend_told()),
             || print_plan(bytes),
         )?;
+        if in_second_form(bytes) {
+            let second_form = &mut self.tally.second_form;
+            second_form.passed += u64::from(told.number == 0);
+            second_form.too_few += u64::from(too_few(bytes, told));
+        }
         Ok(())
     }
 
@@ -510,6 +550,7 @@ impl Differ {
         };
         let wait = as_point(self.theirs.wait.lend_wait());
         self.count_wait(plan, wait);
+        self.tally.second_form.waits += u64::from(in_second_form(bytes));
         if !longest && !self.freed(plan, queue, buffer, wait) {
             print();
             return Err(Different);
@@ -596,6 +637,7 @@ impl Differ {
             self.tally.short_states[0] += 1;
             self.tally.short_states[1] += u64::from(!traces::well_formed(trace));
         }
+        self.tally.second_form.traced += u64::from(told.number == 0 && in_second_form(bytes));
         if told.answer == 5 {
             let wait = self.ours.found.lend_found()[2];
             self.tally.unmet[wait as usize] += 1;
@@ -613,6 +655,7 @@ impl Differ {
             _ => return Ok(()),
         };
         self.tally.by_brute_force += 1;
+        self.tally.second_form.by_brute_force += u64::from(in_second_form(bytes));
         let judgement = brute::judge(&plan);
         let wanted = told_by_brute_force(&plan, &judgement);
         let operations = plan.operations.len();
@@ -794,7 +837,12 @@ impl Differ {
                 let bytes = generate::random_bytes(rng);
                 self.plan(rng, &bytes)
             }
-            600..2000 => {
+            600..650 => {
+                let plan = small_plan(rng);
+                let bytes = generate::in_other_form(rng, &plan);
+                self.plan(rng, &bytes)
+            }
+            650..2000 => {
                 let plan = small_plan(rng);
                 let damaged = generate::damaged(rng, &plan.bytes());
                 self.plan(rng, &damaged)
@@ -868,8 +916,12 @@ impl Differ {
 
     /// A plan with every list at its limit: as it is, changed, cut, too long.
     fn greatest(&mut self, rng: &mut Rng) -> Compared<()> {
-        let bytes = generate::greatest(rng, 1024).bytes();
-        assert_eq!(bytes.len(), 63_686);
+        let (family, length) = match rng.below(2) {
+            0 => (Family::Greatest, 63_686),
+            _ => (Family::ManySemaphores, 69_768),
+        };
+        let bytes = family.plan(rng, MOST_OPERATIONS).bytes();
+        assert_eq!(bytes.len(), length);
         self.plan(rng, &bytes)?;
         let mut changed = bytes.clone();
         let at = rng.below(bytes.len());
@@ -982,6 +1034,19 @@ impl Counts {
     }
 }
 
+fn in_second_form(bytes: &[u8]) -> bool {
+    bytes.starts_with(Form::Second.lead())
+}
+
+/// Is a plan in the second form refused for a number of semaphores that the first
+/// has room for? That number comes after the axes.
+fn too_few(bytes: &[u8], told: Told) -> bool {
+    let at = told.place as usize;
+    let after_axes = bytes.get(1).map(|&queues| 2 + 8 * usize::from(queues)) == Some(at);
+    let count = bytes.get(at..).and_then(|rest| rest.first_chunk());
+    told.number == 2 && after_axes && count.is_some_and(|&count| u16::from_le_bytes(count) <= 64)
+}
+
 /// A length for a lent slice: enough more often than not.
 fn some_length(rng: &mut Rng, needed: usize) -> usize {
     match rng.below(16) {
@@ -1031,7 +1096,7 @@ fn some_question(rng: &mut Rng, plan: Option<&Plan>, counts: Counts) -> (u32, u3
 
 /// A wait as a plan has it.
 fn as_point(&mut [semaphore, value]: &mut Wait) -> Point {
-    let semaphore = semaphore as u8;
+    let semaphore = semaphore as u16;
     Point { semaphore, value }
 }
 

@@ -104,8 +104,8 @@ fn state(plan: &Plan, run: &[Position]) -> [u64; STATE] {
         let on_queue = |&&i: &&Position| usize::from(plan.operations[i].queue) == queue;
         *count = run.iter().filter(on_queue).count() as u64;
     }
-    for (semaphore, highest) in semaphores.iter_mut().enumerate() {
-        *highest = highest_so_far(plan, run, semaphore as u8);
+    for (semaphore, highest) in (0..plan.owners.len() as u16).zip(semaphores) {
+        *highest = highest_so_far(plan, run, semaphore);
     }
     state
 }

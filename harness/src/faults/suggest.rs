@@ -85,7 +85,7 @@ fn other_wait(fault: Fault, asked: &Asked, told: Told, wait: &mut Wait) -> Told 
         Fault::ValueBefore => {
             let before = asked.signals().take_while(|s| !right(&s.1)).last();
             let value = before.map_or(0, |before| before.1.value);
-            let semaphore = wait[0] as u8;
+            let semaphore = wait[0] as u16;
             Some((0, Point { semaphore, value }))
         }
         _ => return told,

@@ -24,6 +24,9 @@ pub(super) fn spoil(
         (Fault::FormBeforeRoom, 9, _) if state.len() < STATE && !traces::well_formed(trace) => {
             return Told::refused(22, 0);
         }
+        (Fault::StateFor64, 9, _) if told.place == STATE as u64 && state.len() >= 80 => {
+            return Told::answered(0);
+        }
         (Fault::BadStepCounted, 0, 3..=5) => {
             let operation = &plan.operations[found[1] as usize];
             state[usize::from(operation.queue)] += 1;

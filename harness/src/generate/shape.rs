@@ -15,7 +15,8 @@ pub struct Shape {
     pub stay: usize,
     /// Else it is on the lowest queue, or on the highest.
     pub ends: [usize; 2],
-    /// Semaphores that each queue signals, up to 4.
+    /// Semaphores that each queue owns, and how many of them it signals.
+    pub owned: usize,
     pub semaphores: usize,
     /// A signal is on the first of them, else by the same chance on the second,
     /// and so on; what is left over is on any of them.
@@ -49,12 +50,14 @@ pub enum WaitOrder {
 }
 
 impl Shape {
-    /// Every list at its limit, all semaphores and all buffers.
+    /// Every list at its limit, all semaphores of the first form, all buffers.
+    /// With 1,024 operations it has 63,686 bytes.
     pub const GREATEST: Shape = Shape {
         lists: [[3, 3], [2, 2], [4, 4]],
         queues: 16,
         stay: 0,
         ends: [0, 0],
+        owned: 4,
         semaphores: 4,
         skew: 0,
         window: 1024,
@@ -75,6 +78,7 @@ impl Shape {
         queues: 16,
         stay: 0,
         ends: [25, 12],
+        owned: 4,
         semaphores: 4,
         skew: 75,
         window: 32,
@@ -87,6 +91,19 @@ impl Shape {
         buffers: 1,
         never_freed: 1,
     };
+
+    /// The same in the second form: 69,768 bytes.
+    pub const GREATEST_OF_ALL: Shape = Shape {
+        owned: 64,
+        semaphores: 64,
+        ..Shape::GREATEST
+    };
+
+    /// With as many waits, signals and marks in each operation as the die says.
+    pub fn random_counts(self) -> Shape {
+        let lists = self.lists.map(|[_, most]| [0, most]);
+        Shape { lists, ..self }
+    }
 
     pub fn plan(&self, rng: &mut Rng, operations: usize) -> Plan {
         self.plan_with(rng, operations, |rng| {
@@ -105,7 +122,7 @@ impl Shape {
         let counts: Vec<[usize; 3]> = queues.iter().map(|_| counts(rng)).collect();
         let mut plan = Plan {
             axes: axes(rng, 16),
-            owners: (0..64).map(|semaphore| semaphore % 16).collect(),
+            owners: (0..16).cycle().take(16 * self.owned).collect(),
             sizes: (0..self.buffers).map(|_| rng.word() as u32).collect(),
             operations: Vec::new(),
         };
@@ -139,7 +156,7 @@ impl Shape {
 
     /// Operations with their signals.
     fn add_operations(&self, rng: &mut Rng, plan: &mut Plan, queues: &[u8], counts: &[[usize; 3]]) {
-        let mut last = [0u64; 64];
+        let mut last = vec![0u64; plan.owners.len()];
         for (&queue, &[_, signals, _]) in queues.iter().zip(counts) {
             let mut operation = Operation {
                 queue,
@@ -147,8 +164,8 @@ impl Shape {
             };
             for _ in 0..signals {
                 let chosen = (0..self.semaphores).find(|_| rng.percent(self.skew));
-                let which = chosen.unwrap_or_else(|| rng.below(self.semaphores)) as u8;
-                let semaphore = queue + 16 * which;
+                let which = chosen.unwrap_or_else(|| rng.below(self.semaphores)) as u16;
+                let semaphore = u16::from(queue) + 16 * which;
                 let value = &mut last[usize::from(semaphore)];
                 *value += rng.between(1, 1000) as u64;
                 let value = *value;
@@ -179,7 +196,7 @@ impl Shape {
             for at in waits {
                 let wait = match at {
                     None => Point {
-                        semaphore: rng.below(64) as u8,
+                        semaphore: rng.below(plan.owners.len()) as u16,
                         value: 0,
                     },
                     Some(at) if rng.percent(self.less) => {

@@ -1,7 +1,7 @@
 //! A recorded trace held against the plan, from the rules' words (R80 to R84): each step is
 //! taken by the semaphores' values, as a cell would take it.
 
-use super::{check_then, told, Known, QUEUES, SEMAPHORES};
+use super::{check_then, told, Known, QUEUES};
 use crate::side::{Found, Rooms, Told, STATE};
 
 /// The count, and each step in two bytes.
@@ -46,7 +46,7 @@ struct Cell<'a> {
     /// How many operations each queue has run.
     counts: [u64; QUEUES],
     /// The highest value signalled so far.
-    values: [u64; SEMAPHORES],
+    values: Vec<u64>,
 }
 
 impl<'a> Cell<'a> {
@@ -60,7 +60,7 @@ impl<'a> Cell<'a> {
             has_run: vec![false; operations],
             heads: known.order.first,
             counts: [0; QUEUES],
-            values: [0; SEMAPHORES],
+            values: vec![0; flat.owners.len()],
         }
     }
 
@@ -141,8 +141,12 @@ pub fn trace(
         let mut cell = Cell::new(known);
         let answer;
         (answer, *found) = cell.follow(steps);
-        state[..QUEUES].copy_from_slice(&cell.counts);
-        state[QUEUES..].copy_from_slice(&cell.values);
+        let (counts, values) = state.split_at_mut(QUEUES);
+        counts.copy_from_slice(&cell.counts);
+        // Unused places are 0.
+        let (used, unused) = values.split_at_mut(cell.values.len());
+        used.copy_from_slice(&cell.values);
+        unused.fill(0);
         Told::answered(answer)
     }))
 }

@@ -16,7 +16,7 @@ pub fn all_sides<T: PartialEq + std::fmt::Debug>(call: impl Fn(&dyn Side) -> T) 
     told
 }
 
-fn points(list: &[(u8, u64)]) -> Vec<Point> {
+fn points(list: &[(u16, u64)]) -> Vec<Point> {
     let point = |&(semaphore, value)| Point { semaphore, value };
     list.iter().map(point).collect()
 }
@@ -32,8 +32,8 @@ fn marks(list: &[(&str, u16)]) -> Vec<Mark> {
 
 pub fn operation(
     queue: u8,
-    waits: &[(u8, u64)],
-    signals: &[(u8, u64)],
+    waits: &[(u16, u64)],
+    signals: &[(u16, u64)],
     list: &[(&str, u16)],
 ) -> Operation {
     Operation {

@@ -22,9 +22,9 @@ with-lists-requires c κs = search needs
 returns : tie.Need-returns
 returns c =
     let test = c .before .before in
-    let (told, head) = test .before .before .read-head .ensures in
+    let (form, (told, read)) = test .before .before .read-head .ensures in
     let taken = test .if1 .taken in
-    let l = head-counts head taken in
+    let l = head-counts (record { form = form; read = read }) taken in
     rw (c .with-lists .ensures, c .before .refused .ensures) (
       checked _ _ _ _ _ _ (not-read _ _ _ _ (tells-as (l .number) (l .place)) taken),
       (
@@ -48,21 +48,21 @@ slice-aggregate-judged c = search needs
 judged-requires : tie.Need-judged-requires
 judged-requires c κs =
     let lent = c .before .before .before .before .before .before in
-    let held = lent .before .before .before .before .before in
+    let held = lent .before .before .before .before .before .before in
     let test = held .before .before .before .before .before in
-    let (_, head) = test .before .before .read-head .ensures in
-    let few = head .few-operations in (
-      head,
+    let (form, (_, read)) = test .before .before .read-head .ensures in
+    let few = read .few-operations in (
+      record { form = form; read = read },
       test .if1 .left,
       record {
         queues = omega (arith, few, held .before .before .before .places-arg2 .given .0);
         wait-semaphores = omega (arith, few, held .before .places-arg4 .given .0);
         wait-values = omega (arith, few);
-        signal-semaphores = omega (arith, few, lent .judged-arg4 .given .0 .1);
-        signal-values = omega (arith, few, c .before .before .before .before .before .judged-arg5 .given .0 .1);
-        signal-operations = omega (arith, few, c .before .before .before .before .judged-arg6 .given .0 .1);
-        marks = omega (arith, few, c .before .before .before .judged-arg7 .given .0 .1);
-        mark-operations = omega (arith, few, c .before .before .judged-arg8 .given .0 .1);
+        signal-semaphores = omega (arith, few, lent .judged-arg5 .given .0 .1);
+        signal-values = omega (arith, few, c .before .before .before .before .before .judged-arg6 .given .0 .1);
+        signal-operations = omega (arith, few, c .before .before .before .before .judged-arg7 .given .0 .1);
+        marks = omega (arith, few, c .before .before .before .judged-arg8 .given .0 .1);
+        mark-operations = omega (arith, few, c .before .before .judged-arg9 .given .0 .1);
       },
     )
 
@@ -76,9 +76,9 @@ returns-2 : tie.Need-returns-2
 returns-2 c =
     let judged = c .before .before .before .before .before in
     let lent = judged .before .before .before .before .before .before in
-    let held = lent .before .before .before .before .before .before in
+    let held = lent .before .before .before .before .before .before .before in
     let test = held .before .before .before .before .before in
-    let told = test .before .before .read-head .ensures .0 in
+    let told = test .before .before .read-head .ensures .1 .0 in
     let (checks, others) = judged .judged .ensures in
     let (sizes, (none, (read, (opens, kept)))) = others in
     (checks, (sizes, (none, (read, (opens, left-after told kept)))))

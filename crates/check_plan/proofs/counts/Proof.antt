@@ -17,9 +17,9 @@ with-counts-requires c κs = search needs
 returns : tie.Need-returns
 returns c =
     let test = c .before .before in
-    let (_, head) = test .before .before .read-head .ensures in
+    let (form, (_, read)) = test .before .before .read-head .ensures in
     let taken = test .if1 .taken in
-    rw (c .with-counts .ensures, c .before .refused .ensures) (head-counts head taken)
+    rw (c .with-counts .ensures, c .before .refused .ensures) (head-counts (record { form = form; read = read }) taken)
 
 slice-aggregate-columns : tie.Need-slice-aggregate-columns
 slice-aggregate-columns c = search needs
@@ -41,11 +41,10 @@ slice-aggregate-columns-6 c = search needs
 
 columns-requires : tie.Need-columns-requires
 columns-requires c κs =
-    let owned = c .before .before .before .before .before .before .before .before in
-    let test = owned .before .before in
-    let (_, head) = test .before .before .read-head .ensures in (
-      head,
-      test .if1 .left,
+    let made = c .before .before .before .before .before .before .before in
+    let test = made .before in
+    let (_, (_, head)) = test .before .before .read-head .ensures in (
+      head .few-operations,
       record {
         queues = omega (arith, head .few-operations);
         wait-semaphores = omega (arith, head .few-operations);
@@ -64,7 +63,12 @@ with-counts-requires-2 c κs = search needs
 returns-2 : tie.Need-returns-2
 returns-2 c =
     let lent = c .before .before .before .before .before .before in
-    rw (c .with-counts2 .ensures) (loaded-counts (lent .before .columns .ensures .0))
+    let loaded = lent .before in
+    let made = loaded .before .before .before .before .before .before .before .before in
+    let test = made .before in
+    let (form, (_, read)) = test .before .before .read-head .ensures in
+    rw (c .with-counts2 .ensures)
+    (loaded-counts (loaded .columns .ensures _ (record { form = form; read = read }) (test .if1 .left) .0))
 
 pub counts-spec : {M : Type 1} → statement M
 counts-spec =

@@ -1,12 +1,15 @@
 -- `judged` meets its contract: the reader's refusal of an operation, or what `check_passes` says of the columns that
 -- are loaded. Assumes nothing.
 use mathlib.Core.Path.{_∙_}
+use Prim.Native.Nat.{_+_}
+use native.Mathlib.Omega.{arith}
 use borrow.Author.Needs.{needs}
 use Rattle.plan_format.proofs.Telling.{tells-as}
 use Rattle.plan_order.proofs.Checks.{checked}
+use Rattle.check_load.proofs.Outcomes.{head-long}
 use Rattle.check_passes.proofs.Kept.{sources-kept}
 use Rattle.check_plan.proofs.Told.{not-read, read-says}
-use Rattle.check_plan.proofs.Columns.{loaded-none, loaded-read, loaded-clean, loaded-given}
+use Rattle.check_plan.proofs.Columns.{loaded-none, loaded-read, loaded-clean, loaded-given, owners-part}
 use Rattle.check_plan.proofs.Left.{kept-refused, kept-judged}
 use Rattle.check_plan.proofs.Passed.{opened-plan}
 use Rattle.check_plan.proofs.judged.Statement.{statement}
@@ -14,8 +17,9 @@ use Rattle.check_plan.proofs.judged.Tie as tie
 
 columns-requires : tie.Need-columns-requires
 columns-requires c κs =
-    let owned = c .before .before .before .before .before .before .before .before in
-    let given = owned .before .before .before .before .before .before .before .before in given .before .before .pre
+    let lent = c .before .before .before .before .before .before .before .before in
+    let given = lent .before .before .before .before .before .before .before .before in
+    let (head, _, places) = given .before .before .pre in (head .read .few-operations, places)
 
 with-lists-requires : tie.Need-with-lists-requires
 with-lists-requires c κs = search needs
@@ -53,7 +57,11 @@ returns : tie.Need-returns
 returns c =
     let taken = c .before .if1 .taken in
     let stored = c .before .before .before .before .before .before .before .before in
-    let loaded = stored .before .before .before .before .before .before .before .columns .ensures in
+    let filled = stored .before .before .before .before .before .before .before in
+    let called = filled .before .before .before .before .before .before .before .before .before in
+    let lent = called .before .before .before .before .before .before .before .before in
+    let (head, z, _) = lent .before .before .pre in
+    let loaded = filled .columns .ensures _ head z in
     let l = loaded .0 in
     rw (c .with-lists .ensures) (
       checked _ _ _ _ _ _ (not-read _ _ _ _ (tells-as (l .number) (l .place)) taken),
@@ -63,11 +71,56 @@ returns c =
           loaded-none l,
           (
             loaded-read l _ _ (λ z. absurd (taken (l .number ∙ z))),
-            ((λ z. absurd (taken z)), kept-refused l (loaded .1 .1) _ _ taken),
+            ((λ z. absurd (taken z)), kept-refused l (loaded .2) _ _ taken),
           ),
         ),
       ),
     )
+
+add-first : tie.Need-add-first
+add-first c =
+    let stored = c .before .before .before .before .before .before .before in
+    let filled = stored .before .before .before .before .before .before .before in
+    let called = filled .before .before .before .before .before .before .before .before .before in
+    let lent = called .before .before .before .before .before .before .before .before in
+    let (head, z, _) = lent .before .before .pre in
+    omega (arith, head-long (head .read) z .0)
+
+mul-owner : tie.Need-mul-owner
+mul-owner c =
+    let stored = c .before .before .before .before .before .before .before in
+    let filled = stored .before .before .before .before .before .before .before in
+    let called = filled .before .before .before .before .before .before .before .before .before in
+    let lent = called .before .before .before .before .before .before .before .before in
+    let (head, z, _) = lent .before .before .pre in
+    omega (arith, head-long (head .read) z .0)
+
+sub-owner : tie.Need-sub-owner
+sub-owner c =
+    let stored = c .before .before .before .before .before .before .before in
+    let filled = stored .before .before .before .before .before .before .before in
+    let called = filled .before .before .before .before .before .before .before .before .before in
+    let lent = called .before .before .before .before .before .before .before .before in
+    let (head, z, _) = lent .before .before .pre in
+    omega (arith, head-long (head .read) z .1)
+
+part-owner-start : tie.Need-part-owner-start
+part-owner-start c =
+    let stored = c .before .before .before .before .before .before .before in
+    let filled = stored .before .before .before .before .before .before .before in
+    let called = filled .before .before .before .before .before .before .before .before .before in
+    let lent = called .before .before .before .before .before .before .before .before in
+    let (head, z, _) = lent .before .before .pre in
+    omega (arith, head-long (head .read) z .1)
+
+part-owner-end : tie.Need-part-owner-end
+part-owner-end c =
+    let stored = c .before .before .before .before .before .before .before in
+    let filled = stored .before .before .before .before .before .before .before in
+    let called = filled .before .before .before .before .before .before .before .before .before in
+    let lent = called .before .before .before .before .before .before .before .before in
+    let (head, z, _) = lent .before .before .pre in
+    omega (arith, head-long (head .read) z .1)
 
 cast-judge-columns : tie.Need-cast-judge-columns
 cast-judge-columns c = search needs
@@ -134,13 +187,20 @@ same-length-14 c = c .before .before .list .given
 returns-2 : tie.Need-returns-2
 returns-2 c =
     let judged = c .before .before .before .before .before in
-    let lent = judged .before .before .before .before .before .before .before in
-    let test = lent .before .before .before .before .before .before .before in
+    let made = judged .before .before .before .before .before .before .before in
+    let test = made .before .before .before .before .before .before .before in
     let none = test .if1 .left in
     let stored = test .before .before .before .before .before .before .before in
-    let loaded = stored .before .before .before .before .before .before .before .columns .ensures in
+    let filled = stored .before .before .before .before .before .before .before in
+    let called = filled .before .before .before .before .before .before .before .before .before in
+    let lent = called .before .before .before .before .before .before .before .before in
+    let start = lent .before .before in
+    let (head, z, _) = start .pre in
+    let loaded = filled .columns .ensures _ head z in
     let l = loaded .0 in
-    let of-plan = judged .judge-columns .ensures .1 .1 _ (loaded-given l none _ (loaded .1 .0 none)) in
+    let owners = owners-part _ (start .args .head .now) (2 + start .args .h .queues) (start .args .h .semaphores)
+    (loaded .1 none) in
+    let of-plan = judged .judge-columns .ensures .1 .1 _ (loaded-given l none _ owners) in
     let whole = checked _ _ _ _ _ _ (read-says _ _ _ _ _ _ (loaded-clean l none) (of-plan .0)) in
     let read = loaded-read l _ _ (λ _. of-plan .1) in
     rw (c .with-lists2 .ensures) (
@@ -153,7 +213,7 @@ returns-2 c =
             read,
             (
               (λ z. opened-plan (l .sizes) whole z (read (loaded-clean l none))),
-              kept-judged l (loaded .1 .1) _ _ none (sources-kept (judged .judge-columns .ensures .1 .0)),
+              kept-judged l (loaded .2) _ _ none (sources-kept (judged .judge-columns .ensures .1 .0)),
             ),
           ),
         ),
@@ -173,6 +233,11 @@ judged-spec =
     same-length-5
     same-length-6
     returns
+    add-first
+    mul-owner
+    sub-owner
+    part-owner-start
+    part-owner-end
     cast-judge-columns
     cast-judge-columns-2
     judge-columns-requires

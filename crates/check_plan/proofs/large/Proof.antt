@@ -26,18 +26,18 @@ judged-requires : tie.Need-judged-requires
 judged-requires c κs =
     let lent = c .before .before .before .before .before .before in
     let made = lent .before .before .before in
-    let (head, z) = made .before .before .before .before .pre in (
+    let (head, z) = made .before .before .before .before .before .pre in (
       head,
       z,
       record {
-        queues = omega (arith, head .few-operations);
-        wait-semaphores = omega (arith, head .few-operations);
-        wait-values = omega (arith, head .few-operations);
-        signal-semaphores = omega (arith, head .few-operations);
-        signal-values = omega (arith, head .few-operations);
-        signal-operations = omega (arith, head .few-operations);
-        marks = omega (arith, head .few-operations);
-        mark-operations = omega (arith, head .few-operations);
+        queues = omega (arith, head .read .few-operations);
+        wait-semaphores = omega (arith, head .read .few-operations);
+        wait-values = omega (arith, head .read .few-operations);
+        signal-semaphores = omega (arith, head .read .few-operations);
+        signal-values = omega (arith, head .read .few-operations);
+        signal-operations = omega (arith, head .read .few-operations);
+        marks = omega (arith, head .read .few-operations);
+        mark-operations = omega (arith, head .read .few-operations);
       },
     )
 

@@ -62,11 +62,11 @@ mul-value c = search needs
 shared-slice-read-value : tie.Need-shared-slice-read-value Inv-loop μ-loop
 shared-slice-read-value c = search needs
 
+owner-of-requires : tie.Need-owner-of-requires Inv-loop μ-loop
+owner-of-requires c κs = search needs
+
 get16-requires : tie.Need-get16-requires Inv-loop μ-loop
 get16-requires c κs = search needs
-
-get16-requires-2 : tie.Need-get16-requires-2 Inv-loop μ-loop
-get16-requires-2 c κs = search needs
 
 refused-requires : tie.Need-refused-requires Inv-loop μ-loop
 refused-requires c κs = search needs
@@ -74,21 +74,21 @@ refused-requires c κs = search needs
 same-length : tie.Need-same-length Inv-loop μ-loop
 same-length c =
     let read = c .before .before in
-    let head = read .before .before .before .before .before .before .before .before .before .before in
+    let head = read .before .before .before .before .before .before .before .before .before in
     head .loop .inv .0 ∙ ap length (head .before .before .before .before .clear .ensures) ∙ cleared-long _ _
 
 returns : tie.Need-returns Inv-loop μ-loop
 returns c =
     let read = c .before .before in
     let owned = read .before .before in
-    let operation = owned .before .before .before in
+    let operation = owned .before .before in
     let semaphore = operation .before .before in
     let turn = semaphore .before .before in
     let head = turn .before in
     let e = stops-found (head .before .before .before .before .clear .ensures) (head .before .held .ensures)
     (signals-six (head .loop .inv .1) (turn .loop-test .taken)
-    (semaphore .u16-to-usize .ensures .0) (operation .u16-to-usize2 .ensures .0) refl (owned .get16 .ensures)
-    (read .get162 .ensures) (c .before .if1 .taken)) in
+    (semaphore .u16-to-usize .ensures .0) (operation .u16-to-usize2 .ensures .0) refl (owned .owner-of .ensures)
+    (read .get16 .ensures) (c .before .if1 .taken)) in
     rw (c .refused .ensures) (tells (sym (e .found)), (e .table, λ p shown. judged shown (e .found) (e .table)))
 
 get64-requires : tie.Need-get64-requires Inv-loop μ-loop
@@ -100,7 +100,7 @@ refused-requires-2 c κs = search needs
 same-length-2 : tie.Need-same-length-2 Inv-loop μ-loop
 same-length-2 c =
     let read = c .before .before .before .before .before in
-    let head = read .before .before .before .before .before .before .before .before .before .before in
+    let head = read .before .before .before .before .before .before .before .before .before in
     head .loop .inv .0 ∙ ap length (head .before .before .before .before .clear .ensures) ∙ cleared-long _ _
 
 returns-2 : tie.Need-returns-2 Inv-loop μ-loop
@@ -108,14 +108,14 @@ returns-2 c =
     let tested = c .before .before in
     let read = tested .before .before .before in
     let owned = read .before .before in
-    let operation = owned .before .before .before in
+    let operation = owned .before .before in
     let semaphore = operation .before .before in
     let turn = semaphore .before .before in
     let head = turn .before in
     let e = stops-found (head .before .before .before .before .clear .ensures) (head .before .held .ensures)
     (signals-seven (head .loop .inv .1) (turn .loop-test .taken)
-    (semaphore .u16-to-usize .ensures .0) (operation .u16-to-usize2 .ensures .0) refl (owned .get16 .ensures)
-    (read .get162 .ensures) (tested .before .before .if1 .left) (tested .get64 .ensures)
+    (semaphore .u16-to-usize .ensures .0) (operation .u16-to-usize2 .ensures .0) refl (owned .owner-of .ensures)
+    (read .get16 .ensures) (tested .before .before .if1 .left) (tested .get64 .ensures)
     (c .before .if2 .taken)) in
     rw (c .refused2 .ensures) (tells (sym (e .found)), (e .table, λ p shown. judged shown (e .found) (e .table)))
 
@@ -134,14 +134,14 @@ loop-again c =
     let tested = stored .before .before .before in
     let read = tested .before .before .before in
     let owned = read .before .before in
-    let operation = owned .before .before .before in
+    let operation = owned .before .before in
     let semaphore = operation .before .before in
     let turn = semaphore .before .before in
     let head = turn .before in (
       ap length (stored .put64 .ensures) ∙ simp length-set (head .loop .inv .0),
       signals-more (head .loop .inv .1) (turn .loop-test .taken)
-          (semaphore .u16-to-usize .ensures .0) (operation .u16-to-usize2 .ensures .0) refl (owned .get16 .ensures)
-          (read .get162 .ensures)
+          (semaphore .u16-to-usize .ensures .0) (operation .u16-to-usize2 .ensures .0) refl (owned .owner-of .ensures)
+          (read .get16 .ensures)
           (tested .before .before .if1 .left) (tested .get64 .ensures) (stored .before .before .if2 .left)
           (stored .put64 .ensures),
       head .loop .inv .2,
@@ -182,8 +182,8 @@ judge-spec =
     u16-to-usize-requires-2
     mul-value
     shared-slice-read-value
+    owner-of-requires
     get16-requires
-    get16-requires-2
     refused-requires
     same-length
     returns

@@ -1,7 +1,7 @@
 -- `read_numbers` meets its contract: what the sections read, and how it ends.
 use native.Mathlib.Omega.{arith}
 use borrow.Author.Needs.{needs}
-use Rattle.stored_numbers.proofs.ReadingEnds.{read-in-first, numbers-read, read-array}
+use Rattle.stored_numbers.proofs.ReadingEnds.{read-in, numbers-read, read-array}
 use Rattle.stored_numbers.proofs.read_numbers.Statement.{statement}
 use Rattle.stored_numbers.proofs.read_numbers.Tie as tie
 
@@ -14,7 +14,7 @@ finished-requires c κs = search needs
 returns : tie.Need-returns
 returns c =
     let s = c .before .sections .ensures in
-    let form = read-in-first _ in (
+    let form = read-in _ in (
       numbers-read form (s .0) (omega arith) (c .finished .ensures _ (omega (arith, s .0 .few))),
       read-array form (s .0) (omega arith) (s .1),
     )

@@ -1,6 +1,7 @@
 -- `read_rest` meets its contract: the head's numbers are copied, the operations are read after them, and so it ends.
 -- Assumes nothing.
 use borrow.Author.Needs.{needs}
+use Rattle.plan_format.specs.Form.{width-by}
 use Rattle.stored_numbers.proofs.Rests.{rest-told, rest-few}
 use Rattle.stored_numbers.proofs.read_rest.Statement.{statement}
 use Rattle.stored_numbers.proofs.read_rest.Tie as tie
@@ -34,14 +35,16 @@ returns c =
     let p = several .several .ensures in
     let asked = copy-requires (copied .before) (copied .copy .lifetimes) in
     let room = several-requires (several .before) (several .several .lifetimes) .room in
-    let law = rest-told 1 (a .plan .now) (a .head .now) (a .numbers .now) (a .at) (a .h) (place .min-usize2 .ensures)
+    let law = rest-told (width-by (a .h .wide)) (a .plan .now) (a .head .now) (a .numbers .now) (a .at) (a .h)
+    (place .min-usize2 .ensures)
     (before .min-usize .ensures)
     (few .few .ensures) (copied .copy .ensures) (asked .0) (asked .1) room p in
     let told = law .0 (c .finished .result) (c .finished .ensures) in (
       told,
       (
         law .1,
-        rest-few 1 (a .plan .now) (a .head .now) (a .numbers .now) (a .at) (a .h) (place .min-usize2 .ensures)
+        rest-few (width-by (a .h .wide)) (a .plan .now) (a .head .now) (a .numbers .now) (a .at) (a .h)
+            (place .min-usize2 .ensures)
             (before .min-usize .ensures) (few .few .ensures)
             (copied .copy .ensures) (asked .0) (asked .1) room p (c .finished .result) told,
       ),

@@ -14,7 +14,8 @@ returns : tie.Need-returns
 returns c =
     let known = c .before .before .before .before in
     let s = known .before in
-    heading-past (s .args .plan .now) (known .shared-slice-known .given) (s .args .at) _
+    heading-past (s .args .plan .now) (known .shared-slice-known .given) (s .args .at)
+    (record { head = c .read-head .result; numbers = c .read-head .last .1 .0 })
     (c .before .before .before .if1 .taken) (c .read-head .ensures)
 
 sub-read-head : tie.Need-sub-read-head
@@ -33,7 +34,8 @@ returns-2 : tie.Need-returns-2
 returns-2 c =
     let known = c .before .before .before .before in
     let s = known .before in
-    heading-from (s .args .plan .now) (known .shared-slice-known .given) (s .args .at) _ (c .read-head2 .ensures)
+    heading-from (s .args .plan .now) (known .shared-slice-known .given) (s .args .at)
+    (record { head = c .read-head2 .result; numbers = c .read-head2 .last .1 .0 }) (c .read-head2 .ensures)
 
 pub read-heading-spec : {M : Type 1} → statement M
 read-heading-spec =

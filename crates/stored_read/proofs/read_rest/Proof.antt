@@ -1,5 +1,6 @@
 -- `read_rest` meets its contract: what was read goes into the room.
 use borrow.Author.Needs.{needs}
+use Rattle.plan_format.specs.Form.{width-by}
 use Rattle.stored_numbers.specs.Reading.{Ends, rest-scan}
 use Rattle.stored_read.specs.Rest.{Rest-says}
 use Rattle.stored_read.proofs.ReadRoom.{rest-taken, rest-fits}
@@ -13,7 +14,8 @@ into-room-requires : tie.Need-into-room-requires
 into-room-requires c κs =
     let read = c .before .before in
     let s = read .before .before .before .before .before .before .before in
-    let fits = rest-fits (rest-scan 1 (s .args .plan .now) (s .args .at) (s .args .h .head) (s .args .h .numbers))
+    let fits = rest-fits (rest-scan (width-by (s .args .h .head .wide)) (s .args .plan .now) (s .args .at)
+    (s .args .h .head) (s .args .h .numbers))
     (read .read-rest .result) _ (read .read-rest .ensures .0) (read .read-rest .ensures .1 .0) in
     (read .read-rest .ensures .1 .1, fits)
 
@@ -26,7 +28,8 @@ returns c =
     let stored = c .before .before in
     let read = stored .before .before .before in
     let s = read .before .before .before .before .before .before .before in
-    let scan = rest-scan 1 (s .args .plan .now) (s .args .at) (s .args .h .head) (s .args .h .numbers) in
+    let scan = rest-scan (width-by (s .args .h .head .wide)) (s .args .plan .now) (s .args .at) (s .args .h .head)
+    (s .args .h .numbers) in
     let told = read .read-rest .ensures in
     stored .into-room .ensures (scan .fault) (scan .got) (told .0)
     (λ _. rest-taken scan (read .read-rest .result) _ (told .0) (told .1 .0))

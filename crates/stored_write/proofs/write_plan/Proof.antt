@@ -8,8 +8,8 @@ use Rattle.stored_write.proofs.WrittenRoom.{written-fits, written-front
 use Rattle.stored_write.proofs.write_plan.Statement.{statement}
 use Rattle.stored_write.proofs.write_plan.Tie as tie
 
-write-bytes-requires : tie.Need-write-bytes-requires
-write-bytes-requires c κs = search needs
+tried-requires : tie.Need-tried-requires
+tried-requires c κs = search needs
 
 returns : tie.Need-returns
 unfolding Write-says write-refusal
@@ -17,7 +17,7 @@ returns c =
     let s = c .before .before .before .before .before .before in
     let xs = s .args .numbers .now in
     both xs _ (s .args .room .now) _
-    (not-read (listed xs .fault) (spelled xs) (c .before .before .write-bytes .ensures .told) (s .args .room .now)
+    (not-read (listed xs .fault) (spelled xs) (c .before .before .tried .ensures .told) (s .args .room .now)
     (c .if1 .taken))
 
 refused-requires : tie.Need-refused-requires
@@ -31,13 +31,13 @@ returns-2 c =
     let xs = s .args .numbers .now in
     rw (c .refused .ensures)
     (both xs _ (s .args .room .now) _
-    (no-room (listed xs .fault) (spelled xs) (left .before .before .write-bytes .ensures .told) (s .args .room .now)
+    (no-room (listed xs .fault) (spelled xs) (left .before .before .tried .ensures .told) (s .args .room .now)
     (left .if1 .left) (c .before .if2 .taken)))
 
 store-requires : tie.Need-store-requires
 store-requires c κs = (
   omega arith,
-  written-fits (c .before .before .before .before .before .write-bytes .ensures) (c .before .before .before .if1 .left),
+  written-fits (c .before .before .before .before .before .tried .ensures) (c .before .before .before .if1 .left),
   c .before .before .if2 .left,
 )
 
@@ -55,7 +55,7 @@ returns-3 c =
     let written = branch .before .before .before in
     let s = written .before .before .before .before in
     let xs = s .args .numbers .now in
-    let n = written .write-bytes .ensures in
+    let n = written .tried .ensures in
     let clean = branch .before .if1 .left in
     rw (c .answered .ensures)
     (both xs _ (s .args .room .now) _
@@ -65,5 +65,5 @@ returns-3 c =
 pub write-plan-spec : {M : Type 1} → statement M
 write-plan-spec =
     tie.close
-    (tie.spec write-bytes-requires returns refused-requires returns-2 store-requires answered-requires
+    (tie.spec tried-requires returns refused-requires returns-2 store-requires answered-requires
     same-length returns-3)

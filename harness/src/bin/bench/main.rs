@@ -4,7 +4,7 @@
 //! and draws time over size as an SVG if a path is given. With `--before LIBRARY`
 //! it times the linked library beside a shared library built earlier instead.
 
-use harness::generate::{self, Family, Rng};
+use harness::generate::{Family, Rng};
 use harness::reference::Reference;
 use harness::side::{told, Found, OwnRooms, Raw, Side, Told, Wait, EMPTY, STATE};
 use harness::timing::{self, in_turn, Turn, PAIRS};
@@ -393,7 +393,9 @@ fn measure_others(sides: &Sides) {
         print(name, sides.measure(call).of_one(calls));
     };
     small_calls(&mut measure);
-    plan_calls(&mut measure);
+    for family in Family::GREATEST {
+        plan_calls(family, &mut measure);
+    }
     print(
         "trace of 65,535 steps, greatest plan",
         measure_long_trace(sides),
@@ -407,30 +409,34 @@ type Call<'a> = dyn FnMut(&dyn Side) + 'a;
 /// Measures and prints by a name what is so many calls of one function.
 type Measure<'a> = dyn FnMut(&str, u64, &mut Call) + 'a;
 
-/// What every library can be asked of greatest plans, besides their check.
-fn plan_calls(measure: &mut Measure) {
-    let plans = (0..PLANS).map(|seed| generate::greatest(&mut Rng::new(seed), 1024));
+/// What every library can be asked of the greatest plans of a family, besides
+/// their check.
+fn plan_calls(family: Family, measure: &mut Measure) {
+    let plans = (0..PLANS).map(|seed| family.plan(&mut Rng::new(seed), 1024));
     let plans: Vec<_> = plans.map(|plan| (plan.bytes(), plan.numbers())).collect();
     let mut read_room = vec![0; plans[0].1.len()];
     let mut write_room = vec![0; plans[0].0.len()];
     let (mut rooms, mut told) = (OwnRooms::new(1024), Told::default());
     let (rooms, mut out) = (&mut rooms.lend(), EMPTY);
-    measure("read, greatest plan", PLANS, &mut |side| {
+    let mut measure = |function: &str, call: &mut Call| {
+        measure(&format!("{function}, {}", family.name()), PLANS, call);
+    };
+    measure("read", &mut |side| {
         for (bytes, _) in &plans {
             side.read(black_box(bytes), &mut read_room, &mut told);
         }
     });
-    measure("write, greatest plan", PLANS, &mut |side| {
+    measure("write", &mut |side| {
         for (_, numbers) in &plans {
             side.write(black_box(numbers), &mut write_room, &mut told);
         }
     });
-    measure("reuse, greatest plan", PLANS, &mut |side| {
+    measure("reuse", &mut |side| {
         for (bytes, _) in &plans {
             side.reuse(black_box(bytes), 3, 200, rooms, &mut told);
         }
     });
-    measure("frontier sent out, greatest plan", PLANS, &mut |side| {
+    measure("frontier sent out", &mut |side| {
         for (bytes, _) in &plans {
             side.frontier(black_box(bytes), 1023, 8, rooms, &mut out, &mut told);
         }
@@ -532,7 +538,10 @@ fn compare(after: &dyn Side, before: &dyn Side) {
     small_calls(&mut measure);
     let (mut rooms, mut told) = (OwnRooms::new(1024), Told::default());
     let rooms = &mut rooms.lend();
-    for family in Family::ALL {
+    for family in Family::ALL
+        .into_iter()
+        .filter(|&family| takes(before, family))
+    {
         for size in SIZES {
             let plans = plans_of(family, size);
             let name = format!("check, {}, {size}", family.name());
@@ -543,8 +552,20 @@ fn compare(after: &dyn Side, before: &dyn Side) {
             });
         }
     }
-    plan_calls(&mut measure);
+    for family in Family::GREATEST
+        .into_iter()
+        .filter(|&family| takes(before, family))
+    {
+        plan_calls(family, &mut measure);
+    }
     frontier_calls(&mut measure);
+}
+
+/// Does a side read the family's plans at all? One built earlier may not know
+/// their form.
+fn takes(side: &dyn Side, family: Family) -> bool {
+    let plan = family.plan(&mut Rng::new(0), SIZES[0]).bytes();
+    told(|told| side.read(&plan, &mut [], told)).number == 9
 }
 
 /// `bench --before LIBRARY`.

@@ -4,6 +4,7 @@ use Prim.Native.Nat.{_+_, _-_, _*_, _≤_}
 use native.Mathlib.Omega.{arith}
 use borrow.Author.Needs.{needs}
 use Rattle.plan_format.specs.Sizes.{block-bytes}
+use Rattle.plan_format.specs.Form.{list-by}
 use Rattle.plan_format.specs.Sections.{repeat, operation-below}
 use Rattle.stored_bytes.specs.Writing.{Writes}
 use Rattle.stored_bytes.proofs.Cursors.{writes-none, writes-more, writes-counted, writes-stopped}
@@ -11,12 +12,13 @@ use Rattle.stored_bytes.proofs.operation.operations.Statement.{statemen
 use Rattle.stored_bytes.proofs.operation.operations.Tie as tie
 
 abbrev Inv-loop : tie.InvT-loop
-Inv-loop numbers queues semaphores buffers bytes₀ count o₀ i₀ bytes o i =
-    (i ≤ count) × Writes (repeat i (operation-below 1 queues semaphores buffers)) (block-bytes * i) numbers o₀ bytes₀ o
+Inv-loop numbers wide queues semaphores buffers bytes₀ count o₀ i₀ bytes o i =
+    (i ≤ count) × Writes (repeat i (operation-below (list-by wide .semaphore-width) queues semaphores buffers))
+    (block-bytes * i) numbers o₀ bytes₀ o
     bytes
 
 abbrev μ-loop : tie.MeasureT-loop
-μ-loop numbers queues semaphores buffers bytes₀ count o₀ i₀ bytes o i = count - i
+μ-loop numbers wide queues semaphores buffers bytes₀ count o₀ i₀ bytes o i = count - i
 
 pair-requires : tie.Need-pair-requires Inv-loop μ-loop
 pair-requires c κs = search needs
@@ -25,7 +27,8 @@ loop-holds : tie.Need-loop-holds Inv-loop μ-loop
 loop-holds c =
     let s = c .before .before .before .before .before .before in (
       omega arith,
-      writes-none (operation-below 1 (s .args .queues) (s .args .semaphores) (s .args .buffers)) block-bytes
+      writes-none (operation-below (list-by (s .args .wide) .semaphore-width) (s .args .queues) (s .args .semaphores)
+          (s .args .buffers)) block-bytes
           _ _ _ (c .before .before .pair .ensures .writes .inside),
     )
 
@@ -42,7 +45,8 @@ returns c =
     let start = head .before .before .before in
     let s = start .before .before .before .before in
     writes-counted block-bytes (start .pair .ensures) (start .pair .result .value) refl
-    (writes-stopped (operation-below 1 (s .args .queues) (s .args .semaphores) (s .args .buffers)) block-bytes
+    (writes-stopped (operation-below (list-by (s .args .wide) .semaphore-width) (s .args .queues) (s .args .semaphores)
+    (s .args .buffers)) block-bytes
     (head .loop .i + 1) (start .pair .result .value) (c .if1 .taken) (omega arith)
     (writes-more (head .loop .i) (head .loop .inv .1) (turn .operation .ensures)))
 

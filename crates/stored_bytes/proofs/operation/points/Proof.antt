@@ -3,18 +3,20 @@ use mathlib.Core.Path.{refl}
 use Prim.Native.Nat.{_+_, _-_, _*_, _≤_}
 use native.Mathlib.Omega.{arith}
 use borrow.Author.Needs.{needs}
+use Rattle.plan_format.specs.Form.{list-by}
 use Rattle.plan_format.specs.Sections.{repeat, point-below}
-use Rattle.stored_bytes.specs.Writing.{Writes}
+use Rattle.stored_bytes.specs.Writing.{Writes, point-most}
 use Rattle.stored_bytes.proofs.Cursors.{writes-none, writes-more, writes-counted, writes-stopped}
 use Rattle.stored_bytes.proofs.operation.points.Statement.{statement}
 use Rattle.stored_bytes.proofs.operation.points.Tie as tie
 
 abbrev Inv-loop : tie.InvT-loop
-Inv-loop numbers most semaphores bytes₀ count p₀ i₀ bytes p i =
-    (i ≤ count) × Writes (repeat i (point-below 1 semaphores)) (9 * i) numbers p₀ bytes₀ p bytes
+Inv-loop numbers most wide semaphores bytes₀ count p₀ i₀ bytes p i =
+    (i ≤ count) × Writes (repeat i (point-below (list-by wide .semaphore-width) semaphores)) (point-most * i) numbers
+    p₀ bytes₀ p bytes
 
 abbrev μ-loop : tie.MeasureT-loop
-μ-loop numbers most semaphores bytes₀ count p₀ i₀ bytes p i = count - i
+μ-loop numbers most wide semaphores bytes₀ count p₀ i₀ bytes p i = count - i
 
 add-byte : tie.Need-add-byte Inv-loop μ-loop
 add-byte c = search needs
@@ -26,7 +28,7 @@ loop-holds : tie.Need-loop-holds Inv-loop μ-loop
 loop-holds c =
     let s = c .before .before .before .before .before .before in (
       omega arith,
-      writes-none (point-below 1 (s .args .semaphores)) 9 _ _ _
+      writes-none (point-below (list-by (s .args .wide) .semaphore-width) (s .args .semaphores)) point-most _ _ _
           (c .before .before .byte .ensures .writes .inside),
     )
 
@@ -42,8 +44,9 @@ returns c =
     let head = turn .before .before .before in
     let start = head .before .before .before in
     let s = start .before .before .before .before in
-    writes-counted 9 (start .byte .ensures) (start .byte .result .value) refl
-    (writes-stopped (point-below 1 (s .args .semaphores)) 9 (head .loop .i + 1) (start .byte .result .value)
+    writes-counted point-most (start .byte .ensures) (start .byte .result .value) refl
+    (writes-stopped (point-below (list-by (s .args .wide) .semaphore-width) (s .args .semaphores)) point-most
+    (head .loop .i + 1) (start .byte .result .value)
     (c .if1 .taken) (omega arith)
     (writes-more (head .loop .i) (head .loop .inv .1) (turn .point .ensures)))
 
@@ -65,7 +68,7 @@ same-length-2 c = search needs
 returns-2 : tie.Need-returns-2 Inv-loop μ-loop
 returns-2 c =
     let l = c .before .loop in
-    writes-counted 9 (c .before .before .before .before .byte .ensures) (l .i) (omega arith) (l .inv .1)
+    writes-counted point-most (c .before .before .before .before .byte .ensures) (l .i) (omega arith) (l .inv .1)
 
 pub points-spec : {M : Type 1} → statement M
 points-spec =

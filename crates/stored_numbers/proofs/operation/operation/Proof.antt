@@ -1,6 +1,7 @@
 -- `operation` meets its contract: one part after the other.
 use borrow.Author.Needs.{needs}
-use Rattle.plan_format.specs.Sections.{operation-below}
+use Rattle.plan_format.specs.Grammar.{read-by}
+use Rattle.plan_format.specs.Sections.{operation-below, most-in, lists-below}
 use Rattle.stored_numbers.proofs.Cursors.{reads-seq}
 use Rattle.stored_numbers.proofs.operation.operation.Statement.{statement}
 use Rattle.stored_numbers.proofs.operation.operation.Tie as tie
@@ -8,11 +9,8 @@ use Rattle.stored_numbers.proofs.operation.operation.Tie as tie
 byte-requires : tie.Need-byte-requires
 byte-requires c κs = search needs
 
-points-requires : tie.Need-points-requires
-points-requires c κs = search needs
-
-points-requires-2 : tie.Need-points-requires-2
-points-requires-2 c κs = search needs
+waits-and-signals-requires : tie.Need-waits-and-signals-requires
+waits-and-signals-requires c κs = search needs
 
 marks-requires : tie.Need-marks-requires
 marks-requires c κs = search needs
@@ -21,15 +19,21 @@ same-length : tie.Need-same-length
 same-length c = search needs
 
 returns : tie.Need-returns
-unfolding operation-below
+unfolding operation-below lists-below most-in read-by
 returns c =
-    let signals = c .before .before .before .before .before .before in
-    let waits = signals .before .before .before .before in
-    let queue = waits .before .before .before .before in
-    reads-seq (queue .byte .ensures .reads)
-    (reads-seq (waits .points .ensures) (reads-seq (signals .points2 .ensures) (c .before .before .marks .ensures)))
+    let lists = c .before .before .before .before .before .before in
+    let queue = lists .before .before .before .before in
+    let p = reads-seq (queue .byte .ensures .reads)
+    (reads-seq (lists .waits-and-signals .ensures) (c .before .before .marks .ensures)) in
+    record {
+      read = p .read;
+      inside = p .inside;
+      more = p .more;
+      few = p .few;
+      as-long = p .as-long;
+      past = p .past;
+    }
 
 pub operation-spec : {M : Type 1} → statement M
 operation-spec =
-    tie.close
-    (tie.spec byte-requires points-requires points-requires-2 marks-requires same-length returns)
+    tie.close (tie.spec byte-requires waits-and-signals-requires marks-requires same-length returns)

@@ -2,7 +2,7 @@
 use mathlib.Core.Path.{refl}
 use borrow.Author.Needs.{needs}
 use Rattle.plan_format.specs.Sizes.{block-numbers}
-use Rattle.stored_numbers.proofs.Cursors.{reads-counted}
+use Rattle.stored_numbers.proofs.Cursors.{reads-counted, limited-count}
 use Rattle.stored_numbers.proofs.operation.operations.Statement.{statement}
 use Rattle.stored_numbers.proofs.operation.operations.Tie as tie
 
@@ -18,7 +18,7 @@ same-length c = search needs
 returns : tie.Need-returns
 returns c =
     let start = c .before .before .before .before .before .before in
-    reads-counted block-numbers (start .pair .ensures) (start .pair .result .value) refl
+    reads-counted 0 block-numbers (limited-count (start .pair .ensures)) (start .pair .result .value) refl
     (c .before .before .several .ensures)
 
 pub operations-spec : {M : Type 1} → statement M

@@ -5,8 +5,8 @@ use Rattle.stored_numbers.proofs.Cursors.{reads-seq}
 use Rattle.stored_numbers.proofs.operation.point.Statement.{statement}
 use Rattle.stored_numbers.proofs.operation.point.Tie as tie
 
-byte-requires : tie.Need-byte-requires
-byte-requires c κs = search needs
+position-requires : tie.Need-position-requires
+position-requires c κs = search needs
 
 point-value-requires : tie.Need-point-value-requires
 point-value-requires c κs = search needs
@@ -18,9 +18,9 @@ returns : tie.Need-returns
 unfolding point-below
 returns c =
     let earlier = c .before .before .before .before .before .before in
-    reads-seq (earlier .byte .ensures .reads) (c .before .before .point-value .ensures)
+    reads-seq (earlier .position .ensures .reads) (c .before .before .point-value .ensures)
 
 pub point-spec : {M : Type 1} → statement M
 point-spec =
     tie.close
-    (tie.spec byte-requires point-value-requires same-length returns)
+    (tie.spec position-requires point-value-requires same-length returns)

@@ -3,18 +3,19 @@ use mathlib.Core.Path.{refl}
 use Prim.Native.Nat.{_+_, _-_, _*_, _≤_}
 use native.Mathlib.Omega.{arith}
 use borrow.Author.Needs.{needs}
+use Rattle.plan_format.specs.Form.{width-by}
 use Rattle.plan_format.specs.Sections.{repeat, point-below}
 use Rattle.stored_numbers.specs.Reading.{Reads-on}
-use Rattle.stored_numbers.proofs.Cursors.{reads-none, reads-more, reads-counted, reads-stopped}
+use Rattle.stored_numbers.proofs.Cursors.{reads-none, reads-more, reads-counted, limited-count, reads-stopped}
 use Rattle.stored_numbers.proofs.operation.points.Statement.{statement}
 use Rattle.stored_numbers.proofs.operation.points.Tie as tie
 
 abbrev Inv-loop : tie.InvT-loop
-Inv-loop plan most semaphores numbers₀ count p₀ i₀ numbers p i =
-    (i ≤ count) × Reads-on (repeat i (point-below 1 semaphores)) (2 * i) plan p₀ numbers₀ p numbers
+Inv-loop plan most wide semaphores numbers₀ count p₀ i₀ numbers p i =
+    (i ≤ count) × Reads-on (repeat i (point-below (width-by wide) semaphores)) (2 * i) plan p₀ numbers₀ p numbers
 
 abbrev μ-loop : tie.MeasureT-loop
-μ-loop plan most semaphores numbers₀ count p₀ i₀ numbers p i = count - i
+μ-loop plan most wide semaphores numbers₀ count p₀ i₀ numbers p i = count - i
 
 add-byte : tie.Need-add-byte Inv-loop μ-loop
 add-byte c = search needs
@@ -26,7 +27,7 @@ loop-holds : tie.Need-loop-holds Inv-loop μ-loop
 loop-holds c =
     let s = c .before .before .before .before .before .before in (
       omega arith,
-      reads-none (point-below 1 (s .args .semaphores)) 2 _ _ _
+      reads-none (point-below (width-by (s .args .wide)) (s .args .semaphores)) 2 _ _ _
           (c .before .before .byte .ensures .reads .inside),
     )
 
@@ -42,8 +43,9 @@ returns c =
     let head = turn .before .before .before in
     let start = head .before .before .before in
     let s = start .before .before .before .before in
-    reads-counted 2 (start .byte .ensures) (start .byte .result .value) refl
-    (reads-stopped (point-below 1 (s .args .semaphores)) 2 (head .loop .i + 1) (start .byte .result .value)
+    reads-counted 0 2 (limited-count (start .byte .ensures)) (start .byte .result .value) refl
+    (reads-stopped (point-below (width-by (s .args .wide)) (s .args .semaphores)) 2 (head .loop .i + 1)
+    (start .byte .result .value)
     (c .if1 .taken) (omega arith)
     (reads-more (head .loop .i) (head .loop .inv .1) (turn .point .ensures)))
 
@@ -65,7 +67,8 @@ same-length-2 c = search needs
 returns-2 : tie.Need-returns-2 Inv-loop μ-loop
 returns-2 c =
     let l = c .before .loop in
-    reads-counted 2 (c .before .before .before .before .byte .ensures) (l .i) (omega arith) (l .inv .1)
+    reads-counted 0 2 (limited-count (c .before .before .before .before .byte .ensures)) (l .i) (omega arith)
+    (l .inv .1)
 
 pub points-spec : {M : Type 1} → statement M
 points-spec =

@@ -4,6 +4,7 @@ use Prim.Native.Nat.{_+_, _-_, _*_, _≤_}
 use native.Mathlib.Omega.{arith}
 use borrow.Author.Needs.{needs}
 use Rattle.plan_format.specs.Sizes.{block-numbers}
+use Rattle.plan_format.specs.Form.{width-by}
 use Rattle.plan_format.specs.Sections.{repeat, operation-below}
 use Rattle.stored_numbers.specs.Reading.{Reads-on}
 use Rattle.stored_numbers.proofs.Cursors.{reads-none, reads-more, reads-stopped, reads-all}
@@ -11,18 +12,19 @@ use Rattle.stored_numbers.proofs.operation.several.Statement.{statement
 use Rattle.stored_numbers.proofs.operation.several.Tie as tie
 
 abbrev Inv-loop : tie.InvT-loop
-Inv-loop plan many queues semaphores buffers numbers₀ o₀ i₀ numbers o i =
-    (i ≤ many) × Reads-on (repeat i (operation-below 1 queues semaphores buffers)) (block-numbers * i) plan o₀
+Inv-loop plan many wide queues semaphores buffers numbers₀ o₀ i₀ numbers o i =
+    (i ≤ many) × Reads-on (repeat i (operation-below (width-by wide) queues semaphores buffers)) (block-numbers * i)
+    plan o₀
     numbers₀ o numbers
 
 abbrev μ-loop : tie.MeasureT-loop
-μ-loop plan many queues semaphores buffers numbers₀ o₀ i₀ numbers o i = many - i
+μ-loop plan many wide queues semaphores buffers numbers₀ o₀ i₀ numbers o i = many - i
 
 loop-holds : tie.Need-loop-holds Inv-loop μ-loop
 loop-holds c =
     let s = c .before .before in (
       omega arith,
-      reads-none (operation-below 1 (s .args .queues) (s .args .semaphores) (s .args .buffers))
+      reads-none (operation-below (width-by (s .args .wide)) (s .args .queues) (s .args .semaphores) (s .args .buffers))
           block-numbers _ _ _ (s .pre .inside),
     )
 
@@ -37,7 +39,8 @@ returns c =
     let turn = c .before .before .before .before in
     let head = turn .before .before .before in
     let s = head .before .before .before in
-    reads-stopped (operation-below 1 (s .args .queues) (s .args .semaphores) (s .args .buffers)) block-numbers
+    reads-stopped (operation-below (width-by (s .args .wide)) (s .args .queues) (s .args .semaphores)
+    (s .args .buffers)) block-numbers
     (head .loop .i + 1) (s .args .many)
     (c .if1 .taken) (omega arith) (reads-more (head .loop .i) (head .loop .inv .1) (turn .operation .ensures))
 
@@ -61,7 +64,8 @@ returns-2 c =
     let l = c .before .loop in
     let s = c .before .before .before .before in
     let all : l .i ≡ s .args .many = omega arith in
-    reads-all (operation-below 1 (s .args .queues) (s .args .semaphores) (s .args .buffers)) block-numbers all
+    reads-all (operation-below (width-by (s .args .wide)) (s .args .queues) (s .args .semaphores) (s .args .buffers))
+    block-numbers all
     (l .inv .1)
 
 pub several-spec : {M : Type 1} → statement M

@@ -5,7 +5,7 @@ use native.Mathlib.Omega.{arith}
 use borrow.Author.Needs.{needs}
 use Rattle.plan_format.specs.Sections.{repeat, size-field}
 use Rattle.stored_numbers.specs.Reading.{Reads-on}
-use Rattle.stored_numbers.proofs.Cursors.{reads-none, reads-more, reads-counted, reads-stopped}
+use Rattle.stored_numbers.proofs.Cursors.{reads-none, reads-more, reads-counted, limited-count, reads-stopped}
 use Rattle.stored_numbers.proofs.section.sizes.Statement.{statement}
 use Rattle.stored_numbers.proofs.section.sizes.Tie as tie
 
@@ -34,7 +34,7 @@ returns c =
     let turn = c .before .before .before .before in
     let head = turn .before .before .before in
     let start = head .before .before .before in
-    reads-counted 1 (start .pair .ensures) (start .pair .result .value) refl
+    reads-counted 0 1 (limited-count (start .pair .ensures)) (start .pair .result .value) refl
     (reads-stopped size-field 1 (head .loop .i + 1) (start .pair .result .value) (c .if1 .taken) (omega arith)
     (reads-more (head .loop .i) (head .loop .inv .1) (turn .size .ensures)))
 
@@ -56,7 +56,8 @@ same-length-2 c = search needs
 returns-2 : tie.Need-returns-2 Inv-loop μ-loop
 returns-2 c =
     let l = c .before .loop in
-    reads-counted 1 (c .before .before .before .before .pair .ensures) (l .i) (omega arith) (l .inv .1)
+    reads-counted 0 1 (limited-count (c .before .before .before .before .pair .ensures)) (l .i) (omega arith)
+    (l .inv .1)
 
 pub sizes-spec : {M : Type 1} → statement M
 sizes-spec =

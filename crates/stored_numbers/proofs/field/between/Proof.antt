@@ -1,0 +1,81 @@
+-- `between` meets its contract, by the law of each way out.
+use native.Mathlib.Omega.{arith}
+use borrow.Author.Needs.{needs}
+use Rattle.stored_numbers.proofs.Fields.{checked-passed, checked-cut, checked-wrong, checked-kept, count-under}
+use Rattle.stored_numbers.proofs.Fields.{count-over, count-right}
+use Rattle.stored_numbers.proofs.field.between.Statement.{statement}
+use Rattle.stored_numbers.proofs.field.between.Tie as tie
+
+refused-requires : tie.Need-refused-requires
+refused-requires c κs = search needs
+
+returns : tie.Need-returns
+returns c =
+    rw (c .refused .ensures)
+    (checked-passed (c .before .if1 .taken) (c .before .before .before .before .before .pre .0 .inside))
+
+sub-if2 : tie.Need-sub-if2
+sub-if2 c = search needs
+
+refused-requires-2 : tie.Need-refused-requires-2
+refused-requires-2 c κs = search needs
+
+returns-2 : tie.Need-returns-2
+returns-2 c =
+    let start = c .before .before .before .before .before .before in
+    rw (c .refused2 .ensures)
+    (checked-cut (c .before .before .if1 .left) (start .pre .0 .inside) (c .before .if2 .taken))
+
+word2-requires : tie.Need-word2-requires
+word2-requires c κs = search needs
+
+refused-requires-3 : tie.Need-refused-requires-3
+refused-requires-3 c κs = search needs
+
+returns-3 : tie.Need-returns-3
+returns-3 c =
+    let s = c .before .before .before .before .before .before .before .before in
+    rw (c .refused3 .ensures)
+    (checked-wrong (c .before .before .before .before .if1 .left) (s .pre .0 .inside)
+    (c .before .before .before .if2 .left) (c .before .before .word2 .ensures) (omega arith)
+    (count-under (s .args .least) _ _ (c .before .if3 .taken)))
+
+refused-requires-4 : tie.Need-refused-requires-4
+refused-requires-4 c κs = search needs
+
+returns-4 : tie.Need-returns-4
+returns-4 c =
+    let read = c .before .before .before in
+    let s = read .before .before .before .before .before .before in
+    rw (c .refused4 .ensures)
+    (checked-wrong (read .before .before .if1 .left) (s .pre .0 .inside)
+    (read .before .if2 .left) (read .word2 .ensures) (omega arith)
+    (count-over (s .args .least) _ _ (c .before .before .if3 .left) (omega (arith, s .pre .1, c .before .if4 .taken))))
+
+mul-numbers : tie.Need-mul-numbers
+mul-numbers c = search needs
+
+slice-write-numbers : tie.Need-slice-write-numbers
+slice-write-numbers c = search needs
+
+past-requires : tie.Need-past-requires
+past-requires c κs = search needs
+
+same-length : tie.Need-same-length
+same-length c = search needs
+
+returns-5 : tie.Need-returns-5
+returns-5 c =
+    let read = c .before .before .before in
+    let s = read .before .before .before .before .before .before in
+    rw (c .past .ensures)
+    (checked-kept (read .before .before .if1 .left) (s .pre .0 .inside)
+    (read .before .if2 .left) (read .word2 .ensures) (omega arith)
+    (count-right (s .args .least) _ _ (c .before .before .if3 .left) (omega (arith, c .before .if4 .left)))
+    (omega (arith, c .before .if4 .left)))
+
+pub between-spec : {M : Type 1} → statement M
+between-spec =
+    tie.close
+    (tie.spec refused-requires returns sub-if2 refused-requires-2 returns-2 word2-requires refused-requires-3 returns-3
+    refused-requires-4 returns-4 mul-numbers slice-write-numbers past-requires same-length returns-5)

@@ -1,0 +1,73 @@
+-- `waits_and_signals` meets its contract: after i turns, i lists are read.
+use mathlib.Core.Path.{_≡_}
+use Prim.Native.Nat.{_-_, _≤_}
+use native.Mathlib.Omega.{arith}
+use borrow.Author.Needs.{needs}
+use Rattle.plan_format.specs.Form.{width-by}
+use Rattle.plan_format.specs.Sections.{most-in, lists-below}
+use Rattle.stored_numbers.specs.Reading.{Reads-on}
+use Rattle.stored_numbers.proofs.Lists.{numbers-in, lists-room, waits-first, signals-later, lists-none}
+use Rattle.stored_numbers.proofs.Lists.{lists-more, lists-both}
+use Rattle.stored_numbers.proofs.operation.waits_and_signals.Statement.{statement}
+use Rattle.stored_numbers.proofs.operation.waits_and_signals.Tie as tie
+
+abbrev Inv-loop : tie.InvT-loop
+Inv-loop plan wide semaphores numbers₀ most₀ p₀ i₀ numbers most p i =
+    (i ≤ 2) × (most ≡ most-in i) ×
+    Reads-on (lists-below (width-by wide) semaphores i) (numbers-in i) plan p₀ numbers₀ p numbers
+
+abbrev μ-loop : tie.MeasureT-loop
+μ-loop plan wide semaphores numbers₀ most₀ p₀ i₀ numbers most p i = 2 - i
+
+loop-holds : tie.Need-loop-holds Inv-loop μ-loop
+loop-holds c =
+    let s = c .before .before in
+    (omega arith, waits-first, lists-none (width-by (s .args .wide)) (s .args .semaphores) (s .pre .inside))
+
+points-requires : tie.Need-points-requires Inv-loop μ-loop
+points-requires c κs =
+    let l = c .before .before .loop in
+    let s = c .before .before .before .before .before in
+    let read = l .inv .2 in
+    record {
+      inside = read .inside;
+      room = omega (
+        arith,
+        l .inv .1,
+        lists-room (l .i) (omega arith),
+        read .few,
+        read .as-long,
+        s .pre .room,
+      );
+    }
+
+add-i : tie.Need-add-i Inv-loop μ-loop
+add-i c = search needs
+
+loop-less : tie.Need-loop-less Inv-loop μ-loop
+loop-less c = search needs
+
+loop-again : tie.Need-loop-again Inv-loop μ-loop
+loop-again c =
+    let l = c .before .before .before .before .before .loop in
+    let s = c .before .before .before .before .before .before .before .before in (
+      omega arith,
+      signals-later (l .i),
+      lists-more (width-by (s .args .wide)) (s .args .semaphores) (l .i) (l .inv .1) (l .inv .2)
+          (c .before .before .points .ensures),
+    )
+
+same-length : tie.Need-same-length Inv-loop μ-loop
+same-length c = search needs
+
+returns : tie.Need-returns Inv-loop μ-loop
+returns c =
+    let l = c .before .loop in
+    let s = c .before .before .before .before in
+    lists-both (width-by (s .args .wide)) (s .args .semaphores) (l .i) (omega arith)
+    (l .inv .2)
+
+pub waits-and-signals-spec : {M : Type 1} → statement M
+waits-and-signals-spec =
+    tie.close
+    (tie.spec Inv-loop μ-loop loop-holds points-requires add-i loop-less loop-again same-length returns)
