@@ -71,31 +71,26 @@ impl Shape {
         never_freed: 32,
     };
 
-    /// What the search has found: operations that sleep on one wait after the
-    /// other, groups of unequal length, and one buffer with all marks.
+    /// The same in the second form: 69,768 bytes.
+    pub const GREATEST_OF_ALL: Shape = Shape {
+        owned: 64,
+        semaphores: 64,
+        ..Shape::GREATEST
+    };
+
+    /// What the search has found, from the greatest on: operations that sleep on
+    /// one wait after the other, groups of unequal length, and one buffer with
+    /// all marks.
     pub const WORST: Shape = Shape {
-        lists: [[3, 3], [2, 2], [4, 4]],
-        queues: 16,
-        stay: 0,
         ends: [25, 12],
-        owned: 4,
-        semaphores: 4,
         skew: 75,
         window: 32,
         recent: 16,
         since: 75,
         latest: 50,
-        less: 0,
-        zero: 0,
         wait_order: WaitOrder::Rising,
         buffers: 1,
         never_freed: 1,
-    };
-
-    /// The same in the second form: 69,768 bytes.
-    pub const GREATEST_OF_ALL: Shape = Shape {
-        owned: 64,
-        semaphores: 64,
         ..Shape::GREATEST
     };
 
