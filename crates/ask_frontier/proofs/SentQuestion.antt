@@ -18,6 +18,7 @@ use Rattle.plan_order.specs.Meaning.{Left-means}
 use Rattle.plan_order.proofs.CheckMeaning.{check-means}
 use Rattle.plan_order.proofs.OutcomeMeaning.{passed-leaves}
 use Rattle.plan_order.proofs.Asking.{asked-left}
+use Rattle.plan_order.proofs.AsBefore.{judged-as-before}
 use Rattle.ask_frontier.specs.declared.Sent.{Sent}
 use Rattle.ask_frontier.specs.Sent.{sent, sent-refusal, sent-outcome, told, Frontier-says}
 use Rattle.ask_frontier.specs.SentMeaning.{Sent-means, Sent-number, Frontier-right}
@@ -129,4 +130,5 @@ module _ (bs : List ℕ) (j c : ℕ) (r : Sent) (t x l y : List ℕ) (s : Fronti
     means = λ z. let w = passed-by z in
         subst (Sent-means (plan-in bs) j c) (sym (frontier-sent z))
         (sent-means (plan-in bs) (sound-in bs (passes bs (length t) (length l) (w .0) .good)) j c (w .2) (w .3));
+    as-before = judged-as-before bs;
   }

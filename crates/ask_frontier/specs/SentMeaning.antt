@@ -21,6 +21,7 @@ use Rattle.plan_order.specs.Precedence.{Before}
 use Rattle.plan_order.specs.Rows.{row}
 use Rattle.plan_order.specs.Check.{Outcome, rows-and-run, check-outcome}
 use Rattle.plan_order.specs.Meaning.{Check-means, Leaves-by, Left-means}
+use Rattle.plan_order.specs.AsBefore.{Judges-as-before}
 use Rattle.plan_order.specs.Promise.{Safe, unrefused}
 use Rattle.ask_frontier.specs.declared.Sent.{Sent}
 use Rattle.ask_frontier.specs.Sent.{sent-entries, sent, sent-outcome, Frontier-says}
@@ -94,3 +95,4 @@ pub record Frontier-right (bytes : List ℕ) (j capacity : ℕ) (r : Sent)
       Left-means (plan-in bytes) (sent-outcome-in bytes j capacity table list .leaves) table table-now list list-now
   pub is-sent : r .number ≡ 0 → r .frontier ≡ sent (plan-in bytes) j capacity
   pub means : r .number ≡ 0 → Sent-means (plan-in bytes) j capacity (r .frontier)
+  pub as-before : Judges-as-before bytes

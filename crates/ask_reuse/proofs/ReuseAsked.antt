@@ -20,6 +20,7 @@ use Rattle.plan_order.proofs.CheckMeaning.{passed-unrefused, check-means}
 use Rattle.plan_order.proofs.OutcomeMeaning.{passed-leaves}
 use Rattle.plan_order.proofs.Promises.{demand-3-stored}
 use Rattle.plan_order.proofs.LastFree.{passed-forced, five-same, unseen-free}
+use Rattle.plan_order.proofs.AsBefore.{judged-as-before}
 use Rattle.plan_order.proofs.QuestionMeaning.{question-means, question-passed, question-answered, question-left}
 use Rattle.plan_order.proofs.QuestionMeaning.{question-number, question-answer, question-no-answer, question-most}
 use Rattle.check_plan.specs.Opening.{Lent, Opened-plan}
@@ -65,6 +66,7 @@ asked bs q b r t x l y s =
           ((λ a. same .0 (line .0 a)), (λ w. line .1 (same .1 w)));
       five = λ z. question-number bs q b r t x l y s z ∙ five-same (plan-in bs) b (forced z) q;
       no-answer = question-no-answer bs q b r t x l y s;
+      as-before = judged-as-before bs;
     }
 
 -- ---- what it says, from what the check says

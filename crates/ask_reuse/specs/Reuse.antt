@@ -11,6 +11,7 @@ use Rattle.plan_order.specs.Reuse.{reuse-outcome, Reuse-says}
 use Rattle.plan_order.specs.FiveVerdicts.{five-verdict}
 use Rattle.plan_order.specs.Check.{Outcome, rows-and-run}
 use Rattle.plan_order.specs.Meaning.{Question-means, Verdict-table, Free-unseen, Left-means}
+use Rattle.plan_order.specs.AsBefore.{Judges-as-before}
 use Rattle.plan_order.specs.Promise.{Safe, unrefused}
 
 -- the outcome of the question in lent table and list
@@ -37,3 +38,4 @@ pub record Reuse-asked (bytes : List ℕ) (q b : ℕ) (r : Told) (table table-no
   -- and each number is that of the table of five
   pub five : r .number ≡ 0 → r .answer ≡ five-verdict (plan-in bytes) q b
   pub no-answer : (r .number ≡ 0 → ⊥) → r .answer ≡ 0
+  pub as-before : Judges-as-before bytes

@@ -15,7 +15,7 @@ use Rattle.plan_format.specs.Form.{Form, first-form, second-form, form-w
 use Rattle.plan_format.specs.Plan.{Plan, plan-of}
 use Rattle.plan_format.specs.Limits.{In-bytes, numbers-of, sections-bytes}
 use Rattle.plan_format.specs.Stored.{scanned, listed, plan-in, spelled, plan-refusal}
-use Rattle.plan_format.specs.AsBefore.{Read-as-before, Written-as-before, As-before}
+use Rattle.plan_format.specs.AsBefore.{Reads-as-before, Writes-as-before, As-before}
 use Rattle.plan_format.proofs.Parses.{Exact}
 use Rattle.plan_format.proofs.ParsedForms.{numbers-read, numbers-whole}
 use Rattle.plan_format.proofs.Forms.{Admits, Stored-form, first-stored, second-stored, first-told}
@@ -24,7 +24,7 @@ use Rattle.plan_format.proofs.OnlyPlans.{parsed-plan}
 use Rattle.plan_format.proofs.Plans.{listed-within}
 use Rattle.plan_format.proofs.Taking.{takes-plans, owners-counted}
 
-read-as-before : (bs : List ℕ) → (getD bs 0 0 ≡ second-lead → ⊥) → Read-as-before bs
+read-as-before : (bs : List ℕ) → Reads-as-before bs
 unfolding scanned plan-in plan-refusal
 read-as-before bs h = let e = first-told bs h in record { read = rw e; plan = rw e; refusal = rw e }
 
@@ -36,7 +36,7 @@ spelled-in F S p a =
     ap (λ (n : ℕ). spelled-by (form-with n) (numbers-of p)) (owners-counted p)
     ∙ ap (λ (G : Form). spelled-by G (numbers-of p)) (S .own (length (p .owners)) a)
 
-written-as-before : (xs : List ℕ) → scanned-by numbers first-form xs .fault .number ≡ 0 → Written-as-before xs
+written-as-before : (xs : List ℕ) → Writes-as-before xs
 written-as-before xs e =
     let (ds, parsed) = numbers-read first-form xs e in
     let (p, w, a, is) =

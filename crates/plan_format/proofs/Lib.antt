@@ -27,6 +27,7 @@ pub mod RoundTrip
 pub mod AsBefore
 pub mod Sizes
 pub mod Largest
+pub mod GivenPlans
 pub mod Prefix
 pub mod Widths
 pub mod Numbers

@@ -20,6 +20,9 @@ use Rattle.plan_format.proofs.Judged.{zero-not-given, or-else-none}
 use Rattle.plan_format.proofs.Plans.{listed-within}
 use Rattle.plan_format.proofs.Taking.{takes-plans}
 use Rattle.plan_format.proofs.RoundTrip.{listed-scanned, spelled-scanned, scanned-spelled}
+use Rattle.plan_format.proofs.AsBefore.{as-before}
+use Rattle.plan_format.proofs.Largest.{greatest-sizes}
+use Rattle.plan_format.proofs.GivenPlans.{reads-plans, writes-plans}
 use Rattle.plan_format.proofs.RoomMeaning.{read-refuses, write-refuses, read-filled, write-filled}
 use Rattle.plan_format.proofs.ReadingMeaning.{scanned-means, listed-means}
 
@@ -74,6 +77,9 @@ module _ (bs : List ℕ) (b : all-bytes bs ≡ true) (r : Told) (o x : List ℕ)
             ∙ listed-within (scanned bs .got) (ap (λ (f : Refusal). f .number) (taken z)) .1;
         taken = λ z. ap (λ (l : List ℕ). listed l .fault) (numbers-in-room z) ∙ taken z;
         written-back = λ z. ap spelled (numbers-in-room z) ∙ spelled-scanned bs b (no-fault z);
+        plans = reads-plans bs b;
+        sizes = greatest-sizes;
+        as-before = as-before .read bs;
       }
 
 module _ (xs : List ℕ) (r : Told) (o x : List ℕ) (w : Write-says xs r o x) where
@@ -101,4 +107,7 @@ module _ (xs : List ℕ) (r : Told) (o x : List ℕ) (w : Write-says xs r o x) w
     read-back = λ z.
         ap scanned (bytes-in-room z) ∙ scanned-spelled xs (not-refused z)
         ∙ ap (λ (n : ℕ). scan [] n xs none-given) (sym (answer-long z));
+    plans = writes-plans xs;
+    sizes = greatest-sizes;
+    as-before = as-before .written xs;
   }

@@ -16,6 +16,8 @@ use Rattle.plan_format.specs.Form.{a-semaphore, a-buffer, a-kind, queue-
 use Rattle.plan_format.specs.Plan.{Point, Plan, op, plan-of}
 use Rattle.plan_format.specs.Limits.{Within, numbers-of, bytes-of}
 use Rattle.plan_format.specs.Stored.{scanned, listed, plan-in, spelled}
+use Rattle.plan_format.specs.Promise.{Reads-plans, Writes-plans, Greatest-sizes}
+use Rattle.plan_format.specs.AsBefore.{Reads-as-before, Writes-as-before}
 use Rattle.plan_format.specs.declared.Told.{Told}
 
 -- the number and the place of a refusal
@@ -260,6 +262,9 @@ pub record Read-means (bytes : List ℕ) (r : Told) (room room-now : List ℕ) :
   pub numbers : r .number ≡ 0 → take (r .answer) room-now ≡ numbers-of (plan-in bytes)
   pub taken : r .number ≡ 0 → listed (take (r .answer) room-now) .fault ≡ none-given
   pub written-back : r .number ≡ 0 → spelled (take (r .answer) room-now) ≡ bytes
+  pub plans : Reads-plans bytes
+  pub sizes : Greatest-sizes
+  pub as-before : Reads-as-before bytes
 
 -- R8, R13, what was written: the bytes of a plan within the limits, from which the reader reads the very numbers, to
 -- the end; or why not
@@ -270,3 +275,6 @@ pub record Write-means (numbers : List ℕ) (r : Told) (room room-now : List ℕ
   pub within : r .number ≡ 0 → Within (plan-of numbers)
   pub bytes : r .number ≡ 0 → take (r .answer) room-now ≡ bytes-of (plan-of numbers)
   pub read-back : r .number ≡ 0 → scanned (take (r .answer) room-now) ≡ scan [] (r .answer) numbers none-given
+  pub plans : Writes-plans numbers
+  pub sizes : Greatest-sizes
+  pub as-before : Writes-as-before numbers

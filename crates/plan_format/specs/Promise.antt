@@ -40,3 +40,26 @@ pub record Takes-plans : Type 0 where
   pub read : (bs : List ℕ) → all-bytes bs ≡ true → (scanned bs .fault .number ≡ 0) ↔
       (Within (plan-in bs) × (bs ≡ bytes-of (plan-in bs)))
   pub taken : (xs : List ℕ) → (listed xs .fault .number ≡ 0) ↔ (Within (plan-of xs) × (xs ≡ numbers-of (plan-of xs)))
+
+-- R1 to R8, of given bytes: they are taken exactly if they are those of a plan within the limits, which is the plan
+-- read, in its numbers; no other bytes are read as the same numbers; and what is taken is no longer than a plan can be
+pub record Reads-plans (bs : List ℕ) : Type 0 where
+  pub exactly : (scanned bs .fault .number ≡ 0) ↔ ((p : Plan) × Within p × (bs ≡ bytes-of p))
+  pub plan : (p : Plan) → Within p → bs ≡ bytes-of p → plan-in bs ≡ p
+  pub numbers : (p : Plan) → Within p → bs ≡ bytes-of p → scanned bs .got ≡ numbers-of p
+  pub one-string :
+      scanned bs .fault .number ≡ 0 → (cs : List ℕ) → all-bytes cs ≡ true → scanned cs .fault .number ≡ 0 →
+      scanned cs .got ≡ scanned bs .got → cs ≡ bs
+  pub few-bytes : scanned bs .fault .number ≡ 0 → length bs ≤ plan-bytes
+  pub few-numbers : scanned bs .fault .number ≡ 0 → length (scanned bs .got) ≤ plan-numbers
+
+-- the like of a list of numbers: no bytes but those written are read as these numbers
+pub record Writes-plans (xs : List ℕ) : Type 0 where
+  pub exactly : (listed xs .fault .number ≡ 0) ↔ ((p : Plan) × Within p × (xs ≡ numbers-of p))
+  pub plan : (p : Plan) → Within p → xs ≡ numbers-of p → plan-of xs ≡ p
+  pub bytes : (p : Plan) → Within p → xs ≡ numbers-of p → spelled xs ≡ bytes-of p
+  pub one-string :
+      listed xs .fault .number ≡ 0 → (cs : List ℕ) → all-bytes cs ≡ true → scanned cs .fault .number ≡ 0 →
+      scanned cs .got ≡ xs → cs ≡ spelled xs
+  pub few-numbers : listed xs .fault .number ≡ 0 → length xs ≤ plan-numbers
+  pub few-bytes : listed xs .fault .number ≡ 0 → length (spelled xs) ≤ plan-bytes

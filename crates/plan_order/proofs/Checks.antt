@@ -10,21 +10,27 @@ use Rattle.plan_order.specs.Check.{Check-says}
 use Rattle.plan_order.specs.Promise.{Demand-3-stored, Demand-2, Checked}
 use Rattle.plan_order.proofs.CheckMeaning.{answer-unrefused, check-means}
 use Rattle.plan_order.proofs.OutcomeMeaning.{check-left, passed-leaves}
-use Rattle.plan_order.proofs.Promises.{demand-3-stored}
+use Rattle.plan_order.proofs.Promises.{demand-3-stored, demand-3-of-plans}
+use Rattle.plan_order.proofs.FirstBytes.{first-bytes}
+use Rattle.plan_order.proofs.AsBefore.{checks-as-before}
 
 pub checked : (bs : List ℕ) (r : Told) (t x l y : List ℕ) → Check-says bs r t x l y → Checked bs r t x l y
 unfolding Check-says Demand-2
 checked bs r t x l y s =
     let left-there = check-left bs r t x l y s in
     let n = s .tells .number in
+    let third = subst₂ (λ (a b : ℕ). Demand-3-stored bs (length t) (length l) a b) (sym n) (sym (s .tells .place))
+    (demand-3-stored bs (length t) (length l)) in
     record {
       says = s;
       number = n;
       place = s .tells .place;
       means = check-means bs (length t) (length l);
       answers = λ w. answer-unrefused bs (length t) (length l) (one-is (0 ∷ order-numbers) (sym n) w);
-      demand-3 = subst₂ (λ (a b : ℕ). Demand-3-stored bs (length t) (length l) a b) (sym n) (sym (s .tells .place))
-          (demand-3-stored bs (length t) (length l));
+      demand-3 = third;
       demand-2 = λ z. left-there .rows-and-run (passed-leaves bs (length t) (length l) (sym n ∙ z)) .0 .entry;
       left = left-there;
+      demand-3-of-plans = demand-3-of-plans bs (length t) (length l) (r .number) (r .place) third;
+      first-bytes = first-bytes bs;
+      as-before = checks-as-before bs r t x l y s;
     }

@@ -28,5 +28,6 @@ pub mod CheckMeaning
 pub mod OutcomeMeaning
 pub mod Asking
 pub mod QuestionMeaning
-pub mod Checks
 pub mod FirstBytes
+pub mod AsBefore
+pub mod Checks

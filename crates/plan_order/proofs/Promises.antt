@@ -1,5 +1,5 @@
 -- The statements over stored plans, each under its own name. Assumes nothing.
-use mathlib.Core.Path.{_≡_, sym, subst}
+use mathlib.Core.Path.{_≡_, sym, ap, _∙_, subst}
 use mathlib.Core.Bool.{true, false, true≢false}
 use mathlib.Core.Logic.{_↔_}
 use mathlib.Core.List.{List}
@@ -10,7 +10,6 @@ use Rattle.base_lists.proofs.Tests.{by-cases, and-left, and-right}
 use Rattle.order.specs.Runs.{step-of}
 use Rattle.order.proofs.Turns.{run-last}
 use Rattle.plan_format.specs.Plan.{Plan, count}
-use Rattle.plan_format.specs.Limits.{bytes-of}
 use Rattle.plan_format.specs.Refusal.{Refusal, none-given, given}
 use Rattle.plan_format.specs.Sound.{Sound}
 use Rattle.plan_format.specs.Stored.{all-bytes, plan-in, plan-refusal}
@@ -121,9 +120,7 @@ demand-3-stored bs t l h =
         (λ z. rw z d)
 
 -- and of every plan that can be stored, in whichever form
-pub demand-3-of-plans : Demand-3-of-plans
+pub demand-3-of-plans : (bs : List ℕ) (t l n i : ℕ) → Demand-3-stored bs t l n i → Demand-3-of-plans bs t l n i
 unfolding Demand-3-of-plans Demand-3-stored
-demand-3-of-plans p w t l h =
-    let f = check-outcome (bytes-of p) t l .refusal in
-    subst (λ (z : Plan). Demand-3 z (f .number) (f .place)) (takes-plans .every p w .plan-read)
-    (demand-3-stored (bytes-of p) t l h)
+demand-3-of-plans bs t l n i d p w is h =
+    subst (λ (z : Plan). Demand-3 z n i) (ap plan-in is ∙ takes-plans .every p w .plan-read) (d h)

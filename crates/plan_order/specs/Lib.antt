@@ -5,5 +5,6 @@ pub mod Holdings
 pub mod Check
 pub mod Reuse
 pub mod FiveVerdicts
+pub mod AsBefore
 pub mod Promise
 pub mod Meaning

@@ -26,6 +26,7 @@ use Rattle.plan_format.specs.declared.Told.{Told}
 use Rattle.plan_order.specs.Meaning.{In-column, Check-means, Left-means}
 use Rattle.plan_order.specs.Check.{room-refusal, order-refusal, Outcome, check-outcome, Check-says}
 use Rattle.plan_order.specs.Reuse.{verdict, reuse-outcome}
+use Rattle.plan_order.specs.AsBefore.{Checks-as-before}
 
 -- ---- DEMAND 3
 -- R47, refusal 10: no run is full, no run has operation i, and each lower one is in some run
@@ -74,12 +75,9 @@ unrefused bs t l = not (given (plan-refusal bs)) && not (given (room-refusal (co
 unfoldable pub Demand-3-stored : (bytes : List ℕ) → (table list number place : ℕ) → Type 0
 Demand-3-stored bs t l n i = unrefused bs t l ≡ true → Demand-3 (plan-in bs) n i
 
--- R8: of every plan within the limits, through its bytes in whichever form it is stored
-unfoldable pub Demand-3-of-plans : Type 0
-Demand-3-of-plans =
-    (p : Plan) → Within p → (table list : ℕ) → unrefused (bytes-of p) table list ≡ true →
-    Demand-3 p (check-outcome (bytes-of p) table list .refusal .number)
-    (check-outcome (bytes-of p) table list .refusal .place)
+-- R8: of every plan within the limits whose bytes these are, in whichever form it is stored
+unfoldable pub Demand-3-of-plans : (bytes : List ℕ) → (table list number place : ℕ) → Type 0
+Demand-3-of-plans bs t l n i = (p : Plan) → Within p → bs ≡ bytes-of p → unrefused bs t l ≡ true → Demand-3 p n i
 
 -- ---- DEMAND 2
 -- R20: an entry of the table is the number of the queue's operations that are j or before j, by chains
@@ -163,6 +161,23 @@ Broken-truly =
 unfoldable pub None-itself : Type 0
 None-itself = (bs : List ℕ) (j : ℕ) → passed bs ≡ true → before (plan-in bs) j j ≡ false
 
+-- ---- THE FIRST BYTES
+-- two inputs that no call on a stored plan tells apart: each answer is the same
+pub record Judged-alike (bs cs : List ℕ) : Type 0 where
+  pub plan : plan-in bs ≡ plan-in cs
+  pub refusal : plan-refusal bs ≡ plan-refusal cs
+  pub check : (table list : ℕ) → check-outcome bs table list ≡ check-outcome cs table list
+  pub reuse : (q b table list : ℕ) → reuse-outcome bs q b table list ≡ reuse-outcome cs q b table list
+  pub rows-of : rows (plan-in bs) ≡ rows (plan-in cs)
+  pub run-of : run-list (plan-in bs) ≡ run-list (plan-in cs)
+  pub verdict-of : (q b : ℕ) → verdict (plan-in bs) q b ≡ verdict (plan-in cs) q b
+
+-- R75, long input: one byte more than the longest plan has decides all that is answered; where the input is not too
+-- long, one byte more than the program judges
+pub record First-bytes (bs : List ℕ) : Type 0 where
+  pub of-all : Judged-alike bs (take (plan-bytes + 1) bs)
+  pub of-judged : too-long bs ≡ false → Judged-alike bs (take (most-input + 1) bs)
+
 -- ---- THE CHECK
 -- the outcome of a check in lent table and list
 abbrev pub check-outcome-in : (bytes table list : List ℕ) → Outcome
@@ -181,20 +196,6 @@ pub record Checked (bytes : List ℕ) (r : Told) (table table-now list list-now 
   pub demand-3 : Demand-3-stored bytes (length table) (length list) (r .number) (r .place)
   pub demand-2 : r .number ≡ 0 → Demand-2 (plan-in bytes) table-now
   pub left : Left-means (plan-in bytes) (check-outcome-in bytes table list .leaves) table table-now list list-now
-
--- ---- THE FIRST BYTES
--- two inputs that no call on a stored plan tells apart: each answer is the same
-pub record Judged-alike (bs cs : List ℕ) : Type 0 where
-  pub plan : plan-in bs ≡ plan-in cs
-  pub refusal : plan-refusal bs ≡ plan-refusal cs
-  pub check : (table list : ℕ) → check-outcome bs table list ≡ check-outcome cs table list
-  pub reuse : (q b table list : ℕ) → reuse-outcome bs q b table list ≡ reuse-outcome cs q b table list
-  pub rows-of : rows (plan-in bs) ≡ rows (plan-in cs)
-  pub run-of : run-list (plan-in bs) ≡ run-list (plan-in cs)
-  pub verdict-of : (q b : ℕ) → verdict (plan-in bs) q b ≡ verdict (plan-in cs) q b
-
--- R75, long input: one byte more than the longest plan has decides all that is answered; where the input is not too
--- long, one byte more than the program judges
-pub record First-bytes (bs : List ℕ) : Type 0 where
-  pub of-all : Judged-alike bs (take (plan-bytes + 1) bs)
-  pub of-judged : too-long bs ≡ false → Judged-alike bs (take (most-input + 1) bs)
+  pub demand-3-of-plans : Demand-3-of-plans bytes (length table) (length list) (r .number) (r .place)
+  pub first-bytes : First-bytes bytes
+  pub as-before : Checks-as-before bytes r table table-now list list-now

@@ -19,6 +19,7 @@ use Rattle.plan_order.proofs.OutcomeMeaning.{passed-leaves}
 use Rattle.plan_order.proofs.Promises.{demand-3-stored}
 use Rattle.plan_order.proofs.RunMeaning.{full-means}
 use Rattle.plan_order.proofs.Asking.{asked-left}
+use Rattle.plan_order.proofs.AsBefore.{judged-as-before}
 use Rattle.plan_change.specs.Longer.{longer}
 use Rattle.plan_suggest.specs.declared.Advice.{Advice}
 use Rattle.plan_suggest.specs.declared.Advice.the-variants.{NoneNeeded, Wait}
@@ -101,4 +102,5 @@ module _ (bs : List ℕ) (q b : ℕ) (r : Told) (a : Advice) (t x l y : List ℕ
         answer = answer-is;
         nothing = λ bad. nothing-is (other-given refused (λ z. bad (n ∙ z)));
         freed = freed-any;
+        as-before = judged-as-before bs;
       }

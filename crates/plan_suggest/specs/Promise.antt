@@ -11,6 +11,7 @@ use Rattle.plan_format.specs.Stored.{plan-in}
 use Rattle.plan_format.specs.declared.Told.{Told}
 use Rattle.plan_order.specs.Check.{rows-and-run}
 use Rattle.plan_order.specs.Meaning.{Left-means}
+use Rattle.plan_order.specs.AsBefore.{Judges-as-before}
 use Rattle.plan_order.specs.Promise.{Safe, unrefused}
 use Rattle.plan_change.specs.Longer.{longer}
 use Rattle.plan_suggest.specs.declared.Advice.{Advice}
@@ -38,3 +39,4 @@ pub record Suggest-right (bytes : List ℕ) (q b : ℕ) (r : Told) (a : Advice)
   -- R89: a plan that has room for it has what is wanted, once the operation with the wait is added
   pub freed : (s v : ℕ) → a ≡ Wait s v → count (plan-in bytes) < most-operations →
       Freed (longer (plan-in bytes) q (record { semaphore = s; value = v })) q b
+  pub as-before : Judges-as-before bytes

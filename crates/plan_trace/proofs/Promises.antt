@@ -25,6 +25,7 @@ use Rattle.plan_order.specs.Meaning.{Past-kept, Left-means}
 use Rattle.plan_order.specs.Promise.{unrefused}
 use Rattle.plan_order.proofs.CheckMeaning.{passed-unrefused}
 use Rattle.plan_order.proofs.Asking.{asked-left}
+use Rattle.plan_order.proofs.AsBefore.{judged-as-before}
 use Rattle.plan_trace.specs.declared.Traced.{Traced}
 use Rattle.plan_trace.specs.Trace.{trace-steps, found, followed}
 use Rattle.plan_trace.specs.State.{queue-count, steps-followed, trace-state, traced-of, nothing-traced}
@@ -178,4 +179,5 @@ module _ (bs ts : List ℕ) (r : Told) (x : Traced) (t tx l lx s sx : List ℕ) 
       nothing = traced-nothing;
       untouched = state-kept;
       past = state-past;
+      as-before = judged-as-before bs;
     }

@@ -11,6 +11,7 @@ use Rattle.plan_format.specs.Stored.{all-bytes, plan-in}
 use Rattle.plan_format.specs.declared.Told.{Told}
 use Rattle.plan_order.specs.Check.{rows-and-run}
 use Rattle.plan_order.specs.Meaning.{Left-means, Past-kept}
+use Rattle.plan_order.specs.AsBefore.{Judges-as-before}
 use Rattle.plan_order.specs.Promise.{Safe, unrefused}
 use Rattle.plan_trace.specs.declared.Traced.{Traced}
 use Rattle.plan_trace.specs.Trace.{trace-steps, trace-refusal}
@@ -46,6 +47,7 @@ pub record Trace-right (bytes trace : List ℕ) (r : Told) (x : Traced)
   pub untouched : (r .number ≡ 0 → ⊥) → state-now ≡ state
   -- past the state nothing is touched
   pub past : Past-kept state-size state state-now
+  pub as-before : Judges-as-before bytes
 
 -- two traces that no question tells apart
 pub record Traced-alike (ts us : List ℕ) : Type 0 where
