@@ -21,8 +21,9 @@
  *       that is neither 0 nor 1, or in write
  *       a size of 2^32 or more                where the field begins
  *    5  two queues with one axis              where the later axis begins
- *    6  a signal on another queue's
- *       semaphore                             the operation
+ *    6  never given: any queue may signal a
+ *       semaphore. Its owner must be a queue,
+ *       else 4, and says nothing more
  *    7  a signal of 0, or one that does not
  *       rise above those before it            the operation
  *    8  a wait that no signal reaches         the operation
@@ -33,13 +34,16 @@
  *   13  a buffer that the plan has not        the number that was asked
  *   14  a frontier that is not well formed    0
  *   15  a capacity of 0 or above 16           0
+ *   17  a signal out of turn: nothing orders
+ *       it after the one before it on its
+ *       semaphore                             the lowest operation with one
  *   19  no signal of the plan frees the
  *       buffer that a wait is asked for       the buffer that was asked
  *   21  an operation that the plan has not    the number that was asked
  *   22  a trace that is not well formed       0
  *
  * Of several the first in the rules' order is given: 1 to 5 as they are met in
- * reading, then 6 and 7, 8, 9, 10, 11, and what belongs to the question. The
+ * reading, then 7, 8, 9, 10, 17, 11, and what belongs to the question. The
  * answer is 0 beside every refusal and where a call has nothing to answer.
  *
  * LENT MEMORY. A length counts elements, not bytes. Every pointer must be valid
@@ -84,6 +88,7 @@ extern "C" {
 #define CUNDVREST_REFUSED_NO_SUCH_BUFFER 13
 #define CUNDVREST_REFUSED_BAD_FRONTIER 14
 #define CUNDVREST_REFUSED_BAD_CAPACITY 15
+#define CUNDVREST_REFUSED_OUT_OF_TURN 17
 #define CUNDVREST_REFUSED_NO_SIGNAL_FREES 19
 #define CUNDVREST_REFUSED_NO_SUCH_OPERATION 21
 #define CUNDVREST_REFUSED_BAD_TRACE 22
@@ -158,19 +163,20 @@ void cundvrest_write(const uint64_t *numbers, size_t numbers_len,
                      uint8_t *room, size_t room_len, uint64_t told[3]);
 
 /* Checks a stored plan of n operations, by the rules and by its order. Refusals
- * 1 to 11. On a pass, the first 16 * n numbers of the table are the rows: row j,
- * column q is how many operations on queue q are operation j or before it; the
- * first n numbers of the list are the standard run, and the n after them how
- * many queues were ready before each step. Refusals 1 to 9 leave both untouched;
- * 10 and 11 leave zeros in those numbers. Past them nothing is ever touched. */
+ * 1 to 5, 7 to 11 and 17. On a pass, the first 16 * n numbers of the table are the
+ * rows: row j, column q is how many operations on queue q are operation j or
+ * before it; the first n numbers of the list are the standard run, and the n after
+ * them how many queues were ready before each step. Refusals 1 to 9 leave both
+ * untouched; 10, 17 and 11 leave zeros in those numbers. Past them nothing is ever
+ * touched. */
 void cundvrest_check(const uint8_t *plan, size_t plan_len,
                      uint32_t *table, size_t table_len,
                      uint32_t *list, size_t list_len, uint64_t told[3]);
 
 /* May the queue take the buffer anew, after its last operation? The plan is
- * checked first: refusals 1 to 13. The answer is a verdict. An answer, 12 and 13
- * leave the rows and the run, as a pass of cundvrest_check does; 1 to 11 leave
- * what they leave there. */
+ * checked first, with the refusals of cundvrest_check; then 12, then 13. The
+ * answer is a verdict. An answer, 12 and 13 leave the rows and the run, as a pass
+ * of cundvrest_check does; its refusals leave what they leave there. */
 void cundvrest_reuse(const uint8_t *plan, size_t plan_len,
                      uint32_t queue, uint32_t buffer,
                      uint32_t *table, size_t table_len,
@@ -185,8 +191,9 @@ void cundvrest_reuse(const uint8_t *plan, size_t plan_len,
  * order, that does it. If the plan has fewer than 1,024 operations, the plan with
  * that operation passes, and its verdict is reusable.
  * answer: 0 none needed, 1 the wait, 2 none would help. wait: semaphore, value;
- * zeros but for 1. The plan is checked first: refusals 1 to 13, then 19 where
- * no signal does it. An answer, 12, 13 and 19 leave the rows and the run. */
+ * zeros but for 1. The plan is checked first, with the refusals of
+ * cundvrest_check; then 12, 13, and 19 where no signal does it. An answer, 12, 13
+ * and 19 leave the rows and the run. */
 void cundvrest_suggest(const uint8_t *plan, size_t plan_len,
                        uint32_t queue, uint32_t buffer,
                        uint32_t *table, size_t table_len,
@@ -195,9 +202,9 @@ void cundvrest_suggest(const uint8_t *plan, size_t plan_len,
 
 /* The frontier that is sent out for an operation: an entry for each number above
  * 0 in its row, under the axis of that column's queue, cut as a merge is. The
- * plan is checked first:
- * refusals 1 to 11, then 21, then 15. An answer, 21 and 15 leave the rows and the
- * run. A refusal writes the empty untainted frontier, which is 34 zeros. */
+ * plan is checked first, with the refusals of cundvrest_check; then 21, then 15.
+ * An answer, 21 and 15 leave the rows and the run. A refusal writes the empty
+ * untainted frontier, which is 34 zeros. */
 void cundvrest_frontier(const uint8_t *plan, size_t plan_len,
                         uint32_t operation, uint32_t capacity,
                         uint32_t *table, size_t table_len,
@@ -225,10 +232,10 @@ void cundvrest_frontier(const uint8_t *plan, size_t plan_len,
  * value signalled on each of 1,024 semaphores; 0 for those that the plan lacks.
  * Past CUNDVREST_STATE numbers nothing is touched.
  *
- * The plan is checked first: refusals 1 to 11. Then 9 with CUNDVREST_STATE for a
- * shorter state, then 22. An answer and these two leave the rows and the run; 1
- * to 11 leave what they leave for cundvrest_check. No refusal touches the state,
- * and each writes zeros into found. */
+ * The plan is checked first, with the refusals of cundvrest_check. Then 9 with
+ * CUNDVREST_STATE for a shorter state, then 22. An answer and these two leave the
+ * rows and the run; the refusals of cundvrest_check leave what they leave there.
+ * No refusal touches the state, and each writes zeros into found. */
 void cundvrest_trace(const uint8_t *plan, size_t plan_len,
                      const uint8_t *trace, size_t trace_len,
                      uint32_t *table, size_t table_len,

@@ -1,8 +1,11 @@
-//! Small plans judged by trying every run, straight from the words of R21 to R36:
-//! a run is judged by semaphore values, never by the relation "before". Nothing
-//! here is shared with the reference but the type `Plan`.
+//! Small plans judged by trying every run, straight from the words of R21 to R36
+//! and R93: a run is judged by what waits rest on and by semaphore values, never
+//! by the relation "before". Nothing here is shared with the reference but the
+//! type `Plan`.
 
-use crate::plan::Plan;
+use crate::plan::{Plan, Point};
+use crate::side::{OwnRooms, Told};
+use std::collections::BTreeSet;
 
 mod suggest;
 mod trace;
@@ -31,31 +34,73 @@ pub enum Judgement {
     },
 }
 
+impl Judgement {
+    /// What a check tells of this plan, and what it leaves in a table and a run
+    /// list of the least lengths that were filled with a pattern (R56).
+    pub fn told_and_left(&self, plan: &Plan, pattern: u32) -> (Told, OwnRooms) {
+        let operations = plan.operations.len();
+        let mut left = OwnRooms::new(operations);
+        match self {
+            Judgement::Refused { number, place } => {
+                if *number <= 9 {
+                    left = OwnRooms::filled(pattern, [16 * operations, 2 * operations]);
+                }
+                (Told::refused(*number, *place), left)
+            }
+            Judgement::Passed {
+                run, ready, rows, ..
+            } => {
+                for (to, from) in left.list.iter_mut().zip(run.iter().chain(ready)) {
+                    *to = *from as u32;
+                }
+                for (to, from) in left.table.chunks_exact_mut(16).zip(rows) {
+                    for (to, from) in to.iter_mut().zip(from) {
+                        *to = *from as u32;
+                    }
+                }
+                (Told::PASSED, left)
+            }
+        }
+    }
+}
+
 /// Judges a plan whose fields are all in range. Panics if a claim of the rules
-/// about whole runs fails: that a plan with a full run is never stuck, and that
-/// every run raises every semaphore in order.
+/// about whole runs fails: that a plan with a full run is never stuck, that a
+/// signal is out of turn exactly if some full run does not raise its semaphore in
+/// order, and that else every run, full or not, raises every semaphore in order.
 pub fn judge(plan: &Plan) -> Judgement {
     assert!(plan.operations.len() <= MOST_OPERATIONS);
     let refused = |number, place: Position| Judgement::Refused {
         number,
         place: place as u64,
     };
-    if let Some((number, operation)) = signal_fault(plan) {
-        return refused(number, operation);
+    if let Some(operation) = signal_fault(plan) {
+        return refused(7, operation);
     }
     if let Some(operation) = wait_fault(plan) {
         return refused(8, operation);
     }
-    // Demand 3: passed exactly if there is a full run and all full runs keep all
-    // buffers.
-    let runs = Runs::of(plan);
+    // Demand 3: passed exactly if there is a full run, and all full runs raise all
+    // semaphores in order and keep all buffers.
+    let runs = Runs::of(plan, Met::ByWhatItRestsOn);
     if runs.full.is_empty() {
         return refused(10, runs.lowest_in_none(plan));
     }
     assert!(!runs.some_stuck, "a full run exists, and some run is stuck");
-    let asked = asked_of_marks(plan);
-    if !runs.full.iter().all(|steps| keeps(&asked, steps)) {
-        return refused(11, lowest_broken(&asked, &runs.full));
+    let out_of_turn = runs.lowest_out_of_turn(plan);
+    if !runs.not_raised.is_empty() {
+        let operation = out_of_turn.expect("a full run does not raise in order, none out of turn");
+        let mut signals = plan.operations[operation].signals.iter();
+        assert!(
+            signals.any(|signal| runs.not_raised.contains(&signal.semaphore)),
+            "every full run raises what operation {operation} signals, which is out of turn"
+        );
+        return refused(17, operation);
+    }
+    assert_eq!(out_of_turn, None, "yet every full run raises in order");
+    assert!(runs.all_raise, "some run does not raise in order");
+    if let Some(operation) = runs.lowest_broken(plan) {
+        return refused(11, operation);
     }
     let (run, ready) = standard_run(plan);
     Judgement::Passed {
@@ -66,17 +111,15 @@ pub fn judge(plan: &Plan) -> Judgement {
     }
 }
 
-/// R54: 6 and 7, signal by signal in the order of the plan.
-fn signal_fault(plan: &Plan) -> Option<(u64, Position)> {
+/// R44: the first operation with a signal that is 0 or not higher than the one
+/// before it.
+fn signal_fault(plan: &Plan) -> Option<Position> {
     let mut last = vec![0; plan.owners.len()];
     for (position, operation) in plan.operations.iter().enumerate() {
         for signal in &operation.signals {
             let semaphore = usize::from(signal.semaphore);
-            if plan.owners[semaphore] != operation.queue {
-                return Some((6, position));
-            }
             if signal.value == 0 || signal.value <= last[semaphore] {
-                return Some((7, position));
+                return Some(position);
             }
             last[semaphore] = signal.value;
         }
@@ -100,7 +143,42 @@ fn wait_fault(plan: &Plan) -> Option<Position> {
 // ---------------------------------------------------------------------------
 // Runs.
 
-/// R22: how far a semaphore has come in a run.
+/// R17: the operation of the signal with the least value that reaches the wait's,
+/// of equal ones the first.
+fn rests_on(plan: &Plan, wait: &Point) -> Option<Position> {
+    let mut least: Option<(u64, Position)> = None;
+    for (position, operation) in plan.operations.iter().enumerate() {
+        for signal in &operation.signals {
+            let reaches = signal.semaphore == wait.semaphore && signal.value >= wait.value;
+            if reaches && least.is_none_or(|(value, _)| signal.value < value) {
+                least = Some((signal.value, position));
+            }
+        }
+    }
+    least.map(|(_, position)| position)
+}
+
+/// When a wait is met.
+#[derive(Clone, Copy, PartialEq, Eq, Debug)]
+pub enum Met {
+    /// R22: once the operation that it rests on has run; from the start for 0.
+    ByWhatItRestsOn,
+    /// R95, by owners: once the semaphore has come to its value.
+    ByValue,
+}
+
+impl Met {
+    fn after(self, plan: &Plan, run: &[Position], wait: &Point) -> bool {
+        match self {
+            Met::ByWhatItRestsOn => {
+                wait.value == 0 || rests_on(plan, wait).is_some_and(|i| run.contains(&i))
+            }
+            Met::ByValue => highest_so_far(plan, run, wait.semaphore) >= wait.value,
+        }
+    }
+}
+
+/// The highest value signalled on a semaphore in a run.
 fn highest_so_far(plan: &Plan, run: &[Position], semaphore: u16) -> u64 {
     let mut highest = 0;
     for &operation in run {
@@ -114,7 +192,7 @@ fn highest_so_far(plan: &Plan, run: &[Position], semaphore: u16) -> u64 {
 }
 
 /// Is the operation ready after this run: does adding it at the end give a run?
-fn ready_after(plan: &Plan, run: &[Position], position: Position) -> bool {
+fn ready_after(plan: &Plan, met: Met, run: &[Position], position: Position) -> bool {
     let operation = &plan.operations[position];
     let distinct = !run.contains(&position);
     let earlier_of_its_queue_ran = || {
@@ -123,75 +201,96 @@ fn ready_after(plan: &Plan, run: &[Position], position: Position) -> bool {
     };
     let waits_met = || {
         let mut waits = operation.waits.iter();
-        waits.all(|wait| highest_so_far(plan, run, wait.semaphore) >= wait.value)
+        waits.all(|wait| met.after(plan, run, wait))
     };
     distinct && earlier_of_its_queue_ran() && waits_met()
 }
 
-/// R26, of every semaphore at once: does the run raise it in order? The run
-/// before its last step is known to do so.
-fn last_step_raises_in_order(plan: &Plan, run: &[Position]) -> bool {
+/// R26: the semaphores that the run does not raise in order because of a signal in
+/// its last step.
+fn not_raised_by_last_step(plan: &Plan, run: &[Position]) -> Vec<u16> {
     let Some((&last, before)) = run.split_last() else {
-        return true;
+        return Vec::new();
     };
     let signals = &plan.operations[last].signals;
-    signals.iter().enumerate().all(|(place, signal)| {
-        let in_list = signals[..place]
+    let raises = |place: usize, signal: &Point| {
+        let mut in_list = signals[..place]
             .iter()
             .filter(|s| s.semaphore == signal.semaphore);
         signal.value > 0
             && signal.value > highest_so_far(plan, before, signal.semaphore)
-            && in_list.into_iter().all(|s| signal.value > s.value)
-    })
+            && in_list.all(|s| signal.value > s.value)
+    };
+    let signals = signals.iter().enumerate();
+    let falling = signals.filter(|(place, signal)| !raises(*place, signal));
+    falling.map(|(_, signal)| signal.semaphore).collect()
 }
 
 /// A full run: for each operation its step.
 type Steps = [u8; MOST_OPERATIONS];
 
 /// Every run of a plan.
-struct Runs {
-    every: EveryRun,
+pub struct Runs {
+    pub every: EveryRun,
     full: Vec<Steps>,
     /// For each operation, whether some run has it.
-    reached: [bool; MOST_OPERATIONS],
+    pub reached: [bool; MOST_OPERATIONS],
     /// Whether some run is not full, and no operation is ready after it.
     some_stuck: bool,
+    /// The semaphores that some full run does not raise in order.
+    not_raised: BTreeSet<u16>,
+    /// Whether some full run raises every semaphore in order.
+    pub some_full_raises: bool,
+    /// Whether every run, full or not, raises every semaphore in order.
+    pub all_raise: bool,
 }
 
 impl Runs {
-    fn of(plan: &Plan) -> Runs {
+    pub fn of(plan: &Plan, met: Met) -> Runs {
         let mut runs = Runs {
             every: EveryRun::default(),
             full: Vec::new(),
             reached: [false; MOST_OPERATIONS],
             some_stuck: false,
+            not_raised: BTreeSet::new(),
+            some_full_raises: false,
+            all_raise: true,
         };
-        runs.explore(plan, &mut Vec::new());
+        runs.explore(plan, met, &mut Vec::new(), &mut Vec::new());
         runs
     }
 
-    /// Visits this run and every run that begins with it.
-    fn explore(&mut self, plan: &Plan, run: &mut Vec<Position>) {
-        assert!(
-            last_step_raises_in_order(plan, run),
-            "the run {run:?} does not raise its semaphores in order"
-        );
+    /// Visits this run and every run that begins with it. It is known which
+    /// semaphores the run before its last step does not raise in order.
+    fn explore(
+        &mut self,
+        plan: &Plan,
+        met: Met,
+        run: &mut Vec<Position>,
+        not_raised: &mut Vec<u16>,
+    ) {
+        let before = not_raised.len();
+        not_raised.extend(not_raised_by_last_step(plan, run));
+        self.all_raise &= not_raised.is_empty();
         self.every.add(run);
         let mut extended = false;
         for operation in 0..plan.operations.len() {
-            if ready_after(plan, run, operation) {
+            if ready_after(plan, met, run, operation) {
                 extended = true;
                 self.reached[operation] = true;
                 run.push(operation);
-                self.explore(plan, run);
+                self.explore(plan, met, run, not_raised);
                 run.pop();
             }
         }
         if run.len() == plan.operations.len() {
             self.full.push(steps(run));
+            self.not_raised.extend(not_raised.iter());
+            self.some_full_raises |= not_raised.is_empty();
         } else if !extended {
             self.some_stuck = true;
         }
+        not_raised.truncate(before);
     }
 
     fn lowest_in_none(&self, plan: &Plan) -> Position {
@@ -199,6 +298,44 @@ impl Runs {
         let lowest = reached.iter().position(|reached| !reached);
         lowest.expect("no full run, yet each operation is in some run")
     }
+
+    /// R94 by runs: the lowest operation with a signal which some full run has
+    /// earlier than the operation of the signal before it (R93).
+    fn lowest_out_of_turn(&self, plan: &Plan) -> Option<Position> {
+        let too_soon = |&(before, own): &(Position, Position)| {
+            let mut full = self.full.iter();
+            full.any(|steps| steps[own] < steps[before])
+        };
+        let handovers = handovers(plan).into_iter();
+        handovers.filter(too_soon).map(|(_, own)| own).min()
+    }
+
+    /// The lowest operation with a mark for which some full run breaks what
+    /// keeping asks of it.
+    pub fn lowest_broken(&self, plan: &Plan) -> Option<Position> {
+        let marks = asked_of_marks(plan).into_iter();
+        let broken =
+            marks.filter(|&mark| !self.full.iter().all(|steps| done_as_asked(mark, steps)));
+        broken.map(|(operation, _)| operation).min()
+    }
+}
+
+/// R93: of each signal that is not the first of its semaphore the operation of
+/// the signal before it, and its own.
+fn handovers(plan: &Plan) -> Vec<(Position, Position)> {
+    let mut handovers = Vec::new();
+    for semaphore in 0..plan.owners.len() {
+        let mut before = None;
+        for (own, operation) in plan.operations.iter().enumerate() {
+            for signal in &operation.signals {
+                if usize::from(signal.semaphore) == semaphore {
+                    handovers.extend(before.map(|before| (before, own)));
+                    before = Some(own);
+                }
+            }
+        }
+    }
+    handovers
 }
 
 /// For each operation of a full run its step.
@@ -215,7 +352,7 @@ fn standard_run(plan: &Plan) -> (Vec<Position>, Vec<usize>) {
     let (mut run, mut ready_numbers) = (Vec::new(), Vec::new());
     while run.len() < plan.operations.len() {
         let positions = 0..plan.operations.len();
-        let ready = positions.filter(|&i| ready_after(plan, &run, i));
+        let ready = positions.filter(|&i| ready_after(plan, Met::ByWhatItRestsOn, &run, i));
         let mut queues: Vec<_> = ready.map(|i| (plan.operations[i].queue, i)).collect();
         queues.sort_unstable();
         ready_numbers.push(queues.len());
@@ -294,20 +431,6 @@ fn done_as_asked((operation, asked): (Position, Asked), steps: &Steps) -> bool {
         Asked::NoLaterThan(free) => steps[operation] <= steps[free],
         Asked::LaterThan(free) => steps[operation] > steps[free],
     }
-}
-
-/// Does the full run keep every buffer?
-fn keeps(asked: &[(Position, Asked)], steps: &Steps) -> bool {
-    asked.iter().all(|&mark| done_as_asked(mark, steps))
-}
-
-/// The lowest operation with a mark for which some full run breaks what keeping
-/// asks of it.
-fn lowest_broken(asked: &[(Position, Asked)], full: &[Steps]) -> Position {
-    let marks = asked.iter().copied();
-    let broken = marks.filter(|&mark| !full.iter().all(|steps| done_as_asked(mark, steps)));
-    let operations = broken.map(|(operation, _)| operation);
-    operations.min().expect("some full run breaks some mark")
 }
 
 /// The verdict table of the reuse question, for a passed plan: "before" is read

@@ -7,12 +7,13 @@ use crate::reference::{self, Reference};
 use crate::side::{Found, Raw, Rooms, Side, Told, Wait, EMPTY, EPOCHS, LENGTH, TAINT};
 
 mod forms;
+mod handovers;
 mod suggest;
 mod trace;
 
 /// The mistakes that the rules exclude, a row's own column, and mistakes of the
-/// trace question, of the question for a wait, of the lookup and of the second
-/// form.
+/// trace question, of the question for a wait, of the lookup, of the second form
+/// and of handovers.
 #[derive(Clone, Copy, PartialEq, Eq, Debug)]
 pub enum Fault {
     /// A wait takes over what the latest signal knows (R17).
@@ -69,11 +70,35 @@ pub enum Fault {
     FirstFormOnly,
     /// A state for 64 semaphores is enough.
     StateFor64,
+    /// 6 is given for a signal of a queue that is not the owner.
+    OwnersOnly,
+    /// A wait is met once its semaphore has come to its value (R22).
+    MetByValue,
+    /// 17 names the operation of the signal before.
+    EarlierNamed,
+    /// A signal is held against the first of its semaphore, not the one before.
+    FirstSignaller,
+    /// A signal is held against the one before it on whichever semaphore.
+    AnySemaphore,
+    /// A signal is out of turn if its operation is not before the earlier one's.
+    HandoverTurned,
+    /// 17 is told as 11.
+    ToldAsEleven,
+    /// 11 is given where 17 comes first.
+    MarksFirst,
+    /// 17 is given where 10 comes first.
+    HandoversFirst,
+    /// 17 is never given.
+    NeverOutOfTurn,
+    /// A second signal of a semaphore in one operation is out of turn.
+    SecondOutOfTurn,
+    /// 17 leaves a run in the list.
+    RefusalKeepsRun,
 }
 
 impl Fault {
     /// Fault 1 is the first.
-    pub const ALL: [Fault; 27] = [
+    pub const ALL: [Fault; 39] = [
         Fault::NewestSignal,
         Fault::FirstUseOnly,
         Fault::OwnColumnMissing,
@@ -101,6 +126,18 @@ impl Fault {
         Fault::LeadNotCounted,
         Fault::FirstFormOnly,
         Fault::StateFor64,
+        Fault::OwnersOnly,
+        Fault::MetByValue,
+        Fault::EarlierNamed,
+        Fault::FirstSignaller,
+        Fault::AnySemaphore,
+        Fault::HandoverTurned,
+        Fault::ToldAsEleven,
+        Fault::MarksFirst,
+        Fault::HandoversFirst,
+        Fault::NeverOutOfTurn,
+        Fault::SecondOutOfTurn,
+        Fault::RefusalKeepsRun,
     ];
 
     /// The plan the reference is given instead.
@@ -223,6 +260,7 @@ impl Side for Faulty {
         Reference.check(&self.rewritten(plan), rooms, told);
         self.spoil(told, plan, rooms);
         forms::spoil(self.0, plan, told);
+        handovers::spoil(self.0, plan, told, rooms);
     }
 
     fn reuse(&self, plan: &[u8], queue: u32, buffer: u32, rooms: &mut Rooms, told: &mut Told) {

@@ -74,14 +74,14 @@ type Row = [u32; 16];
 
 /// The rows of a plan with a known full run, to place marks in order. This is
 /// the plain quadratic way: it need not be fast.
-struct Known {
+pub(crate) struct Known {
     queues: Vec<usize>,
     epochs: Vec<u32>,
     rows: Vec<Row>,
 }
 
 impl Known {
-    fn of(plan: &Plan, run: &[usize]) -> Known {
+    pub(crate) fn of(plan: &Plan, run: &[usize]) -> Known {
         let queues: Vec<usize> = plan.operations.iter().map(|o| o.queue.into()).collect();
         let mut lengths = [0; 16];
         let epochs = queues.iter().map(|&queue| {
@@ -111,7 +111,7 @@ impl Known {
         known
     }
 
-    fn at_or_before(&self, i: usize, j: usize) -> bool {
+    pub(crate) fn at_or_before(&self, i: usize, j: usize) -> bool {
         self.rows[j][self.queues[i]] >= self.epochs[i]
     }
 }
@@ -123,7 +123,7 @@ fn raise(row: &mut Row, other: &Row) {
 }
 
 /// For each semaphore its signals in plan order: value and operation.
-fn signallers(plan: &Plan) -> Vec<Vec<(u64, usize)>> {
+pub(crate) fn signallers(plan: &Plan) -> Vec<Vec<(u64, usize)>> {
     let mut signallers = vec![Vec::new(); plan.owners.len()];
     for (position, operation) in plan.operations.iter().enumerate() {
         for signal in &operation.signals {
@@ -260,6 +260,13 @@ struct Dials {
     waits: usize,
     signals: usize,
     marks: usize,
+    /// A signal is on any semaphore, not on one that its queue owns.
+    others: usize,
+    /// The wait for the signal before is left out: gives 17.
+    unordered: usize,
+    /// A signal may be the next of its semaphore, though the operation of the one
+    /// before runs later: gives 17, or 10 where it waits for it.
+    wild_signals: usize,
     /// Operations in the plan are in another order than in a run.
     plan_order_differs: bool,
 }
@@ -272,12 +279,15 @@ impl Dials {
             waits: *rng.pick(&[10, 40, 70]),
             signals: *rng.pick(&[30, 60, 90]),
             marks: *rng.pick(&[20, 50, 80]),
+            others: *rng.pick(&[0, 0, 50, 100]),
+            unordered: *rng.pick(&[0, 0, 15, 60]),
+            wild_signals: *rng.pick(&[0, 0, 0, 10, 50]),
             plan_order_differs: rng.percent(70),
         }
     }
 }
 
-/// A random plan with every field in range. All of 0, 6, 7, 8, 10 and 11 occur.
+/// A random plan with every field in range. All of 0, 7, 8, 10, 17 and 11 occur.
 pub fn random_plan(rng: &mut Rng, most_operations: usize) -> Plan {
     let dials = Dials::random(rng);
     let queues = match rng.below(12) {
@@ -319,8 +329,8 @@ pub fn random_plan(rng: &mut Rng, most_operations: usize) -> Plan {
     } else {
         (0..operations).collect()
     };
-    add_signals(rng, &mut plan, dials.signals);
-    add_waits(rng, &mut plan, &run, &dials);
+    let handovers = add_signals(rng, &mut plan, &run, &dials);
+    add_waits(rng, &mut plan, &run, &handovers, &dials);
     add_marks(rng, &mut plan, &run, &dials);
     // Near misses: a plan that passes but for one thing.
     match rng.below(10) {
@@ -332,50 +342,127 @@ pub fn random_plan(rng: &mut Rng, most_operations: usize) -> Plan {
     plan
 }
 
-fn add_signals(rng: &mut Rng, plan: &mut Plan, chance: usize) {
-    let mut last = vec![0u64; plan.owners.len()];
-    for operation in &mut plan.operations {
-        let owned: Vec<usize> = (0..plan.owners.len())
-            .filter(|&s| plan.owners[s] == operation.queue)
-            .collect();
-        if owned.is_empty() {
-            continue;
+/// For each operation the signals that it has to wait for.
+type Handovers = Vec<Vec<Point>>;
+
+/// The last signal of each semaphore so far in plan order.
+struct LastSignals<'a> {
+    /// The step of each operation in the run that the plan allows.
+    steps: Vec<usize>,
+    queues: &'a [u8],
+    /// Value, and the operation if there is one.
+    last: Vec<(u64, Option<usize>)>,
+}
+
+impl LastSignals<'_> {
+    fn new<'a>(run: &[usize], queues: &'a [u8], semaphores: usize) -> LastSignals<'a> {
+        let mut steps = vec![0; run.len()];
+        for (step, &j) in run.iter().enumerate() {
+            steps[j] = step;
         }
-        while operation.signals.len() < 2 && rng.percent(chance) {
-            let semaphore = *rng.pick(&owned);
+        LastSignals {
+            steps,
+            queues,
+            last: vec![(0, None); semaphores],
+        }
+    }
+
+    /// Does the operation run no earlier than that of the semaphore's last signal?
+    fn in_turn(&self, semaphore: usize, j: usize) -> bool {
+        let before = self.last[semaphore].1;
+        before.is_none_or(|i| self.steps[i] <= self.steps[j])
+    }
+
+    /// The signal that the operation has to wait for if it is the next to signal
+    /// the semaphore: none if its queue has signalled last.
+    fn to_wait_for(&self, semaphore: usize, j: usize) -> Option<Point> {
+        let (value, before) = self.last[semaphore];
+        let other_queue = before.is_some_and(|i| self.queues[i] != self.queues[j]);
+        other_queue.then_some(Point {
+            semaphore: semaphore as u16,
+            value,
+        })
+    }
+}
+
+/// Hands back what has to be waited for, so that each semaphore is handed from one
+/// operation to the next.
+fn add_signals(rng: &mut Rng, plan: &mut Plan, run: &[usize], dials: &Dials) -> Handovers {
+    let queues: Vec<u8> = plan.operations.iter().map(|o| o.queue).collect();
+    let mut signals = LastSignals::new(run, &queues, plan.owners.len());
+    let mut handovers = vec![Vec::new(); queues.len()];
+    for (j, operation) in plan.operations.iter_mut().enumerate() {
+        while operation.signals.len() < 2 && rng.percent(dials.signals) {
+            let any = rng.percent(dials.others);
+            let wild = rng.percent(dials.wild_signals);
+            let mut may: Vec<usize> = (0..plan.owners.len())
+                .filter(|&s| any || plan.owners[s] == operation.queue)
+                .filter(|&s| wild || signals.in_turn(s, j))
+                .collect();
+            if any && rng.percent(60) {
+                // One that is signalled already, of however many there are.
+                let signalled = |s: &usize| signals.last[*s].1.is_some();
+                if may.iter().any(signalled) {
+                    may.retain(signalled);
+                }
+            }
+            if may.is_empty() {
+                break;
+            }
+            let semaphore = *rng.pick(&may);
+            let last = signals.last[semaphore].0;
             let step = match rng.below(20) {
                 0 => rng.word() >> rng.below(64),
-                1 => u64::MAX - last[semaphore],
+                1 => u64::MAX - last,
                 _ => rng.between(1, 3) as u64,
             };
-            let value = last[semaphore].saturating_add(step.max(1));
-            if value == last[semaphore] {
+            let value = last.saturating_add(step.max(1));
+            if value == last {
                 break; // At the end of the range: nothing is higher.
             }
-            last[semaphore] = value;
+            if !rng.percent(dials.unordered) {
+                handovers[j].extend(signals.to_wait_for(semaphore, j));
+            }
+            signals.last[semaphore] = (value, Some(j));
             let semaphore = semaphore as u16;
             operation.signals.push(Point { semaphore, value });
         }
     }
+    handovers
 }
 
-/// Waits on what comes earlier in the run, or on anything if the dial says so.
-fn add_waits(rng: &mut Rng, plan: &mut Plan, run: &[usize], dials: &Dials) {
+/// Waits for what is handed over, then on what comes earlier in the run, or on
+/// anything if the dial says so.
+fn add_waits(
+    rng: &mut Rng,
+    plan: &mut Plan,
+    run: &[usize],
+    handovers: &[Vec<Point>],
+    dials: &Dials,
+) {
     let signallers = signallers(plan);
-    let all: Vec<Point> = run
-        .iter()
-        .flat_map(|&j| plan.operations[j].signals.clone())
-        .collect();
+    let with_queue = |j: &usize| {
+        let operation = &plan.operations[*j];
+        let signals = operation.signals.iter();
+        signals
+            .map(|&signal| (operation.queue, signal))
+            .collect::<Vec<_>>()
+    };
+    let all: Vec<(u8, Point)> = run.iter().flat_map(with_queue).collect();
     let mut earlier = 0;
     for &j in run {
         let queue = plan.operations[j].queue;
+        for &signal in &handovers[j] {
+            let wait = below_signal(rng, &signallers, signal);
+            plan.operations[j].waits.push(wait);
+        }
         while plan.operations[j].waits.len() < 3 && rng.percent(dials.waits) {
             let wild = rng.percent(dials.wild_waits);
             let signals = if wild { &all } else { &all[..earlier] };
             let wait = if signals.is_empty() || rng.percent(5) {
                 wait_for_zero(rng, plan)
             } else {
-                let signal = recent_signal(rng, &plan.owners, queue, signals);
+                let signal = recent_signal(rng, queue, signals);
                 Some(below_signal(rng, &signallers, signal))
             };
             let Some(wait) = wait else { break };
@@ -386,14 +473,14 @@ fn add_waits(rng: &mut Rng, plan: &mut Plan, run: &[usize], dials: &Dials) {
 }
 
 /// A recent signal, and one of another queue, more often than not.
-fn recent_signal(rng: &mut Rng, owners: &[u8], queue: u8, signals: &[Point]) -> Point {
+fn recent_signal(rng: &mut Rng, queue: u8, signals: &[(u8, Point)]) -> Point {
     let mut recent = || {
         let first = rng.below(signals.len());
         signals[first.max(rng.below(signals.len()))]
     };
-    let foreign = |signal: &Point| owners[usize::from(signal.semaphore)] != queue;
     let tries = [recent(), recent(), recent()];
-    *tries.iter().find(|s| foreign(s)).unwrap_or(&tries[0])
+    let foreign = tries.iter().find(|signal| signal.0 != queue);
+    foreign.unwrap_or(&tries[0]).1
 }
 
 fn wait_for_zero(rng: &mut Rng, plan: &Plan) -> Option<Point> {
@@ -460,7 +547,7 @@ fn add_stray_use(rng: &mut Rng, plan: &mut Plan) {
     }
 }
 
-/// Puts one fault of 6, 7 or 8 into a plan, where there is room for one.
+/// Puts one fault of 7, 8 or 17 into a plan, where there is room for one.
 fn spoil(rng: &mut Rng, plan: &mut Plan) {
     let (operations, semaphores) = (plan.operations.len(), plan.owners.len());
     if operations == 0 || semaphores == 0 {
@@ -481,7 +568,7 @@ fn spoil(rng: &mut Rng, plan: &mut Plan) {
     };
     let owner = plan.owners[semaphore];
     let operation = match rng.below(3) {
-        // Mostly by an owner, so that 7 is met as often as 6.
+        // Mostly by an owner, so that 7 is met as often as 17.
         0 | 1 => {
             let by_owner = |i: &usize| plan.operations[*i].queue == owner;
             let owned: Vec<usize> = (0..operations).filter(by_owner).collect();
@@ -601,6 +688,125 @@ fn camera_pipeline_with(rng: &mut Rng, cameras: usize, frames: usize, rings: [us
     plan
 }
 
+/// The same work with semaphores that go with the pictures: each is handed from
+/// the camera to the copy engine, the accelerator, the host, and on to the next
+/// picture in its place. Its owner is any queue. Passes.
+pub fn handed_pipeline(rng: &mut Rng, cameras: usize, frames: usize) -> Plan {
+    let places = rng.between(1, 4);
+    let queues = cameras + 3;
+    let semaphores = cameras * places;
+    let mut plan = Plan {
+        axes: axes(rng, queues),
+        owners: (0..semaphores).map(|_| rng.below(queues) as u8).collect(),
+        sizes: vec![1 << 21; 3 * semaphores],
+        operations: Vec::new(),
+    };
+    for frame in 0..frames {
+        for camera in 0..cameras {
+            let semaphore = (camera * places + frame % places) as u16;
+            let first = 4 * (frame / places) as u64;
+            for stage in 0..4 {
+                let queue = if stage == 0 {
+                    camera
+                } else {
+                    cameras + stage - 1
+                };
+                let mut operation = Operation {
+                    queue: queue as u8,
+                    ..Operation::default()
+                };
+                let value = first + stage as u64;
+                if value > 0 {
+                    operation.waits.push(Point { semaphore, value });
+                }
+                operation.signals.push(Point {
+                    semaphore,
+                    value: value + 1,
+                });
+                let buffer = |stage: usize| 3 * semaphore + stage as u16;
+                if stage > 0 {
+                    for free in [false, true] {
+                        let buffer = buffer(stage - 1);
+                        operation.marks.push(Mark { buffer, free });
+                    }
+                }
+                if stage < 3 {
+                    operation.marks.push(Mark {
+                        buffer: buffer(stage),
+                        free: false,
+                    });
+                }
+                plan.operations.push(operation);
+            }
+        }
+    }
+    plan
+}
+
+/// A stuck plan in which a semaphore has come to the value of a wait, but not by
+/// the signal that the wait rests on: that signal's operation waits for something
+/// that never comes. Sometimes signals are out of turn too. Up to seven
+/// operations.
+pub fn trap(rng: &mut Rng) -> Plan {
+    let mut queues = [0, 1, 2, 3];
+    rng.shuffle(&mut queues);
+    let owners = (0..3).map(|_| rng.below(4) as u8).collect();
+    let low = rng.between(1, 3) as u64;
+    let high = low + rng.between(1, 3) as u64;
+    let point = |semaphore, value| Point { semaphore, value };
+    let mut names = [0, 1, 2];
+    rng.shuffle(&mut names);
+    let [handed, own, other] = names;
+    let waiting = Operation {
+        queue: queues[0],
+        waits: vec![point(handed, rng.between(1, low as usize) as u64)],
+        ..Operation::default()
+    };
+    // Either it waits for itself, or it comes later on the queue that waits.
+    let waits_for_itself = rng.percent(60);
+    let mut never = Operation {
+        queue: queues[usize::from(waits_for_itself)],
+        signals: vec![point(handed, low)],
+        ..Operation::default()
+    };
+    if waits_for_itself {
+        never.waits.push(point(own, 1));
+        let at = rng.between(0, 1);
+        never.signals.insert(at, point(own, 1));
+    }
+    let higher = Operation {
+        queue: queues[2],
+        signals: vec![point(handed, high)],
+        ..Operation::default()
+    };
+    let mut operations = vec![waiting, never, higher];
+    for value in 1..=rng.below(4) as u64 {
+        // One queue's own semaphore, so that its signals are in turn.
+        let operation = Operation {
+            queue: queues[3],
+            signals: vec![point(other, value)],
+            ..Operation::default()
+        };
+        let after = operations.iter().rposition(|o| o.queue == queues[3]);
+        let first = after.map_or(0, |at| at + 1);
+        let at = rng.between(first, operations.len());
+        operations.insert(at, operation);
+    }
+    if rng.percent(40) {
+        operations.push(Operation {
+            queue: queues[2],
+            signals: vec![point(other, 9)],
+            ..Operation::default()
+        });
+    }
+    Plan {
+        axes: axes(rng, 4),
+        owners,
+        sizes: Vec::new(),
+        operations,
+    }
+}
+
 /// The same plan with its operations in another order, each queue's kept.
 pub fn reordered(rng: &mut Rng, plan: &Plan) -> Plan {
     let queues: Vec<u8> = plan.operations.iter().map(|o| o.queue).collect();
@@ -654,10 +860,11 @@ pub enum Family {
     Worst,
     ManySemaphores,
     ManyRandomCounts,
+    HandedOver,
 }
 
 impl Family {
-    pub const ALL: [Family; 8] = [
+    pub const ALL: [Family; 9] = [
         Family::Greatest,
         Family::OneSemaphore,
         Family::AgainstPlanOrder,
@@ -666,6 +873,7 @@ impl Family {
         Family::Worst,
         Family::ManySemaphores,
         Family::ManyRandomCounts,
+        Family::HandedOver,
     ];
 
     /// Those with every list at its limit, one in each form.
@@ -681,15 +889,16 @@ impl Family {
             Family::Worst => "worst found by search",
             Family::ManySemaphores => "greatest, 1,024 semaphores",
             Family::ManyRandomCounts => "random, 1,024 semaphores",
+            Family::HandedOver => "greatest, handed over",
         }
     }
 
     pub fn plan(self, rng: &mut Rng, operations: usize) -> Plan {
         match self {
             Family::Greatest => Shape::GREATEST.plan(rng, operations),
-            Family::OneSemaphore => one_semaphore(rng, operations),
-            Family::AgainstPlanOrder => against_plan_order(rng, operations),
-            Family::WokenAtOnce => woken_at_once(rng, operations),
+            Family::OneSemaphore => one_semaphore(rng, operations, false),
+            Family::AgainstPlanOrder => against_plan_order(rng, operations, false),
+            Family::WokenAtOnce => woken_at_once(rng, operations, false),
             Family::RandomCounts => Shape::GREATEST.random_counts().plan(rng, operations),
             Family::Worst => Shape::WORST.plan(rng, operations),
             Family::ManySemaphores => Shape::GREATEST_OF_ALL.plan(rng, operations),
@@ -697,13 +906,46 @@ impl Family {
                 let shape = Shape::GREATEST_OF_ALL.random_counts();
                 shape.plan(rng, operations)
             }
+            Family::HandedOver => self.handed_plan(rng, operations),
         }
+    }
+
+    /// A plan of the family in which several queues signal some semaphores, each
+    /// after a wait for the signal before, and any queue is the owner. Passes too.
+    pub fn handed_plan(self, rng: &mut Rng, operations: usize) -> Plan {
+        let shape = match self {
+            Family::Worst => Shape::WORST,
+            Family::ManySemaphores | Family::ManyRandomCounts => Shape::GREATEST_OF_ALL,
+            // In a run that is near the plan's order more signals come in turn.
+            Family::HandedOver => Shape {
+                window: 32,
+                ..Shape::GREATEST
+            },
+            _ => Shape::GREATEST,
+        };
+        let shape = shape.handed(50);
+        let mut plan = match self {
+            Family::OneSemaphore => one_semaphore(rng, operations, true),
+            Family::AgainstPlanOrder => against_plan_order(rng, operations, true),
+            Family::WokenAtOnce => woken_at_once(rng, operations, true),
+            Family::Greatest | Family::Worst | Family::ManySemaphores | Family::HandedOver => {
+                shape.plan(rng, operations)
+            }
+            Family::RandomCounts | Family::ManyRandomCounts => {
+                shape.random_counts().plan(rng, operations)
+            }
+        };
+        for owner in &mut plan.owners {
+            *owner = rng.below(plan.axes.len()) as u8;
+        }
+        plan
     }
 }
 
 /// All signals and waits are on one semaphore: queue 0 signals it twice in each
-/// operation, fifteen queues wait for any of its values.
-fn one_semaphore(rng: &mut Rng, operations: usize) -> Plan {
+/// operation, fifteen queues wait for any of its values. If it is handed over,
+/// queues 0 to 3 signal it, and the others wait.
+fn one_semaphore(rng: &mut Rng, operations: usize, handed: bool) -> Plan {
     let mut plan = Plan {
         axes: axes(rng, 16),
         owners: vec![0],
@@ -711,9 +953,19 @@ fn one_semaphore(rng: &mut Rng, operations: usize) -> Plan {
         operations: Vec::new(),
     };
     let mut value = 0;
+    let signalling = if handed { 4 } else { 1 };
     for position in 0..operations {
         let mut operation = Operation::default();
         if position % 2 == 0 {
+            if handed {
+                operation.queue = rng.below(signalling) as u8;
+            }
+            if handed && value > 0 {
+                operation.waits.push(Point {
+                    semaphore: 0,
+                    value,
+                });
+            }
             for _ in 0..2 {
                 value += rng.between(1, 5) as u64;
                 operation.signals.push(Point {
@@ -722,7 +974,7 @@ fn one_semaphore(rng: &mut Rng, operations: usize) -> Plan {
                 });
             }
         } else {
-            operation.queue = rng.between(1, 15) as u8;
+            operation.queue = rng.between(signalling, 15) as u8;
         }
         let buffer = u16::from(operation.queue);
         operation.marks.push(Mark {
@@ -731,7 +983,8 @@ fn one_semaphore(rng: &mut Rng, operations: usize) -> Plan {
         });
         plan.operations.push(operation);
     }
-    for operation in plan.operations.iter_mut().filter(|o| o.queue > 0) {
+    let waiting = |o: &&mut Operation| o.signals.is_empty();
+    for operation in plan.operations.iter_mut().filter(waiting) {
         for _ in 0..3 {
             let value = rng.between(1, value as usize) as u64;
             operation.waits.push(Point {
@@ -744,11 +997,15 @@ fn one_semaphore(rng: &mut Rng, operations: usize) -> Plan {
 }
 
 /// Sixteen stages, each waiting for the one after it in the plan: the plan
-/// lists the last stage first, so that nothing is ready until the plan's end.
-fn against_plan_order(rng: &mut Rng, operations: usize) -> Plan {
+/// lists the last stage first, so that nothing is ready until the plan's end. If
+/// semaphores are handed over, there are 48 more, each signalled by the first step
+/// or a later one of a stage, then by the step after it of the next queue, and so
+/// on, as long as there are steps.
+fn against_plan_order(rng: &mut Rng, operations: usize, handed: bool) -> Plan {
+    let semaphores = if handed { 64 } else { 16 };
     let mut plan = Plan {
         axes: axes(rng, 16),
-        owners: (0..16).collect(),
+        owners: (0..16).cycle().take(semaphores).collect(),
         sizes: vec![4096; 16],
         operations: Vec::new(),
     };
@@ -772,6 +1029,20 @@ fn against_plan_order(rng: &mut Rng, operations: usize) -> Plan {
                     value: step,
                 });
             }
+            let turn = queue as u64;
+            if let Some(which) = step.checked_sub(turn + 1).filter(|&w| handed && w < 48) {
+                let semaphore = 16 + which as u16;
+                if turn > 0 {
+                    operation.waits.push(Point {
+                        semaphore,
+                        value: turn,
+                    });
+                }
+                operation.signals.push(Point {
+                    semaphore,
+                    value: turn + 1,
+                });
+            }
             let buffer = queue as u16;
             operation.marks.push(Mark {
                 buffer,
@@ -785,19 +1056,27 @@ fn against_plan_order(rng: &mut Rng, operations: usize) -> Plan {
 }
 
 /// The last queue signals three semaphores in turn; at each signal all other
-/// queues wake, run one operation, and sleep again.
-fn woken_at_once(rng: &mut Rng, operations: usize) -> Plan {
+/// queues wake, run one operation, and sleep again. If semaphores are handed over,
+/// the last two queues take turns to signal, each after the other.
+fn woken_at_once(rng: &mut Rng, operations: usize, handed: bool) -> Plan {
     let mut plan = Plan {
         axes: axes(rng, 16),
         owners: vec![15, 15, 15],
-        sizes: vec![4096; 15],
+        sizes: vec![4096; if handed { 16 } else { 15 }],
         operations: Vec::new(),
     };
     for position in 0..operations {
         let round = (position / 16) as u64;
+        let signalling = if handed && round % 2 == 1 { 14 } else { 15 };
         let mut operation = Operation::default();
         if position % 16 == 0 {
-            operation.queue = 15;
+            operation.queue = signalling;
+            if handed && round > 0 {
+                operation.waits.push(Point {
+                    semaphore: ((round - 1) % 3) as u16,
+                    value: round,
+                });
+            }
             let semaphore = (round % 3) as u16;
             operation.signals.push(Point {
                 semaphore,
@@ -805,6 +1084,9 @@ fn woken_at_once(rng: &mut Rng, operations: usize) -> Plan {
             });
         } else {
             operation.queue = (position % 16 - 1) as u8;
+            if operation.queue == signalling {
+                operation.queue = 15;
+            }
             // This round's signal last: the waits before it are met already.
             for back in [2, 1, 0] {
                 let Some(earlier) = round.checked_sub(back) else {
@@ -835,6 +1117,7 @@ fn woken_at_once(rng: &mut Rng, operations: usize) -> Plan {
 pub fn few_signals(rng: &mut Rng, operations: usize) -> Plan {
     let one_in = *rng.pick(&[12, 12, 100]);
     let shape = *rng.pick(&[Shape::GREATEST, Shape::GREATEST_OF_ALL]);
+    let shape = shape.handed(*rng.pick(&[0, 0, 80]));
     shape.plan_with(rng, operations, |rng| {
         let signals = match rng.below(one_in) {
             0 => rng.between(1, 2),

@@ -1,7 +1,7 @@
 //! Recorded traces made from a seed: runs of a plan, and runs gone wrong.
 
-use crate::generate::Rng;
-use crate::plan::Plan;
+use crate::generate::{signallers, Rng};
+use crate::plan::{Plan, Point};
 
 /// The most steps that a trace's count can say.
 pub const MOST_STEPS: usize = 65_535;
@@ -22,12 +22,22 @@ pub fn well_formed(trace: &[u8]) -> bool {
     count.is_some_and(|count| trace.len() == 2 + 2 * usize::from(count))
 }
 
-/// A plan that is being run, by the semaphores' values.
+/// A plan that is being run.
 struct Running<'a> {
     plan: &'a Plan,
     /// The operations that each queue has still to run, the next one last.
     queues: Vec<Vec<u16>>,
-    values: Vec<u64>,
+    has_run: Vec<bool>,
+    /// What each operation's waits rest on.
+    rests: Vec<Vec<Rests>>,
+}
+
+/// What a wait rests on.
+#[derive(Clone, Copy)]
+enum Rests {
+    OnNothing,
+    On(usize),
+    Never,
 }
 
 impl<'a> Running<'a> {
@@ -36,10 +46,32 @@ impl<'a> Running<'a> {
         for (position, operation) in plan.operations.iter().enumerate().rev() {
             queues[usize::from(operation.queue)].push(position as u16);
         }
+        let signallers = signallers(plan);
+        let rests = |wait: &Point| {
+            let signals = signallers[usize::from(wait.semaphore)].iter();
+            let least = signals.filter(|s| s.0 >= wait.value).min_by_key(|s| s.0);
+            match least {
+                _ if wait.value == 0 => Rests::OnNothing,
+                Some(&(_, operation)) => Rests::On(operation),
+                None => Rests::Never,
+            }
+        };
+        let operations = plan.operations.iter();
         Running {
             plan,
             queues,
-            values: vec![0; plan.owners.len()],
+            has_run: vec![false; plan.operations.len()],
+            rests: operations
+                .map(|operation| operation.waits.iter().map(rests).collect())
+                .collect(),
+        }
+    }
+
+    fn met(&self, rests: Rests) -> bool {
+        match rests {
+            Rests::OnNothing => true,
+            Rests::On(operation) => self.has_run[operation],
+            Rests::Never => false,
         }
     }
 
@@ -48,9 +80,8 @@ impl<'a> Running<'a> {
     fn heads(&self) -> impl Iterator<Item = (u16, Option<usize>)> + '_ {
         let heads = self.queues.iter().filter_map(|queue| queue.last());
         heads.map(|&head| {
-            let mut waits = self.plan.operations[usize::from(head)].waits.iter();
-            let unmet = waits.position(|w| self.values[usize::from(w.semaphore)] < w.value);
-            (head, unmet)
+            let mut waits = self.rests[usize::from(head)].iter();
+            (head, waits.position(|&rests| !self.met(rests)))
         })
     }
 
@@ -62,12 +93,9 @@ impl<'a> Running<'a> {
             return None;
         }
         let head = *rng.pick(&ready);
-        let operation = &self.plan.operations[usize::from(head)];
-        self.queues[usize::from(operation.queue)].pop();
-        for signal in &operation.signals {
-            let value = &mut self.values[usize::from(signal.semaphore)];
-            *value = signal.value.max(*value);
-        }
+        let queue = self.plan.operations[usize::from(head)].queue;
+        self.queues[usize::from(queue)].pop();
+        self.has_run[usize::from(head)] = true;
         Some(head)
     }
 }

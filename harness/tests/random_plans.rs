@@ -9,36 +9,15 @@ use std::collections::BTreeMap;
 
 /// What brute force and the reference say must agree, with all that is lent.
 fn agree(plan: &Plan) -> u64 {
-    let (operations, queues) = (plan.operations.len(), plan.axes.len());
+    let operations = plan.operations.len();
     let mut left = OwnRooms::filled(9, [16 * operations, 2 * operations]);
-    let mut wanted_left = OwnRooms::new(operations);
-    let untouched = left.clone();
     let told = reference::check(&plan.bytes(), &mut left.lend());
-    let wanted = match brute::judge(plan) {
-        Judgement::Refused { number, place } => {
-            if number <= 9 {
-                wanted_left = untouched;
-            }
-            Told::refused(number, place)
-        }
-        Judgement::Passed {
-            run, ready, rows, ..
-        } => {
-            for (to, from) in wanted_left.list.iter_mut().zip(run.iter().chain(&ready)) {
-                *to = *from as u32;
-            }
-            for (operation, row) in rows.iter().enumerate() {
-                for (queue, &epoch) in row.iter().enumerate() {
-                    wanted_left.table[16 * operation + queue] = epoch as u32;
-                }
-            }
-            agree_on_reuse(plan, &rows, queues);
-            agree_on_frontiers(plan, &rows);
-            Told::PASSED
-        }
-    };
-    assert_eq!(told, wanted, "{plan}");
-    assert_eq!(left, wanted_left, "{plan}");
+    let judgement = brute::judge(plan);
+    assert_eq!((told, left), judgement.told_and_left(plan, 9), "{plan}");
+    if let Judgement::Passed { rows, .. } = judgement {
+        agree_on_reuse(plan, &rows, plan.axes.len());
+        agree_on_frontiers(plan, &rows);
+    }
     told.number
 }
 
@@ -86,7 +65,7 @@ fn reference_against_brute_force() {
         let plan = generate::random_plan(&mut rng, brute::MOST_OPERATIONS);
         *numbers.entry(agree(&plan)).or_insert(0) += 1;
     }
-    for number in [0, 6, 7, 8, 10, 11] {
+    for number in [0, 7, 8, 10, 11, 17] {
         assert!(numbers.get(&number) > Some(&100), "{numbers:?}");
     }
 }

@@ -1,6 +1,7 @@
 """The arrows of a band of a picture: one for each wait, the order that is missing, and where a trace departs."""
+from .faults import OutOfTurn
 from .route import Router
-from .svg import BOX, DARK, HUES, INK, LANE, LIGHT, PALE, RED, awaited, wide
+from .svg import BOX, DARK, HUES, INK, LANE, LIGHT, PALE, RED, awaited, short, wide
 
 MISSING = (RED, 2.6, '7 5')
 MUCH = 400              # waits above which an arrow over many columns is only begun
@@ -125,6 +126,7 @@ class Arrows:
             with svg.group(f'no signal reaches {self._name(j, k)}', 'never', f'{j}.{k}'):
                 self._label_above(svg, j, f'{self._name(j, k, 40)} never comes')
         self._missing(svg)
+        self._out_of_turn(svg)
         self._departure(svg)
 
     def _label_above(self, svg, j, words):
@@ -133,11 +135,11 @@ class Arrows:
 
     # ---- the missing order
     def _missing(self, svg):
-        """The order that keeping asks for and that nothing forces: a dashed line from what must come first."""
+        """The order that is asked for and that nothing forces: a dashed line from what must come first."""
         m, inside = self.picture.named, self.picture.inside
         if not m or m.first == m.then or not (inside(m.first) or inside(m.then)):
             return
-        with svg.group('keeping asks for this order, and nothing forces it', 'missing', f'{m.first}.{m.then}'):
+        with svg.group(f'{m.asks} asks for this order, and nothing forces it', 'missing', f'{m.first}.{m.then}'):
             if not self.both:
                 self._from_or_to_another_band(svg, m)
             elif self.beside:
@@ -172,15 +174,31 @@ class Arrows:
     def _missing_words(self, m):
         if self.order.before(m.then, m.first):
             return 'must come first, but always comes later'
-        waits = self.plan.operations[m.then].waits
+        waits, has = self.plan.operations[m.then].waits, len(self.plan.semaphores)
         for change in self.picture.said.changes:
+            if isinstance(m, OutOfTurn) and len(change.plan.semaphores) > has:
+                continue                                # signals apart need no order
             if change.number == 0 and len(change.plan.operations) == self.picture.n:
                 for s, v in change.plan.operations[m.then].waits:
-                    if s >= len(self.plan.semaphores):
+                    if s >= has:
                         return 'missing: a signal and a wait'
                     if (s, v) not in waits:
                         return f'missing: wait {awaited(self.plan.semaphores[s].name, v, 50)}'
         return 'missing'
+
+    def _out_of_turn(self, svg):
+        """The two signals, on the sides that are away from the missing order."""
+        m, picture = self.picture.named, self.picture
+        if not isinstance(m, OutOfTurn):
+            return
+        name = short(self.plan.semaphores[m.semaphore].name, 30)
+        for j, k, other in ((m.first, m.other_item, m.then), (m.then, m.item, m.first)):
+            if picture.inside(j):
+                above = self.both and picture.lane_of(j) < picture.lane_of(other)
+                value = self.plan.operations[j].signals[k].value
+                with svg.group(f'operation {j} signals {name}={value}', 'signal', f'{j}.{k}'):
+                    _label(svg, picture.x(picture.levels[j]) + picture.box / 2,
+                           picture.y(j) + (-13 if above else BOX + 14), f'{name}={value}')
 
     # ---- a trace
     def _departure(self, svg):

@@ -1,5 +1,6 @@
 """The buffers of a band of a picture: a row for each, with a bar for each holding and a sign for each mark."""
 from . import panels
+from .faults import Broken
 from .svg import HUES, INK, PALE, RED, ROW, short, wide
 
 ALL = 12                # buffers up to which each has a row in every band
@@ -39,7 +40,7 @@ def _rows(picture):
         return list(range(len(picture.plan.buffers))), 0
     here = [b for b, holdings in enumerate(picture.holdings)
             if any(picture.inside(j) for holding in holdings for j, _, _ in holding)]
-    bad = picture.named.buffer if picture.named else None
+    bad = picture.named.buffer if isinstance(picture.named, Broken) else None
     kept = sorted(here, key=lambda b: (b != bad, b))[:8 if picture.near is not None else 16]
     return sorted(kept), len(here) - len(kept)
 

@@ -94,7 +94,7 @@ def _wait_not_met(said, trace, speaker, order):
     next_ = order.queued[q][ran]
     words = (f'The wait rests on operation {r}, number {order.epochs[r]} of {queue}. {queue} has run {ran}'
              + ('' if next_ == r else f', and operation {next_} comes first') + '.')
-    unmet = _unmet(trace, next_)
+    unmet = _unmet(trace, order, next_)
     if unmet:
         words += f' Operation {next_} itself waits for {" and ".join(speaker.wait(next_, i) for i in unmet)}.'
     elif next_ == r:
@@ -103,9 +103,10 @@ def _wait_not_met(said, trace, speaker, order):
     said.focus.append(r)
 
 
-def _unmet(trace, j):
-    """The indices of the waits of an operation that the state does not meet."""
-    return [k for k, (s, v) in enumerate(trace.plan.operations[j].waits) if trace.semaphores[s] < v]
+def _unmet(trace, order, j):
+    """The indices of the waits of an operation that the state does not meet: what they rest on has not run."""
+    return [k for k, r in enumerate(order.rests[j])
+            if r is not None and order.epochs[r] > trace.queues[order.queue[r]]]
 
 
 def _state(said, trace, speaker, order, title):
@@ -113,7 +114,7 @@ def _state(said, trace, speaker, order, title):
     rows = []
     for q, (queue, ran) in enumerate(zip(order.plan.queues, trace.queues)):
         left = order.queued[q][ran:]
-        unmet = [speaker.wait(left[0], k) for k in _unmet(trace, left[0])] if left else []
+        unmet = [speaker.wait(left[0], k) for k in _unmet(trace, order, left[0])] if left else []
         waits = f'waits for {" ".join(unmet)}' if unmet else 'is ready' if left else ''
         rows.append([queue.name, f'{ran} of {len(order.queued[q])}',
                      f'next is operation {left[0]}' if left else 'is done', waits])

@@ -1,17 +1,10 @@
 """Refusal 11 in plain sentences: the two operations, why nothing orders them, a run that goes wrong, a change."""
 import dataclasses
 
-from . import faults
-from .explanation import CONFIRMED, FOUND, PROVED, Change, Explanation, Shown
-from .order import Order, is_full_run
+from . import faults, missing
+from .explanation import CONFIRMED, FOUND, Explanation, Shown
+from .order import Order
 from .plan import LIMITS, Signal, Wait
-from .speaker import count
-from .trying import then as then_words
-from .trying import tried
-
-MOST_TRIES = 8              # changes that are tried before the search is given up
-MOST_STEPS = 200            # of a longer run only a part is told at a terminal
-MOST_LINES = 40             # of a longer plan that is put in another order only the numbers are shown
 
 
 def broken(refused, speaker):
@@ -19,17 +12,14 @@ def broken(refused, speaker):
     marks = faults.broken_marks(order)
     mark = next(m for m in marks if m.operation == refused.place)
     where = speaker.where(mark.operation, ('operation', mark.operation, 'mark', mark.item))
-    said = Explanation(11, refused.place, '', where, order=order, broken=mark,
+    said = Explanation(11, refused.place, '', where, order=order, missing=mark,
                        focus=list(dict.fromkeys((mark.first, mark.then))))
     _what_is_asked(said, order, speaker, mark)
-    _why_not(said, order, speaker, mark)
+    if mark.first != mark.then:
+        missing.why_not(said, order, speaker, mark, 'Which holding a mark belongs to')
     _run(said, order, speaker, mark)
-    _change(said, order, speaker, mark, len(marks))
-    others = sorted({m.operation for m in marks} - {mark.operation})
-    if others and not any(change.number == 0 for change in said.changes):
-        few = ', '.join(map(str, others[:6])) + (' ..' if len(others) > 6 else '')
-        have = 'has' if len(others) == 1 else 'have'
-        said.last.append(f'{count(len(others), "more operation")} {have} a broken mark: {few}.')
+    missing.change(said, _candidates(order, speaker, mark), lambda change: _helps(order, mark, len(marks), change))
+    missing.others(said, sorted({m.operation for m in marks} - {mark.operation}), 'a broken mark')
     said.claim(FOUND, 'which mark and which two operations; the run and the change; the words')
     return said
 
@@ -62,105 +52,35 @@ def _what_is_asked(said, order, speaker, mark):
                   'come first in every run.')
 
 
-def _why_not(said, order, speaker, mark):
-    """Why nothing orders the two, from the row of the one that must come later."""
-    plan, first, then = order.plan, mark.first, mark.then
-    if first == then:
-        return
-    said.claim(PROVED, 'what comes before what, by the rows of the plan without its marks')
-    row = ', '.join(f'{q.name} {reached}' for q, reached in zip(plan.queues, order.rows[then]))
-    queue, known, mine = speaker.queue(first), order.rows[then][order.queue[first]], order.epochs[first]
-    sure = (f'no operation of {queue} is sure to have run' if known == 0 else
-            f'only the first operation of {queue} is sure to have run' if known == 1 else
-            f'only the first {known} operations of {queue} are sure to have run')
-    if order.before(then, first):
-        said.says('It is always the other way round. Which holding a mark belongs to goes by the order of the plan, '
-                  f'but operation {then} comes before operation {first}, by this chain:', PROVED)
-        said.steps([_chain_row(link, speaker) for link in order.chain(then, first)], FOUND)
-    else:
-        said.says(f'Nothing orders the two. When operation {then} starts, {sure}; operation {first} is number {mine} '
-                  f'of that queue. (Row of operation {then}: {row}.)', PROVED)
-
-
-def _chain_row(link, speaker):
-    at, k, after = link
-    why = (f'waits for {speaker.wait(after, k)}, signalled by operation {at}' if k is not None else
-           f'comes after operation {at} on {speaker.queue(at)}')
-    return [f'operation {after}', *speaker.line(after), why]
-
-
 # ---- the run
 
 def _run(said, order, speaker, mark):
-    """A full run that breaks the buffer, shown only if the proved trace function says that it is one."""
-    run = faults.wrong_run(order, mark)
-    if not is_full_run(order.plan, run):
-        raise RuntimeError('the run that was found is no full run; this is a fault of the program')
-    said.run, said.confirmed = run, True
-    said.claim(CONFIRMED, 'that the run shown is a full run, by the proved trace function')
-    name, step = speaker.buffer(mark.buffer), {j: k for k, j in enumerate(run)}
+    """A full run that breaks the buffer."""
+    run, name = missing.wrong_run(said, order, mark), speaker.buffer(mark.buffer)
     if mark.first == mark.then:
         said.says(f'Both marks are in one step, so every full run breaks {name}.', FOUND)
-        said.says(f'The standard run does, in step {step[mark.then]}:', CONFIRMED)
-    else:
-        said.says(f'A full run in which it goes wrong, told by what marks {name}:', CONFIRMED)
-        remark = {mark.first: 'freed only now', mark.then: 'too early'} if mark.kind == 'early' else {
-            mark.first: 'used when it is free already', mark.then: 'freed too early'}
-        marked = {j for j, _, _ in faults.holding_of(order, mark)} | {mark.first, mark.then}
-        said.steps([[f'step {step[j]}', f'operation {j}', *speaker.line(j), speaker.queue(j),
-                     _marks(order.plan, j, mark, name), '<-- ' + remark[j] if j in remark else '']
-                    for j in sorted(marked, key=step.get)])
-        if len(marked) == order.n:
-            return                                      # the table has the whole run
-        said.says('The whole run:')
-    said.lines(*_run_lines(run, {mark.first, mark.then}))
+        said.says(f'The standard run does, in step {run.index(mark.then)}:', CONFIRMED)
+        said.lines(*missing.run_lines(run, {mark.then}))
+        return
+    said.says(f'A full run in which it goes wrong, told by what marks {name}:', CONFIRMED)
+    remark = {mark.first: 'freed only now', mark.then: 'too early'} if mark.kind == 'early' else {
+        mark.first: 'used when it is free already', mark.then: 'freed too early'}
+    marked = {j for j, _, _ in faults.holding_of(order, mark)} | {mark.first, mark.then}
+    missing.tell(said, order, speaker, mark,
+                 {j: (_marks(order.plan, j, mark, name), remark.get(j, '')) for j in marked})
 
 
 def _marks(plan, j, mark, name):
     return ', '.join(('frees ' if free else 'uses ') + name for b, free in plan.operations[j].marks if b == mark.buffer)
 
 
-def _run_lines(run, marked, per_line=16):
-    """A run, so many steps to a line, with marks under the operations of the fault. Of a long one that has such marks
-    only the lines with a mark and those beside them."""
-    lines = []
-    for start in range(0, len(run), per_line):
-        words, marks, column = [], [], 1
-        for j in run[start:start + per_line]:
-            words.append(str(j))
-            if j in marked:
-                marks.append((column, len(words[-1])))
-            column += len(words[-1]) + 1
-        lines.append(Shown(f'step {start}', ' '.join(words), marks))
-    if len(run) <= MOST_STEPS or not marked:
-        return lines
-    near = {k + d for k, line in enumerate(lines) if line.marks for d in (-1, 0, 1)}
-    kept = [line for k, line in enumerate(lines) if k in near]
-    return [Shown('..', '')] * (0 not in near) + kept + [Shown('..', '')] * (len(lines) - 1 not in near)
-
-
 # ---- the change
-
-def _change(said, order, speaker, mark, broken_before):
-    """The first change that was tried and after which the plan passes; else the first that helps."""
-    best = None
-    for (words, lines, new), _ in zip(_candidates(order, speaker, mark), range(MOST_TRIES)):
-        number, place = tried(new)
-        change = Change(f'{words}, {then_words(number, place)}:', lines, new, number, place)
-        if number == 0:
-            best = change
-            break
-        if best is None and number == 11 and _helps(order, mark, broken_before, change):
-            best = change
-    if best:
-        said.try_change(best)
-    else:
-        said.says('No single change that was tried helps.', FOUND)
-
 
 def _helps(order, mark, broken_before, change):
     """Is this mark whole after the change, with no lower operation's broken? Where operations have moved, are fewer
     marks broken?"""
+    if change.number != 11:
+        return False
     if [o.queue for o in change.plan.operations] != order.queue:
         return len(faults.broken_marks(Order(change.plan))) < broken_before
     return change.place > mark.operation or (change.place == mark.operation
@@ -183,61 +103,19 @@ def _candidates(order, speaker, mark):
         yield from _moved(order, speaker, mark)
         yield _as_it_runs(order, speaker)
     else:
-        yield from _waits(order, speaker, mark)
+        yield from missing.waits(order, speaker, mark)
         yield from _new_signal(order, speaker, mark)
-
-
-def _waits(order, speaker, mark, furthest=2, signals=3):
-    """A wait for a signal that there is, at the operation or at one before it on its queue. The signals of the
-    operation to wait for come first, then those after it, by step of the standard run."""
-    plan = order.plan
-    useful = sorted((r != mark.first, order.step[r], r, s, v) for r in range(order.n) if order.reaches(mark.first, r)
-                    for s, v in plan.operations[r].signals)
-    at = mark.then
-    for _ in range(furthest):
-        possible = [(r, s, v) for _, _, r, s, v in useful if not order.reaches(at, r)]
-        for r, s, v in possible[:signals]:
-            waits, old = _with_wait(order, at, Wait(s, v), r)
-            if waits:
-                new = plan.with_operation(at, waits=waits)
-                words = f'With a wait for {speaker.semaphore(s)}>={v}'
-                words += f' instead of {speaker.wait(at, old)}' if old is not None else ''
-                words += f' at operation {at}' if at != mark.then else ''
-                yield words, speaker.change(new, at), new
-        at = order.previous(at)
-        if at is None:
-            return
-
-
-def _with_wait(order, at, wait, rests_on):
-    """(waits, index): the waits of an operation with one more, and the index of the one that it replaces: a lower wait
-    on the same semaphore, or, where there is no room, one that orders nothing beyond the others."""
-    waits, rests = order.plan.operations[at].waits, order.rests[at]
-    for k, (s, v) in enumerate(waits):
-        if s == wait.semaphore and v < wait.value:
-            return waits[:k] + (wait,) + waits[k + 1:], k
-    if len(waits) < LIMITS['wait']:
-        return waits + (wait,), None
-    for k, r in enumerate(rests):
-        others = [x for i, x in enumerate(rests) if i != k] + [rests_on, order.previous(at)]
-        if r is None or any(x is not None and order.reaches(r, x) for x in others):
-            return waits[:k] + (wait,) + waits[k + 1:], k
-    return None, None
 
 
 def _new_signal(order, speaker, mark):
     """A new semaphore, signalled at the operation to wait for or after it on its queue, and a wait for it."""
     plan, then, queue = order.plan, mark.then, order.queue[mark.first]
-    if len(plan.semaphores) >= LIMITS['semaphore']:
-        return
+    name, s = missing.new_semaphore(plan, f'{speaker.queue(mark.first)}-done'), len(plan.semaphores)
     for r in order.queued[queue][order.epochs[mark.first] - 1:]:
         if order.reaches(then, r) or len(plan.operations[r].signals) >= LIMITS['signal']:
             continue
-        taken = {s.name for s in plan.semaphores}
-        names = [f'{speaker.queue(r)}-done'] + [f'{speaker.queue(r)}-done{k}' for k in range(len(taken) + 1)]
-        name, s = next(n for n in names if n not in taken), len(plan.semaphores)
-        waits, _ = _with_wait(order, then, Wait(s, 1), r)
-        if not waits:
+        waits, _ = missing.with_wait(order, then, Wait(s, 1), r)
+        if not name or not waits:
             return
         new = plan.with_operation(then, waits=waits)
         new.semaphore(name, owner=queue)
@@ -269,6 +147,6 @@ def _as_it_runs(order, speaker):
     new = order.plan.copy()
     new.operations = [order.plan.operations[j] for j in order.run]
     lines = [Shown(speaker.label(j), speaker.show(j).text, sign='+') for j in order.run]
-    if len(lines) > MOST_LINES:
-        lines = _run_lines(order.run, set())
+    if len(lines) > missing.MOST_LINES:
+        lines = missing.run_lines(order.run, set())
     return 'With all operations in the order of the standard run', lines, new

@@ -7,6 +7,7 @@ from .speaker import count
 from .trying import then, tried
 
 MOST_CHANGES = 4
+FURTHER = {17: 1, 11: 2}            # refusals that come after 10: how far a plan comes that gets them
 
 
 def stuck(refused, speaker):
@@ -25,6 +26,8 @@ def stuck(refused, speaker):
         said.lines(*[shown for link in lead for shown in _link(link, speaker)], by=FOUND)
         said.says('The circle:')
     said.lines(*[shown for link in circle for shown in _link(link, speaker)], by=FOUND)
+    for link in lead + circle:
+        _not_by_value(said, order, speaker, link)
     _changes(said, order, speaker)
     said.claim(FOUND, f'the circle, a shortest one that operation {lowest} leads to; the words')
     return said
@@ -54,13 +57,24 @@ def _link(link, speaker):
     return out
 
 
+def _not_by_value(said, order, speaker, link):
+    """That a higher signal than the one that the wait rests on does not meet it, where one has run."""
+    semaphore, value = order.plan.operations[link.head].waits[link.wait]
+    higher = [(v, by) for v, by in zip(*order.signals[semaphore]) if v >= value and by in order.step]
+    if higher:
+        v, by = higher[-1]
+        said.says(f'Operation {by} has run and signals {speaker.semaphore(semaphore)}={v}. That does not meet the wait '
+                  f'of operation {link.head}: it rests on operation {link.signaller}, which signals the least value '
+                  'that is enough.', FOUND)
+
+
 def _changes(said, order, speaker):
-    """Each wait of the circle lowered to what its semaphore has reached, or left out, and tried."""
-    plan, done, found = order.plan, set(order.run), []
+    """Each wait of the circle lowered to a signal that has run, or left out, and tried."""
+    plan, found = order.plan, []
     for link in said.circle:
         waits = plan.operations[link.head].waits
-        s = waits[link.wait].semaphore
-        reached = max((v for v, by in zip(*order.signals[s]) if by in done), default=0)
+        s, awaited = waits[link.wait]
+        reached = max((v for v, by in zip(*order.signals[s]) if v < awaited and by in order.step), default=0)
         for value in ([reached] if reached else []) + [None]:
             kept = () if value is None else (Wait(s, value),)
             new = plan.with_operation(link.head, waits=waits[:link.wait] + kept + waits[link.wait + 1:])
@@ -69,7 +83,7 @@ def _changes(said, order, speaker):
                      f'Waiting for {speaker.semaphore(s)}>={value} instead, which is reached')
             found.append(Change(f'{words}, {then(number, place)}:', speaker.change(new, link.head), new, number, place))
     passing = [change for change in found if change.number == 0]
-    best = passing or sorted(found, key=lambda change: (change.number != 11, -change.place))[:1]
+    best = passing or [max(found, key=lambda change: (FURTHER.get(change.number, 0), change.place))]
     said.says('One wait of the circle has to go or to ask for less. Which one, only the maker of the plan can say: '
               'a wait that goes no longer protects anything.'
               + (' Each of these changes alone is enough:' if len(best) > 1 else ''))

@@ -57,7 +57,7 @@ class Explanation:
     focus: list = field(default_factory=list)
     run: list = None
     confirmed: bool = False
-    broken: object = None
+    missing: object = None                          # an order that is asked for: a Broken or an OutOfTurn
     lead: list = field(default_factory=list)        # links that lead to the circle
     circle: list = field(default_factory=list)
     order: object = field(default=None, repr=False)

@@ -1,4 +1,5 @@
-"""What is wrong with a refused plan, found by search: broken marks, a run that breaks one, a circle of waits.
+"""What is wrong with a refused plan, found by search: broken marks, signals out of turn, a run in which one goes wrong,
+a circle of waits.
 
 What is found is an example of what the proved check has said, and is shown after a proved function has said yes to it.
 """
@@ -17,6 +18,27 @@ class Broken:
     operation: int
     item: int
     other_item: int
+    asks = 'keeping'
+
+    def beside(self, order):
+        """The operations that a run is told by, beside the two."""
+        return [j for j, _, _ in holding_of(order, self)]
+
+
+@dataclass(frozen=True)
+class OutOfTurn:
+    """A signal out of turn, the one at `item` of `then`: the one at `other_item` of `first` is the signal before it on
+    its semaphore, so `first` is to come before `then`, and nothing forces it."""
+    first: int
+    then: int
+    semaphore: int
+    item: int
+    other_item: int
+    asks = 'raising in order'
+
+    def beside(self, order):
+        """The operations that a run is told by, beside the two: those that signal the semaphore to a lower value."""
+        return [j for j in order.signals[self.semaphore][1] if j < self.first]
 
 
 def broken_marks(order):
@@ -35,20 +57,45 @@ def broken_marks(order):
     return sorted(found, key=lambda m: (m.operation, m.item, m.kind))
 
 
+def out_of_turn(order):
+    """Every signal out of turn of a plan that has rows, lowest operation first."""
+    last, found = {}, []
+    for j, o in enumerate(order.plan.operations):
+        for k, (s, _) in enumerate(o.signals):
+            first, item = last.get(s, (j, k))
+            if not order.reaches(first, j):
+                found.append(OutOfTurn(first, j, s, k, item))
+            last[s] = j, k
+    return found
+
+
+def heights(plan, run, semaphore):
+    """[(operation, value, highest value before it), ..] of the signals that a run gives on a semaphore, in its order.
+    The semaphore falls at those that are not above the highest before."""
+    told, high = [], 0
+    for j in run:
+        for s, v in plan.operations[j].signals:
+            if s == semaphore:
+                told.append((j, v, high))
+                high = max(high, v)
+    return told
+
+
 def holding_of(order, broken):
     """The holding that a broken mark is about: of a late use its own, of an early mark the one to be freed before."""
     item = (broken.first, broken.item if broken.kind == 'late' else broken.other_item)
     return next(h for h in order.holdings[broken.buffer] if any((j, k) == item for j, k, _ in h))
 
 
-def wrong_run(order, broken):
-    """A full run in which `then` comes before `first`, or both are one operation. What else marks the holding comes
-    first where it can, so that the run shows what is held; the rest goes as in the standard run."""
-    first, then = broken.first, broken.then
+def wrong_run(order, missing):
+    """A full run in which `then` comes before `first`, or both are one operation. What is told beside them comes first
+    where it can, so that the run shows what is held, or how high the semaphore is; the rest goes as in the standard
+    run."""
+    first, then = missing.first, missing.then
     if first == then:
         return list(order.run)
     early = order.past(then) - {then}
-    for j, _, _ in holding_of(order, broken):
+    for j in missing.beside(order):
         if not order.reaches(first, j) and not order.reaches(then, j):
             early |= order.past(j)
     late = order.past(first) - early - {then}

@@ -1,10 +1,12 @@
-"""What a picture has around its bands: heading, overview, the run that goes wrong, the circle, the state.
+"""What a picture has around its bands: heading, overview, the circle, the state; wrong_run.py has the run that goes
+wrong.
 
 Each function draws at `y` and hands back where the next may begin."""
 import textwrap
 
-from . import faults
-from .svg import BOX, GREEN, HATCH, HUES, INK, LANE, LIGHT, PALE, RED, RULE, awaited, short, wide
+from .svg import BOX, GREEN, INK, LANE, LIGHT, PALE, RED, RULE, awaited, short, wide
+
+PASSED = 'some full run exists, and each one raises all semaphores in order and keeps all buffers'
 
 
 def amount(size):
@@ -34,7 +36,7 @@ def heading(picture, svg):
     said = picture.traced or picture.said
     word = verdict(picture).capitalize()
     good = said is None or picture.trace
-    words = said.headline if said else 'some full run exists, and every full run keeps every buffer'
+    words = said.headline if said else PASSED
     svg.text(18, y, word, 18, GREEN if good else RED, bold=True)
     x = 18 + wide(word, 18, True) + 14
     lines = textwrap.wrap(words, max(int((picture.width - x - 20) / 8), 40)) or ['']
@@ -79,87 +81,11 @@ def folded(picture, svg, y, low, high):
     return y + 28
 
 
-def _title(picture, svg, y, words, more):
+def title(picture, svg, y, words, more):
     svg.line(18, y + 2, picture.width - 10, y + 2, RULE, 1)
     svg.text(18, y + 26, words, 14, INK, bold=True)
     svg.text(18, y + 43, more, 11, PALE)
     return y + 64
-
-
-# ---- the run that goes wrong
-
-def wrong_run(picture, svg, y):
-    """The operations that mark the buffer, by step of the run that goes wrong, and the two holdings over each other."""
-    m, plan, order, run = picture.named, picture.plan, picture.order, picture.said.run
-    step, name = {j: k for k, j in enumerate(run)}, plan.buffers[m.buffer].name
-    held = [j for j, _, _ in faults.holding_of(order, m)]
-    shown = sorted({*held, m.first, m.then}, key=step.get)
-    if len(shown) > 12:
-        shown = [j for k, j in enumerate(shown) if k < 4 or k >= len(shown) - 4 or j in (m.first, m.then)]
-    y = _title(picture, svg, y, 'One run in which it goes wrong', f'the operations that mark {name}, by step of that '
-               'run; the proved trace function confirms that it is a full run')
-    places, end = _run_boxes(picture, svg, y, shown, step, m)
-    middle = {j: x + w / 2 for j, (x, w) in places.items()}
-    y += 82
-    seen = [middle[j] for j in held if j in middle and (m.kind == 'early' or step[j] <= step[m.then])]
-    start = min(seen + [middle[m.first] if m.kind == 'early' else middle[m.then]])
-    return _holdings(svg, y, m, name, start, middle, end, max(picture.left, 150)) + 12
-
-
-def _run_boxes(picture, svg, y, shown, step, m):
-    """({operation: (x, width)}, where the run ends)."""
-    plan, (fill, edge) = picture.plan, HUES[m.buffer % len(HUES)]
-    x, places, last = max(picture.left, 150), {}, -1
-    names = {j: short(plan.queues[plan.operations[j].queue].name, 22) for j in shown}
-    w = max(picture.box, max(wide(name, 10.5) for name in names.values()) + 12)
-    for j in shown:
-        skipped = step[j] - last - 1
-        if skipped:
-            svg.text(x + 24, y + 44, f'⋯ {skipped}', 10, PALE, 'middle')
-        x += 52 if skipped else 16 if last >= 0 else 0
-        places[j], last, bad = (x, w), step[j], j in (m.first, m.then)
-        with svg.group(picture.tip(j), 'step', j):
-            svg.text(x + w / 2, y + 6, f'step {step[j]}', 9, PALE, 'middle')
-            if bad:
-                svg.rect(x - 3, y + 11, w + 6, 60, '#fff', RED, 1.6, 7)
-            svg.rect(x, y + 14, w, 54, fill, RED if bad else edge, 2 if bad else 1.2, 5)
-            svg.text(x + w / 2, y + 30, str(j), 12, RED if bad else INK, 'middle', bold=True)
-            svg.text(x + w / 2, y + 45, names[j], 10.5, '#3e4c59', 'middle')
-            marks = [free for b, free in plan.operations[j].marks if b == m.buffer]
-            for k, free in enumerate(marks):
-                at = x + w / 2 + (k - (len(marks) - 1) / 2) * 14
-                if free:
-                    svg.cross(at, y + 58, edge)
-                else:
-                    svg.circle(at, y + 58, 3.6, edge)
-        x += w
-    rest = picture.n - 1 - last
-    if rest:
-        svg.text(x + 26, y + 44, f'⋯ {rest}', 10, PALE, 'middle')
-    return places, x + (52 if rest else 20)
-
-
-def _holdings(svg, y, m, name, start, middle, end, left):
-    """The holding and what comes into it too early, or the holding and the use that comes too late; hatched where both
-    are."""
-    fill, edge = HUES[m.buffer % len(HUES)]
-    first, then = middle[m.first], middle[m.then]
-    if m.kind == 'early':
-        bars = [('this holding', start - 10, first + 10, ''), ('the next one', then - 10, end, '5 3')]
-        clash = (max(start, then) - 10, first + 10)
-        words = f'{name} is in both holdings: two parts are mixed'
-    else:
-        bars = [('the holding', start - 10, then + 10, ''), ('still used', then - 10, first + 10, '5 3')]
-        clash = (then + 10, first + 10)
-        words = f'{name} is used when it is free already'
-    for k, (label, x1, x2, dash) in enumerate(bars):
-        svg.text(left - 16, y + 11, label, 10.5, INK, 'end')
-        svg.rect(x1, y, x2 - x1, 14, fill, edge, 1.2, 6, dash)
-        if m.kind == 'early' or k:
-            svg.rect(clash[0], y, clash[1] - clash[0], 14, HATCH, RED, 1)
-        y += 20
-    svg.text(max(clash[0], 18), y + 11, words, 11, RED, bold=True)
-    return y + 16
 
 
 # ---- the circle of a stuck plan
@@ -168,7 +94,7 @@ def circle(picture, svg, y):
     """Only what waits in the circle: for each queue of it the operation that waits and, after it, the one that would
     signal."""
     plan, links, done = picture.plan, picture.said.circle, len(picture.done)
-    y = _title(picture, svg, y, 'The circle', f'after {done} of {picture.n} operations none of these queues comes past '
+    y = title(picture, svg, y, 'The circle', f'after {done} of {picture.n} operations none of these queues comes past '
                'its first box; an arrow leads from a signal to what waits for it')
     names = [short(plan.queues[plan.operations[link.head].queue].name, 22) for link in links]
     waits = [plan.operations[link.head].waits[link.wait] for link in links]
@@ -209,7 +135,7 @@ def _circle_box(picture, svg, j, x, y, w):
 def state(picture, svg, y):
     """How far each queue and each semaphore had come before the step that departs, or at the end."""
     trace, plan = picture.trace, picture.plan
-    y = _title(picture, svg, y, f'Before step {trace.step}' if trace.departs else 'At the end of the trace',
+    y = title(picture, svg, y, f'Before step {trace.step}' if trace.departs else 'At the end of the trace',
                'how many operations of each queue have run, and how far each semaphore has come; said by the proved '
                'trace function')
     cells = [(queue.name, f'{ran} of {len(queued)}')

@@ -58,16 +58,3 @@ class Speaker:
         rows = [(self.queue(j) + ':', *text_form.parts(plan.operations[j], plan)) for plan in (self.plan, new)]
         before, after = text_form.aligned(rows)
         return [Shown(self.label(j), before, sign='-'), Shown(self.label(j), after, sign='+')]
-
-    def change_of_semaphore(self, new, s):
-        """The lines of a change of semaphore s, from this plan to `new`: the line of the text that declares it, maybe
-        with others, and what comes in its place."""
-        if not self.has_text:
-            old, here, label, comment = text_form.semaphores(self.plan, [s])[0], [s], '', ''
-        else:
-            at = self.source.line('semaphore', s)
-            here = [t for t in range(len(self.plan.semaphores)) if self.source.line('semaphore', t) == at]
-            old, label, comment = self.source.lines[at - 1].replace('\t', ' '), str(at), self.source.statements[at][1]
-        first, *more = text_form.semaphores(new, here)
-        lines = ['  '.join(filter(None, [first, comment.rstrip()])), *more]
-        return [Shown(label, old, sign='-'), *(Shown(label, line, sign='+') for line in lines)]

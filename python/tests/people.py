@@ -20,7 +20,7 @@ from unittest import mock
 ROOT = os.path.dirname(os.path.dirname(os.path.dirname(os.path.abspath(__file__))))
 sys.path.insert(0, os.path.join(ROOT, 'python'))
 from cundvrest import (Advice, Dominance, Followed, Frontier, LibraryError, Operation, Passed, Plan,  # noqa: E402
-                       Refused, TextError, Trace, Verdict, __main__ as command, __version__, fields, files,
+                       Refused, Semaphore, TextError, Trace, Verdict, __main__ as command, __version__, fields, files,
                        library, text)
 from cundvrest.explain_asked import explain_trace  # noqa: E402
 from cundvrest.plan import LIMITS, WORDS  # noqa: E402
@@ -411,7 +411,8 @@ class Header(unittest.TestCase):
         for name, value in wanted:
             self.assertEqual(found.get(name), value, name)
         self.assertEqual(LIMITS['operation'], library.MOST_OPERATIONS)
-        self.assertEqual({value for name, value in found.items() if name.startswith('REFUSED_')}, set(WORDS))
+        refusals = {value for name, value in found.items() if name.startswith('REFUSED_')}
+        self.assertEqual(refusals - {found['REFUSED_NOT_THE_OWNER']}, set(WORDS))      # which is never given
 
 
 class Answers(unittest.TestCase):
@@ -437,6 +438,22 @@ class Answers(unittest.TestCase):
                 self.assertEqual(lines[3].split()[1:], [str(n) for n in judged.ready])
                 self.assertEqual(lines[4:], [f'{j}: ' + ' '.join(map(str, row)) for j, row in enumerate(judged.rows)])
                 self.assertEqual([row['operation'] for row in judged.table()], list(range(len(plan.operations))))
+
+    def test_an_owner_is_only_a_name(self):
+        """Whoever is named as the owner, a plan gets the same; one that is no queue is refused."""
+        for name in ('handed-over', 'handed-over-wait-missing', 'camera', 'deadlock'):
+            plan = load(f'{name}.plan')
+            judged = plan.judge()
+            for owner in range(len(plan.queues)):
+                plan.semaphores = [Semaphore(s.name, owner) for s in plan.semaphores]
+                other = plan.judge()
+                self.assertEqual(repr(other), repr(judged))
+                if judged:
+                    self.assertEqual((other.rows, other.run, other.ready), (judged.rows, judged.run, judged.ready))
+        plan.semaphores[0] = Semaphore('filled', len(plan.queues))
+        with self.assertRaises(Refused) as caught:
+            plan.check()
+        self.assertEqual(str(caught.exception), 'refused 4 5: semaphore 0: its owner is 3, which is not in its list')
 
     def test_recorded_traces(self):
         for path in sorted(glob.glob(os.path.join(glob.escape(PLANS), '*.trace'))):
@@ -671,7 +688,8 @@ class Damage(unittest.TestCase):
                     counts[kind, self.one(path, data)] += 1
         for kind, least in ((('bytes', 'passed'), 50), (('text', 'passed'), 50), (('text', 'no plan'), 200),
                             (('bytes', 1), 50), (('bytes', 2), 5), (('bytes', 3), 50), (('bytes', 4), 50),
-                            (('bytes', 8), 5), (('bytes', 10), 10), (('bytes', 11), 10), (('text', 11), 20)):
+                            (('bytes', 8), 5), (('bytes', 10), 10), (('bytes', 17), 5), (('bytes', 11), 10),
+                            (('text', 11), 20)):
             self.assertGreaterEqual(counts[kind], least, kind)
 
     def one(self, path, data):

@@ -4,7 +4,7 @@ operations.
   python3 python/tests/pictures.py
 
 What the proved functions say is asked here once more, by calls of the shared library that go past the package; what a
-run breaks and whether a circle closes is judged here by the rules' words.
+run breaks, which signals are out of turn and whether a circle closes is judged here by the rules' words.
 """
 import collections
 import ctypes
@@ -22,7 +22,7 @@ from xml.etree import ElementTree
 ROOT = os.path.dirname(os.path.dirname(os.path.dirname(os.path.abspath(__file__))))
 LIBRARY = os.environ.setdefault('CUNDVREST_LIBRARY', os.path.join(ROOT, 'target', 'lib', 'libcundvrest.so'))
 sys.path[:0] = [os.path.join(ROOT, 'python'), os.path.join(ROOT, 'python', 'tests')]
-from cundvrest import Operation, Passed, Plan, Refused, faults, library, page, picture  # noqa: E402
+from cundvrest import Operation, Passed, Plan, Refused, Wait, faults, library, missing, page, picture  # noqa: E402
 from cundvrest.explain_asked import explain_reuse, explain_trace  # noqa: E402
 from cundvrest.explanation import MEANING, Change, Explanation, Shown  # noqa: E402
 from cundvrest.order import Order  # noqa: E402
@@ -64,7 +64,78 @@ def without_marks(plan):
     return bare.bytes()
 
 
+def apart(plan):
+    """The plan with no marks, in which each operation has a semaphore of its own: the same runs, and no signal is out
+    of turn."""
+    new, rests = plan.copy(), rested(plan)
+    new.semaphores = []
+    for j, o in enumerate(plan.operations):
+        new.semaphore(owner=o.queue)
+        new.operations[j] = Operation(o.queue, [(r, 1) for r in rests[j]], [(j, 1)])
+    return new.bytes()
+
+
 # ---- the rules' words
+
+def rested(plan):
+    """For each operation those that its waits rest on: of the signals that are enough, the one with the least value."""
+    signals = [(s, v, j) for j, o in enumerate(plan.operations) for s, v in o.signals]
+    return [[min((x, j) for t, x, j in signals if t == s and x >= v)[1] for s, v in o.waits if v]
+            for o in plan.operations]
+
+
+def past(plan):
+    """For each operation of a plan that is not stuck all that are before it."""
+    rests, found = rested(plan), {}
+
+    def of(j):
+        if j not in found:
+            queue = [i for i in range(j) if plan.operations[i].queue == plan.operations[j].queue]
+            found[j] = set().union(*({i} | of(i) for i in queue[-1:] + rests[j]))
+        return found[j]
+    return [of(j) for j in range(len(plan.operations))]
+
+
+def handovers(plan):
+    """(semaphore, operation of the signal before, operation, position of the signal in its list) of each signal but the
+    first of its semaphore, in plan order."""
+    signals = [(s, j, k) for j, o in enumerate(plan.operations) for k, (s, _) in enumerate(o.signals)]
+    return [(s, [i for t, i, _ in signals[:at] if t == s][-1], j, k) for at, (s, j, k) in enumerate(signals)
+            if any(t == s for t, _, _ in signals[:at])]
+
+
+def falls(plan, run, semaphore):
+    """Is there a signal of the semaphore in the run that is not above every earlier one?"""
+    values = [v for j in run for s, v in plan.operations[j].signals if s == semaphore]
+    return any(v <= before for k, v in enumerate(values) for before in values[:k])
+
+
+def by_value(plan, rng):
+    """Operations in some order, each where the highest signal of each semaphore so far is enough for its waits, until
+    no queue can go on."""
+    run, high, left = [], collections.Counter(), [[] for _ in plan.queues]
+    for j, o in enumerate(plan.operations):
+        left[o.queue].append(j)
+    while True:
+        ready = [queue for queue in left if queue
+                 and all(high[s] >= v for s, v in plan.operations[queue[0]].waits)]
+        if not ready:
+            return run
+        run.append(rng.choice(ready).pop(0))
+        for s, v in plan.operations[run[-1]].signals:
+            high[s] = max(high[s], v)
+
+
+def with_lines(text, lines):
+    """The text of a plan with a change as it is shown: a line that goes is one of the text, and what comes in its place
+    follows it; a new semaphore comes after the others."""
+    old = text.split('\n')
+    for line in lines:
+        if line.sign == '+' and line.label:
+            old[int(line.label) - 1] = line.text
+    declared = max(k for k, line in enumerate(old) if line.startswith('semaphore'))
+    return '\n'.join(old[:declared + 1] + [line.text for line in lines if not line.label] + old[declared + 1:])
+
 
 def broken_by(plan, run, buffer):
     """The marks of a buffer, (operation, item), of which a full run does not do what keeping asks."""
@@ -134,14 +205,15 @@ class Explained(unittest.TestCase):
         cls.plans = [random_plan(rng) for _ in range(MANY)]
 
     def test_random_plans(self):
-        """The verdict is the library's; what is shown for 10 and 11 is so, and each change does what is said of it."""
+        """The verdict is the library's; what is shown for 10, 17 and 11 is so, and each change does what is said of
+        it."""
         kinds = collections.Counter()
         for k, plan in enumerate(self.plans):
             with self.subTest(plan=k):
                 judged, (number, place) = plan.judge(), check(plan.bytes())
                 if isinstance(judged, Passed):
                     self.assertEqual((number, place), (0, 0))
-                    kinds['passed'] += 1
+                    kinds['passed' + ', a semaphore is handed over' * self.is_handed_over(plan)] += 1
                     continue
                 self.assertEqual((judged.number, judged.place), (number, place))
                 said = judged.explain(strict=True)
@@ -152,13 +224,22 @@ class Explained(unittest.TestCase):
                 self.assertIn(f'refused {number} {place}: {said.headline}', said.text())
                 self.assertIn(said.verdict.capitalize(), said.html())
         print('\n'.join(f'{count:6}  {kind}' for kind, count in sorted(kinds.items())))
-        for number in (6, 7, 8, 10, 11):
+        for number in (7, 8, 10, 17, 11):
             self.assertGreater(sum(c for kind, c in kinds.items() if kind.startswith(f'refused {number}')), 20)
         self.assertGreater(sum(c for kind, c in kinds.items() if 'circle of' in kind and kind[-1] > '1'), 50)
+        for kind in ('passed, a semaphore is handed over', 'refused 17, unordered, a change passes',
+                     'refused 17, the other way round, a change'):
+            self.assertGreater(sum(c for found, c in kinds.items() if found.startswith(kind)), 10, kind)
+
+    @staticmethod
+    def is_handed_over(plan):
+        return any(plan.operations[i].queue != plan.operations[j].queue for _, i, j, _ in handovers(plan))
 
     def explained(self, plan, said, number, place):
+        if number == 17:
+            return self.out_of_turn(plan, said, place)
         if number == 11:
-            mark = said.broken
+            mark = said.missing
             self.assertEqual(mark.operation, place)
             self.assertTrue(said.confirmed)
             self.assertEqual(follow(without_marks(plan), said.run)[:2], (0, 0))
@@ -177,11 +258,41 @@ class Explained(unittest.TestCase):
             self.assertTrue(follows(plan, said.lead, said.circle[0].head))
             less = plan.copy()
             less.operations = [plan.operations[j] for j in ran]
-            self.assertEqual(follow(without_marks(less), [ran.index(j) for j in said.order.run])[:2], (0, 0))
+            self.assertEqual(follow(apart(less), [ran.index(j) for j in said.order.run])[:2], (0, 0))
             self.assertNotIn(place, ran)
             return f'refused 10, circle of {len(said.circle)}'
         self.assertIn(place, said.focus)
         return f'refused {number}'
+
+    def out_of_turn(self, plan, said, place):
+        """The two signals are one after the other in the plan, and nothing orders them, but those of lower operations;
+        the run is a full one, in which the semaphore falls; the lines of a change make the plan that was tried."""
+        turn, before = said.missing, past(plan)
+        self.assertEqual(turn.then, place)
+        self.assertIn((turn.semaphore, turn.first, turn.then, turn.item), handovers(plan))
+        self.assertEqual(plan.operations[turn.first].signals[turn.other_item].semaphore, turn.semaphore)
+        out = [j for _, i, j, _ in handovers(plan) if i != j and i not in before[j]]
+        self.assertEqual(min(out), place)
+        self.assertNotIn(turn.first, before[turn.then] | {turn.then})
+        self.assertTrue(said.confirmed)
+        self.assertEqual(follow(apart(plan), said.run)[:2], (0, 0))
+        self.assertEqual(sorted(said.run), list(range(len(plan.operations))))
+        self.assertLess(said.run.index(turn.then), said.run.index(turn.first))
+        self.assertTrue(falls(plan, said.run, turn.semaphore))
+        self.assertIn('would fall from', said.text())
+        for change in said.changes:
+            self.assertTrue(change.number in (0, 11) or change.number == 17 and change.place >= place)
+            after = past(change.plan)
+            self.assertNotIn((turn.semaphore, turn.first, turn.then, turn.item),
+                             [of for of in handovers(change.plan) if of[1] != of[2] and of[1] not in after[of[2]]])
+        sourced = Plan.parse(plan.text(), 'x.plan.txt')
+        for change in sourced.judge().explain(strict=True).changes:
+            self.assertEqual(Plan.parse(with_lines(plan.text(), change.lines)), change.plan)
+        more = len(set(out)) > 1 and all(change.number == 17 for change in said.changes)
+        self.assertEqual(bool(re.search('[0-9] more operations? ha(s|ve) a signal out of turn', said.text())), more)
+        passes = any(change.number == 0 for change in said.changes)
+        return ('refused 17, ' + ('the other way round' if turn.then in before[turn.first] else 'unordered')
+                + (', a change passes' if passes else ', a change helps' if said.changes else ', no change'))
 
     def test_who_says_so(self):
         """Each claim is where it belongs, and each sentence, list of lines and change that has a mark has it on the
@@ -213,9 +324,10 @@ class Explained(unittest.TestCase):
         out = [(said.verdict, 'proved')]
         if said.changes:
             out.append(('what the plan with the change gets', 'confirmed'))
-        if said.number == 11:
-            out += [('that the run shown is a full run', 'confirmed'), ('which mark and which two', 'found')]
-            out += [('what comes before what', 'proved')] if said.broken.first != said.broken.then else []
+        if said.number in (11, 17):
+            out += [('that the run shown is a full run', 'confirmed')]
+            out += [('which mark and which two' if said.number == 11 else 'which two signals', 'found')]
+            out += [('what comes before what', 'proved')] if said.missing.first != said.missing.then else []
         elif said.number == 10:
             out += [('the circle, a shortest one', 'found')]
             out += [(f'that {len(said.order.run)} operation', 'confirmed')] if said.order.run else []
@@ -224,15 +336,17 @@ class Explained(unittest.TestCase):
         return out
 
     def test_only_what_is_confirmed_is_shown(self):
-        """A run that the trace function does not follow is no run: for 11 there are no words, for 10 no such claim."""
-        plan = camera(8, 6)
-        judged, good = plan.judge(), faults.wrong_run
-        for wrong in (lambda *of: good(*of)[::-1], lambda *of: good(*of)[:-1], lambda *of: []):
-            with mock.patch.object(faults, 'wrong_run', wrong):
-                self.assertRaises(RuntimeError, judged.explain, strict=True)
-                said = judged.explain()
-                self.assertTrue(said.headline.startswith('a broken mark (no more words: '))
-                self.assertEqual((said.run, said.confirmed, said.changes), (None, False, []))
+        """A run that the trace function does not follow is no run: for 11 and 17 there are no words, for 10 no such
+        claim."""
+        good = faults.wrong_run
+        for plan, words in ((camera(8, 6), 'a broken mark'), (handed_over(8, 6), 'a signal out of turn')):
+            judged = plan.judge()
+            for wrong in (lambda *of: good(*of)[::-1], lambda *of: good(*of)[:-1], lambda *of: []):
+                with mock.patch.object(faults, 'wrong_run', wrong):
+                    self.assertRaises(RuntimeError, judged.explain, strict=True)
+                    said = judged.explain()
+                    self.assertTrue(said.headline.startswith(f'{words} (no more words: '))
+                    self.assertEqual((said.run, said.confirmed, said.changes), (None, False, []))
         judged = stuck(8).judge()
         self.assertIn('confirmed: that 16 operations can run', ' '.join(judged.explain(strict=True).text().split()))
         with mock.patch.object(Order, 'run_is_confirmed', lambda order: False):
@@ -295,6 +409,10 @@ class Explained(unittest.TestCase):
                     answer, f'trace departs {step} {word} {j}' + (f' {wait}' if answer == 5 else ''))
                 self.assertEqual(said.verdict, verdict)
                 self.assertIn(said.headline, said.text())
+                for row in [row for block in said.blocks if block.kind == 'steps' for row in block.content]:
+                    if row[2].startswith('next is operation '):
+                        more = steps[:step] + [int(row[2].split()[-1])]
+                        self.assertEqual(row[3] == 'is ready', follow(plan.bytes(), more)[1] < 2)
                 kinds[word] += 1
                 if not k % 3:
                     drawn = Drawing(self, picture.draw(plan, trace=steps))
@@ -338,25 +456,79 @@ class Explained(unittest.TestCase):
             self.assertEqual(len(shown), int(more))
             self.assertEqual('takes no more' in said.text(), not more)
 
-    def test_owner(self):
-        """The change for refusal 6, put in the place of the line that it names, gives the plan that was tried."""
-        text = ('plan\nqueue a axis 1\nqueue b axis 2\n\tsemaphore r s t owner a  # three\n'
-                'a: signal r=1\nb: signal s=1\na: signal t=1\nend\n')
-        for name in 'rst':
-            made = text.replace('b: signal s', 'b: signal x').replace(f'a: signal {name}', 'a: signal s').replace(
-                'b: signal x', f'b: signal {name}')
-            plan = Plan.parse(made, 'x.plan.txt')
+    def test_a_higher_signal_meets_no_wait(self):
+        """T19: a wait is met by what it rests on, and not by what its semaphore has come to."""
+        plan = Plan.load(os.path.join(PLANS, 't19-a-higher-signal.plan'))
+        said = plan.judge().explain(strict=True)
+        self.assertEqual((said.verdict, said.order.run), ('refused 10 0', [2]))
+        self.assertEqual([(link.head, link.signaller) for link in said.lead + said.circle], [(0, 1), (1, 1)])
+        words = ' '.join(said.text().split())
+        self.assertIn('Operation 2 has run and signals done=2. That does not meet the wait of operation 0: it rests on '
+                      'operation 1', words)
+        self.assertEqual([(change.number, change.place) for change in said.changes], [(17, 2)])
+        other = plan.with_operation(2, signals=()).judge().explain(strict=True)
+        self.assertEqual(other.verdict, 'refused 10 0')
+        self.assertNotIn('That does not meet', other.text())
+        plan = Plan.parse('plan\nqueue a axis 1\nqueue b axis 2\nqueue c axis 3\nsemaphore s t owner a\n'
+                          'a: wait s>=1 signal t=1\nb: wait t>=1 signal s=1\nc: signal s=2\nend\n')
+        said = plan.judge().explain(strict=True)
+        self.assertEqual((said.verdict, said.order.run), ('refused 10 0', [2]))
+        self.assertTrue(said.changes[0].words.startswith('Without this wait'))         # a higher one is not asking less
+
+    def test_a_plan_with_counts_is_alike(self):
+        """Rows, standard run and ready numbers, or how it is stuck, are those of the plan that has its semaphores."""
+        numbers = collections.Counter()
+        for k, plan in enumerate(self.plans):
+            order = Order(plan)
+            if order.number in (0, 10) and order.asked_words == 'the plan without its marks':
+                with self.subTest(plan=k):
+                    self.assertEqual(library.check(order._with_counts().bytes(), order.n),
+                                     library.check(order.asked.bytes(), order.n))
+                    numbers[order.number] += 1
+        self.assertGreater(numbers[0], 1000)
+        self.assertGreater(numbers[10], 300)
+
+    def test_devices_look_at_values(self):
+        """In a plan that passes, whatever runs by what its semaphores have come to is a run."""
+        rng, handed = random.Random(24), 0
+        for k, plan in enumerate(self.plans):
+            if isinstance(plan.judge(), Passed):
+                handed += self.is_handed_over(plan)
+                with self.subTest(plan=k):
+                    self.assertEqual(follow(plan.bytes(), by_value(plan, rng))[:2], (0, 0))
+        self.assertGreater(handed, 200)
+        run = by_value(Plan.load(os.path.join(PLANS, 't19-a-higher-signal.plan')), rng)
+        self.assertEqual(run, [2, 0])                   # which is none in a plan that does not pass
+
+    def test_a_wait_of_another_signal_stays(self):
+        """A wait is replaced by a higher one of its semaphore only where what it rests on comes before anyway."""
+        plan = Plan.parse('plan\nqueue a axis 1\nqueue b axis 2\nqueue c axis 3\nsemaphore s t owner a\n'
+                          'a: signal s=1\nb: signal s=2\nc: wait s>=1 signal t=1\nb: signal t=2\nend\n')
+        order = Order(plan)
+        self.assertEqual(missing.with_wait(order, 2, Wait(0, 2), 1), ((Wait(0, 1), Wait(0, 2)), None))
+        ordered = Order(plan.with_operation(1, waits=[(0, 1)]))
+        self.assertEqual(missing.with_wait(ordered, 2, Wait(0, 2), 1), ((Wait(0, 2),), 0))
+
+    def test_the_signal_before_is_waited_for(self):
+        """Of the signals that the earlier operation gives, the change has that of the semaphore."""
+        for names in ('t s u', 's t u', 't u s'):
+            plan = Plan.parse(f'plan\nqueue a axis 1\nqueue b axis 2\nsemaphore {names} owner a\n'
+                              'a: signal t=1 s=1\na: signal u=1\nb: signal s=2\nend\n')
             (change,) = plan.judge().explain(strict=True).changes
-            old, *new = change.lines
-            self.assertEqual({line.label for line in change.lines}, {'4'})
-            self.assertEqual(old.text, made.split('\n')[3].replace('\t', ' '))
-            changed = made.replace('\tsemaphore r s t owner a  # three', '\n'.join(line.text for line in new))
-            self.assertEqual(Plan.parse(changed).bytes(), change.plan.bytes())
-            self.assertIn('# three', new[0].text)
-            (change,) = Plan.read(plan.bytes()).judge().explain(strict=True).changes
-            s = 'rst'.index(name)
-            self.assertEqual([line.text for line in change.lines],
-                             [f'semaphore s{s} owner q0', f'semaphore s{s} owner q1'])
+            self.assertEqual(change.words, 'With a wait for s>=1, the plan passes:')
+
+    def test_many_signals(self):
+        """Of many signals of one semaphore the last ones are told, and the two."""
+        said = all_at_once(1024).judge().explain(strict=True)
+        self.assertEqual(said.verdict, 'refused 17 1')
+        plan = handed_over(200, 180)
+        said = plan.judge().explain(strict=True)
+        told = [row for block in said.blocks if block.kind == 'steps' for row in block.content]
+        self.assertLessEqual(len(told), 12)
+        self.assertEqual([row[1] for row in told if '<--' in row[-1]],
+                         [f'operation {said.missing.then}', f'operation {said.missing.first}'])
+        self.assertIn('says of the plan without its marks and with counts in place of semaphores that this is a full '
+                      'run', page.page(plan))
 
     @staticmethod
     def with_line(plan, line, q, b):
@@ -394,7 +566,7 @@ class Drawing:
         self.test, self.root = test, ElementTree.fromstring(svg)
         x, y, w, h = map(float, self.root.get('viewBox').split())
         self.page = (x, y, x + w, y + h)
-        self.boxes, self.arrows, self.labels, self.ran = {}, {}, [], []
+        self.boxes, self.arrows, self.signals, self.labels, self.apart, self.ran = {}, {}, {}, [], [], []
         self.walk(self.root, None)
 
     def walk(self, node, group):
@@ -403,7 +575,7 @@ class Drawing:
             return
         if tag == 'g':
             group = (node.get('class'), node.get('data-of'))
-            kept = {'operation': self.boxes, 'wait': self.arrows}.get(group[0])
+            kept = {'operation': self.boxes, 'wait': self.arrows, 'signal': self.signals}.get(group[0])
             if kept is not None:
                 self.test.assertNotIn(group[1], kept)
                 kept[group[1]] = []
@@ -413,8 +585,11 @@ class Drawing:
             self.boxes[of].append(self.corners(node))
         if tag == 'path' and node.get('marker-end') and kind == 'wait':
             self.arrows[of].append(points(node.get('d')))
-        if tag == 'rect' and kind in ('missing', 'never', 'departs'):
+        if tag == 'rect' and kind in ('missing', 'never', 'departs', 'signal'):
             self.labels.append(self.corners(node))
+            self.apart += [self.labels[-1]] * (kind in ('missing', 'signal'))
+        if tag == 'text' and kind == 'signal':
+            self.signals[of].append(node.text)
         if tag == 'text' and node.text == '✓' and kind == 'operation':
             self.ran.append(of)
         for child in node:
@@ -449,7 +624,8 @@ class Drawing:
             self.test.assertTrue(left <= x <= right and top <= y <= bottom, f'{tag} at {x}, {y} is outside the page')
 
     def holds(self, plan, operations):
-        """One box for each operation, one arrow for each of its waits, no arrow and no label over another box."""
+        """One box for each operation, one arrow for each of its waits, no arrow and no label over another box, nor the
+        labels of a missing order over each other."""
         self.test.assertEqual(sorted(map(int, self.boxes)), sorted(operations))
         self.test.assertEqual(sorted(self.arrows), sorted(f'{j}.{k}' for j in operations
                                                           for k in range(len(plan.operations[j].waits))))
@@ -466,6 +642,9 @@ class Drawing:
             for j, (left, top, right, bottom) in boxes.items():
                 covers = x2 > left and x1 < right and y2 > top and y1 < bottom
                 self.test.assertFalse(covers, f'a label covers the box of {j}')
+        for k, (x1, y1, x2, y2) in enumerate(self.apart):
+            for left, top, right, bottom in self.apart[:k]:
+                self.test.assertFalse(x2 > left and x1 < right and y2 > top and y1 < bottom, 'a label covers another')
 
 
 class Page(HTMLParser):
@@ -512,7 +691,9 @@ class Drawn(unittest.TestCase):
             plan.buffer(f'{long}b{k}', size=2**32 - 1)
         for k in range(9):
             plan.add(k % 3, {(k + 2) % 3: largest - 9 + k} if k else (), [0, k % 3], [k % 3], {k % 3: largest - 8 + k})
-        for tried in (plan, plan.with_operation(4, waits=()), plan.with_operation(0, waits=[(2, largest)])):
+        handed = plan.with_operation(4, waits=(), signals=[(1, largest - 4), (0, largest - 4)])
+        self.assertEqual(handed.judge().number, 17)
+        for tried in (plan, plan.with_operation(4, waits=()), plan.with_operation(0, waits=[(2, largest)]), handed):
             Drawing(self, picture.draw(tried, title=long)).holds(tried, range(9))
             Page(self, page.page(tried, long))
             explained(tried)
@@ -537,6 +718,29 @@ class Drawn(unittest.TestCase):
             for s, value in waits:
                 self.assertTrue(any(re.fullmatch(f't.*….*{s}≥{value}', text) for text in texts), value)
 
+    def test_signals_out_of_turn(self):
+        """The two signals have a label each, and the order that is missing is drawn, with the wait that would give it;
+        below is the run, with each signal of the semaphore up to the fall."""
+        plan = Plan.load(os.path.join(PLANS, 'handed-over-wait-missing.plan'))
+        svg = picture.draw(plan)
+        self.assertEqual(Drawing(self, svg).signals, {'2.0': ['even=3'], '6.0': ['even=4']})
+        self.assertEqual(re.findall('class="missing" data-of="([^"]*)"', svg), ['2.6'])
+        texts = [node.text for node in ElementTree.fromstring(svg).iter() if node.tag.endswith('}text')]
+        for words in ('missing: wait even≥3', 'even would fall from 4 to 3', '=1', '=2', '=3', '=4'):
+            self.assertEqual(texts.count(words), 1, words)
+        self.assertEqual(re.findall('class="step" data-of="([^"]*)"', svg), ['0', '1', '6', '2'])
+        always = picture.draw(Plan.load(os.path.join(PLANS, 't17-plan-order.plan')))
+        self.assertEqual(Drawing(self, always).signals, {'0.0': ['done=1'], '1.1': ['done=2']})
+        self.assertIn('must come first, but always comes later', always)
+        plan = Plan.parse('plan\nqueue a axis 1\nqueue b axis 2\nsemaphore s owner a\na: signal s=1\n'
+                          'b: wait s>=1 signal s=2\na: wait s>=1 signal s=3\nb: signal s=4\nend\n')
+        (change,) = plan.judge().explain(strict=True).changes
+        self.assertEqual(change.words, 'With a semaphore of its own for a, the plan passes:')
+        self.assertIn('>missing<', picture.draw(plan))  # by a semaphore of its own nothing is ordered
+        plan = handed_over(26, 20, 13)                  # with more buffers than have a row in every band
+        self.assertEqual(plan.judge().number, 17)
+        Drawing(self, picture.draw(plan)).holds(plan, range(104))
+
     def test_larger_plans(self):
         """Above 60 operations there is an overview; above 200 what is near the fault, or what is asked for."""
         rng = random.Random(22)
@@ -546,7 +750,8 @@ class Drawn(unittest.TestCase):
             self.assertIn('class="overview"', svg)
             Drawing(self, svg).holds(plan, range(operations))
         for plan, near in ((camera(256), None), (camera(256, 200), 800), (many_queues(rng, 1024), None),
-                           (stuck(256), None), (long_circle(), None)):
+                           (stuck(256), None), (long_circle(), None), (handed_over(256, 200), 800),
+                           (all_at_once(1024), None)):
             judged = plan.judge()
             if isinstance(judged, Refused):
                 near = judged.place
@@ -609,6 +814,33 @@ def camera(frames, missing=None):
     return plan
 
 
+def handed_over(frames, missing_=None, buffers=4):
+    """The camera with a semaphore for each buffer, which every stage signals; the first one may wait for nothing."""
+    plan = Plan()
+    for stage in ('capture', 'correct', 'measure', 'readout'):
+        plan.queue(stage)
+    for k in range(buffers):
+        plan.semaphore(f'turn{k}', owner='capture')
+        plan.buffer(f'frame{k}', size=8294400)
+    for frame in range(frames):
+        for k in range(4):
+            turn, buffer, at = f'turn{frame % buffers}', f'frame{frame % buffers}', frame // buffers * 4 + k
+            waits = {turn: at} if at and (k or frame != missing_) else {}
+            plan.add(k, waits, buffer, buffer if k == 3 else (), {turn: at + 1})
+    return plan
+
+
+def all_at_once(operations):
+    """Sixteen queues that signal one semaphore and wait for nothing: nearly every signal is out of turn."""
+    plan = Plan()
+    for _ in range(16):
+        plan.queue()
+    plan.semaphore(owner=0)
+    for j in range(operations):
+        plan.add(j % 16, signal={0: j + 1})
+    return plan
+
+
 def stuck(frames):
     """A camera whose first picture waits for the last one's readout."""
     plan = camera(frames)
@@ -649,7 +881,9 @@ class Speed(unittest.TestCase):
     def test_largest_plans(self):
         rng = random.Random(23)
         plans = {'passed': camera(256), 'broken mark': camera(256, 200), 'stuck': stuck(256),
-                 'stuck from the start': long_circle(), 'all marks broken': many_queues(rng, 1024)}
+                 'stuck from the start': long_circle(), 'all marks broken': many_queues(rng, 1024),
+                 'handed over': handed_over(256), 'out of turn': handed_over(256, 200),
+                 'all signals out of turn': all_at_once(1024)}
         print(f'\n{"ms of processor time, 1,024 operations":38}  parse  explain  draw  page')
         for name, plan in plans.items():
             self.assertEqual(len(plan.operations), 1024)

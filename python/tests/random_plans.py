@@ -1,10 +1,10 @@
 """Random plans, the same ones for the same seed: loose ones, where queues, waits and marks are drawn by lot, and
-pipelines, where frames go from queue to queue, with mistakes of every kind now and then."""
+pipelines, where frames go from queue to queue, in some with the semaphore, with mistakes of every kind now and then."""
 from cundvrest import Mark, Operation, Plan, Signal, Wait
 
 
 def random_plan(rng, most=14):
-    plan = _loose(rng, rng.randint(0, most)) if rng.random() < 0.4 else _pipeline(rng)
+    plan = _loose(rng, rng.randint(0, most)) if rng.random() < 0.4 else rng.choice([_pipeline, _handed_over])(rng)
     for _ in range(rng.choice([0, 1, 1, 2])):
         if plan.operations:
             rng.choice(MISTAKES)(rng, plan)
@@ -16,8 +16,9 @@ def _change(plan, j, **what):
 
 
 def _loose(rng, operations):
-    """Signals rise, and waits are for values that come; with no care for circles and marks."""
-    plan, queues, buffers = Plan(), rng.randint(1, 6), rng.randint(0, 5)
+    """Signals rise, and waits are for values that come; with no care for circles and marks, and in some plans for who
+    signals."""
+    plan, queues, buffers, anybody = Plan(), rng.randint(1, 6), rng.randint(0, 5), rng.random() < 0.4
     for axis in rng.sample(range(1000), queues):
         plan.queue(axis=axis)
     for _ in range(rng.randint(0, 2 * queues)):
@@ -27,7 +28,7 @@ def _loose(rng, operations):
     last = [0] * len(plan.semaphores)
     for _ in range(operations):
         q = rng.randrange(queues)
-        mine = [s for s, x in enumerate(plan.semaphores) if x.owner == q]
+        mine = [s for s, x in enumerate(plan.semaphores) if anybody or x.owner == q]
         waits = []
         for _ in range(rng.choice([0, 1, 1, 2, 3])):
             if last:
@@ -63,6 +64,23 @@ def _pipeline(rng):
         while any(heads):
             mixed.append(rng.choice([queue for queue in heads if queue]).pop(0))
         plan.operations = mixed
+    return plan
+
+
+def _handed_over(rng):
+    """Frames through stages, with a semaphore for each buffer: each stage signals it to the next value, and so does the
+    first one again. It passes."""
+    plan, stages, buffers = Plan(), rng.randint(2, 5), rng.randint(1, 3)
+    for k in range(stages):
+        plan.queue(f'stage{k}')
+    for k in range(buffers):
+        plan.semaphore(f'turn{k}', owner=rng.randrange(stages))
+        plan.buffer(f'frame{k}', size=4096)
+    for frame in range(rng.randint(1, 6)):
+        for k in range(stages):
+            turn, at = f'turn{frame % buffers}', frame // buffers * stages + k
+            plan.add(k, wait={turn: at} if at else (), use=f'frame{frame % buffers}',
+                     free=f'frame{frame % buffers}' if k == stages - 1 else (), signal={turn: at + 1})
     return plan
 
 
@@ -131,7 +149,7 @@ def _more_marks(rng, plan):
 
 
 def _wrong_signal(rng, plan):
-    """Another queue's semaphore, or a value that does not rise."""
+    """Somebody else's semaphore, or a value that does not rise."""
     j = rng.randrange(len(plan.operations))
     own = [s for s, x in enumerate(plan.semaphores) if x.owner == plan.operations[j].queue]
     if plan.semaphores:
@@ -140,4 +158,25 @@ def _wrong_signal(rng, plan):
         _change(plan, j, signals=plan.operations[j].signals[:1] + (signal,))
 
 
-MISTAKES = [_drop_wait, _drop_wait, _other_wait, _later_wait, _circle, _move_free, _more_marks, _wrong_signal]
+def _joined_semaphores(rng, plan):
+    """Two semaphores made one, with values that rise in plan order; each wait is for the signal that it was for."""
+    if len(plan.semaphores) < 2:
+        return
+    kept, gone = rng.sample(range(len(plan.semaphores)), 2)
+    new, last = {}, 0
+    for o in plan.operations:
+        for s, v in o.signals:
+            if s in (kept, gone):
+                last += 1
+                new.setdefault((s, v), last)
+    for j, o in enumerate(plan.operations):
+        waits = []
+        for s, v in o.waits:
+            enough = [x for t, x in new if t == s and x >= v]
+            waits.append(Wait(kept, new[s, min(enough)]) if v and enough else Wait(s, v))
+        _change(plan, j, waits=tuple(waits),
+                signals=tuple(Signal(kept, new[s, v]) if (s, v) in new else Signal(s, v) for s, v in o.signals))
+
+
+MISTAKES = [_drop_wait, _drop_wait, _other_wait, _later_wait, _circle, _move_free, _more_marks, _wrong_signal,
+            _joined_semaphores]

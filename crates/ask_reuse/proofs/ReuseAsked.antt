@@ -37,7 +37,7 @@ checked-forced : (bs : List ℕ) (b t l : ℕ) → check-outcome bs t l .refusal
 unfolding Demand-3-stored
 checked-forced bs b t l z inside k here =
     let place = demand-3-stored bs t l (passed-unrefused bs t l z) .passed-place z in
-    check-means bs t l .passed .0 ((z, place), passed-leaves bs t l z) .2 b k inside here
+    check-means bs t l .passed .0 ((z, place), passed-leaves bs t l z) .3 b k inside here
 
 -- so are those on the buffer of a question that is answered
 answered-forced : (bs : List ℕ) (q b t l : ℕ) → reuse-outcome bs q b t l .refusal .number ≡ 0 →

@@ -53,8 +53,8 @@ module _ {p : Plan} {o : Opened} {c : Lent} {table : List ℕ} (opened : Opened-
         queues-shown = opened .read .queues-shown;
         sources-shown = opened .sources-shown;
         rows-shown = opened .rows-shown;
-        run = safe .0 .0;
-        full = safe .0 .1;
+        run = safe .run;
+        full = safe .full;
       }
 
   pub signals-of : Trace-signals-given p (o .counted .operations) (o .signals) (c .queue) (c .source) table

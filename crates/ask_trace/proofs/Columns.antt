@@ -19,7 +19,7 @@ use Rattle.order.proofs.Runs.{runs-nil}
 use Rattle.plan_format.specs.Sizes.{most-queues, most-operations, most-waits, no-operation}
 use Rattle.plan_format.specs.Plan.{Point, Plan, count, op}
 use Rattle.plan_format.specs.Meaning.{wait-at}
-use Rattle.plan_format.specs.Sound.{Sound, signals-refusal, waits-refusal}
+use Rattle.plan_format.specs.Sound.{Sound}
 use Rattle.plan_order.specs.Precedence.{Resolution, at-once, on, never, resolve}
 use Rattle.plan_order.specs.Rows.{epoch}
 use Rattle.plan_order.specs.Runs.{earlier-run, enabled, ready, is-run, is-full, wait-met}
@@ -44,7 +44,7 @@ use Rattle.plan_trace.proofs.Reasons.{
   departs-ready,
 }
 use Rattle.plan_trace.proofs.StateMeaning.{counts-at, counts-long}
-use Rattle.plan_trace.proofs.Progress.{rested, own-entry as entry-own, run-is, first-is, wait-is, counts-more}
+use Rattle.plan_trace.proofs.Progress.{rested-or-none, own-entry as entry-own, run-is, first-is, wait-is, counts-more}
 use Rattle.ask_trace.specs.Walk.{
   place-of,
   own-entry,
@@ -69,9 +69,6 @@ pub record Trace-given (p : Plan) (n : ℕ) (queue source rows : List ℕ) : Typ
   pub full : is-full p run ≡ true
 
 module _ (p : Plan) (n : ℕ) (queue source rows : List ℕ) (shown : Trace-given p n queue source rows) where
-  good : (signals-refusal 0 p [] (p .operations) .number ≡ 0) × (waits-refusal 0 p (p .operations) .number ≡ 0)
-  good = rules-good p (shown .sound)
-
   queue-low : (i : ℕ) → i < count p → op p i .queue < most-queues
   queue-low i l = omega (arith, shown .sound .in-range i l .queue, shown .sound .few-queues)
 
@@ -90,7 +87,7 @@ module _ (p : Plan) (n : ℕ) (queue source rows : List ℕ) (shown : Trace-give
   entry-right i l =
       rw (uncut i l, place-right i l) (shown .rows-shown i (op p i .queue) l (queue-low i l)
       ∙ row-at p i (op p i .queue) (queue-low i l)
-      ∙ entry-own p (good .0) (shown .run) (shown .full) i l)
+      ∙ entry-own p (shown .run) (shown .full) i l)
 
   module _ (r : List ℕ) (a-run : is-run p r ≡ true) where
     count-right : (i : ℕ) → i < count p → count-of queue (queue-counts p r) i ≡ queue-count p r (op p i .queue)
@@ -109,8 +106,8 @@ module _ (p : Plan) (n : ℕ) (queue source rows : List ℕ) (shown : Trace-give
     -- ---- waits
     -- a wait that rests on an operation, or on none
     of-source : (w : Point) (y : Resolution) → Resolution-case p w y → (at : ℕ) → getD source at 0 ≡ source-of y →
-        wait-unmet-at queue source rows (queue-counts p r) at ≡ not (rested r y)
-    unfolding wait-unmet-at source-of rested
+        wait-unmet-at queue source rows (queue-counts p r) at ≡ not (rested-or-none r y)
+    unfolding wait-unmet-at source-of rested-or-none
     of-source w at-once d at e = rw e
     of-source w (on x) (at-signal _ t) at e =
         rw (e, lt-ltb (x .operation) no-operation (omega (arith, t .inside, shown .sound .few-operations)))
@@ -118,7 +115,7 @@ module _ (p : Plan) (n : ℕ) (queue source rows : List ℕ) (shown : Trace-give
     of-source w never d at e = rw e
 
     unmet-source : (j k : ℕ) → j < count p → k < most-waits →
-        wait-unmet queue source rows (queue-counts p r) j k ≡ not (rested r (resolve p (wait-at p j k)))
+        wait-unmet queue source rows (queue-counts p r) j k ≡ not (rested-or-none r (resolve p (wait-at p j k)))
     unfolding wait-unmet Source-column columns.wait-at
     unmet-source j k l b =
         rw (uncut j l) (of-source (wait-at p j k) (resolve p (wait-at p j k)) (resolve-is p (wait-at p j k))
@@ -129,12 +126,13 @@ module _ (p : Plan) (n : ℕ) (queue source rows : List ℕ) (shown : Trace-give
         wait-unmet queue source rows (queue-counts p r) j k ≡ not (wait-met p r (wait-at p j k))
     unmet-by-run j k l b =
         unmet-source j k l (omega (arith, shown .few-waits j l))
-        ∙ ap not (sym (wait-is p r a-run (good .0) (good .1) j l (wait-at p j k) (mem-at (op p j .waits) no-point k b)))
+        ∙ ap not (sym (wait-is p (rules-good p (shown .sound) .1) r j l (wait-at p j k)
+        (mem-at (op p j .waits) no-point k b)))
 
     -- past the waits of an operation there is a wait for 0
     unmet-past : (j k : ℕ) → j < count p → length (op p j .waits) ≤ k → k < most-waits →
         wait-unmet queue source rows (queue-counts p r) j k ≡ false
-    unfolding resolve rested
+    unfolding resolve rested-or-none
     unmet-past j k l a b =
         unmet-source j k l b ∙ rw (List·getD-eq-default (op p j .waits) no-point a)
 

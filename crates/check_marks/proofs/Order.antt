@@ -12,7 +12,6 @@ use Rattle.plan_format.specs.Plan.{Plan, count}
 use Rattle.plan_format.specs.Sound.{Sound}
 use Rattle.plan_order.specs.Precedence.{before, at-or-before}
 use Rattle.plan_order.specs.Runs.{is-full}
-use Rattle.plan_order.proofs.Demand3.{rules-good}
 use Rattle.plan_order.proofs.Precedence.{not-itself}
 use Rattle.check_columns.specs.Columns.{Queue-column, Row-columns}
 use Rattle.check_columns.proofs.Ordered.{ordered-right}
@@ -48,5 +47,5 @@ module _ (p : Plan) (sound : Sound p) (queue rows : List ℕ) (queues-shown : Qu
       (by-cases (eqb g i)
       (λ t. rw t
       (sym (ap (λ (b : Bool). not b)
-      (subst (λ (z : ℕ). before p g z ≡ false) (eqb-true g i t) (not-itself p (rules-good p sound .0) f full g)))))
+      (subst (λ (z : ℕ). before p g z ≡ false) (eqb-true g i t) (not-itself p f full g)))))
       (λ n. rw n))

@@ -19,10 +19,10 @@ use Rattle.check_columns.proofs.Limits.{few-operations}
 use Rattle.check_signals.specs.Walks.{Signals-given, Judged}
 use Rattle.check_waits.specs.Waits.{Waits-given}
 use Rattle.check_run.specs.Run.{Run-given, Rows-of}
-use Rattle.check_passes.specs.Answering.{zeros}
+use Rattle.check_passes.specs.Answering.{zeros, Order-columns, order-columns}
 use Rattle.check_passes.specs.Given.{Check-given, Rules-given, Ruled, Order-given, Judge-given}
 
--- ---- 6 to 8
+-- ---- 7 and 8
 -- places for last values: those that are made have room for each semaphore
 pub zeros-few : (semaphores : ℕ) → semaphores ≤ first-semaphores → replicate first-semaphores 0 ≡ zeros semaphores
 unfolding zeros
@@ -39,15 +39,13 @@ zeros-long semaphores e few = by-cases (leb semaphores first-semaphores)
     (λ t. rw t (omega (arith, leb-true semaphores first-semaphores t, length-replicate {A = ℕ} first-semaphores 0)))
     (λ f. rw f (omega (arith, length-replicate {A = ℕ} most-semaphores 0)))
 
-module _ {p : Plan} {n semaphores signals : ℕ} {owner queue wsem wval ssem sval sop : List ℕ}
-    (g : Rules-given p n semaphores signals owner queue wsem wval ssem sval sop) where
-  pub signals-given : Signals-given p semaphores signals owner queue ssem sval sop (zeros semaphores)
+module _ {p : Plan} {n semaphores signals : ℕ} {wsem wval ssem sval sop : List ℕ}
+    (g : Rules-given p n semaphores signals wsem wval ssem sval sop) where
+  pub signals-given : Signals-given p semaphores signals ssem sval sop (zeros semaphores)
   signals-given = record {
     own-semaphores = g .own-semaphores;
     room = zeros-long semaphores (g .own-semaphores) (g .limits .few-semaphores);
     in-range = in-range (g .limits);
-    owners-shown = g .owners-shown;
-    queues-shown = g .queues-shown;
     signals-shown = g .signals-shown;
   }
 
@@ -68,55 +66,59 @@ module _ {p : Plan} {n semaphores signals : ℕ} {owner queue wsem wval ssem sva
 -- ---- the whole check
 module _ {p : Plan} {n semaphores signals marks : ℕ} {owner : List ℕ} {cs : Columns}
     (g : Check-given p n semaphores signals marks owner cs) where
-  pub rules-given : Rules-given p n semaphores signals owner (cs .queue) (cs .wait-semaphore) (cs .wait-value)
+  pub rules-given : Rules-given p n semaphores signals (cs .wait-semaphore) (cs .wait-value)
       (cs .signal-semaphore) (cs .signal-value) (cs .signal-operation)
   rules-given = record {
     limits = g .limits;
     many = g .many;
     own-semaphores = g .own-semaphores;
-    owners-shown = g .owners-shown;
-    queues-shown = g .shown .queues-shown;
     waits-shown = g .shown .waits-shown;
     signals-shown = g .shown .signals-shown;
   }
 
   pub order-given : {t : Told} {source : List ℕ} → Ruled p t source → t .number ≡ 0 →
-      Order-given p n marks (cs .queue) source (cs .mark) (cs .mark-operation)
+      Order-given p n source (order-columns semaphores signals marks owner (cs .queue) (cs .signal-semaphore)
+      (cs .signal-operation) (cs .mark) (cs .mark-operation))
   order-given ruled z = record {
     limits = g .limits;
     rules = sym (ruled .told .number) ∙ z;
     many = g .many;
-    queues-shown = g .shown .queues-shown;
     sources-shown = ruled .sources-shown z;
-    marks-shown = g .shown .marks-shown;
+    shown = record {
+      own-semaphores = g .own-semaphores;
+      owners-shown = g .owners-shown;
+      queues-shown = g .shown .queues-shown;
+      values = cs .signal-value;
+      signals-shown = g .shown .signals-shown;
+      marks-shown = g .shown .marks-shown;
+    };
   }
 
 -- ---- the order
-module _ {p : Plan} {n marks : ℕ} {queue source mark mop : List ℕ}
-    (g : Order-given p n marks queue source mark mop) where
+module _ {p : Plan} {n : ℕ} {source : List ℕ} {cs : Order-columns} (g : Order-given p n source cs) where
   pub order-sound : Sound p
   order-sound = limits-sound p (g .limits) (g .rules)
 
   pub order-few : n ≤ most-operations
   order-few = subst (λ (k : ℕ). k ≤ most-operations) (g .many) (few-operations (g .limits))
 
-  pub run-given : Run-given p n queue source
+  pub run-given : Run-given p n (cs .queue) source
   run-given = record {
     sound = order-sound;
     many = g .many;
     few-waits = few-waits (g .limits);
-    queues = g .queues-shown;
+    queues = g .shown .queues-shown;
     sources = g .sources-shown;
   }
 
   pub judge-given : (ran : ℕ) (rows : List ℕ) → ran ≡ length (standard p) → Rows-of p (standard p) rows →
-      Judge-given p n ran marks queue mark mop rows
+      Judge-given p n ran cs rows
   judge-given ran rows long filled = record {
     sound = order-sound;
     many = g .many;
+    few-semaphores = g .limits .few-semaphores;
     few-buffers = g .limits .few-buffers;
-    queues-shown = g .queues-shown;
-    marks-shown = g .marks-shown;
+    shown = g .shown;
     long = long;
     filled = filled;
   }

@@ -1,6 +1,6 @@
--- Whatever the columns show, the operation that 10 or 11 names is one of the n. Assumes nothing.
-use mathlib.Core.Path.{_≡_, refl, sym, ap, _∙_, subst}
-use mathlib.Core.Bool.{Bool, true, false, cond}
+-- Whatever the columns show, the operation that 10, 17 or 11 names is one of the n. Assumes nothing.
+use mathlib.Core.Path.{_≡_, refl, sym, _∙_, subst}
+use mathlib.Core.Bool.{true, false}
 use mathlib.Core.List.{List, [], _∷_}
 use Prim.Native.Nat.{ℕ, zero, suc, _+_, _*_, _%_, _≤_, _<_}
 use native.Mathlib.Omega.{arith}
@@ -15,11 +15,10 @@ use Rattle.base_lists.proofs.Elements.{replicate-at}
 use Rattle.base_lists.proofs.Places.{take-place, place-take}
 use Rattle.base_lists.proofs.Searches.{lowest-some, lowest-none}
 use Rattle.plan_format.specs.Sizes.{row-width, row-places}
-use Rattle.plan_format.specs.Refusal.{Refusal, refusal, none-given}
+use Rattle.plan_format.specs.Refusal.{refusal, none-given}
 use Rattle.check_run.specs.Run.{Bounded}
 use Rattle.check_stuck.specs.Zeros.{own-zero, first-zero}
-use Rattle.check_marks.specs.Passes.{first-broken}
-use Rattle.check_passes.specs.Answering.{order-by}
+use Rattle.check_passes.specs.Answering.{Order-columns, disordered-by, broken-by, order-by}
 
 module _ {n ran : ℕ} {rows list list-now : List ℕ}
     (bounded : Bounded n ran (replicate row-places 0) rows list list-now) (room : n ≤ length list) where
@@ -64,12 +63,13 @@ module _ {n ran : ℕ} {rows list list-now : List ℕ}
       )))
       (λ j e. rw e (lowest-some n (own-zero queue rows) j e .inside))
 
-  pub order-inside : (marks : ℕ) (queue mark mop : List ℕ) →
-      (order-by n ran marks queue mark mop rows .number ≡ 0 → ⊥) → order-by n ran marks queue mark mop rows .place < n
+  pub order-inside : (cs : Order-columns) → (order-by n cs ran rows .number ≡ 0 → ⊥) → order-by n cs ran rows .place < n
   unfolding order-by refusal none-given
-  order-inside marks queue mark mop z =
+  order-inside cs z =
       by-cases (ltb ran n)
-      (λ t. rw t (one-missing queue (ltb-true ran n t)))
-      (λ f. by-cases (ltb (first-broken queue rows n marks mark mop) n)
-      (λ t. rw (f, t) (ltb-true (first-broken queue rows n marks mark mop) n t))
-      (λ g. absurd (z (rw (f, g)))))
+      (λ t. rw t (one-missing (cs .queue) (ltb-true ran n t)))
+      (λ f. by-cases (ltb (disordered-by n cs rows) n)
+      (λ t. rw (f, t) (ltb-true (disordered-by n cs rows) n t))
+      (λ g. by-cases (ltb (broken-by n cs rows) n)
+      (λ t. rw (f, g, t) (ltb-true (broken-by n cs rows) n t))
+      (λ h. absurd (z (rw (f, g, h))))))

@@ -11,10 +11,10 @@ use Rattle.check_signals.specs.Walks.{signals-found}
 use Rattle.check_passes.specs.Answering.{zeros, Sources-by}
 
 -- the resolution leaves what is past the places of n operations
-pub sources-kept : {n semaphores signals : ℕ} {owner queue wsem wval ssem sval sop source : List ℕ} →
-    Sources-by n semaphores signals owner queue wsem wval ssem sval sop source → Past-kept (most-waits * n) wsem source
-sources-kept {n} {semaphores} {signals} {owner} {queue} {wsem} {ssem = ssem} {sval = sval} {sop = sop} s =
-    by-cases (given (signals-found semaphores signals owner queue ssem sval sop (zeros semaphores)))
+pub sources-kept : {n semaphores signals : ℕ} {wsem wval ssem sval sop source : List ℕ} →
+    Sources-by n semaphores signals wsem wval ssem sval sop source → Past-kept (most-waits * n) wsem source
+sources-kept {n} {semaphores} {signals} {wsem} {ssem = ssem} {sval = sval} {sop = sop} s =
+    by-cases (given (signals-found semaphores signals ssem sval sop (zeros semaphores)))
     (λ g. let same = s .refused g in record {
       long = λ _. ap (λ (l : List ℕ). length l) same;
       past = λ i h. ap (λ (l : List ℕ). getD l i 0) same;

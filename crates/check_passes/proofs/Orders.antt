@@ -1,19 +1,19 @@
--- Refusals 10 and 11 from what the passes find, and what a plan without refusals 1 to 9 is answered and leaves. Assumes
--- nothing.
+-- Refusals 10, 17 and 11 from what the passes find, and what a plan without refusals 1 to 9 is answered and leaves.
+-- Assumes nothing.
 use mathlib.Core.Path.{_≡_, sym, ap, _∙_, subst}
-use mathlib.Core.Bool.{true}
-use mathlib.Core.List.{List, _++_}
+use mathlib.Core.Bool.{Bool, true}
+use mathlib.Core.List.{List}
 use mathlib.Core.Option.{Option, none, some}
 use Prim.Native.Nat.{ℕ, _+_, _*_, _/_, _%_, _≤_, _<_}
 use native.Mathlib.Nat.{div-add-mod}
 use native.Mathlib.Omega.{arith}
-use lib.ListN.{length, getD, take, drop, replicate, length-replicate}
+use lib.ListN.{length, getD, take, replicate, length-replicate}
 use lib.Seq.{ext-getD, getD-take, length-take-le}
-use Rattle.base_lists.specs.Lists.{member, in-front, place-or}
+use Rattle.base_lists.specs.Lists.{member, in-front, lowest-below, place-or}
 use Rattle.base_lists.proofs.Tests.{by-cases, by-option, clash}
 use Rattle.base_lists.proofs.Fronts.{front-alike}
 use Rattle.base_lists.proofs.Searches.{lowest-some}
-use Rattle.plan_format.specs.Sizes.{row-width}
+use Rattle.plan_format.specs.Sizes.{most-semaphores, row-width}
 use Rattle.plan_format.specs.Refusal.{Refusal, refusal, none-given, given}
 use Rattle.plan_format.specs.Plan.{Plan, count, op, queues}
 use Rattle.plan_format.specs.Sound.{Sound, rules-refusal}
@@ -24,13 +24,16 @@ use Rattle.plan_format.proofs.Judged.{zero-not-given, not-given-zero}
 use Rattle.plan_order.specs.Check.{room-refusal, refused-at, order-refusal, zeros, rows-and-run, Outcome, outcome}
 use Rattle.plan_order.specs.Check.{or-then, plan-outcome, table-left, list-left, left-in, Says, Plan-check-says}
 use Rattle.plan_order.specs.Holdings.{broken}
+use Rattle.plan_order.specs.Handovers.{disordered}
 use Rattle.plan_order.specs.Rows.{rows}
 use Rattle.plan_order.specs.Runs.{standard, missing}
 use Rattle.plan_order.proofs.Rows.{row-at, rows-at, rows-length}
 use Rattle.plan_order.proofs.Standard.{standard-full, missing-some, missing-none, full-run, full-has}
 use Rattle.check_columns.specs.Columns.{Row-columns}
 use Rattle.check_run.specs.Run.{Rows-of, Ran}
+use Rattle.check_handover.specs.Given.{Handovers-given}
 use Rattle.check_marks.specs.Given.{Marks-given}
+use Rattle.check_passes.specs.Answering.{Order-columns}
 use Rattle.check_passes.specs.Leaving.{Results-room, Results-left}
 use Rattle.check_passes.specs.Given.{Judge-given}
 use Rattle.check_passes.proofs.Untouched.{room-enough}
@@ -51,7 +54,7 @@ module _ (p : Plan) (sound : Sound p) where
   unfolding Row-columns
   all-rows rows-now l filled j q b c = filled .ran j q (full-has p (standard p) (standard-full p known l) j b) c
 
--- ---- refusals 10 and 11
+-- ---- refusals 10, 17 and 11
 found : (n i : ℕ) (o : Option ℕ) → i ≡ place-or n o → i < n → o ≡ some i
 unfolding place-or
 found n i o e l =
@@ -64,8 +67,8 @@ unfolding place-or
 nothing-found n i o small e l =
     by-option o (λ z. z) (λ j z. absurd (let h : i ≡ j = rw z at e in omega (arith, small j z)))
 
-module _ {p : Plan} {n ran marks : ℕ} {queue mark mop rows-now : List ℕ}
-    (shown : Judge-given p n ran marks queue mark mop rows-now) where
+module _ {p : Plan} {n ran : ℕ} {cs : Order-columns} {rows-now : List ℕ}
+    (shown : Judge-given p n ran cs rows-now) where
   pub stuck-told : {i : ℕ} → ran < n → i ≡ place-or n (missing p) → Tells (order-refusal p) 0 (told 10 i)
   unfolding order-refusal refused-at place-or
   stuck-told {i} l e =
@@ -73,40 +76,78 @@ module _ {p : Plan} {n ran marks : ℕ} {queue mark mop rows-now : List ℕ}
       (λ z. absurd (omega (arith, missing-none p (known p (shown .sound)) z, shown .long, shown .many)))
       (λ j z. let h : i ≡ j = rw z at e in tells (rw z (ap (λ (k : ℕ). refusal 10 k) (sym h))))
 
-  whole : n ≤ ran → count p ≤ length (standard p)
-  whole l = omega (arith, shown .long, shown .many)
+  -- a full run
+  module _ (all : n ≤ ran) where
+    whole : count p ≤ length (standard p)
+    whole = omega (arith, shown .long, shown .many)
 
-  pub marks-given : n ≤ ran → Marks-given p n marks queue mark mop rows-now
-  marks-given l = record {
-    sound = shown .sound;
-    many = shown .many;
-    few-buffers = shown .few-buffers;
-    queues-shown = shown .queues-shown;
-    marks-shown = shown .marks-shown;
-    rows-shown = all-rows p (shown .sound) rows-now (whole l) (shown .filled);
-    run = standard p;
-    full = standard-full p (known p (shown .sound)) (whole l);
-  }
+    none-missed : _≡_ {A = Option ℕ} (missing p) none
+    none-missed = none-missing p (shown .sound) whole
 
-  pub broken-told : {i : ℕ} → n ≤ ran → i < n → i ≡ place-or n (broken p) → Tells (order-refusal p) 0 (told 11 i)
-  unfolding order-refusal refused-at
-  broken-told {i} l b e = tells (rw (none-missing p (shown .sound) (whole l), found n i (broken p) e b))
+    pub handovers-given : Handovers-given p n (cs .semaphores) (cs .signals) (cs .owner) (cs .queue)
+        (cs .signal-semaphore) (cs .signal-operation) rows-now
+    handovers-given = record {
+      sound = shown .sound;
+      many = shown .many;
+      own-semaphores = shown .shown .own-semaphores;
+      few-semaphores = subst (λ (k : ℕ). k ≤ most-semaphores) (shown .shown .own-semaphores) (shown .few-semaphores);
+      owners-shown = shown .shown .owners-shown;
+      queues-shown = shown .shown .queues-shown;
+      values = shown .shown .values;
+      signals-shown = shown .shown .signals-shown;
+      rows-shown = all-rows p (shown .sound) rows-now whole (shown .filled);
+    }
 
-  broken-small : (j : ℕ) → broken p ≡ some j → j < n
-  unfolding broken
-  broken-small j e = subst (λ (k : ℕ). j < k) (shown .many) (lowest-some (count p) _ j e .inside)
+    pub marks-given : Marks-given p n (cs .marks) (cs .queue) (cs .mark) (cs .mark-operation) rows-now
+    marks-given = record {
+      sound = shown .sound;
+      many = shown .many;
+      few-buffers = shown .few-buffers;
+      queues-shown = shown .shown .queues-shown;
+      marks-shown = shown .shown .marks-shown;
+      rows-shown = all-rows p (shown .sound) rows-now whole (shown .filled);
+      run = standard p;
+      full = standard-full p (known p (shown .sound)) whole;
+    }
 
-  pub passed-told : {i : ℕ} → n ≤ ran → n ≤ i → i ≡ place-or n (broken p) → Tells (order-refusal p) 0 (told 0 0)
-  unfolding order-refusal refused-at none-given refusal
-  passed-told {i} l b e =
-      tells (rw (none-missing p (shown .sound) (whole l), nothing-found n i (broken p) broken-small e b))
+    below-many : (test : ℕ → Bool) (j : ℕ) → lowest-below (count p) test ≡ some j → j < n
+    below-many test j e = subst (λ (k : ℕ). j < k) (shown .many) (lowest-some (count p) test j e .inside)
+
+    disordered-small : (j : ℕ) → disordered p ≡ some j → j < n
+    unfolding disordered
+    disordered-small j e = below-many _ j e
+
+    broken-small : (j : ℕ) → broken p ≡ some j → j < n
+    unfolding broken
+    broken-small j e = below-many _ j e
+
+    module _ {u : ℕ} (out : u ≡ place-or n (disordered p)) where
+      pub disordered-told : u < n → Tells (order-refusal p) 0 (told 17 u)
+      unfolding order-refusal refused-at
+      disordered-told b = tells (rw (none-missed, found n u (disordered p) out b))
+
+      module _ (turned : n ≤ u) where
+        in-turn : _≡_ {A = Option ℕ} (disordered p) none
+        in-turn = nothing-found n u (disordered p) disordered-small out turned
+
+        pub broken-told : {i : ℕ} → i < n → i ≡ place-or n (broken p) → Tells (order-refusal p) 0 (told 11 i)
+        unfolding order-refusal refused-at
+        broken-told {i} b e = tells (rw (none-missed, in-turn, found n i (broken p) e b))
+
+        pub passed-told : {i : ℕ} → n ≤ i → i ≡ place-or n (broken p) → Tells (order-refusal p) 0 (told 0 0)
+        unfolding order-refusal refused-at none-given refusal
+        passed-told {i} b e =
+            tells (rw (none-missed, in-turn, nothing-found n i (broken p) broken-small e b))
 
 passed-means : (p : Plan) → order-refusal p .number ≡ 0 →
     (_≡_ {A = Option ℕ} (missing p) none) × (order-refusal p ≡ none-given)
 unfolding order-refusal refused-at refusal
 passed-means p e =
     by-option (missing p)
-    (λ m. by-option (broken p) (λ b. (m, rw (m, b))) (λ i b. absurd (let z : 11 ≡ 0 = rw (m, b) at e in omega arith)))
+    (λ m. by-option (disordered p)
+    (λ d. by-option (broken p) (λ b. (m, rw (m, d, b)))
+    (λ i b. absurd (let z : 11 ≡ 0 = rw (m, d, b) at e in omega arith)))
+    (λ i d. absurd (let z : 17 ≡ 0 = rw (m, d) at e in omega arith)))
     (λ i m. absurd (let z : 10 ≡ 0 = rw m at e in omega arith))
 
 -- ---- what is left

@@ -1,4 +1,4 @@
--- Refusals 6 to 9 as answers of the check: table and list untouched. Assumes nothing.
+-- Refusals 7 to 9 as answers of the check: table and list untouched. Assumes nothing.
 use mathlib.Core.Path.{_≡_, refl, sym, ap, _∙_, subst}
 use mathlib.Core.List.{List}
 use Prim.Native.Nat.{ℕ, _*_, _≤_, _<_}
@@ -17,14 +17,14 @@ use Rattle.plan_order.specs.Check.{room-refusal, Outcome, untouched, outcome, o
 use Rattle.plan_order.specs.Check.{list-left, left-in, Says, Plan-check-says}
 use Rattle.check_signals.specs.Walks.{Judged}
 use Rattle.check_waits.specs.Waits.{Resolved}
-use Rattle.check_waits.proofs.Rules.{six-seven-first, then-eight}
+use Rattle.check_waits.proofs.Rules.{seven-first, then-eight}
 use Rattle.check_passes.specs.Given.{Ruled}
 
--- ---- 6 to 8
+-- ---- 7 and 8
 module _ {p : Plan} {r : Told} {last : List ℕ} (judged : Judged p r last) {source : List ℕ} where
-  pub six-or-seven : (r .number ≡ 0 → ⊥) → Ruled p r source
-  six-or-seven z = record {
-    told = subst (λ (f : Refusal). Tells f 0 r) (sym (six-seven-first p (λ e. z (judged .told .number ∙ e))))
+  pub seven : (r .number ≡ 0 → ⊥) → Ruled p r source
+  seven z = record {
+    told = subst (λ (f : Refusal). Tells f 0 r) (sym (seven-first p (λ e. z (judged .told .number ∙ e))))
         (judged .told);
     sources-shown = λ e. absurd (z e);
   }
@@ -45,7 +45,7 @@ module _ (p : Plan) (r : Told) (t l : List ℕ) where
       subst (λ (o : Outcome). Says o 0 p r t t l l) (sym e)
       (record { tells = h; table-holds = refl; list-holds = refl })
 
-  -- 6 to 8
+  -- 7 and 8
   pub not-ruled : Tells (rules-refusal p) 0 r → (r .number ≡ 0 → ⊥) → Plan-check-says p r t t l l
   unfolding plan-outcome or-then outcome
   not-ruled h z = says-untouched (rules-refusal p) (rw (other-given (rules-refusal p) (λ e. z (h .number ∙ e)))) h

@@ -1,3 +1,3 @@
 pub mod Leaving
-pub mod Given
 pub mod Answering
+pub mod Given

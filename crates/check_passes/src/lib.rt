@@ -16,12 +16,13 @@ ghost use Rattle.plan_format.specs.Sound.{rules-refusal};
 ghost use Rattle.plan_format.specs.Stored.{Tells};
 ghost use Rattle.plan_order.specs.Check.{room-refusal, Plan-check-says};
 ghost use Rattle.check_columns.specs.Columns.{columns, Source-column};
-ghost use Rattle.check_passes.specs.Answering.{zeros, rules-by, Sources-by, Answers-by};
+ghost use Rattle.check_passes.specs.Answering.{zeros, rules-by, Sources-by, order-columns};
+ghost use Rattle.check_passes.specs.Answering.{Answers-by};
 ghost use Rattle.check_passes.specs.Given.{Check-given, Rules-given, Ruled};
 
-// Refusals 6 and 7, then 8, then 9, then the order: the answer, what is left in table and list, and the operation that
-// each wait rests on, in place of its semaphore. Where the columns show no plan within the limits, it is unspecified
-// which operations run, in which order, and what their rows are.
+// Refusals 7, 8 and 9, then the order: the answer, what is left in table and list, and the operation that each wait
+// rests on, in place of its semaphore. Where the columns show no plan within the limits, it is unspecified which
+// operations run, in which order, and what their rows are.
 pub fn judge_columns(
     n: u16,
     semaphores: usize,
@@ -40,60 +41,58 @@ pub fn judge_columns(
     list: &mut [u32],
 ) -> Told
     ensures answers { λ r. ⌜ Answers-by (or-else
-        (rules-by n semaphores signals (now (owner .entry)) (now (queue .entry)) (now (wait .entry)) (now (wval .entry))
-        (now (ssem .entry)) (now (sval .entry)) (now (sop .entry)))
-        (room-refusal n (length (now (table .entry))) (length (now (list .entry)))))
-        n marks (now (queue .entry)) (now (mark .entry)) (now (mop .entry)) r (now (table .entry)) (now (table .exit))
+        (rules-by n semaphores signals (now (wait .entry)) (now (wval .entry)) (now (ssem .entry)) (now (sval .entry))
+        (now (sop .entry))) (room-refusal n (length (now (table .entry))) (length (now (list .entry))))) n
+        (order-columns semaphores signals marks (now (owner .entry)) (now (queue .entry)) (now (ssem .entry))
+        (now (sop .entry)) (now (mark .entry)) (now (mop .entry))) r (now (table .entry)) (now (table .exit))
         (now (list .entry)) (now (list .exit)) ⌝ }
-    ensures sources { λ _. ⌜ Sources-by n semaphores signals (now (owner .entry)) (now (queue .entry))
-        (now (wait .entry)) (now (wval .entry)) (now (ssem .entry)) (now (sval .entry)) (now (sop .entry))
-        (now (wait .exit)) ⌝ }
+    ensures sources { λ _. ⌜ Sources-by n semaphores signals (now (wait .entry)) (now (wval .entry))
+        (now (ssem .entry)) (now (sval .entry)) (now (sop .entry)) (now (wait .exit)) ⌝ }
     ensures of_plans { λ r. ⌜ ((p : Plan) → Check-given p n semaphores signals marks (now (owner .entry))
         (columns (now (queue .entry)) (now (wait .entry)) (now (wval .entry)) (now (ssem .entry)) (now (sval .entry))
         (now (sop .entry)) (now (mark .entry)) (now (mop .entry))) →
         Plan-check-says p r (now (table .entry)) (now (table .exit)) (now (list .entry)) (now (list .exit)) ×
         (rules-refusal p .number ≡ 0 → Source-column p (now (wait .exit)))) ⌝ }
 {
-    let ruled = rules(
-        n,
-        semaphores,
-        signals,
-        owner,
-        queue,
-        wait,
-        wval,
-        ssem,
-        sval,
-        sop,
-    );
+    let ruled = rules(n, semaphores, signals, wait, wval, ssem, sval, sop);
     if ruled.number != 0 {
         return ruled;
     }
-    decide::check_order(n, marks, queue, wait, mark, mop, table, list)
+    decide::check_order(
+        n,
+        semaphores,
+        signals,
+        marks,
+        owner,
+        queue,
+        wait,
+        ssem,
+        sop,
+        mark,
+        mop,
+        table,
+        list,
+    )
 }
 
-// 6 or 7, else 8, else none and, in place of the semaphore of each wait, the operation that it rests on.
+// 7, else 8, else none and, in place of the semaphore of each wait, the operation that it rests on.
 fn rules(
     n: u16,
     semaphores: usize,
     signals: usize,
-    owner: &[u64],
-    queue: &QueueColumn,
     wait: &mut WaitColumn,
     wval: &[u64],
     ssem: &[u16],
     sval: &[u64],
     sop: &[u16],
 ) -> Told
-    ensures told { λ r. ⌜ Tells (rules-by n semaphores signals (now (owner .entry)) (now (queue .entry))
-        (now (wait .entry)) (now (wval .entry)) (now (ssem .entry)) (now (sval .entry)) (now (sop .entry))) 0 r ⌝ }
-    ensures sources { λ _. ⌜ Sources-by n semaphores signals (now (owner .entry)) (now (queue .entry))
-        (now (wait .entry)) (now (wval .entry)) (now (ssem .entry)) (now (sval .entry)) (now (sop .entry))
-        (now (wait .exit)) ⌝ }
+    ensures told { λ r. ⌜ Tells (rules-by n semaphores signals (now (wait .entry)) (now (wval .entry))
+        (now (ssem .entry)) (now (sval .entry)) (now (sop .entry))) 0 r ⌝ }
+    ensures sources { λ _. ⌜ Sources-by n semaphores signals (now (wait .entry)) (now (wval .entry))
+        (now (ssem .entry)) (now (sval .entry)) (now (sop .entry)) (now (wait .exit)) ⌝ }
     ensures of_plans { λ r. ⌜ ((p : Plan) →
-        Rules-given p n semaphores signals (now (owner .entry)) (now (queue .entry)) (now (wait .entry))
-        (now (wval .entry)) (now (ssem .entry)) (now (sval .entry)) (now (sop .entry)) →
-        Ruled p r (now (wait .exit))) ⌝ }
+        Rules-given p n semaphores signals (now (wait .entry)) (now (wval .entry)) (now (ssem .entry))
+        (now (sval .entry)) (now (sop .entry)) → Ruled p r (now (wait .exit))) ⌝ }
 {
     if semaphores <= FIRST_SEMAPHORES {
         let mut last = [0u64; FIRST_SEMAPHORES];
@@ -101,8 +100,6 @@ fn rules(
             n,
             semaphores,
             signals,
-            owner,
-            queue,
             wait,
             wval,
             ssem,
@@ -116,8 +113,6 @@ fn rules(
         n,
         semaphores,
         signals,
-        owner,
-        queue,
         wait,
         wval,
         ssem,
@@ -132,8 +127,6 @@ fn ruled(
     n: u16,
     semaphores: usize,
     signals: usize,
-    owner: &[u64],
-    queue: &QueueColumn,
     wait: &mut WaitColumn,
     wval: &[u64],
     ssem: &[u16],
@@ -142,17 +135,15 @@ fn ruled(
     last: &mut [u64],
 ) -> Told
     requires { ⌜ now last ≡ zeros semaphores ⌝ }
-    ensures told { λ r. ⌜ Tells (rules-by n semaphores signals (now (owner .entry)) (now (queue .entry))
-        (now (wait .entry)) (now (wval .entry)) (now (ssem .entry)) (now (sval .entry)) (now (sop .entry))) 0 r ⌝ }
-    ensures sources { λ _. ⌜ Sources-by n semaphores signals (now (owner .entry)) (now (queue .entry))
-        (now (wait .entry)) (now (wval .entry)) (now (ssem .entry)) (now (sval .entry)) (now (sop .entry))
-        (now (wait .exit)) ⌝ }
+    ensures told { λ r. ⌜ Tells (rules-by n semaphores signals (now (wait .entry)) (now (wval .entry))
+        (now (ssem .entry)) (now (sval .entry)) (now (sop .entry))) 0 r ⌝ }
+    ensures sources { λ _. ⌜ Sources-by n semaphores signals (now (wait .entry)) (now (wval .entry))
+        (now (ssem .entry)) (now (sval .entry)) (now (sop .entry)) (now (wait .exit)) ⌝ }
     ensures of_plans { λ r. ⌜ ((p : Plan) →
-        Rules-given p n semaphores signals (now (owner .entry)) (now (queue .entry)) (now (wait .entry))
-        (now (wval .entry)) (now (ssem .entry)) (now (sval .entry)) (now (sop .entry)) →
-        Ruled p r (now (wait .exit))) ⌝ }
+        Rules-given p n semaphores signals (now (wait .entry)) (now (wval .entry)) (now (ssem .entry))
+        (now (sval .entry)) (now (sop .entry)) → Ruled p r (now (wait .exit))) ⌝ }
 {
-    let signalled = check_signals::judge(semaphores, signals, owner, queue, ssem, sval, sop, last);
+    let signalled = check_signals::judge(semaphores, signals, ssem, sval, sop, last);
     if signalled.number != 0 {
         return signalled;
     }

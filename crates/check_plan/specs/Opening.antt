@@ -39,7 +39,7 @@ lent head queue source ssem sval sop mark mop = record {
   mark-operation = mop;
 }
 
--- of a plan that the reader takes: all of it, and what the waits rest on where none of 6 to 8 is given
+-- of a plan that the reader takes: all of it, and what the waits rest on where neither 7 nor 8 is given
 pub record Read-plan (p : Plan) (o : Opened) (c : Lent) : Type 0 where
   pub head-shown : Head-column p (c .head)
   pub queues-shown : Queue-column p (c .queue)

@@ -285,9 +285,9 @@ fn large(plan: &[u8], h: Head, head: &[u64], table: &mut [u32], list: &mut [u32]
 }
 
 // The check for those who ask further: beside the answer and the counts, the plan in lent columns, which stay past the
-// plan's own places. The places of n operations in the column of sources are unspecified where a refusal from 6 to 8 is
-// given. Where the reader refuses the plan, the places of as many operations as its head tells, three signals and seven
-// marks to each, are unspecified.
+// plan's own places. The places of n operations in the column of sources are unspecified where 7 or 8 is given. Where
+// the reader refuses the plan, the places of as many operations as its head tells, three signals and seven marks to
+// each, are unspecified.
 pub fn check_opened(
     plan: &[u8],
     head: &mut HeadNumbers,

@@ -25,7 +25,6 @@ use Rattle.plan_order.specs.Promise.{most-of, Row-epoch, Row-step}
 use Rattle.plan_order.specs.Rows.{epoch, row}
 use Rattle.plan_order.specs.Runs.{enabled, is-run}
 use Rattle.plan_order.proofs.Demand2.{row-epoch, row-step}
-use Rattle.plan_order.proofs.Demand3.{rules-good}
 use Rattle.plan_order.proofs.Precedence.{chain-before}
 use Rattle.plan_order.proofs.Readiness.{Why, by-queue, by-wait, direct-why, direct-by, direct-below, queue-in}
 use Rattle.plan_order.proofs.Readiness.{predecessors-run}
@@ -128,7 +127,7 @@ module _ (p : Plan) (n : ℕ) (queue source next unit : List ℕ) (shown : Run-g
   rest-part x on-nothing = nothing
   rest-part x (on-operation _ u w m t) =
       let d = direct-by p x j u (goes .inside) (by-wait w m t) in
-      operation x (predecessors-run p (rules-good p (shown .sound) .0) r x j (unfold is-run in (places .a-run))
+      operation x (predecessors-run p r x j (unfold is-run in (places .a-run))
       (ready-gives p n queue source shown r head prev ran places j (goes .is-ready) .2) d) d
 
   part-slot : (x : ℕ) → Part x → slot-of x ≡ x
@@ -276,7 +275,7 @@ module _ (p : Plan) (n : ℕ) (queue source next unit : List ℕ) (shown : Run-g
       (either (row-epoch p j x (goes .inside) (rw (goes .on-queue) inside) .1
       (rw (goes .on-queue) (leb-true (epoch p j) (getD (row p x) q 0) t)))
       (λ e. subst (λ (y : ℕ). member y r ≡ true) (sym e) m)
-      (λ c. chain-steps (count p) (enabled p) (direct p) (predecessors-run p (rules-good p (shown .sound) .0)) r j x
+      (λ c. chain-steps (count p) (enabled p) (direct p) (predecessors-run p) r j x
       (unfold is-run in (places .a-run)) m c .0))
       (goes .fresh)))
       (λ f. leb-false (epoch p j) (getD (row p x) q 0) f)

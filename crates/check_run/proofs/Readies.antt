@@ -59,7 +59,7 @@ module _ (p : Plan) (n : ℕ) (queue source : List ℕ) (shown : Run-given p n q
       at-rest : (x : ℕ) → Rest p j x → getD ran x 0 ≡ 0 → ⊥
       at-rest x on-nothing z = sentinel z
       at-rest x (on-operation _ u w m t) z =
-          ran-one x (predecessors-run p (rules-good p (shown .sound) .0) r x j (unfold is-run in (places .a-run)) e
+          ran-one x (predecessors-run p r x j (unfold is-run in (places .a-run)) e
           (direct-by p x j u l (by-wait w m t))) z
 
   unblocked-enabled : (j : ℕ) → j < count p → ((k : ℕ) → k < j → op p k .queue ≡ op p j .queue → member k r ≡ true) →

@@ -1,5 +1,5 @@
--- Refusals 6 and 7 over all signals of a plan in one list, by a table of last values: where none is given the last
--- value of a semaphore is its highest. Assumes nothing.
+-- Refusal 7 over all signals of a plan in one list, by a table of last values: where it is not given the last value of
+-- a semaphore is its highest. Assumes nothing.
 use mathlib.Core.Path.{_≡_, refl, sym, ap, _∙_, subst}
 use mathlib.Core.Bool.{false, cond}
 use mathlib.Core.List.{List, [], _∷_, _++_, List·Memᴰ, List·Memᴰ·not-nil, List·Memᴰ·cases-cons, List·Memᴰ·append-cases}
@@ -12,17 +12,15 @@ use borrow.Author.Tests.{leb-false, eqb-true, eqb-false}
 use Rattle.base_lists.proofs.Tests.{by-cases, either}
 use Rattle.plan_format.specs.Refusal.{Refusal, refusal, none-given}
 use Rattle.plan_format.specs.Plan.{Point, Operation, Plan, empty-operation, count, op}
-use Rattle.plan_format.specs.Sound.{highest-in, highest, owns, signals-number, signals-refusal, In-range}
+use Rattle.plan_format.specs.Sound.{highest-in, highest, signals-number, signals-refusal, In-range}
 use Rattle.plan_order.specs.Precedence.{Signal, signals-of, signals-from, plan-signals}
 use Rattle.check_columns.specs.Columns.{no-point}
 
-unfoldable pub flat : Plan → (last : List ℕ) → List Signal → Refusal
-flat p t [] = none-given
-flat p t (x ∷ xs) =
-    cond (owns p (op p (x .operation) .queue) (x .semaphore))
-    (cond (leb (x .value) (getD t (x .semaphore) 0)) (refusal 7 (x .operation))
-    (flat p (set t (x .semaphore) (x .value)) xs))
-    (refusal 6 (x .operation))
+unfoldable pub flat : (last : List ℕ) → List Signal → Refusal
+flat t [] = none-given
+flat t (x ∷ xs) =
+    cond (leb (x .value) (getD t (x .semaphore) 0)) (refusal 7 (x .operation))
+    (flat (set t (x .semaphore) (x .value)) xs)
 
 -- the table after some signals
 unfoldable pub after : (last : List ℕ) → List Signal → List ℕ
@@ -69,40 +67,36 @@ module _ (p : Plan) (bs : List Operation) where
         ∙ h .values s l ∙ omega arith));
   }
 
-  module _ (i q : ℕ) (on : op p i .queue ≡ q) where
+  module _ (i : ℕ) where
     -- one operation's signals, then the rest
     of-flat : (k : ℕ) (t : List ℕ) (own xs : List Point) (rest : List Signal) →
         Table-holds p t (so-far own) → Named p xs →
-        flat p t (signals-of i k xs ++ rest) ≡
-        cond (eqb (signals-number p q bs own xs) 0) (flat p (after t (signals-of i k xs)) rest)
-        (refusal (signals-number p q bs own xs) i)
+        flat t (signals-of i k xs ++ rest) ≡
+        cond (eqb (signals-number bs own xs) 0) (flat (after t (signals-of i k xs)) rest)
+        (refusal (signals-number bs own xs) i)
     unfolding flat after signals-of signals-number
     of-flat k t own [] rest h ok = refl
     of-flat k t own (x ∷ xs) rest h ok =
         let inside = ok 0 (omega arith) in
-        by-cases (owns p q (x .semaphore))
-        (λ a. by-cases (leb (x .value) (so-far own (x .semaphore)))
-        (λ b. rw (on, a, h .values (x .semaphore) inside, b))
-        (λ b. rw (on, a, h .values (x .semaphore) inside, b)
+        by-cases (leb (x .value) (so-far own (x .semaphore)))
+        (λ b. rw (h .values (x .semaphore) inside, b))
+        (λ b. rw (h .values (x .semaphore) inside, b)
         (of-flat (suc k) (set t (x .semaphore) (x .value)) (x ∷ own) xs rest (holds-set t own x h inside b)
-        (λ j l. ok (suc j) (omega arith)))))
-        (λ a. rw (on, a))
+        (λ j l. ok (suc j) (omega arith))))
 
     of-holds : (k : ℕ) (t : List ℕ) (own xs : List Point) → Table-holds p t (so-far own) → Named p xs →
-        signals-number p q bs own xs ≡ 0 →
+        signals-number bs own xs ≡ 0 →
         Table-holds p (after t (signals-of i k xs)) (λ s. max (so-far own s) (highest-in s xs))
     unfolding after signals-of signals-number highest-in
     of-holds k t own [] h ok z = holds-same (so-far own) (λ s. max (so-far own s) 0) (λ s. omega arith) h
     of-holds k t own (x ∷ xs) h ok z =
         let inside = ok 0 (omega arith) in
-        by-cases (owns p q (x .semaphore))
-        (λ a. by-cases (leb (x .value) (so-far own (x .semaphore)))
-        (λ b. absurd (let y : 7 ≡ 0 = rw (a, b) at z in omega arith))
+        by-cases (leb (x .value) (so-far own (x .semaphore)))
+        (λ b. absurd (let y : 7 ≡ 0 = rw b at z in omega arith))
         (λ b. holds-same (λ s. max (so-far (x ∷ own) s) (highest-in s xs))
         (λ s. max (so-far own s) (highest-in s (x ∷ xs))) (λ s. omega arith)
         (of-holds (suc k) (set t (x .semaphore) (x .value)) (x ∷ own) xs (holds-set t own x h inside b)
-        (λ j l. ok (suc j) (omega arith)) (rw (a, b) at z))))
-        (λ a. absurd (let y : 6 ≡ 0 = rw a at z in omega arith))
+        (λ j l. ok (suc j) (omega arith)) (rw b at z)))
 
 highest-snoc : (s : ℕ) (bs : List Operation) (o : Operation) →
     highest s (bs ++ (o ∷ [])) ≡ max (highest s bs) (highest-in s (o .signals))
@@ -110,68 +104,53 @@ unfolding highest
 highest-snoc s [] o = omega arith
 highest-snoc s (b ∷ bs) o = omega (arith, highest-snoc s bs o)
 
--- the operations from i on
-pub record Tail (p : Plan) (i : ℕ) (os : List Operation) : Type 0 where
-  pub queues-there : (k : ℕ) → k < length os → op p (i + k) .queue ≡ getD os k empty-operation .queue
-  pub named : (k : ℕ) → k < length os → Named p (getD os k empty-operation .signals)
-
-tail-more : {p : Plan} {i : ℕ} {o : Operation} {os : List Operation} → Tail p i (o ∷ os) → Tail p (suc i) os
-tail-more {p} {i} {o} {os} h = record {
-  queues-there = λ k l. subst (λ (n : ℕ). op p n .queue ≡ getD os k empty-operation .queue)
-      (let e : i + suc k ≡ suc i + k = omega arith in e) (h .queues-there (suc k) (omega arith));
-  named = λ k l. h .named (suc k) (omega arith);
-}
-
-tail-first : {p : Plan} {i : ℕ} {o : Operation} {os : List Operation} → Tail p i (o ∷ os) → op p i .queue ≡ o .queue
-tail-first {p} {i} {o} h =
-    subst (λ (n : ℕ). op p n .queue ≡ o .queue) (let e : i + 0 ≡ i = omega arith in e) (h .queues-there 0 (omega arith))
+-- the same of each operation in a list
+abbrev All-named : Plan → List Operation → Type 0
+All-named p os = (k : ℕ) → k < length os → Named p (getD os k empty-operation .signals)
 
 module _ (p : Plan) where
   started : {t : List ℕ} (bs : List Operation) → Table-holds p t (λ s. highest s bs) → Table-holds p t (so-far p bs [])
   unfolding highest-in
   started bs h = holds-same (λ s. highest s bs) (so-far p bs []) (λ s. omega arith) h
 
-  -- the table after one more operation that is given neither 6 nor 7
-  stepped : (i : ℕ) (t : List ℕ) (bs : List Operation) (o : Operation) → op p i .queue ≡ o .queue →
-      Named p (o .signals) → Table-holds p t (λ s. highest s bs) →
-      signals-number p (o .queue) bs [] (o .signals) ≡ 0 →
+  -- the table after one more operation that is not given 7
+  stepped : (i : ℕ) (t : List ℕ) (bs : List Operation) (o : Operation) → Named p (o .signals) →
+      Table-holds p t (λ s. highest s bs) → signals-number bs [] (o .signals) ≡ 0 →
       Table-holds p (after t (signals-of i 0 (o .signals))) (λ s. highest s (bs ++ (o ∷ [])))
   unfolding highest-in
-  stepped i t bs o on ok h z =
+  stepped i t bs o ok h z =
       holds-same (λ s. max (so-far p bs [] s) (highest-in s (o .signals))) (λ s. highest s (bs ++ (o ∷ [])))
       (λ s. omega (arith, highest-snoc s bs o))
-      (of-holds p bs i (o .queue) on 0 t [] (o .signals) (started bs h) ok z)
+      (of-holds p bs i 0 t [] (o .signals) (started bs h) ok z)
 
-  pub refusal-flat : (i : ℕ) (t : List ℕ) (bs os : List Operation) → Table-holds p t (λ s. highest s bs) → Tail p i os →
-      signals-refusal i p bs os ≡ flat p t (signals-from i os)
+  pub refusal-flat : (i : ℕ) (t : List ℕ) (bs os : List Operation) → Table-holds p t (λ s. highest s bs) →
+      All-named p os → signals-refusal i bs os ≡ flat t (signals-from i os)
   unfolding signals-refusal signals-from flat
   refusal-flat i t bs [] h ok = refl
   refusal-flat i t bs (o ∷ os) h ok =
-      let on = tail-first ok in
-      let names = ok .named 0 (omega arith) in
-      by-cases (eqb (signals-number p (o .queue) bs [] (o .signals)) 0)
-      (λ e. rw (of-flat p bs i (o .queue) on 0 t [] (o .signals) (signals-from (suc i) os) (started bs h) names, e)
+      let names = ok 0 (omega arith) in
+      by-cases (eqb (signals-number bs [] (o .signals)) 0)
+      (λ e. rw (of-flat p bs i 0 t [] (o .signals) (signals-from (suc i) os) (started bs h) names, e)
       (refusal-flat (suc i) (after t (signals-of i 0 (o .signals))) (bs ++ (o ∷ [])) os
-      (stepped i t bs o on names h (eqb-true (signals-number p (o .queue) bs [] (o .signals)) 0 e)) (tail-more ok)))
-      (λ e. rw (of-flat p bs i (o .queue) on 0 t [] (o .signals) (signals-from (suc i) os) (started bs h) names, e))
+      (stepped i t bs o names h (eqb-true (signals-number bs [] (o .signals)) 0 e)) (λ k l. ok (suc k) (omega arith))))
+      (λ e. rw (of-flat p bs i 0 t [] (o .signals) (signals-from (suc i) os) (started bs h) names, e))
 
-  -- where none is given the table ends with the highest of all
+  -- where it is not given the table ends with the highest of all
   pub refusal-holds : (i : ℕ) (t : List ℕ) (bs os : List Operation) → Table-holds p t (λ s. highest s bs) →
-      Tail p i os → signals-refusal i p bs os .number ≡ 0 →
+      All-named p os → signals-refusal i bs os .number ≡ 0 →
       Table-holds p (after t (signals-from i os)) (λ s. max (highest s bs) (highest s os))
   unfolding signals-refusal signals-from after highest refusal
   refusal-holds i t bs [] h ok z = holds-same (λ s. highest s bs) (λ s. max (highest s bs) 0) (λ s. omega arith) h
   refusal-holds i t bs (o ∷ os) h ok z =
-      let on = tail-first ok in
-      let names = ok .named 0 (omega arith) in
-      let n = signals-number p (o .queue) bs [] (o .signals) in
+      let names = ok 0 (omega arith) in
+      let n = signals-number bs [] (o .signals) in
       by-cases (eqb n 0)
       (λ e. rw (after-append t (signals-of i 0 (o .signals)) (signals-from (suc i) os))
       (holds-same (λ s. max (highest s (bs ++ (o ∷ []))) (highest s os))
       (λ s. max (highest s bs) (max (highest-in s (o .signals)) (highest s os)))
       (λ s. omega (arith, highest-snoc s bs o))
       (refusal-holds (suc i) (after t (signals-of i 0 (o .signals))) (bs ++ (o ∷ [])) os
-      (stepped i t bs o on names h (eqb-true n 0 e)) (tail-more ok) (rw e at z))))
+      (stepped i t bs o names h (eqb-true n 0 e)) (λ k l. ok (suc k) (omega arith)) (rw e at z))))
       (λ e. absurd (eqb-false n 0 e (rw e at z)))
 
 -- ---- what a plan's signals name
@@ -192,8 +171,7 @@ of-inside p i k (x ∷ xs) l ok y m =
     })
     (λ t. of-inside p i (suc k) xs l (λ j b. ok (suc j) (omega arith)) y t)
 
-from-inside : (p : Plan) (i : ℕ) (os : List Operation) → i + length os ≤ count p →
-    ((k : ℕ) → k < length os → Named p (getD os k empty-operation .signals)) → (y : Signal) →
+from-inside : (p : Plan) (i : ℕ) (os : List Operation) → i + length os ≤ count p → All-named p os → (y : Signal) →
     List·Memᴰ y (signals-from i os) → Inside p y
 unfolding signals-from
 from-inside p i [] l ok y m = absurd (List·Memᴰ·not-nil m)
@@ -204,13 +182,13 @@ from-inside p i (o ∷ os) l ok y m =
 
 -- ---- a whole plan, from a table with a zero for each of its semaphores
 module _ (p : Plan) (in-range : (i : ℕ) → i < count p → In-range p (op p i)) where
-  tail : Tail p 0 (p .operations)
+  all-named : All-named p (p .operations)
   unfolding op count
-  tail = record { queues-there = λ k l. let e : 0 + k ≡ k = omega arith in rw e; named = λ k l. in-range k l .signals }
+  all-named k l = in-range k l .signals
 
   pub plan-inside : (y : Signal) → List·Memᴰ y (plan-signals p) → Inside p y
-  unfolding plan-signals op count
-  plan-inside = from-inside p 0 (p .operations) (omega arith) (λ k l. in-range k l .signals)
+  unfolding plan-signals count
+  plan-inside = from-inside p 0 (p .operations) (omega arith) all-named
 
   module _ (t : List ℕ) (room : length (p .owners) ≤ length t)
       (none : (s : ℕ) → s < length (p .owners) → getD t s 0 ≡ 0) where
@@ -218,13 +196,13 @@ module _ (p : Plan) (in-range : (i : ℕ) → i < count p → In-range p (op p i
     unfolding highest
     start = record { room = room; values = none }
 
-    pub plan-flat : signals-refusal 0 p [] (p .operations) ≡ flat p t (plan-signals p)
+    pub plan-flat : signals-refusal 0 [] (p .operations) ≡ flat t (plan-signals p)
     unfolding plan-signals
-    plan-flat = refusal-flat p 0 t [] (p .operations) start tail
+    plan-flat = refusal-flat p 0 t [] (p .operations) start all-named
 
-    pub plan-holds : signals-refusal 0 p [] (p .operations) .number ≡ 0 →
+    pub plan-holds : signals-refusal 0 [] (p .operations) .number ≡ 0 →
         Table-holds p (after t (plan-signals p)) (λ s. highest s (p .operations))
     unfolding plan-signals highest
     plan-holds z =
         holds-same (λ s. max 0 (highest s (p .operations))) (λ s. highest s (p .operations)) (λ s. omega arith)
-        (refusal-holds p 0 t [] (p .operations) start tail z)
+        (refusal-holds p 0 t [] (p .operations) start all-named z)

@@ -1,4 +1,4 @@
--- Refusals 6 to 8 of a plan: 6 or 7 where one is given, else 8. Assumes nothing.
+-- Refusals 7 and 8 of a plan: 7 where it is given, else 8. Assumes nothing.
 use mathlib.Core.Path.{_≡_}
 use mathlib.Core.List.{[]}
 use Rattle.plan_format.specs.Plan.{Plan}
@@ -6,14 +6,14 @@ use Rattle.plan_format.specs.Sound.{signals-refusal, waits-refusal, rules-refus
 use Rattle.plan_format.proofs.Judged.{other-given, or-else-first, or-else-second}
 
 module _ (p : Plan) where
-  pub six-seven-first : (signals-refusal 0 p [] (p .operations) .number ≡ 0 → ⊥) →
-      rules-refusal p ≡ signals-refusal 0 p [] (p .operations)
+  pub seven-first : (signals-refusal 0 [] (p .operations) .number ≡ 0 → ⊥) →
+      rules-refusal p ≡ signals-refusal 0 [] (p .operations)
   unfolding rules-refusal
-  six-seven-first h =
-      let f = signals-refusal 0 p [] (p .operations) in
+  seven-first h =
+      let f = signals-refusal 0 [] (p .operations) in
       or-else-first f (waits-refusal 0 p (p .operations)) (other-given f h)
 
-  pub then-eight : signals-refusal 0 p [] (p .operations) .number ≡ 0 →
+  pub then-eight : signals-refusal 0 [] (p .operations) .number ≡ 0 →
       rules-refusal p ≡ waits-refusal 0 p (p .operations)
   unfolding rules-refusal
-  then-eight z = or-else-second (signals-refusal 0 p [] (p .operations)) (waits-refusal 0 p (p .operations)) z
+  then-eight z = or-else-second (signals-refusal 0 [] (p .operations)) (waits-refusal 0 p (p .operations)) z

@@ -16,14 +16,14 @@ use Rattle.plan_format.specs.declared.Told.{Told}
 use Rattle.check_columns.specs.Columns.{Wait-columns, Signal-columns, Source-column}
 use Rattle.check_signals.specs.Walks.{Highest-column, held-in}
 
--- the columns show a plan with neither refusal 6 nor 7, and the highest value of each semaphore
+-- the columns show a plan with no refusal 7, and the highest value of each semaphore
 pub record Waits-given (p : Plan) (n semaphores signals : ℕ) (ssem sval sop wsem wval last : List ℕ) : Type 0 where
   pub operations : count p ≡ n
   pub few : n ≤ most-operations
   pub own-semaphores : length (p .owners) ≡ semaphores
   pub few-semaphores : semaphores ≤ most-semaphores
   pub in-range : (i : ℕ) → i < count p → In-range p (op p i)
-  pub rules : signals-refusal 0 p [] (p .operations) .number ≡ 0
+  pub rules : signals-refusal 0 [] (p .operations) .number ≡ 0
   pub signals-shown : Signal-columns p signals ssem sval sop
   pub waits-shown : Wait-columns p wsem wval
   pub highest-shown : Highest-column p last

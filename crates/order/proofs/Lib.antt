@@ -5,3 +5,4 @@ pub mod Closure
 pub mod Extensions
 pub mod Columns
 pub mod Turns
+pub mod Same

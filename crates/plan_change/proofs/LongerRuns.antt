@@ -1,48 +1,42 @@
--- One operation more at the end: a full run, and then the new operation, is a full run. Assumes nothing.
-use mathlib.Core.Path.{_≡_, refl, sym, ap, ap₂, _∙_, subst}
+-- One operation more at the end, which signals nothing: a full run, and then the new operation, is a full run. Assumes
+-- nothing.
+use mathlib.Core.Path.{_≡_, sym, ap, _∙_, subst}
 use mathlib.Core.Bool.{true}
 use mathlib.Core.List.{List, [], _∷_, _++_, List·Memᴰ}
-use Prim.Native.Nat.{ℕ, _≤_, _<_, max}
+use Prim.Native.Nat.{ℕ, _<_}
 use native.Mathlib.Omega.{arith}
 use lib.ListN.{getD, take, length-append}
 use Rattle.base_lists.specs.Lists.{member}
 use Rattle.base_lists.proofs.Tests.{is-false}
-use Rattle.base_lists.proofs.Members.{member-here, member-there}
 use Rattle.order.specs.Runs.{runs}
 use Rattle.order.proofs.Runs.{can-below, can-fresh, can-enabled, can-by, run-below, runs-snoc}
-use Rattle.order.proofs.Turns.{run-turns, turns-run, run-take}
+use Rattle.order.proofs.Turns.{run-turns, turns-run}
 use Rattle.plan_format.specs.Plan.{Point, Operation, Plan, count}
-use Rattle.plan_format.specs.Sound.{highest-in}
-use Rattle.plan_order.specs.Runs.{enabled, reached, is-run, is-full}
+use Rattle.plan_order.specs.Precedence.{Resolution}
+use Rattle.plan_order.specs.Runs.{rested, wait-met, enabled, is-run, is-full}
 use Rattle.plan_order.proofs.Readiness.{enabled-gives, enabled-by}
 use Rattle.plan_order.proofs.Standard.{full-run, full-has, run-full}
 use Rattle.plan_change.specs.Longer.{with-last}
-use Rattle.plan_change.proofs.Longer.{last-count, last-same, last-op}
+use Rattle.plan_change.proofs.Longer.{last-count, last-same, last-op, last-resolves}
 
-module _ (p : Plan) (o : Operation) where
+module _ (p : Plan) (o : Operation) (silent : o .signals ≡ []) where
   abbrev grown : Plan
   grown = with-last p o
 
-  -- a run of the shorter plan brings the semaphores equally far
-  reached-same : (s : ℕ) (r : List ℕ) → ((i : ℕ) → member i r ≡ true → i < count p) →
-      reached grown s r ≡ reached p s r
-  unfolding reached
-  reached-same s [] h = refl
-  reached-same s (x ∷ xs) h =
-      ap₂ (λ (z : Operation) (m : ℕ). max (highest-in s (z .signals)) m) (last-same p o x (h x (member-here x xs)))
-      (reached-same s xs (λ i m. h i (member-there i x xs m)))
+  -- the same waits are met
+  met-same : (r : List ℕ) (w : Point) → wait-met grown r w ≡ wait-met p r w
+  unfolding wait-met
+  met-same r w = ap (λ (z : Resolution). rested r z) (last-resolves p o silent w)
 
-  enabled-same : (r : List ℕ) (j : ℕ) → ((i : ℕ) → member i r ≡ true → i < count p) → j < count p →
-      enabled p r j ≡ true → enabled grown r j ≡ true
-  enabled-same r j below l e =
+  enabled-same : (r : List ℕ) (j : ℕ) → j < count p → enabled p r j ≡ true → enabled grown r j ≡ true
+  enabled-same r j l e =
       let was = enabled-gives p r j e in
       let same = last-same p o j l in
       enabled-by grown r j (record {
         earlier = λ k b q. was .earlier k b
             (ap (λ (z : Operation). z .queue) (sym (last-same p o k (omega arith))) ∙ q ∙
             ap (λ (z : Operation). z .queue) same);
-        waits = λ w m. subst (λ (z : ℕ). w .value ≤ z) (sym (reached-same (w .semaphore) r below))
-            (was .waits w (subst (λ (z : Operation). List·Memᴰ w (z .waits)) same m));
+        waits = λ w m. met-same r w ∙ was .waits w (subst (λ (z : Operation). List·Memᴰ w (z .waits)) same m);
       })
 
   -- a run of the shorter plan is one of the longer plan
@@ -52,15 +46,13 @@ module _ (p : Plan) (o : Operation) where
       let can = run-turns (count p) (enabled p) r h k l in
       let x = getD r k 0 in
       let inside = can-below (count p) (enabled p) (take k r) x can in
-      let part = run-take (count p) (enabled p) r h k (omega arith) in
       can-by (count grown) (enabled grown) (take k r) x (omega (arith, last-count p o))
       (can-fresh (count p) (enabled p) (take k r) x can)
-      (enabled-same (take k r) x (run-below (count p) (enabled p) (take k r) part) inside
-      (can-enabled (count p) (enabled p) (take k r) x can)))
+      (enabled-same (take k r) x inside (can-enabled (count p) (enabled p) (take k r) x can)))
 
   -- R24: a full run of the shorter plan that meets the waits, and then the new operation
   pub last-full : (r : List ℕ) → is-full p r ≡ true →
-      ((w : Point) → List·Memᴰ w (o .waits) → w .value ≤ reached p (w .semaphore) r) →
+      ((w : Point) → List·Memᴰ w (o .waits) → wait-met p r w ≡ true) →
       is-full grown (r ++ (count p ∷ [])) ≡ true
   unfolding is-run
   last-full r full met =
@@ -69,8 +61,7 @@ module _ (p : Plan) (o : Operation) where
       let new : enabled grown r (count p) ≡ true =
       enabled-by grown r (count p) (record {
         earlier = λ k l q. full-has p r full k l;
-        waits = λ w m. subst (λ (z : ℕ). w .value ≤ z) (sym (reached-same (w .semaphore) r below))
-            (met w (subst (λ (z : Operation). List·Memᴰ w (z .waits)) (last-op p o) m));
+        waits = λ w m. met-same r w ∙ met w (subst (λ (z : Operation). List·Memᴰ w (z .waits)) (last-op p o) m);
       }) in
       run-full grown (r ++ (count p ∷ []))
       (runs-snoc (count grown) (enabled grown) r (count p) (old-run r (f .0))

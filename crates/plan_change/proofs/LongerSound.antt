@@ -11,7 +11,7 @@ use Rattle.base_lists.proofs.Tests.{by-cases}
 use Rattle.plan_format.specs.Sizes.{most-operations}
 use Rattle.plan_format.specs.Refusal.{Refusal, refusal, none-given}
 use Rattle.plan_format.specs.Plan.{Point, Operation, Plan, count, op, queues}
-use Rattle.plan_format.specs.Sound.{highest-in, highest, owns, signals-number, signals-refusal, too-high, any-too-high}
+use Rattle.plan_format.specs.Sound.{highest-in, highest, signals-number, signals-refusal, too-high, any-too-high}
 use Rattle.plan_format.specs.Sound.{waits-refusal, rules-refusal, In-range, Sound}
 use Rattle.plan_format.proofs.Judged.{or-else-second}
 use Rattle.plan_order.proofs.Demand3.{rules-good}
@@ -22,19 +22,11 @@ module _ (p : Plan) (o : Operation) (silent : o .signals ≡ []) where
   abbrev grown : Plan
   grown = with-last p o
 
-  -- ---- refusals 6 and 7
-  number-same : (q : ℕ) (bs : List Operation) (own xs : List Point) →
-      signals-number grown q bs own xs ≡ signals-number p q bs own xs
-  unfolding signals-number owns with-last
-  number-same q bs own [] = refl
-  number-same q bs own (x ∷ xs) = rw (number-same q bs (x ∷ own) xs)
-
-  signals-same : (i : ℕ) (bs os : List Operation) →
-      signals-refusal i grown bs (os ++ (o ∷ [])) ≡ signals-refusal i p bs os
+  -- ---- refusal 7
+  signals-same : (i : ℕ) (bs os : List Operation) → signals-refusal i bs (os ++ (o ∷ [])) ≡ signals-refusal i bs os
   unfolding signals-refusal signals-number
   signals-same i bs [] = rw silent
-  signals-same i bs (x ∷ xs) =
-      rw (number-same (x .queue) bs [] (x .signals), signals-same (suc i) (bs ++ (x ∷ [])) xs)
+  signals-same i bs (x ∷ xs) = rw (signals-same (suc i) (bs ++ (x ∷ [])) xs)
 
   -- ---- refusal 8
   highest-stays : (s : ℕ) (os : List Operation) → highest s (os ++ (o ∷ [])) ≡ highest s os
@@ -61,7 +53,7 @@ module _ (p : Plan) (o : Operation) (silent : o .signals ≡ []) where
     unfolding rules-refusal with-last
     rules-none sound =
         let good = rules-good p sound in
-        let first : signals-refusal 0 grown [] (grown .operations) .number ≡ 0 =
+        let first : signals-refusal 0 [] (grown .operations) .number ≡ 0 =
         ap (λ (f : Refusal). f .number) (signals-same 0 [] (p .operations)) ∙ good .0 in
         ap (λ (f : Refusal). f .number) (or-else-second _ _ first) ∙ waits-low 0 (p .operations) (good .1)
 

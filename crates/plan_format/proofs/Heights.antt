@@ -1,18 +1,17 @@
--- The highest signal of a semaphore, by places; owners by places; how a list begins from a place on. Assumes nothing.
+-- The highest signal of a semaphore, by places; how a list begins from a place on. Assumes nothing.
 use mathlib.Core.Path.{_≡_, refl, sym, ap, _∙_}
-use mathlib.Core.Bool.{true, cond, false≢true}
-use mathlib.Core.Logic.{_↔_}
+use mathlib.Core.Bool.{cond}
 use mathlib.Core.List.{List, [], _∷_, _++_}
 use Prim.Native.Nat.{ℕ, zero, suc, _≤_, _<_, max}
 use native.Mathlib.Nat.{not-suc-le-zero, le-of-suc-le-suc}
 use native.Mathlib.Omega.{arith}
 use lib.Dec.{eqb}
-use lib.ListN.{length, getD, take, drop, getElem?}
+use lib.ListN.{length, getD, take, drop}
 use lib.Seq.{take-suc}
 use borrow.Author.Tests.{eqb-true, eq-eqb}
 use Rattle.base_lists.proofs.Tests.{by-cases}
-use Rattle.plan_format.specs.Plan.{Point, Operation, Plan, empty-operation}
-use Rattle.plan_format.specs.Sound.{highest-in, highest, is-queue, owns}
+use Rattle.plan_format.specs.Plan.{Point, Operation, empty-operation}
+use Rattle.plan_format.specs.Sound.{highest-in, highest}
 
 -- ---- a list from a place on
 pub record Begins {A : Type 0} (d : A) (xs : List A) (k : ℕ) (y : A) (ys : List A) : Type 0 where
@@ -31,19 +30,6 @@ pub ends : {A : Type 0} (xs : List A) (k : ℕ) → _≡_ {A = List A} (drop k x
 ends [] k e = omega arith
 ends (x ∷ xs) zero e = absurd (let z : _≡_ {A = ℕ} 0 1 = cc in omega arith)
 ends (x ∷ xs) (suc k) e = omega (arith, ends xs k e)
-
--- ---- owners
-queue-at : (os : List ℕ) (q s : ℕ) → (is-queue (getElem? os s) q ≡ true) ↔ ((s < length os) × (getD os s 0 ≡ q))
-unfolding is-queue
-queue-at [] q s = ((λ h. absurd (false≢true h)), (λ w. absurd (not-suc-le-zero (w .0))))
-queue-at (o ∷ os) q zero = ((λ h. (omega arith, eqb-true o q h)), (λ w. eq-eqb o q (w .1)))
-queue-at (o ∷ os) q (suc s) =
-    let r = queue-at os q s in
-    ((λ h. let w = r .0 h in (omega (arith, w .0), w .1)), (λ w. r .1 (le-of-suc-le-suc (w .0), w .1)))
-
-pub owns-means : (p : Plan) (q s : ℕ) → (owns p q s ≡ true) ↔ ((s < length (p .owners)) × (getD (p .owners) s 0 ≡ q))
-unfolding owns
-owns-means p q s = queue-at (p .owners) q s
 
 -- ---- above every value of a semaphore, and above 0
 module _ (s v : ℕ) where

@@ -60,7 +60,7 @@ pub listed-within : (xs : List ℕ) → listed xs .fault .number ≡ 0 → Withi
 unfolding listed
 listed-within xs e = numbers-within list-form xs e list-proper
 
--- ---- soundness: what refusals 6 to 8 leave of a plan within the limits
+-- ---- soundness: what refusals 7 and 8 leave of a plan within the limits
 pub limits-sound : (p : Plan) → Limits p → rules-refusal p .number ≡ 0 → Sound p
 unfolding queues count
 limits-sound p l e =

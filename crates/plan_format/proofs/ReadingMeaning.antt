@@ -1,5 +1,5 @@
 -- Numbers 1 to 5 of a whole reading come from the first fault in reading order; those of a stored plan are these, then
--- 6 to 8. Assumes nothing.
+-- 7 and 8. Assumes nothing.
 use mathlib.Core.Path.{_≡_, refl, sym, ap, _∙_, subst}
 use mathlib.Core.Logic.{_⊎_, inl, inr}
 use mathlib.Core.List.{List}
@@ -142,7 +142,7 @@ pub listed-means : (xs : List ℕ) → Numbers-mean xs
 unfolding listed scanned-by numbers
 listed-means xs = reading-means numbers list-form xs (omega arith) (listed-number xs)
 
--- 1 to 5 first, then 6 to 8
+-- 1 to 5 first, then 7 and 8
 pub plan-refusal-means : (bs : List ℕ) → Plan-refusal-means bs (plan-refusal bs)
 unfolding plan-refusal
 plan-refusal-means bs =

@@ -1,4 +1,4 @@
--- Refusals 6 to 8 come from the first signal, or else the first wait, that breaks a rule. Assumes nothing.
+-- Refusals 7 and 8 come from the first signal, or else the first wait, that breaks a rule. Assumes nothing.
 use mathlib.Core.Path.{_≡_, refl, sym, ap, _∙_, subst}
 use mathlib.Core.Bool.{true, cond, false≢true}
 use mathlib.Core.Logic.{inl, inr}
@@ -13,26 +13,22 @@ use borrow.Author.Tests.{ltb-true, ltb-false, leb-true, leb-false, lt-ltb, eqb-t
 use Rattle.base_lists.proofs.Tests.{by-cases, clash, and-right, and-both, or-cases, or-left, or-right, either}
 use Rattle.plan_format.specs.Refusal.{Refusal, refusal, none-given}
 use Rattle.plan_format.specs.Plan.{Point, Operation, Plan, empty-operation, count, op}
-use Rattle.plan_format.specs.Sound.{highest-in, highest, is-queue, owns, signals-number, signals-refusal}
+use Rattle.plan_format.specs.Sound.{highest-in, highest, signals-number, signals-refusal}
 use Rattle.plan_format.specs.Sound.{too-high, any-too-high, waits-refusal}
-use Rattle.plan_format.specs.Meaning.{signal-at, wait-at, Is-signal, Owned, Rising, Good-before, Bad-owner}
-use Rattle.plan_format.specs.Meaning.{Not-rising, Signals-good, Too-high}
-use Rattle.plan_format.proofs.Heights.{begins, ends, owns-means, Over, over-in, in-over, over-highest}
+use Rattle.plan_format.specs.Meaning.{signal-at, wait-at, Is-signal, Rising, Good-before, Not-rising}
+use Rattle.plan_format.specs.Meaning.{Signals-good, Too-high}
+use Rattle.plan_format.proofs.Heights.{begins, ends, Over, over-in, in-over, over-highest}
 use Rattle.plan_format.proofs.Heights.{highest-over, over-taken, taken-over, all-taken, taken-all, highest-more}
 
 abbrev pub no-point : Point
 no-point = record { semaphore = 0; value = 0 }
 
--- 7 for a first signal of 0, by the queue that owns the semaphore
-zero-signal : signals-number (record { axes = 9 ∷ []; owners = 0 ∷ []; sizes = []; operations = [] }) 0 [] []
-    (no-point ∷ []) ≡ 7
-unfolding signals-number owns is-queue highest highest-in
+-- 7 for a first signal of 0
+zero-signal : signals-number [] [] (no-point ∷ []) ≡ 7
+unfolding signals-number highest highest-in
 zero-signal = refl
 
 module _ (p : Plan) where
-  abbrev Good : (i k : ℕ) → Type 0
-  Good i k = Owned p i k × Rising p i k
-
   -- past the last operation there is no signal
   pub signal-inside : (i k : ℕ) → Is-signal p i k → i < count p
   unfolding count op
@@ -83,10 +79,8 @@ module _ (p : Plan) where
 
   -- ---- one operation's signals
   data Own-says (i n : ℕ) : Type 0 where
-    own-good : n ≡ 0 → ((l : ℕ) → Is-signal p i l → Good i l) → Own-says i n
-    own-six : n ≡ 6 → (k : ℕ) → Is-signal p i k → (Owned p i k → ⊥) → ((l : ℕ) → l < k → Good i l) → Own-says i n
-    own-seven : n ≡ 7 → (k : ℕ) → Is-signal p i k → Owned p i k → (Rising p i k → ⊥) →
-        ((l : ℕ) → l < k → Good i l) → Own-says i n
+    own-good : n ≡ 0 → ((l : ℕ) → Is-signal p i l → Rising p i l) → Own-says i n
+    own-seven : n ≡ 7 → (k : ℕ) → Is-signal p i k → (Rising p i k → ⊥) → ((l : ℕ) → l < k → Rising p i l) → Own-says i n
 
   module _ (i : ℕ) where
     height-is : (k : ℕ) (x : Point) (own : List Point) → signal-at p i k ≡ x →
@@ -98,79 +92,69 @@ module _ (p : Plan) where
         (λ (z : Point). max (highest (z .semaphore) (take i (p .operations)))
         (highest-in (z .semaphore) (take k (op p i .signals)))) (sym here)
 
-    good-more : (k : ℕ) → ((l : ℕ) → l < k → Good i l) → Good i k → (l : ℕ) → l < suc k → Good i l
+    good-more : (k : ℕ) → ((l : ℕ) → l < k → Rising p i l) → Rising p i k → (l : ℕ) → l < suc k → Rising p i l
     good-more k h g l a =
-        by-cases (eqb l k) (λ t. subst (λ (z : ℕ). Good i z) (sym (eqb-true l k t)) g)
+        by-cases (eqb l k) (λ t. subst (λ (z : ℕ). Rising p i z) (sym (eqb-true l k t)) g)
         (λ f. h l (omega (arith, eqb-false l k f)))
 
     -- from place k on; `own` are the signals before it
     number-says : (k : ℕ) (own xs : List Point) → drop k (op p i .signals) ≡ xs →
         ((s : ℕ) → highest-in s own ≡ highest-in s (take k (op p i .signals))) →
-        ((l : ℕ) → l < k → Good i l) → Own-says i (signals-number p (op p i .queue) (take i (p .operations)) own xs)
+        ((l : ℕ) → l < k → Rising p i l) → Own-says i (signals-number (take i (p .operations)) own xs)
     unfolding signals-number
     number-says k own [] e o good = own-good refl (λ l h. good l (omega (arith, ends (op p i .signals) k e)))
     number-says k own (x ∷ xs) e o good =
         let w = begins no-point (op p i .signals) k x xs e in
         let s = x .semaphore in
-        let q = op p i .queue in
         let high = max (highest s (take i (p .operations))) (highest-in s own) in
         let same : high ≡ height i k = height-is k x own (w .here) (o s) in
         let value : signal-at p i k .value ≡ x .value = ap (λ (z : Point). z .value) (w .here) in
-        let owner : Owned p i k ≡ ((s < length (p .owners)) × (getD (p .owners) s 0 ≡ q)) =
-        ap (λ (z : Point). (z .semaphore < length (p .owners)) × (getD (p .owners) (z .semaphore) 0 ≡ q)) (w .here) in
-        by-cases (owns p q s)
-        (λ t. let mine : Owned p i k = subst (λ (A : Type 0). A) (sym owner) (owns-means p q s .0 t) in
         by-cases (leb (x .value) high)
-        (λ u. rw (t, u)
-        (own-seven refl k (w .inside) mine (λ r. omega (arith, rises-over i k r, leb-true (x .value) high u)) good))
-        (λ u. rw (t, u) (number-says (suc k) (x ∷ own) xs (w .on)
+        (λ u. rw u (own-seven refl k (w .inside)
+        (λ r. omega (arith, rises-over i k r, leb-true (x .value) high u)) good))
+        (λ u. rw u (number-says (suc k) (x ∷ own) xs (w .on)
         (λ z. highest-more z (op p i .signals) own k x (w .inside) (w .here) (o z))
-        (good-more k good (mine, over-rises i k (omega (arith, leb-false (x .value) high u)))))))
-        (λ f. rw f (own-six refl k (w .inside)
-        (λ m. clash (owns p q s) (owns-means p q s .1 (subst (λ (A : Type 0). A) owner m)) f) good))
+        (good-more k good (over-rises i k (omega (arith, leb-false (x .value) high u))))))
 
   -- ---- all operations' signals
   pub data Signals-say (f : Refusal) : Type 0 where
     signals-good : f ≡ none-given → Signals-good p → Signals-say f
-    signals-six : (i k : ℕ) → f ≡ refusal 6 i → Bad-owner p i k → Signals-say f
     signals-seven : (i k : ℕ) → f ≡ refusal 7 i → Not-rising p i k → Signals-say f
 
-  first-by : (i k : ℕ) → ((j l : ℕ) → j < i → Is-signal p j l → Good j l) → ((l : ℕ) → l < k → Good i l) →
+  first-by : (i k : ℕ) → ((j l : ℕ) → j < i → Is-signal p j l → Rising p j l) → ((l : ℕ) → l < k → Rising p i l) →
       Good-before p i k
   first-by i k lower own j l g w =
-      either w (λ a. lower j l a g) (λ a. subst (λ (z : ℕ). Good z l) (sym (a .0)) (own l (a .1)))
+      either w (λ a. lower j l a g) (λ a. subst (λ (z : ℕ). Rising p z l) (sym (a .0)) (own l (a .1)))
 
-  signals-step : (i n : ℕ) (rest : Refusal) → ((j l : ℕ) → j < i → Is-signal p j l → Good j l) → Own-says i n →
-      (((l : ℕ) → Is-signal p i l → Good i l) → Signals-say rest) → Signals-say (cond (eqb n 0) rest (refusal n i))
+  signals-step : (i n : ℕ) (rest : Refusal) → ((j l : ℕ) → j < i → Is-signal p j l → Rising p j l) → Own-says i n →
+      (((l : ℕ) → Is-signal p i l → Rising p i l) → Signals-say rest) → Signals-say (cond (eqb n 0) rest (refusal n i))
   signals-step i n rest lower (own-good e h) on = rw (eq-eqb n 0 e) (on h)
-  signals-step i n rest lower (own-six e k g bad own) on =
-      rw e (signals-six i k refl (record { signal = g; not-owned = bad; first = first-by i k lower own }))
-  signals-step i n rest lower (own-seven e k g mine low own) on =
-      rw e (signals-seven i k refl
-      (record { signal = g; owned = mine; not-rising = low; first = first-by i k lower own }))
+  signals-step i n rest lower (own-seven e k g low own) on =
+      rw e (signals-seven i k refl (record { signal = g; not-rising = low; first = first-by i k lower own }))
 
-  lower-more : (i : ℕ) → ((j l : ℕ) → j < i → Is-signal p j l → Good j l) → ((l : ℕ) → Is-signal p i l → Good i l) →
-      (j l : ℕ) → j < suc i → Is-signal p j l → Good j l
+  lower-more : (i : ℕ) → ((j l : ℕ) → j < i → Is-signal p j l → Rising p j l) →
+      ((l : ℕ) → Is-signal p i l → Rising p i l) →
+      (j l : ℕ) → j < suc i → Is-signal p j l → Rising p j l
   lower-more i lower own j l a g =
       by-cases (eqb j i)
       (λ t. let e = eqb-true j i t in
-      subst (λ (z : ℕ). Good z l) (sym e) (own l (subst (λ (z : ℕ). Is-signal p z l) e g)))
+      subst (λ (z : ℕ). Rising p z l) (sym e) (own l (subst (λ (z : ℕ). Is-signal p z l) e g)))
       (λ f. lower j l (omega (arith, eqb-false j i f)) g)
 
   signals-say : (i : ℕ) (os : List Operation) → drop i (p .operations) ≡ os →
-      ((j l : ℕ) → j < i → Is-signal p j l → Good j l) →
-      Signals-say (signals-refusal i p (take i (p .operations)) os)
+      ((j l : ℕ) → j < i → Is-signal p j l → Rising p j l) →
+      Signals-say (signals-refusal i (take i (p .operations)) os)
   unfolding signals-refusal count op
   signals-say i [] e good =
       signals-good refl (λ j l g. good j l (omega (arith, ends (p .operations) i e, signal-inside j l g)) g)
   signals-say i (o ∷ os) e good =
       let w = begins empty-operation (p .operations) i o os e in
       let before = take i (p .operations) in
-      subst (λ (z : Operation). Signals-say (signals-refusal i p before (z ∷ os))) (w .here)
-      (signals-step i (signals-number p (op p i .queue) before [] (op p i .signals))
-      (signals-refusal (suc i) p (before ++ (op p i ∷ [])) os) good
+      subst (λ (z : Operation). Signals-say (signals-refusal i before (z ∷ os))) (w .here)
+      (signals-step i (signals-number before [] (op p i .signals))
+      (signals-refusal (suc i) (before ++ (op p i ∷ [])) os) good
       (number-says i 0 [] (op p i .signals) refl (λ s. refl) (λ l a. absurd (not-suc-le-zero a)))
-      (λ own. subst (λ (z : List Operation). Signals-say (signals-refusal (suc i) p z os))
+      (λ own. subst (λ (z : List Operation). Signals-say (signals-refusal (suc i) z os))
       (take-suc (p .operations) i empty-operation (w .inside))
       (signals-say (suc i) os (w .on) (lower-more i good own))))
 
@@ -236,7 +220,7 @@ module _ (p : Plan) where
       (λ g. low j l (omega (arith, eqb-false j i g)) h))))
 
   -- ---- of a whole plan
-  pub plan-signals-say : Signals-say (signals-refusal 0 p [] (p .operations))
+  pub plan-signals-say : Signals-say (signals-refusal 0 [] (p .operations))
   plan-signals-say = signals-say 0 (p .operations) refl (λ j l a. absurd (not-suc-le-zero a))
 
   pub plan-waits-say : Waits-say (waits-refusal 0 p (p .operations))

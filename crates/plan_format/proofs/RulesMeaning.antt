@@ -1,6 +1,6 @@
--- Refusals 6 to 8 by quantifiers: each is given exactly if its signal or wait is the first that breaks a rule. Assumes
+-- Refusals 7 and 8 by quantifiers: each is given exactly if its signal or wait is the first that breaks a rule. Assumes
 -- nothing.
-use mathlib.Core.Path.{_≡_, refl, sym, ap, _∙_, subst, subst₂}
+use mathlib.Core.Path.{_≡_, refl, sym, ap, _∙_, subst}
 use mathlib.Core.Logic.{inl, inr, _↔_}
 use mathlib.Core.List.{[], _∷_}
 use Prim.Native.Nat.{ℕ}
@@ -13,11 +13,11 @@ use Rattle.plan_format.specs.Refusal.{Refusal, refusal, none-given, or-e
 use Rattle.plan_format.specs.RefusalNumbers.{None-or, rule-numbers}
 use Rattle.plan_format.specs.Plan.{Plan}
 use Rattle.plan_format.specs.Sound.{signals-refusal, waits-refusal, rules-refusal}
-use Rattle.plan_format.specs.Meaning.{Refuses, Is-signal, Earlier, Owned, Rising, Good-before, Bad-owner}
-use Rattle.plan_format.specs.Meaning.{Not-rising, Signals-good, Too-high, Unmet-wait, Rules-mean}
+use Rattle.plan_format.specs.Meaning.{Refuses, Earlier, Not-rising, Signals-good, Too-high}
+use Rattle.plan_format.specs.Meaning.{Unmet-wait, Rules-mean}
 use Rattle.plan_format.proofs.Judged.{or-else-first, or-else-second, refusal-given}
 use Rattle.plan_format.proofs.RefusalNumbers.{one-is}
-use Rattle.plan_format.proofs.RulesFirst.{Signals-say, signals-good, signals-six, signals-seven, Waits-say}
+use Rattle.plan_format.proofs.RulesFirst.{Signals-say, signals-good, signals-seven, Waits-say}
 use Rattle.plan_format.proofs.RulesFirst.{waits-good, waits-eight, plan-signals-say, plan-waits-say}
 
 -- a refusal by its number and place
@@ -26,35 +26,18 @@ unfolding refusal
 refuses f n i e = (ap (λ (z : Refusal). z .number) e, ap (λ (z : Refusal). z .place) e)
 
 module _ (p : Plan) where
-  -- ---- at most one signal is the first wrong one
-  record Wrong (i k : ℕ) : Type 0 where
-    signal : Is-signal p i k
-    bad : Owned p i k × Rising p i k → ⊥
-    first : Good-before p i k
+  -- ---- at most one signal is the first that does not rise
+  not-earlier : (j l i k : ℕ) → Not-rising p j l → Not-rising p i k → Earlier j l i k → ⊥
+  not-earlier j l i k a b e = a .not-rising (b .first j l (a .signal) e)
 
-  owner-wrong : (i k : ℕ) → Bad-owner p i k → Wrong i k
-  owner-wrong i k w = record { signal = w .signal; bad = λ g. w .not-owned (g .0); first = w .first }
-
-  rising-wrong : (i k : ℕ) → Not-rising p i k → Wrong i k
-  rising-wrong i k w = record { signal = w .signal; bad = λ g. w .not-rising (g .1); first = w .first }
-
-  not-earlier : (j l i k : ℕ) → Wrong j l → Wrong i k → Earlier j l i k → ⊥
-  not-earlier j l i k a b e = a .bad (b .first j l (a .signal) e)
-
-  wrong-one : (j l i k : ℕ) → Wrong j l → Wrong i k → (j ≡ i) × (l ≡ k)
-  wrong-one j l i k a b =
+  first-one : (j l i k : ℕ) → Not-rising p j l → Not-rising p i k → (j ≡ i) × (l ≡ k)
+  first-one j l i k a b =
       by-cases (ltb j i) (λ t. absurd (not-earlier j l i k a b (inl (ltb-true j i t))))
       (λ f. by-cases (ltb i j) (λ t. absurd (not-earlier i k j l b a (inl (ltb-true i j t))))
       (λ g. let same : j ≡ i = omega (arith, ltb-false j i f, ltb-false i j g) in
       by-cases (ltb l k) (λ t. absurd (not-earlier j l i k a b (inr (same, ltb-true l k t))))
       (λ u. by-cases (ltb k l) (λ t. absurd (not-earlier i k j l b a (inr (sym same, ltb-true k l t))))
       (λ v. (same, omega (arith, ltb-false l k u, ltb-false k l v))))))
-
-  -- a signal is not both
-  not-both : (j l i k : ℕ) → Bad-owner p j l → Not-rising p i k → ⊥
-  not-both j l i k a b =
-      let same = wrong-one i k j l (rising-wrong i k b) (owner-wrong j l a) in
-      a .not-owned (subst₂ (λ (x y : ℕ). Owned p x y) (same .0) (same .1) (b .owned))
 
   unmet-one : (j i : ℕ) → Unmet-wait p j → Unmet-wait p i → j ≡ i
   unmet-one j i a b =
@@ -64,15 +47,12 @@ module _ (p : Plan) where
 
   -- ---- what is given, and why
   data Rules-say (f : Refusal) : Type 0 where
-    say-six : (i k : ℕ) → Refuses f 6 i → Bad-owner p i k → Rules-say f
     say-seven : (i k : ℕ) → Refuses f 7 i → Not-rising p i k → Rules-say f
     say-eight : (i : ℕ) → Refuses f 8 i → Unmet-wait p i → Rules-say f
     say-none : Refuses f 0 0 → Signals-good p → ((i k : ℕ) → Too-high p i k → ⊥) → Rules-say f
 
   either-say : (a b : Refusal) → Signals-say p a → Waits-say p b → Rules-say (or-else a b)
   unfolding none-given
-  either-say a b (signals-six i k e w) s =
-      say-six i k (refuses (or-else a b) 6 i (or-else-first a b (rw e (refusal-given 6 i (λ z. omega arith))) ∙ e)) w
   either-say a b (signals-seven i k e w) s =
       say-seven i k (refuses (or-else a b) 7 i (or-else-first a b (rw e (refusal-given 7 i (λ z. omega arith))) ∙ e)) w
   either-say a b (signals-good e g) (waits-eight i k d t low) =
@@ -85,47 +65,27 @@ module _ (p : Plan) where
   rules-say : Rules-say (rules-refusal p)
   unfolding rules-refusal
   rules-say =
-      either-say (signals-refusal 0 p [] (p .operations)) (waits-refusal 0 p (p .operations)) (plan-signals-say p)
+      either-say (signals-refusal 0 [] (p .operations)) (waits-refusal 0 p (p .operations)) (plan-signals-say p)
       (plan-waits-say p)
 
   -- ---- exactly if
   module _ (f : Refusal) where
-    six : Rules-say f → (i : ℕ) → Refuses f 6 i ↔ ((k : ℕ) × Bad-owner p i k)
-    six (say-six j l r w) i = (
-      (λ s. (l, subst (λ (z : ℕ). Bad-owner p z l) (sym (r .1) ∙ s .1) w)),
-      (λ v. (r .0, r .1 ∙ wrong-one j l i (v .0) (owner-wrong j l w) (owner-wrong i (v .0) (v .1)) .0)),
-    )
-    six (say-seven j l r w) i =
-        ((λ s. absurd (omega (arith, r .0, s .0))), (λ v. absurd (not-both i (v .0) j l (v .1) w)))
-    six (say-eight j r w) i = (
-      (λ s. absurd (omega (arith, r .0, s .0))),
-      (λ v. absurd (v .1 .not-owned (w .signals-good i (v .0) (v .1 .signal) .0))),
-    )
-    six (say-none r g low) i =
-        ((λ s. absurd (omega (arith, r .0, s .0))), (λ v. absurd (v .1 .not-owned (g i (v .0) (v .1 .signal) .0))))
-
     seven : Rules-say f → (i : ℕ) → Refuses f 7 i ↔ ((k : ℕ) × Not-rising p i k)
-    seven (say-six j l r w) i =
-        ((λ s. absurd (omega (arith, r .0, s .0))), (λ v. absurd (not-both j l i (v .0) w (v .1))))
     seven (say-seven j l r w) i = (
       (λ s. (l, subst (λ (z : ℕ). Not-rising p z l) (sym (r .1) ∙ s .1) w)),
-      (λ v. (r .0, r .1 ∙ wrong-one j l i (v .0) (rising-wrong j l w) (rising-wrong i (v .0) (v .1)) .0)),
+      (λ v. (r .0, r .1 ∙ first-one j l i (v .0) w (v .1) .0)),
     )
     seven (say-eight j r w) i = (
       (λ s. absurd (omega (arith, r .0, s .0))),
-      (λ v. absurd (v .1 .not-rising (w .signals-good i (v .0) (v .1 .signal) .1))),
+      (λ v. absurd (v .1 .not-rising (w .signals-good i (v .0) (v .1 .signal)))),
     )
     seven (say-none r g low) i =
-        ((λ s. absurd (omega (arith, r .0, s .0))), (λ v. absurd (v .1 .not-rising (g i (v .0) (v .1 .signal) .1))))
+        ((λ s. absurd (omega (arith, r .0, s .0))), (λ v. absurd (v .1 .not-rising (g i (v .0) (v .1 .signal)))))
 
     eight : Rules-say f → (i : ℕ) → Refuses f 8 i ↔ Unmet-wait p i
-    eight (say-six j l r w) i = (
-      (λ s. absurd (omega (arith, r .0, s .0))),
-      (λ v. absurd (w .not-owned (v .signals-good j l (w .signal) .0))),
-    )
     eight (say-seven j l r w) i = (
       (λ s. absurd (omega (arith, r .0, s .0))),
-      (λ v. absurd (w .not-rising (v .signals-good j l (w .signal) .1))),
+      (λ v. absurd (w .not-rising (v .signals-good j l (w .signal)))),
     )
     eight (say-eight j r w) i =
         ((λ s. subst (Unmet-wait p) (sym (r .1) ∙ s .1) w), (λ v. (r .0, r .1 ∙ unmet-one j i w v)))
@@ -133,16 +93,13 @@ module _ (p : Plan) where
         ((λ s. absurd (omega (arith, r .0, s .0))), (λ v. absurd (low i (v .too-high .0) (v .too-high .1))))
 
     none : Rules-say f → Refuses f 0 0 ↔ (Signals-good p × ((i k : ℕ) → Too-high p i k → ⊥))
-    none (say-six j l r w) =
-        ((λ s. absurd (omega (arith, r .0, s .0))), (λ v. absurd (w .not-owned (v .0 j l (w .signal) .0))))
     none (say-seven j l r w) =
-        ((λ s. absurd (omega (arith, r .0, s .0))), (λ v. absurd (w .not-rising (v .0 j l (w .signal) .1))))
+        ((λ s. absurd (omega (arith, r .0, s .0))), (λ v. absurd (w .not-rising (v .0 j l (w .signal)))))
     none (say-eight j r w) =
         ((λ s. absurd (omega (arith, r .0, s .0))), (λ v. absurd (v .1 j (w .too-high .0) (w .too-high .1))))
     none (say-none r g low) = ((λ s. (g, low)), (λ v. r))
 
     only : Rules-say f → None-or rule-numbers (f .number)
-    only (say-six j l r w) = one-is (0 ∷ rule-numbers) (r .0) (unfold member in refl)
     only (say-seven j l r w) = one-is (0 ∷ rule-numbers) (r .0) (unfold member in refl)
     only (say-eight j r w) = one-is (0 ∷ rule-numbers) (r .0) (unfold member in refl)
     only (say-none r g low) = one-is (0 ∷ rule-numbers) (r .0) (unfold member in refl)
@@ -151,7 +108,6 @@ module _ (p : Plan) where
   rules-mean =
       let f = rules-refusal p in
       record {
-        six = six f rules-say;
         seven = seven f rules-say;
         eight = eight f rules-say;
         none = none f rules-say;

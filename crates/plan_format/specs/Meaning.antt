@@ -35,7 +35,7 @@ pub record Room-after (numbers : List ℕ) (fault : Refusal) (needed room : ℕ)
   pub fault-first : (fault .number ≡ 0 → ⊥) → f ≡ fault
   pub then-room : fault .number ≡ 0 → Room-for-means needed room f
   pub nine : (f .number ≡ 9) → (fault .number ≡ 0) × (room < needed)
-  -- R10: neither looks at 6 to 8
+  -- R10: neither looks at 7 and 8
   pub only : None-or numbers (f .number)
 
 -- ---- 2, 4 and 5: a field's number is n exactly if what is said of it holds, else 0
@@ -160,7 +160,7 @@ Bytes-mean bs = Reading-means bytes (form-in bs) bs (scanned bs)
 abbrev pub Numbers-mean : List ℕ → Type 0
 Numbers-mean xs = Reading-means numbers list-form xs (listed xs)
 
--- ---- 6 to 8
+-- ---- 7 and 8
 abbrev pub signal-at : Plan → (i k : ℕ) → Point
 signal-at p i k = getD (op p i .signals) k (record { semaphore = 0; value = 0 })
 
@@ -175,12 +175,6 @@ Is-signal p i k = k < length (op p i .signals)
 abbrev pub Earlier : (j l i k : ℕ) → Type 0
 Earlier j l i k = (j < i) ⊎ ((j ≡ i) × (l < k))
 
--- R15, owner: the signal is on the queue that owns its semaphore
-abbrev pub Owned : Plan → (i k : ℕ) → Type 0
-Owned p i k =
-    (signal-at p i k .semaphore < length (p .owners)) ×
-    (getD (p .owners) (signal-at p i k .semaphore) 0 ≡ op p i .queue)
-
 -- R16, signals rise: above 0, and above the earlier signals of the semaphore
 pub record Rising (p : Plan) (i k : ℕ) : Type 0 where
   pub above-zero : 0 < signal-at p i k .value
@@ -188,26 +182,19 @@ pub record Rising (p : Plan) (i k : ℕ) : Type 0 where
       (j l : ℕ) → Is-signal p j l → Earlier j l i k → signal-at p j l .semaphore ≡ signal-at p i k .semaphore →
       signal-at p j l .value < signal-at p i k .value
 
--- every earlier signal is neither 6 nor 7
+-- every earlier signal rises
 abbrev pub Good-before : Plan → (i k : ℕ) → Type 0
-Good-before p i k = (j l : ℕ) → Is-signal p j l → Earlier j l i k → Owned p j l × Rising p j l
+Good-before p i k = (j l : ℕ) → Is-signal p j l → Earlier j l i k → Rising p j l
 
--- R43, refusal 6: the first fault is a signal on a queue that is not the owner
-pub record Bad-owner (p : Plan) (i k : ℕ) : Type 0 where
-  pub signal : Is-signal p i k
-  pub not-owned : Owned p i k → ⊥
-  pub first : Good-before p i k
-
--- R44, refusal 7: the first fault is a signal by the owner that does not rise
+-- R44, refusal 7: the first signal that does not rise, on whichever queue (R15)
 pub record Not-rising (p : Plan) (i k : ℕ) : Type 0 where
   pub signal : Is-signal p i k
-  pub owned : Owned p i k
   pub not-rising : Rising p i k → ⊥
   pub first : Good-before p i k
 
--- no signal is 6 or 7
+-- every signal rises
 abbrev pub Signals-good : Plan → Type 0
-Signals-good p = (j l : ℕ) → Is-signal p j l → Owned p j l × Rising p j l
+Signals-good p = (j l : ℕ) → Is-signal p j l → Rising p j l
 
 -- R45, refusal 8: a wait for a value above 0 that no signal reaches
 pub record Too-high (p : Plan) (i k : ℕ) : Type 0 where
@@ -222,9 +209,8 @@ pub record Unmet-wait (p : Plan) (i : ℕ) : Type 0 where
   pub too-high : (k : ℕ) × Too-high p i k
   pub lowest : (j l : ℕ) → j < i → Too-high p j l → ⊥
 
--- refusals 6 to 8, and none
+-- refusals 7 and 8, and none; R43: 6 is not among the numbers
 pub record Rules-mean (p : Plan) (f : Refusal) : Type 0 where
-  pub six : (i : ℕ) → (Refuses f 6 i) ↔ ((k : ℕ) × Bad-owner p i k)
   pub seven : (i : ℕ) → (Refuses f 7 i) ↔ ((k : ℕ) × Not-rising p i k)
   pub eight : (i : ℕ) → (Refuses f 8 i) ↔ Unmet-wait p i
   pub none : (Refuses f 0 0) ↔ (Signals-good p × ((i k : ℕ) → Too-high p i k → ⊥))

@@ -19,17 +19,17 @@ None-or ns n = One-of (0 ∷ ns) n
 abbrev pub reading-numbers : List ℕ
 reading-numbers = 1 ∷ 2 ∷ 3 ∷ 4 ∷ 5 ∷ []
 
--- R43 to R45, of signals and waits: not by the owner, not rising, above the highest
+-- R44 and R45, of signals and waits: not rising, above the highest; R43: 6 is never given
 abbrev pub rule-numbers : List ℕ
-rule-numbers = 6 ∷ 7 ∷ 8 ∷ []
+rule-numbers = 7 ∷ 8 ∷ []
 
 -- R46, of lent room
 abbrev pub room-numbers : List ℕ
 room-numbers = 9 ∷ []
 
--- R47, R48, of the order: stuck, a broken mark
+-- R47, R94, R48, of the order: stuck, a signal out of turn, a broken mark
 abbrev pub order-numbers : List ℕ
-order-numbers = 10 ∷ 11 ∷ []
+order-numbers = 10 ∷ 17 ∷ 11 ∷ []
 
 -- R49, of the reuse question: no such queue, no such buffer
 abbrev pub reuse-numbers : List ℕ

@@ -1,12 +1,11 @@
--- Refusals 6 to 8, and sound plans: those with none of them, every position in range. Assumes nothing: these are
+-- Refusals 7 and 8, and sound plans: those with neither, every position in range. Assumes nothing: these are
 -- definitions.
 use mathlib.Core.Path.{_≡_}
-use mathlib.Core.Bool.{Bool, false, _&&_, _||_, not, cond}
+use mathlib.Core.Bool.{Bool, false, _&&_, _||_, cond}
 use mathlib.Core.List.{List, [], _∷_, _++_}
-use mathlib.Core.Option.{Option, none, some}
 use Prim.Native.Nat.{ℕ, suc, _≤_, _<_, max}
 use lib.Dec.{ltb, leb, eqb}
-use lib.ListN.{length, getD, getElem?}
+use lib.ListN.{length, getD}
 use Rattle.plan_format.specs.Sizes.{most-queues, most-operations}
 use Rattle.plan_format.specs.Refusal.{Refusal, refusal, none-given, or-else}
 use Rattle.plan_format.specs.Plan.{Point, Operation, Plan, count, op, queues}
@@ -20,27 +19,18 @@ unfoldable pub highest : (s : ℕ) → List Operation → ℕ
 highest s [] = 0
 highest s (o ∷ os) = max (highest-in s (o .signals)) (highest s os)
 
--- R15, owner: the queue that may signal a semaphore
-unfoldable pub is-queue : Option ℕ → (q : ℕ) → Bool
-is-queue none q = false
-is-queue (some o) q = eqb o q
+-- R44 and R54: signal by signal; R15: whichever queue signals; `own` are the operation's signals before these
+unfoldable pub signals-number : (before : List Operation) → (own rest : List Point) → ℕ
+signals-number bs own [] = 0
+signals-number bs own (x ∷ xs) =
+    cond (leb (x .value) (max (highest (x .semaphore) bs) (highest-in (x .semaphore) own))) 7
+    (signals-number bs (x ∷ own) xs)
 
-unfoldable pub owns : Plan → (q s : ℕ) → Bool
-owns p q s = is-queue (getElem? (p .owners) s) q
-
--- R43, R44 and R54: signal by signal, 6 before 7 for the same one; `own` are the operation's signals before these
-unfoldable pub signals-number : Plan → (queue : ℕ) → (before : List Operation) → (own rest : List Point) → ℕ
-signals-number p q bs own [] = 0
-signals-number p q bs own (x ∷ xs) =
-    cond (not (owns p q (x .semaphore))) 6
-    (cond (leb (x .value) (max (highest (x .semaphore) bs) (highest-in (x .semaphore) own))) 7
-    (signals-number p q bs (x ∷ own) xs))
-
-unfoldable pub signals-refusal : (i : ℕ) → Plan → (before rest : List Operation) → Refusal
-signals-refusal i p bs [] = none-given
-signals-refusal i p bs (o ∷ os) =
-    let n = signals-number p (o .queue) bs [] (o .signals) in
-    cond (eqb n 0) (signals-refusal (suc i) p (bs ++ (o ∷ [])) os) (refusal n i)
+unfoldable pub signals-refusal : (i : ℕ) → (before rest : List Operation) → Refusal
+signals-refusal i bs [] = none-given
+signals-refusal i bs (o ∷ os) =
+    let n = signals-number bs [] (o .signals) in
+    cond (eqb n 0) (signals-refusal (suc i) (bs ++ (o ∷ [])) os) (refusal n i)
 
 -- R45, refusal 8: a wait for a value above 0 that no signal of its semaphore reaches
 unfoldable pub too-high : Plan → Point → Bool
@@ -54,9 +44,9 @@ unfoldable pub waits-refusal : (i : ℕ) → Plan → List Operation → Refusal
 waits-refusal i p [] = none-given
 waits-refusal i p (o ∷ os) = cond (any-too-high p (o .waits)) (refusal 8 i) (waits-refusal (suc i) p os)
 
--- R54: 6 and 7 over all operations, then 8
+-- R54: 7 over all operations, then 8
 unfoldable pub rules-refusal : Plan → Refusal
-rules-refusal p = or-else (signals-refusal 0 p [] (p .operations)) (waits-refusal 0 p (p .operations))
+rules-refusal p = or-else (signals-refusal 0 [] (p .operations)) (waits-refusal 0 p (p .operations))
 
 -- R4: every position that an operation names is in its list
 pub record In-range (p : Plan) (o : Operation) : Type 0 where

@@ -6,7 +6,6 @@ use mathlib.Core.Option.{Option, none, some}
 use Prim.Native.Nat.{ℕ, _<_}
 use native.Mathlib.Omega.{arith}
 use lib.Dec.{eqb}
-use lib.ListN.{length}
 use borrow.Author.Tests.{eqb-true, eqb-false}
 use Rattle.base_lists.specs.Lists.{member, all}
 use Rattle.base_lists.proofs.Tests.{by-cases, by-option, either}
@@ -24,14 +23,17 @@ use Rattle.plan_format.proofs.ReadingMeaning.{plan-refusal-means}
 use Rattle.plan_format.proofs.Plans.{sound-in}
 use Rattle.plan_order.specs.Check.{room-refusal, Leaves, untouched, zeros, rows-and-run, Outcome, outcome}
 use Rattle.plan_order.specs.Check.{check-outcome}
-use Rattle.plan_order.specs.Holdings.{broken, buffer-marks}
-use Rattle.plan_order.specs.Meaning.{Gives, Unrefused, Full-means, Lowest-in-no-run, Forced, Lowest-broken}
-use Rattle.plan_order.specs.Meaning.{Check-means}
+use Rattle.plan_order.specs.Holdings.{broken}
+use Rattle.plan_order.specs.Handovers.{disordered}
+use Rattle.plan_order.specs.Meaning.{Gives, Unrefused, Full-run, Lowest-in-no-run, All-in-turn}
+use Rattle.plan_order.specs.Meaning.{Lowest-out-of-turn, All-forced, Lowest-broken, Check-means}
 use Rattle.plan_order.specs.Promise.{unrefused}
 use Rattle.plan_order.specs.Runs.{missing}
 use Rattle.plan_order.proofs.Leaving.{Left-case, left-untouched, left-zeros, left-rows, left-number, leaves-by}
-use Rattle.plan_order.proofs.Outcomes.{plan-refused, room-refused, stuck-outcome, broken-outcome, passed-outcome}
+use Rattle.plan_order.proofs.Outcomes.{plan-refused, room-refused, stuck-outcome, disordered-outcome}
+use Rattle.plan_order.proofs.Outcomes.{broken-outcome, passed-outcome}
 use Rattle.plan_order.proofs.RoomMeaning.{room-nine}
+use Rattle.plan_order.proofs.HandoversMeaning.{ordered-means, disordered-means}
 use Rattle.plan_order.proofs.KeepsMeaning.{unbroken-means, broken-means}
 use Rattle.plan_order.proofs.StandardMeaning.{missing-means, none-missing-means}
 
@@ -58,11 +60,14 @@ module _ (bs : List ℕ) (t l : ℕ) where
     room-case : Good → room .number ≡ 9 → o ≡ outcome room untouched → Check-case o
     stuck-case : (i : ℕ) → Good → Enough → missing (plan-in bs) ≡ some i →
         o ≡ outcome (refusal 10 i) zeros → Check-case o
+    turn-case : (i : ℕ) → Good → Enough → _≡_ {A = Option ℕ} (missing (plan-in bs)) none →
+        disordered (plan-in bs) ≡ some i →
+        o ≡ outcome (refusal 17 i) zeros → Check-case o
     broken-case : (i : ℕ) → Good → Enough → _≡_ {A = Option ℕ} (missing (plan-in bs)) none →
-        broken (plan-in bs) ≡ some i →
+        _≡_ {A = Option ℕ} (disordered (plan-in bs)) none → broken (plan-in bs) ≡ some i →
         o ≡ outcome (refusal 11 i) zeros → Check-case o
     pass-case : Good → Enough → _≡_ {A = Option ℕ} (missing (plan-in bs)) none →
-        _≡_ {A = Option ℕ} (broken (plan-in bs)) none →
+        _≡_ {A = Option ℕ} (disordered (plan-in bs)) none → _≡_ {A = Option ℕ} (broken (plan-in bs)) none →
         o ≡ outcome none-given rows-and-run → Check-case o
 
   pub check-case : Check-case (check-outcome bs t l)
@@ -71,8 +76,11 @@ module _ (bs : List ℕ) (t l : ℕ) where
       (λ a. let good = eqb-true (plan-refusal bs .number) 0 a in
       either (room-nine (count (plan-in bs)) t l)
       (λ enough. by-option (missing (plan-in bs))
-      (λ m. by-option (broken (plan-in bs)) (λ b. pass-case good enough m b (passed-outcome bs t l good enough m b))
-      (λ i b. broken-case i good enough m b (broken-outcome bs t l good enough i m b)))
+      (λ m. by-option (disordered (plan-in bs))
+      (λ d. by-option (broken (plan-in bs))
+      (λ b. pass-case good enough m d b (passed-outcome bs t l good enough m d b))
+      (λ i b. broken-case i good enough m d b (broken-outcome bs t l good enough i m d b)))
+      (λ i d. turn-case i good enough m d (disordered-outcome bs t l good enough i m d)))
       (λ i m. stuck-case i good enough m (stuck-outcome bs t l good enough i m)))
       (λ nine. room-case good nine (room-refused bs t l good (other-given room (λ z. omega arith)))))
       (λ a. let bad = eqb-false (plan-refusal bs .number) 0 a in
@@ -95,9 +103,11 @@ module _ (bs : List ℕ) (t l : ℕ) where
       let w = gives-of o room untouched e in left-untouched (one-is untouched-numbers (w .0 .0 ∙ nine) refl) (w .1)
   case-left o (stuck-case i good enough m e) =
       let w = gives-of o (refusal 10 i) zeros e in left-zeros (one-is order-numbers (w .0 .0) refl) (w .1)
-  case-left o (broken-case i good enough m b e) =
+  case-left o (turn-case i good enough m d e) =
+      let w = gives-of o (refusal 17 i) zeros e in left-zeros (one-is order-numbers (w .0 .0) refl) (w .1)
+  case-left o (broken-case i good enough m d b e) =
       let w = gives-of o (refusal 11 i) zeros e in left-zeros (one-is order-numbers (w .0 .0) refl) (w .1)
-  case-left o (pass-case good enough m b e) =
+  case-left o (pass-case good enough m d b e) =
       let w = gives-of o none-given rows-and-run e in left-rows (none-or-zero [] (o .refusal .number) (w .0 .0)) (w .1)
 
   pub check-left-case : Left-case [] (check-outcome bs t l)
@@ -118,8 +128,9 @@ module _ (bs : List ℕ) (t l : ℕ) where
       let same = gives-of o room untouched e .0 .0 in
       absurd (not-one (0 ∷ order-numbers) (o .refusal .number) 9 refl w (same ∙ nine))
   case-unrefused o (stuck-case i good enough m e) w = (good, enough)
-  case-unrefused o (broken-case i good enough m b e) w = (good, enough)
-  case-unrefused o (pass-case good enough m b e) w = (good, enough)
+  case-unrefused o (turn-case i good enough m d e) w = (good, enough)
+  case-unrefused o (broken-case i good enough m d b e) w = (good, enough)
+  case-unrefused o (pass-case good enough m d b e) w = (good, enough)
 
   unrefused-by : Unrefused bs t l → unrefused bs t l ≡ true
   unfolding unrefused
@@ -135,22 +146,17 @@ module _ (bs : List ℕ) (t l : ℕ) where
   known : Good → (j : ℕ) → j < count (plan-in bs) → op (plan-in bs) j .queue < queues (plan-in bs)
   known good j a = sound-in bs good .in-range j a .queue
 
-  abbrev Full-run : Type 0
-  Full-run = (r : List ℕ) × Full-means (plan-in bs) r
-
-  abbrev All-forced : Type 0
-  All-forced = (b k : ℕ) → b < length (plan-in bs .sizes) → k < length (buffer-marks (plan-in bs) b) →
-      Forced (plan-in bs) b k
-
   nine-why : (o : Outcome) → Check-case o → (i : ℕ) → Gives o 9 i untouched → Good × Refuses room 9 i
   unfolding refusal none-given member
   nine-why o (plan-case bad e) i g = absurd (not-plan 9 refl e (g .0 .0))
   nine-why o (room-case good nine e) i g = (good, (nine, sym (gives-of o room untouched e .0 .1) ∙ g .0 .1))
   nine-why o (stuck-case j good enough m e) i g =
       absurd (omega (arith, g .0 .0, gives-of o (refusal 10 j) zeros e .0 .0))
-  nine-why o (broken-case j good enough m b e) i g =
+  nine-why o (turn-case j good enough m d e) i g =
+      absurd (omega (arith, g .0 .0, gives-of o (refusal 17 j) zeros e .0 .0))
+  nine-why o (broken-case j good enough m d b e) i g =
       absurd (omega (arith, g .0 .0, gives-of o (refusal 11 j) zeros e .0 .0))
-  nine-why o (pass-case good enough m b e) i g =
+  nine-why o (pass-case good enough m d b e) i g =
       absurd (omega (arith, g .0 .0, gives-of o none-given rows-and-run e .0 .0))
 
   ten-why : (o : Outcome) → Check-case o → (i : ℕ) → Gives o 10 i zeros →
@@ -163,37 +169,67 @@ module _ (bs : List ℕ) (t l : ℕ) where
     subst (Lowest-in-no-run (plan-in bs)) (sym (gives-of o (refusal 10 j) zeros e .0 .1) ∙ g .0 .1)
         (missing-means (plan-in bs) (known good) j .0 m),
   )
-  ten-why o (broken-case j good enough m b e) i g =
+  ten-why o (turn-case j good enough m d e) i g =
+      absurd (omega (arith, g .0 .0, gives-of o (refusal 17 j) zeros e .0 .0))
+  ten-why o (broken-case j good enough m d b e) i g =
       absurd (omega (arith, g .0 .0, gives-of o (refusal 11 j) zeros e .0 .0))
-  ten-why o (pass-case good enough m b e) i g =
+  ten-why o (pass-case good enough m d b e) i g =
+      absurd (omega (arith, g .0 .0, gives-of o none-given rows-and-run e .0 .0))
+
+  seventeen-why : (o : Outcome) → Check-case o → (i : ℕ) → Gives o 17 i zeros →
+      Unrefused bs t l × Full-run (plan-in bs) × Lowest-out-of-turn (plan-in bs) i
+  unfolding refusal none-given member
+  seventeen-why o (plan-case bad e) i g = absurd (not-plan 17 refl e (g .0 .0))
+  seventeen-why o (room-case good nine e) i g = absurd (omega (arith, g .0 .0, gives-of o room untouched e .0 .0))
+  seventeen-why o (stuck-case j good enough m e) i g =
+      absurd (omega (arith, g .0 .0, gives-of o (refusal 10 j) zeros e .0 .0))
+  seventeen-why o (turn-case j good enough m d e) i g = (
+    (good, enough),
+    none-missing-means (plan-in bs) (known good) .0 m,
+    subst (Lowest-out-of-turn (plan-in bs)) (sym (gives-of o (refusal 17 j) zeros e .0 .1) ∙ g .0 .1)
+        (disordered-means (plan-in bs) j .0 d),
+  )
+  seventeen-why o (broken-case j good enough m d b e) i g =
+      absurd (omega (arith, g .0 .0, gives-of o (refusal 11 j) zeros e .0 .0))
+  seventeen-why o (pass-case good enough m d b e) i g =
       absurd (omega (arith, g .0 .0, gives-of o none-given rows-and-run e .0 .0))
 
   eleven-why : (o : Outcome) → Check-case o → (i : ℕ) → Gives o 11 i zeros →
-      Unrefused bs t l × Full-run × Lowest-broken (plan-in bs) i
+      Unrefused bs t l × Full-run (plan-in bs) × All-in-turn (plan-in bs) × Lowest-broken (plan-in bs) i
   unfolding refusal none-given member
   eleven-why o (plan-case bad e) i g = absurd (not-plan 11 refl e (g .0 .0))
   eleven-why o (room-case good nine e) i g = absurd (omega (arith, g .0 .0, gives-of o room untouched e .0 .0))
   eleven-why o (stuck-case j good enough m e) i g =
       absurd (omega (arith, g .0 .0, gives-of o (refusal 10 j) zeros e .0 .0))
-  eleven-why o (broken-case j good enough m b e) i g = (
+  eleven-why o (turn-case j good enough m d e) i g =
+      absurd (omega (arith, g .0 .0, gives-of o (refusal 17 j) zeros e .0 .0))
+  eleven-why o (broken-case j good enough m d b e) i g = (
     (good, enough),
     none-missing-means (plan-in bs) (known good) .0 m,
+    ordered-means (plan-in bs) .0 d,
     subst (Lowest-broken (plan-in bs)) (sym (gives-of o (refusal 11 j) zeros e .0 .1) ∙ g .0 .1)
         (broken-means (plan-in bs) j .0 b),
   )
-  eleven-why o (pass-case good enough m b e) i g =
+  eleven-why o (pass-case good enough m d b e) i g =
       absurd (omega (arith, g .0 .0, gives-of o none-given rows-and-run e .0 .0))
 
-  passed-why : (o : Outcome) → Check-case o → Gives o 0 0 rows-and-run → Unrefused bs t l × Full-run × All-forced
+  passed-why : (o : Outcome) → Check-case o → Gives o 0 0 rows-and-run →
+      Unrefused bs t l × Full-run (plan-in bs) × All-in-turn (plan-in bs) × All-forced (plan-in bs)
   unfolding refusal none-given
   passed-why o (plan-case bad e) g = absurd (bad (sym (gives-of o (plan-refusal bs) untouched e .0 .0) ∙ g .0 .0))
   passed-why o (room-case good nine e) g = absurd (omega (arith, g .0 .0, gives-of o room untouched e .0 .0))
   passed-why o (stuck-case j good enough m e) g =
       absurd (omega (arith, g .0 .0, gives-of o (refusal 10 j) zeros e .0 .0))
-  passed-why o (broken-case j good enough m b e) g =
+  passed-why o (turn-case j good enough m d e) g =
+      absurd (omega (arith, g .0 .0, gives-of o (refusal 17 j) zeros e .0 .0))
+  passed-why o (broken-case j good enough m d b e) g =
       absurd (omega (arith, g .0 .0, gives-of o (refusal 11 j) zeros e .0 .0))
-  passed-why o (pass-case good enough m b e) g =
-      ((good, enough), none-missing-means (plan-in bs) (known good) .0 m, unbroken-means (plan-in bs) .0 b)
+  passed-why o (pass-case good enough m d b e) g = (
+    (good, enough),
+    none-missing-means (plan-in bs) (known good) .0 m,
+    ordered-means (plan-in bs) .0 d,
+    unbroken-means (plan-in bs) .0 b,
+  )
 
   pub check-means : Check-means bs t l (check-outcome bs t l)
   unfolding refusal none-given outcome all member
@@ -216,17 +252,23 @@ module _ (bs : List ℕ) (t l : ℕ) where
           (λ w. gives-of o (refusal 10 i) zeros
               (stuck-outcome bs t l (w .0 .0) (w .0 .1) i (missing-means p (known (w .0 .0)) i .1 (w .1)))),
         );
+        seventeen = λ i. (
+          seventeen-why o check-case i,
+          (λ w. gives-of o (refusal 17 i) zeros
+              (disordered-outcome bs t l (w .0 .0) (w .0 .1) i (none-missing-means p (known (w .0 .0)) .1 (w .1))
+              (disordered-means p i .1 (w .2)))),
+        );
         eleven = λ i. (
           eleven-why o check-case i,
           (λ w. gives-of o (refusal 11 i) zeros
               (broken-outcome bs t l (w .0 .0) (w .0 .1) i (none-missing-means p (known (w .0 .0)) .1 (w .1))
-              (broken-means p i .1 (w .2)))),
+              (ordered-means p .1 (w .2)) (broken-means p i .1 (w .3)))),
         );
         passed = (
           passed-why o check-case,
           (λ w. gives-of o none-given rows-and-run
               (passed-outcome bs t l (w .0 .0) (w .0 .1) (none-missing-means p (known (w .0 .0)) .1 (w .1))
-              (unbroken-means p .1 (w .2)))),
+              (ordered-means p .1 (w .2)) (unbroken-means p .1 (w .3)))),
         );
         only = check-number;
         leaves = leaves-by [] refl o check-left-case;

@@ -57,11 +57,11 @@ module _ (p : Plan) where
   unfolding Before-forces
   before-forces sound f full i j a b =
       let good = rules-good p sound in (
-        (λ c r h. before-steps p (good .0) r h i j (chain-before p i j c)),
+        (λ c r h. before-steps p r h i j (chain-before p i j c)),
         (λ h. before-chain p i j (is-true (before p i j) (λ n.
             by-cases (eqb i j)
             (λ t. absurd (let z = h f full in omega (arith, ap (λ (x : ℕ). step-of 0 f x) (eqb-true i j t))))
-            (λ ne. let w = unordered p (good .0) (good .1) f full i j b (eqb-false i j ne) n in
+            (λ ne. let w = unordered p (good .1) f full i j b (eqb-false i j ne) n in
             absurd (let z = h (w .0) (w .1) in omega (arith, w .2)))))),
       )
 

@@ -16,7 +16,7 @@ use Rattle.base_lists.proofs.Searches.{all-gives, all-by, all-fails, all-no, lo
 use Rattle.base_lists.proofs.Tables.{join-gives, join-has}
 use Rattle.order.specs.Runs.{step-of}
 use Rattle.plan_format.specs.Plan.{Mark, Operation, Plan, empty-operation, count, op}
-use Rattle.plan_format.specs.Sound.{signals-refusal, waits-refusal}
+use Rattle.plan_format.specs.Sound.{waits-refusal}
 use Rattle.plan_order.specs.Precedence.{before}
 use Rattle.plan_order.specs.Runs.{is-full, ahead}
 use Rattle.plan_order.specs.Holdings.{Placed, placed, marks-of, marks-from, buffer-marks, marks-buffer, is-free}
@@ -210,40 +210,38 @@ module _ (p : Plan) where
       unbroken-forces (asked-of a) (lowest-none (count p)
       (λ i. has-broken p (all-asks p) i) e (asked-of a) (asked-marks p (g .0) a (g .2) .inside)) a m refl
 
-  module _ (signals-good : signals-refusal 0 p [] (p .operations) .number ≡ 0) where
-    -- what before forces holds in every full run
-    pub forced-met : (r : List ℕ) → is-full p r ≡ true → (a : Ask) → met forced a ≡ true →
-        met (λ i j. ahead r i j) a ≡ true
+  -- what before forces holds in every full run
+  pub forced-met : (r : List ℕ) → is-full p r ≡ true → (a : Ask) → met forced a ≡ true →
+      met (λ i j. ahead r i j) a ≡ true
+  unfolding ahead
+  forced-met r full a e =
+      met-more forced (λ i j. ahead r i j) a
+      (λ t. lt-ltb (step-of 0 r (a .first)) (step-of 0 r (a .then)) (before-steps p r full (a .first) (a .then) t)) e
+
+  module _ (waits-good : waits-refusal 0 p (p .operations) .number ≡ 0) (std : List ℕ)
+      (std-full : is-full p std ≡ true) where
+    -- a full run that does not have i ahead of j, where before does not force it
+    not-ahead : (i j : ℕ) → j < count p → before p i j ≡ false →
+        (r : List ℕ) × (is-full p r ≡ true) × (ahead r i j ≡ false)
     unfolding ahead
-    forced-met r full a e =
-        met-more forced (λ i j. ahead r i j) a
-        (λ t. lt-ltb (step-of 0 r (a .first)) (step-of 0 r (a .then))
-        (before-steps p signals-good r full (a .first) (a .then) t)) e
+    not-ahead i j b n =
+        by-cases (eqb i j)
+        (λ t. (
+          std,
+          std-full,
+          subst (λ (z : ℕ). ltb (step-of 0 std i) (step-of 0 std z) ≡ false) (eqb-true i j t)
+              (le-ltb (step-of 0 std i) (step-of 0 std i) (le-refl (step-of 0 std i))),
+        ))
+        (λ f. let w = unordered p waits-good std std-full i j b (eqb-false i j f) n in
+        (w .0, w .1, le-ltb (step-of 0 (w .0) i) (step-of 0 (w .0) j) (omega (arith, w .2))))
 
-    module _ (waits-good : waits-refusal 0 p (p .operations) .number ≡ 0) (std : List ℕ)
-        (std-full : is-full p std ≡ true) where
-      -- a full run that does not have i ahead of j, where before does not force it
-      not-ahead : (i j : ℕ) → j < count p → before p i j ≡ false →
-          (r : List ℕ) × (is-full p r ≡ true) × (ahead r i j ≡ false)
-      unfolding ahead
-      not-ahead i j b n =
-          by-cases (eqb i j)
-          (λ t. (
-            std,
-            std-full,
-            subst (λ (z : ℕ). ltb (step-of 0 std i) (step-of 0 std z) ≡ false) (eqb-true i j t)
-                (le-ltb (step-of 0 std i) (step-of 0 std i) (le-refl (step-of 0 std i))),
-          ))
-          (λ f. let w = unordered p signals-good waits-good std std-full i j b (eqb-false i j f) n in
-          (w .0, w .1, le-ltb (step-of 0 (w .0) i) (step-of 0 (w .0) j) (omega (arith, w .2))))
-
-      -- what before does not force some full run breaks
-      pub unforced-breaks : (b : ℕ) (a : Ask) → List·Memᴰ a (asks p b) → met forced a ≡ false →
-          (r : List ℕ) × (is-full p r ≡ true) × (met (λ i j. ahead r i j) a ≡ false)
-      unforced-breaks b a m e =
-          let n = not-met forced forced a e in
-          let w = not-ahead (a .first) (a .then) (asks-mark p b a m .1 .inside) (n .0) in
-          (w .0, w .1, not-met forced (λ i j. ahead (w .0) i j) a e .1 (w .2))
+    -- what before does not force some full run breaks
+    pub unforced-breaks : (b : ℕ) (a : Ask) → List·Memᴰ a (asks p b) → met forced a ≡ false →
+        (r : List ℕ) × (is-full p r ≡ true) × (met (λ i j. ahead r i j) a ≡ false)
+    unforced-breaks b a m e =
+        let n = not-met forced forced a e in
+        let w = not-ahead (a .first) (a .then) (asks-mark p b a m .1 .inside) (n .0) in
+        (w .0, w .1, not-met forced (λ i j. ahead (w .0) i j) a e .1 (w .2))
 
 -- ---- keeping, by what is asked
 pub keeps-gives : (p : Plan) (r : List ℕ) (b : ℕ) → keeps p r b ≡ true → (a : Ask) → List·Memᴰ a (asks p b) →

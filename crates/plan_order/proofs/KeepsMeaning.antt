@@ -16,7 +16,8 @@ use Rattle.plan_order.specs.Precedence.{before, Before}
 use Rattle.plan_order.specs.Runs.{ahead}
 use Rattle.plan_order.specs.Holdings.{Placed, Ask, asks-from, asks, asked-of, met, keeps, buffer-marks, all-asks}
 use Rattle.plan_order.specs.Holdings.{broken}
-use Rattle.plan_order.specs.Meaning.{mark-at, Asked, Steps-earlier, Keeps-means, Forced, Lowest-broken}
+use Rattle.plan_order.specs.Meaning.{mark-at, Asked, Steps-earlier, Keeps-means, Forced, All-forced}
+use Rattle.plan_order.specs.Meaning.{Lowest-broken}
 use Rattle.plan_order.proofs.Precedence.{before-chain, chain-before}
 use Rattle.plan_order.proofs.Keeping.{all-asks-has, keeps-gives, keeps-by, broken-some, broken-none}
 use Rattle.plan_order.proofs.AskedMarks.{ask, Origin, own, later, first, asked-origin, origin-asked}
@@ -110,8 +111,7 @@ module _ (p : Plan) where
   mark-forced b k known l h =
       met-asked (before p) (Before p) before-works (buffer-marks p b) k l (λ a m s. h a (all-asks-has p b a known m) s)
 
-  pub unbroken-means : _≡_ {A = Option ℕ} (broken p) none ↔
-      ((b k : ℕ) → b < length (p .sizes) → k < length (buffer-marks p b) → Forced p b k)
+  pub unbroken-means : _≡_ {A = Option ℕ} (broken p) none ↔ All-forced p
   unbroken-means = (
     (λ e b k known l. mark-forced b k known l (λ a m s. broken-none p e a m)),
     (λ h. by-option (broken p) (λ e. e) (λ i e.

@@ -1,8 +1,8 @@
 -- A buffer whose last mark is a free, in a plan without broken marks: every operation with a mark on it is at or before
 -- that free, so a queue that sees the free sees them all, and the verdict goes by the last mark alone. Assumes nothing.
-use mathlib.Core.Path.{_≡_, sym, ap, _∙_, subst, subst₂}
+use mathlib.Core.Path.{_≡_, ap, _∙_, subst, subst₂}
 use mathlib.Core.Bool.{Bool, true}
-use mathlib.Core.Logic.{_⊎_, inl, inr, _↔_}
+use mathlib.Core.Logic.{inl, inr, _↔_}
 use mathlib.Core.List.{[], _∷_}
 use mathlib.Core.Option.{some}
 use Prim.Native.Nat.{ℕ, zero, suc, _+_, _-_, _≤_, _<_}
@@ -17,41 +17,31 @@ use Rattle.base_lists.proofs.Searches.{all-by, all-no}
 use Rattle.base_lists.proofs.Places.{mem-place}
 use Rattle.plan_format.specs.Refusal.{Refusal, refusal, none-given}
 use Rattle.plan_format.specs.Plan.{Plan}
-use Rattle.plan_order.specs.Precedence.{Before}
 use Rattle.plan_order.specs.Holdings.{Placed, is-free, buffer-marks}
 use Rattle.plan_order.specs.Check.{order-refusal}
 use Rattle.plan_order.specs.Reuse.{number-of, last-on, seen-by, last-mark, verdict-on, verdict}
 use Rattle.plan_order.specs.FiveVerdicts.{five-on, five-verdict}
-use Rattle.plan_order.specs.Meaning.{mark-at, Frees, No-free, Forced, Marked, Last-mark, Seen, Free-unseen, When}
+use Rattle.plan_order.specs.Meaning.{mark-at, Frees, No-free, Forced, All-forced, Marked, Last-mark, Seen}
+use Rattle.plan_order.specs.Meaning.{Free-unseen, When}
 use Rattle.plan_order.specs.declared.Verdict.the-variants.{NotOrdered}
-use Rattle.plan_order.proofs.Precedence.{before-chain, chain-before, before-join}
-use Rattle.plan_order.proofs.Demand3.{Ordered, stuck-there, broken-there, in-order, order-cases}
+use Rattle.plan_order.proofs.Precedence.{At, at-join}
+use Rattle.plan_order.proofs.Demand3.{Ordered, stuck-there, disordered-there, broken-there, in-order}
+use Rattle.plan_order.proofs.Demand3.{order-cases}
 use Rattle.plan_order.proofs.AskedMarks.{free-kind}
 use Rattle.plan_order.proofs.KeepsMeaning.{unbroken-means}
 use Rattle.plan_order.proofs.MarksMeaning.{mark-marked, marked-mark}
 use Rattle.plan_order.proofs.VerdictMeaning.{seen-means, some-last, last-in}
 
 -- a plan whose order is not refused has no broken mark
-order-forced : (p : Plan) (f : Refusal) → Ordered p f → f .number ≡ 0 →
-    (b k : ℕ) → b < length (p .sizes) → k < length (buffer-marks p b) → Forced p b k
+order-forced : (p : Plan) (f : Refusal) → Ordered p f → f .number ≡ 0 → All-forced p
 unfolding refusal none-given
 order-forced p f (stuck-there i m) z = absurd (omega arith)
-order-forced p f (broken-there i m e) z = absurd (omega arith)
-order-forced p f (in-order m e) z = unbroken-means p .0 e
+order-forced p f (disordered-there i m d) z = absurd (omega arith)
+order-forced p f (broken-there i m d e) z = absurd (omega arith)
+order-forced p f (in-order m d e) z = unbroken-means p .0 e
 
-pub passed-forced : (p : Plan) → order-refusal p .number ≡ 0 →
-    (b k : ℕ) → b < length (p .sizes) → k < length (buffer-marks p b) → Forced p b k
+pub passed-forced : (p : Plan) → order-refusal p .number ≡ 0 → All-forced p
 passed-forced p z = order-forced p (order-refusal p) (order-cases p) z
-
--- at or before, by chains
-module _ (p : Plan) where
-  abbrev pub At : (i j : ℕ) → Type 0
-  At i j = (i ≡ j) ⊎ Before p i j
-
-  pub at-join : (i j k : ℕ) → At i j → At j k → At i k
-  at-join i j k (inl e) b = subst (λ (z : ℕ). At z k) (sym e) b
-  at-join i j k (inr a) (inl e) = inr (subst (λ (z : ℕ). Before p i z) e a)
-  at-join i j k (inr a) (inr b) = inr (before-chain p i k (before-join p i j k a (chain-before p j k b)))
 
 module _ (p : Plan) (b : ℕ) (forced : (k : ℕ) → k < length (buffer-marks p b) → Forced p b k) where
   abbrev by : (k : ℕ) → ℕ

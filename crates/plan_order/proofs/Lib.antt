@@ -1,9 +1,11 @@
 pub mod Signals
+pub mod SignalPlaces
 pub mod Resolution
 pub mod Readiness
 pub mod Standard
 pub mod Precedence
 pub mod Raises
+pub mod Handovers
 pub mod Keeping
 pub mod Rows
 pub mod Demand3
@@ -13,6 +15,8 @@ pub mod Outcomes
 pub mod OrderMeaning
 pub mod RunMeaning
 pub mod RaisesMeaning
+pub mod HandoverRuns
+pub mod HandoversMeaning
 pub mod AskedMarks
 pub mod KeepsMeaning
 pub mod MarksMeaning
@@ -28,6 +32,7 @@ pub mod CheckMeaning
 pub mod OutcomeMeaning
 pub mod Asking
 pub mod QuestionMeaning
+pub mod OnlyOwners
 pub mod FirstBytes
 pub mod AsBefore
 pub mod Checks

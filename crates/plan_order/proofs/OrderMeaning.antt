@@ -5,16 +5,12 @@ use mathlib.Core.Logic.{_⊎_, inl, inr, _↔_}
 use mathlib.Core.List.{List, [], _∷_, List·Memᴰ, List·Memᴰ·head, List·Memᴰ·tail, List·Memᴰ·not-nil}
 use mathlib.Core.List.{List·Memᴰ·cases-cons}
 use Prim.Native.Nat.{ℕ, _<_}
-use native.Mathlib.Nat.{lt-irrefl}
 use native.Mathlib.Omega.{arith}
-use lib.Dec.{ltb}
-use borrow.Author.Tests.{ltb-true, ltb-false}
-use Rattle.base_lists.proofs.Tests.{by-cases, either}
+use Rattle.base_lists.proofs.Tests.{either}
 use Rattle.plan_format.specs.Plan.{Point, Plan, count, op}
-use Rattle.plan_format.specs.Sound.{signals-refusal}
 use Rattle.plan_order.specs.Precedence.{Signal, resolve, rests-on, direct}
 use Rattle.plan_order.specs.Meaning.{Signals, Resolves, Directly}
-use Rattle.plan_order.proofs.Signals.{signals-value, value-here, value-there, value-cons, value-inside, rises}
+use Rattle.plan_order.proofs.Signals.{signals-value, value-here, value-there, value-cons, value-inside}
 use Rattle.plan_order.proofs.Resolution.{Rests, rests-gives, rests-somewhere}
 use Rattle.plan_order.proofs.Readiness.{Why, by-queue, by-wait, direct-below, direct-why, direct-by}
 
@@ -52,50 +48,41 @@ module _ (p : Plan) where
     signalled = signals-means (x .operation) (w .semaphore) (x .value) .0 (t .signalled);
     enough = t .enough;
     least = λ k v s h. t .least k v (signals-inside k (w .semaphore) v s) (signals-means k (w .semaphore) v .1 s) h;
+    first = λ k s. t .first k (signals-inside k (w .semaphore) (x .value) s)
+        (signals-means k (w .semaphore) (x .value) .1 s);
   }
 
-  module _ (signals-good : signals-refusal 0 p [] (p .operations) .number ≡ 0) where
-    -- one operation signals a value on a semaphore
-    value-one : (i j s v : ℕ) → Signals p i s v → Signals p j s v → i ≡ j
-    value-one i j s v a b =
-        by-cases (ltb i j) (λ t. absurd (never-higher i j (ltb-true i j t) a b))
-        (λ f. by-cases (ltb j i) (λ t. absurd (never-higher j i (ltb-true j i t) b a))
-        (λ g. omega (arith, ltb-false i j f, ltb-false j i g)))
-      where
-        never-higher : (i j : ℕ) → i < j → Signals p i s v → Signals p j s v → ⊥
-        never-higher i j l a b =
-            lt-irrefl v (rises p signals-good i j s v v l (signals-inside j s v b) (signals-means i s v .1 a)
-            (signals-means j s v .1 b))
+  -- of the signals with the least value that is enough, the first
+  resolves-one : (w : Point) (i j : ℕ) → Resolves p w i → Resolves p w j → i ≡ j
+  resolves-one w i j a b =
+      let x = a .least j (b .value) (b .signalled) (b .enough) in
+      let y = b .least i (a .value) (a .signalled) (a .enough) in
+      let e : a .value ≡ b .value = omega arith in
+      let low = a .first j (subst (λ (z : ℕ). Signals p j (w .semaphore) z) (sym e) (b .signalled)) in
+      let high = b .first i (subst (λ (z : ℕ). Signals p i (w .semaphore) z) e (a .signalled)) in
+      omega arith
 
-    resolves-one : (w : Point) (i j : ℕ) → Resolves p w i → Resolves p w j → i ≡ j
-    resolves-one w i j a b =
-        let x = a .least j (b .value) (b .signalled) (b .enough) in
-        let y = b .least i (a .value) (a .signalled) (a .enough) in
-        let e : a .value ≡ b .value = omega arith in
-        value-one i j (w .semaphore) (b .value)
-        (subst (λ (z : ℕ). Signals p i (w .semaphore) z) e (a .signalled)) (b .signalled)
+  pub rests-means : (w : Point) (i : ℕ) → (rests-on (resolve p w) i ≡ true) ↔ Resolves p w i
+  rests-means w i = (
+    (λ e. let g = rests-gives p w i e in subst (λ (z : ℕ). Resolves p w z) (g .2) (rests-resolves w (g .0) (g .1))),
+    (λ r.
+        let x = rests-somewhere p w (r .above-zero) i (r .value)
+        (signals-inside i (w .semaphore) (r .value) (r .signalled))
+        (signals-means i (w .semaphore) (r .value) .1 (r .signalled)) (r .enough) in
+        subst (λ (z : ℕ). rests-on (resolve p w) z ≡ true)
+        (resolves-one w (x .0 .operation) i (rests-resolves w (x .0) (x .1)) r) (x .2)),
+  )
 
-    pub rests-means : (w : Point) (i : ℕ) → (rests-on (resolve p w) i ≡ true) ↔ Resolves p w i
-    rests-means w i = (
-      (λ e. let g = rests-gives p w i e in subst (λ (z : ℕ). Resolves p w z) (g .2) (rests-resolves w (g .0) (g .1))),
-      (λ r.
-          let x = rests-somewhere p w (r .above-zero) i (r .value)
-          (signals-inside i (w .semaphore) (r .value) (r .signalled))
-          (signals-means i (w .semaphore) (r .value) .1 (r .signalled)) (r .enough) in
-          subst (λ (z : ℕ). rests-on (resolve p w) z ≡ true)
-          (resolves-one w (x .0 .operation) i (rests-resolves w (x .0) (x .1)) r) (x .2)),
-    )
-
-    -- ---- directly before
-    pub direct-means : (i j : ℕ) → (direct p i j ≡ true) ↔ Directly p i j
-    direct-means i j = (
-      (λ e. record { operations = direct-below p i j e; why = of-why (direct-why p i j e) }),
-      (λ d. direct-by p i j (d .operations .0) (d .operations .1)
-          (either (d .why) (λ w. by-queue (w .0) (w .1))
-          (λ w. by-wait (w .0) (w .1) (rests-means (w .0) i .1 (w .2))))),
-    )
-      where
-        of-why : Why p i j → ((i < j) × (op p i .queue ≡ op p j .queue)) ⊎
-            ((w : Point) × List·Memᴰ w (op p j .waits) × Resolves p w i)
-        of-why (by-queue l q) = inl (l, q)
-        of-why (by-wait w m t) = inr (w, m, rests-means w i .0 t)
+  -- ---- directly before
+  pub direct-means : (i j : ℕ) → (direct p i j ≡ true) ↔ Directly p i j
+  direct-means i j = (
+    (λ e. record { operations = direct-below p i j e; why = of-why (direct-why p i j e) }),
+    (λ d. direct-by p i j (d .operations .0) (d .operations .1)
+        (either (d .why) (λ w. by-queue (w .0) (w .1))
+        (λ w. by-wait (w .0) (w .1) (rests-means (w .0) i .1 (w .2))))),
+  )
+    where
+      of-why : Why p i j → ((i < j) × (op p i .queue ≡ op p j .queue)) ⊎
+          ((w : Point) × List·Memᴰ w (op p j .waits) × Resolves p w i)
+      of-why (by-queue l q) = inl (l, q)
+      of-why (by-wait w m t) = inr (w, m, rests-means w i .0 t)

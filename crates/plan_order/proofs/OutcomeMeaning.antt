@@ -23,8 +23,9 @@ use Rattle.plan_order.specs.Runs.{missing, standard}
 use Rattle.plan_order.proofs.LeftMeaning.{table-untouched, list-untouched, table-zeros, list-zeros, table-rows}
 use Rattle.plan_order.proofs.LeftMeaning.{list-run-left}
 use Rattle.plan_order.proofs.Standard.{standard-full, missing-none, full-run}
-use Rattle.plan_order.proofs.CheckMeaning.{Check-case, plan-case, room-case, stuck-case, broken-case, pass-case}
-use Rattle.plan_order.proofs.CheckMeaning.{check-case, gives-of, check-means, passed-unrefused}
+use Rattle.plan_order.proofs.CheckMeaning.{Check-case, plan-case, room-case, stuck-case, turn-case}
+use Rattle.plan_order.proofs.CheckMeaning.{broken-case, pass-case, check-case, gives-of, check-means}
+use Rattle.plan_order.proofs.CheckMeaning.{passed-unrefused}
 use Rattle.plan_order.proofs.Promises.{demand-3-stored}
 
 -- ---- what is left, by the outcome
@@ -74,8 +75,9 @@ module _ (bs : List ℕ) (t l : ℕ) where
   case-whole o (room-case good nine e) z = absurd (omega
       (arith, gives-of o (room-refusal (count (plan-in bs)) t l) untouched e .0 .0))
   case-whole o (stuck-case i good enough m e) z = absurd (omega (arith, gives-of o (refusal 10 i) zeros e .0 .0))
-  case-whole o (broken-case i good enough m b e) z = absurd (omega (arith, gives-of o (refusal 11 i) zeros e .0 .0))
-  case-whole o (pass-case good enough m b e) z = runs-whole bs good m
+  case-whole o (turn-case i good enough m d e) z = absurd (omega (arith, gives-of o (refusal 17 i) zeros e .0 .0))
+  case-whole o (broken-case i good enough m d b e) z = absurd (omega (arith, gives-of o (refusal 11 i) zeros e .0 .0))
+  case-whole o (pass-case good enough m d b e) z = runs-whole bs good m
 
   -- where rows and run are left, the standard run is full
   pub whole-run : check-outcome bs t l .leaves ≡ rows-and-run → Runs-whole (plan-in bs)

@@ -13,6 +13,7 @@ use Rattle.plan_format.proofs.Judged.{zero-not-given, refusal-given, or-else-se
 use Rattle.plan_order.specs.Check.{room-refusal, refused-at, order-refusal, untouched, zeros, rows-and-run}
 use Rattle.plan_order.specs.Check.{outcome, or-then, check-outcome, plan-outcome}
 use Rattle.plan_order.specs.Holdings.{broken}
+use Rattle.plan_order.specs.Handovers.{disordered}
 use Rattle.plan_order.specs.Runs.{missing}
 
 -- ---- the outcome, case by case
@@ -42,19 +43,27 @@ module _ (bs : List ℕ) (t l : ℕ) where
       pub stuck-outcome : (i : ℕ) → missing (plan-in bs) ≡ some i → check-outcome bs t l ≡ outcome (refusal 10 i) zeros
       stuck-outcome i e = order-refused-is i 10 (λ z. omega arith) (unfold order-refusal refused-at in (rw e))
 
-      pub broken-outcome : (i : ℕ) → _≡_ {A = Option ℕ} (missing (plan-in bs)) none → broken (plan-in bs) ≡ some i →
+      pub disordered-outcome : (i : ℕ) → _≡_ {A = Option ℕ} (missing (plan-in bs)) none →
+          disordered (plan-in bs) ≡ some i → check-outcome bs t l ≡ outcome (refusal 17 i) zeros
+      disordered-outcome i n e =
+          order-refused-is i 17 (λ z. omega arith) (unfold order-refusal refused-at in (rw (n, e)))
+
+      pub broken-outcome : (i : ℕ) → _≡_ {A = Option ℕ} (missing (plan-in bs)) none →
+          _≡_ {A = Option ℕ} (disordered (plan-in bs)) none → broken (plan-in bs) ≡ some i →
           check-outcome bs t l ≡ outcome (refusal 11 i) zeros
-      broken-outcome i n e = order-refused-is i 11 (λ z. omega arith) (unfold order-refusal refused-at in (rw (n, e)))
+      broken-outcome i n d e =
+          order-refused-is i 11 (λ z. omega arith) (unfold order-refusal refused-at in (rw (n, d, e)))
 
       pub passed-outcome : _≡_ {A = Option ℕ} (missing (plan-in bs)) none →
-          _≡_ {A = Option ℕ} (broken (plan-in bs)) none →
+          _≡_ {A = Option ℕ} (disordered (plan-in bs)) none → _≡_ {A = Option ℕ} (broken (plan-in bs)) none →
           check-outcome bs t l ≡ outcome none-given rows-and-run
       unfolding check-outcome or-then outcome order-refusal refused-at given none-given
-      passed-outcome n m =
+      passed-outcome n d m =
           rw (
             zero-not-given (plan-refusal bs) plan-good,
             zero-not-given (room-refusal (count (plan-in bs)) t l) room-good,
             n,
+            d,
             m,
           )
 

@@ -1,7 +1,7 @@
 -- The statements over stored plans, each under its own name. Assumes nothing.
 use mathlib.Core.Path.{_≡_, sym, ap, _∙_, subst}
 use mathlib.Core.Bool.{true, false, true≢false}
-use mathlib.Core.Logic.{_↔_}
+use mathlib.Core.Logic.{inl, _↔_}
 use mathlib.Core.List.{List}
 use Prim.Native.Nat.{ℕ, _<_}
 use lib.Dec.{eqb}
@@ -19,11 +19,11 @@ use Rattle.plan_order.specs.Check.{room-refusal, order-refusal, zeros, r
 use Rattle.plan_order.specs.Check.{check-outcome}
 use Rattle.plan_order.specs.Promise.{Safe, Demand-3, unrefused, Demand-3-stored, Before-right, Before-forces}
 use Rattle.plan_order.specs.Promise.{Standard-right, good, passed, Passed-keeps, Passed-runs, Never-stuck, Raises}
-use Rattle.plan_order.specs.Promise.{Stuck-truly, Broken-truly, None-itself, Demand-3-of-plans}
+use Rattle.plan_order.specs.Promise.{Stuck-truly, Disordered-truly, Broken-truly, None-itself, Demand-3-of-plans}
 use Rattle.plan_order.specs.Precedence.{Before}
 use Rattle.plan_order.specs.Runs.{enabled, ready, is-run, is-full}
 use Rattle.plan_order.proofs.Demand2.{before-forces, standard-right}
-use Rattle.plan_order.proofs.Demand3.{rules-good, demand-3}
+use Rattle.plan_order.proofs.Demand3.{demand-3}
 use Rattle.plan_order.proofs.Precedence.{before-chain, chain-before, not-itself}
 
 -- ---- what the tests of stored plans say
@@ -49,11 +49,11 @@ safe-passed bs h = let g = passed-good bs h in of-good bs (g .0) .exactly .0 (g 
 -- ---- the statements over stored plans
 pub passed-keeps : Passed-keeps
 unfolding Passed-keeps
-passed-keeps bs r b h f = safe-passed bs h .1 r b f
+passed-keeps bs r b h f = safe-passed bs h .kept r b f
 
 pub passed-runs : Passed-runs
 unfolding Passed-runs
-passed-runs bs h = safe-passed bs h .0
+passed-runs bs h = let s = safe-passed bs h in (s .run, s .full)
 
 pub never-stuck-stored : Never-stuck
 unfolding Never-stuck ready is-run
@@ -64,11 +64,15 @@ never-stuck-stored bs r h f l =
 
 pub raises-stored : Raises
 unfolding Raises
-raises-stored bs r g f = of-good bs g .raises r f
+raises-stored bs r h f = let g = passed-good bs h in of-good bs (g .0) .raises (inl (g .1)) r f
 
 pub stuck-truly : Stuck-truly
 unfolding Stuck-truly
 stuck-truly bs g e = of-good bs g .stuck e
+
+pub disordered-truly : Disordered-truly
+unfolding Disordered-truly
+disordered-truly bs g e = of-good bs g .disordered e
 
 pub broken-truly : Broken-truly
 unfolding Broken-truly
@@ -80,18 +84,14 @@ before-right bs i j = ((λ h. before-chain (plan-in bs) i j h), (λ c. chain-bef
 
 pub none-itself-stored : None-itself
 unfolding None-itself
-none-itself-stored bs j h =
-    let g = passed-good bs h in
-    let s = safe-passed bs h .0 in
-    not-itself (plan-in bs) (rules-good (plan-in bs) (good-sound bs (g .0)) .0) (s .0) (s .1) j
+none-itself-stored bs j h = let s = safe-passed bs h in not-itself (plan-in bs) (s .run) (s .full) j
 
 pub before-forces-stored : (bs : List ℕ) → passed bs ≡ true → (i j : ℕ) → i < count (plan-in bs) →
     j < count (plan-in bs) →
     Before (plan-in bs) i j ↔ ((r : List ℕ) → is-full (plan-in bs) r ≡ true → step-of 0 r i < step-of 0 r j)
 unfolding Before-forces
 before-forces-stored bs h =
-    let s = safe-passed bs h .0 in
-    before-forces (plan-in bs) (good-sound bs (passed-good bs h .0)) (s .0) (s .1)
+    let s = safe-passed bs h in before-forces (plan-in bs) (good-sound bs (passed-good bs h .0)) (s .run) (s .full)
 
 pub standard-right-stored : (bs : List ℕ) → good bs ≡ true → Standard-right (plan-in bs)
 standard-right-stored bs g = standard-right (plan-in bs) (good-sound bs g)

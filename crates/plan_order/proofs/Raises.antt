@@ -1,4 +1,5 @@
--- Every run of a plan without refusals 6 and 7 raises every semaphore in order. Assumes nothing.
+-- Where operations that signal one semaphore run in plan order, every run of a plan without refusal 7 raises every
+-- semaphore in order. Assumes nothing.
 use mathlib.Core.Path.{_≡_, refl, subst}
 use mathlib.Core.Bool.{Bool, true, false}
 use mathlib.Core.List.{List, [], _∷_, _++_}
@@ -11,39 +12,35 @@ use Rattle.base_lists.specs.Lists.{member}
 use Rattle.base_lists.proofs.Tests.{by-cases, clash, and-both}
 use Rattle.base_lists.proofs.Members.{member-left, member-last}
 use Rattle.order.specs.Runs.{runs}
-use Rattle.order.proofs.Runs.{can-below, can-fresh, runs-head, runs-tail, runs-nil, runs-snoc, run-below}
+use Rattle.order.proofs.Runs.{can-below, can-fresh, runs-head, runs-tail, runs-nil, runs-snoc}
 use Rattle.plan_format.specs.Plan.{Point, Operation, Plan, count, op}
-use Rattle.plan_format.specs.Sound.{highest-in, highest, owns, signals-number, signals-refusal}
-use Rattle.plan_order.specs.Runs.{reached, enabled, is-run, points-rise, run-points, raises-in-order}
-use Rattle.plan_order.proofs.Signals.{signals-value, value-here, value-there, refusal-none, signal-facts}
-use Rattle.plan_order.proofs.Signals.{one-queue, rises}
-use Rattle.plan_order.proofs.Readiness.{reached-has, reached-grows, reached-gives, queue-in}
+use Rattle.plan_format.specs.Sound.{highest-in, highest, signals-number, signals-refusal}
+use Rattle.plan_order.specs.Runs.{reached, points-rise, run-points, raises-in-order}
+use Rattle.plan_order.proofs.Signals.{signals-value, value-here, value-there, refusal-none, signal-above}
+use Rattle.plan_order.proofs.Signals.{rises}
+use Rattle.plan_order.proofs.Readiness.{reached-has, reached-grows, reached-gives}
 
-number-head : (p : Plan) (q : ℕ) (bs : List Operation) (own : List Point) (x : Point) (xs : List Point) →
-    signals-number p q bs own (x ∷ xs) ≡ 0 →
-    (highest-in (x .semaphore) own < x .value) × (signals-number p q bs (x ∷ own) xs ≡ 0)
+number-head : (bs : List Operation) (own : List Point) (x : Point) (xs : List Point) →
+    signals-number bs own (x ∷ xs) ≡ 0 →
+    (highest-in (x .semaphore) own < x .value) × (signals-number bs (x ∷ own) xs ≡ 0)
 unfolding signals-number
-number-head p q bs own x xs e =
-    let owned = owns p q (x .semaphore) in
+number-head bs own x xs e =
     let top = max (highest (x .semaphore) bs) (highest-in (x .semaphore) own) in
-    by-cases owned
-    (λ t. by-cases (leb (x .value) top)
-    (λ u. absurd (let z : 7 ≡ 0 = rw (t, u) at e in omega arith))
-    (λ u. (omega (arith, leb-false (x .value) top u), rw (t, u) at e)))
-    (λ f. absurd (let z : 6 ≡ 0 = rw f at e in omega arith))
+    by-cases (leb (x .value) top)
+    (λ u. absurd (let z : 7 ≡ 0 = rw u at e in omega arith))
+    (λ u. (omega (arith, leb-false (x .value) top u), rw u at e))
 
 -- an operation's signals rise above what came before them, then the rest does
-rise-own : (p : Plan) (q : ℕ) (bs : List Operation) (so-far : ℕ → ℕ) (xs ys own got : List Point) →
-    signals-number p q bs own xs ≡ 0 →
+rise-own : (bs : List Operation) (so-far : ℕ → ℕ) (xs ys own got : List Point) → signals-number bs own xs ≡ 0 →
     ((s : ℕ) → highest-in s got ≤ max (highest-in s own) (so-far s)) →
     ((s v : ℕ) → signals-value s v xs ≡ true → so-far s < v) →
     ((got′ : List Point) → ((s : ℕ) → highest-in s got′ ≤ max (max (highest-in s own) (highest-in s xs)) (so-far s)) →
     points-rise got′ ys ≡ true) →
     points-rise got (xs ++ ys) ≡ true
 unfolding points-rise highest-in
-rise-own p q bs f [] ys own got e b above rest = rest got (λ s. omega (arith, b s))
-rise-own p q bs f (x ∷ xs) ys own got e b above rest =
-    let h = number-head p q bs own x xs e in
+rise-own bs f [] ys own got e b above rest = rest got (λ s. omega (arith, b s))
+rise-own bs f (x ∷ xs) ys own got e b above rest =
+    let h = number-head bs own x xs e in
     and-both (ltb (highest-in (x .semaphore) got) (x .value)) (points-rise (x ∷ got) (xs ++ ys))
     (lt-ltb (highest-in (x .semaphore) got) (x .value)
     (omega (
@@ -51,28 +48,24 @@ rise-own p q bs f (x ∷ xs) ys own got e b above rest =
       b (x .semaphore),
       above (x .semaphore) (x .value) (value-here (x .semaphore) (x .value) x xs refl refl),
     )))
-    (rise-own p q bs f xs ys (x ∷ own) (x ∷ got) (h .1) (λ s. omega (arith, b s))
+    (rise-own bs f xs ys (x ∷ own) (x ∷ got) (h .1) (λ s. omega (arith, b s))
     (λ s v t. above s v (value-there s v x xs t))
     (λ got′ c. rest got′ (λ s. omega (arith, c s))))
 
--- runs in which operations that signal one semaphore come in plan order: all that is used of owners and queues
+-- runs in which operations that signal one semaphore come in plan order
 abbrev pub In-plan-order : Plan → (List ℕ → ℕ → Bool) → Type 0
 In-plan-order p e =
     (r : List ℕ) → runs (count p) e [] r ≡ true → (i k s v w : ℕ) → i < k → i < count p →
     signals-value s v (op p i .signals) ≡ true → signals-value s w (op p k .signals) ≡ true →
     member k r ≡ true → member i r ≡ true
 
-pub owners-order : (p : Plan) → signals-refusal 0 p [] (p .operations) .number ≡ 0 → In-plan-order p (enabled p)
-owners-order p signals-good r h i k s v w l b e g m =
-    queue-in p r i k h m l (one-queue p signals-good i k s v w b (run-below (count p) (enabled p) r h k m) e g)
-
-module _ (p : Plan) (signals-good : signals-refusal 0 p [] (p .operations) .number ≡ 0) (en : List ℕ → ℕ → Bool)
+module _ (p : Plan) (signals-good : signals-refusal 0 [] (p .operations) .number ≡ 0) (en : List ℕ → ℕ → Bool)
     (ordered : In-plan-order p en) where
   -- what runs next signals above all that the run has reached
   above-run : (r : List ℕ) (j s v : ℕ) → runs (count p) en [] r ≡ true → j < count p → member j r ≡ false →
       signals-value s v (op p j .signals) ≡ true → reached p s r < v
   above-run r j s v h b fresh e =
-      let pos : 0 < v = omega (arith, signal-facts p signals-good j s v b e .1) in
+      let pos : 0 < v = omega (arith, signal-above p signals-good j s v b e) in
       by-cases (ltb (reached p s r) v) (λ t. ltb-true (reached p s r) v t)
       (λ f. absurd (
       let g = reached-gives p s v r pos (ltb-false (reached p s r) v f) in
@@ -90,9 +83,8 @@ module _ (p : Plan) (signals-good : signals-refusal 0 p [] (p .operations) .numb
   rise-from r (j ∷ js) got h g b =
       let c = runs-head (count p) en r j js g in
       let l = can-below (count p) en r j c in
-      rise-own p (op p j .queue) (take j (p .operations))
-      (λ s. reached p s r) (op p j .signals) (run-points p js) [] got
-      (unfold op count in (refusal-none 0 p [] (p .operations) signals-good j l)) (λ s. omega (arith, b s))
+      rise-own (take j (p .operations)) (λ s. reached p s r) (op p j .signals) (run-points p js) [] got
+      (unfold op count in (refusal-none 0 [] (p .operations) signals-good j l)) (λ s. omega (arith, b s))
       (λ s v e. above-run r j s v h l (can-fresh (count p) en r j c) e)
       (λ got′ d. rise-from (r ++ (j ∷ [])) js got′ (runs-snoc (count p) en r j h c) (runs-tail (count p) en r j js g)
       (λ s. unfold highest-in in
@@ -106,8 +98,3 @@ module _ (p : Plan) (signals-good : signals-refusal 0 p [] (p .operations) .numb
   pub runs-raise : (r : List ℕ) → runs (count p) en [] r ≡ true → raises-in-order p r ≡ true
   unfolding raises-in-order
   runs-raise r h = rise-from [] r [] (runs-nil (count p) en []) h (λ s. unfold highest-in in zero-le)
-
-pub run-raises : (p : Plan) → signals-refusal 0 p [] (p .operations) .number ≡ 0 → (r : List ℕ) → is-run p r ≡ true →
-    raises-in-order p r ≡ true
-unfolding is-run
-run-raises p signals-good r h = runs-raise p signals-good (enabled p) (owners-order p signals-good) r h

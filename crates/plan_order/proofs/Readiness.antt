@@ -6,11 +6,9 @@ use mathlib.Core.Logic.{_↔_}
 use mathlib.Core.List.{List, [], _∷_, List·Memᴰ, List·Memᴰ·head, List·Memᴰ·tail, List·Memᴰ·not-nil}
 use mathlib.Core.List.{List·Memᴰ·cases-cons}
 use Prim.Native.Nat.{ℕ, _≤_, _<_, zero-le, max}
-use native.Mathlib.Nat.{le-trans}
 use native.Mathlib.Omega.{arith}
 use lib.Dec.{ltb, leb, eqb}
-use borrow.Author.Tests.{ltb-true, ltb-false, leb-true, leb-false, le-leb, eqb-true, eqb-false, eq-eqb, lt-ltb}
-use borrow.Author.Tests.{not-true}
+use borrow.Author.Tests.{ltb-true, leb-true, leb-false, eqb-true, eq-eqb, lt-ltb, not-true}
 use Rattle.base_lists.specs.Lists.{member, all}
 use Rattle.base_lists.proofs.Tests.{by-cases, clash, and-left, and-right, and-both, or-cases, or-left, or-right}
 use Rattle.base_lists.proofs.Tests.{not-of-false, either}
@@ -18,15 +16,15 @@ use Rattle.base_lists.proofs.Members.{Sub, member-nil, member-here, member-ther
 use Rattle.base_lists.proofs.Searches.{all-below-gives, all-below-by, all-gives, all-by}
 use Rattle.order.specs.Runs.{runs}
 use Rattle.order.specs.Closure.{once}
-use Rattle.order.proofs.Runs.{run-below}
 use Rattle.order.proofs.Extensions.{chain-steps}
 use Rattle.plan_format.specs.Plan.{Point, Plan, count, op}
-use Rattle.plan_format.specs.Sound.{highest-in, highest, signals-refusal, any-too-high, waits-refusal}
-use Rattle.plan_order.specs.Precedence.{Signal, resolve, rests-on, any-rests-on, same-queue, direct}
-use Rattle.plan_order.specs.Runs.{reached, wait-met, earlier-run, enabled, is-run}
-use Rattle.plan_order.proofs.Signals.{signals-value, value-under, high-gives, highest-gives, too-high-none}
-use Rattle.plan_order.proofs.Signals.{waits-none, value-inside, one-queue, rises}
-use Rattle.plan_order.proofs.Resolution.{Rests, rests-gives, rests-somewhere}
+use Rattle.plan_format.specs.Sound.{highest-in, highest, any-too-high, waits-refusal}
+use Rattle.plan_order.specs.Precedence.{Resolution, at-once, on, never, resolve, rests-on, any-rests-on}
+use Rattle.plan_order.specs.Precedence.{same-queue, direct}
+use Rattle.plan_order.specs.Runs.{reached, rested, wait-met, earlier-run, enabled}
+use Rattle.plan_order.proofs.Signals.{signals-value, high-gives, highest-gives, too-high-none, waits-none}
+use Rattle.plan_order.proofs.Signals.{value-inside}
+use Rattle.plan_order.proofs.Resolution.{Resolution-case, at-signal, at-none, resolve-is}
 
 module _ (p : Plan) where
   -- ---- the value that a semaphore has reached
@@ -83,40 +81,47 @@ module _ (p : Plan) where
       (λ f. or-left (not (eqb (op p i .queue) (op p j .queue))) (member i r)
       (not-of-false (eqb (op p i .queue) (op p j .queue)) f)))
 
-  pub met-gives : (r : List ℕ) (ws : List Point) → all (λ w. wait-met p r w) ws ≡ true → (w : Point) → List·Memᴰ w ws →
-      w .value ≤ reached p (w .semaphore) r
-  unfolding wait-met
-  met-gives r ws h w m = leb-true (w .value) (reached p (w .semaphore) r) (all-gives (λ w. wait-met p r w) ws h w m)
+  -- ---- a wait that is met
+  pub rested-has : (r : List ℕ) (z : Resolution) (i : ℕ) → rested r z ≡ true → rests-on z i ≡ true → member i r ≡ true
+  unfolding rested rests-on
+  rested-has r at-once i m e = absurd (false≢true e)
+  rested-has r (on x) i m e = subst (λ (k : ℕ). member k r ≡ true) (eqb-true (x .operation) i e) m
+  rested-has r never i m e = absurd (false≢true e)
 
-  pub met-by : (r : List ℕ) (ws : List Point) → ((w : Point) → List·Memᴰ w ws → w .value ≤ reached p (w .semaphore) r) →
-      all (λ w. wait-met p r w) ws ≡ true
-  unfolding wait-met
-  met-by r ws h = all-by (λ w. wait-met p r w) ws (λ w m. le-leb (w .value) (reached p (w .semaphore) r) (h w m))
+  rested-grows : (r t : List ℕ) (z : Resolution) → Sub r t → rested r z ≡ true → rested t z ≡ true
+  unfolding rested
+  rested-grows r t at-once b m = refl
+  rested-grows r t (on x) b m = b (x .operation) m
+  rested-grows r t never b m = m
 
   pub record Enabled (r : List ℕ) (j : ℕ) : Type 0 where
     pub earlier : (k : ℕ) → k < j → op p k .queue ≡ op p j .queue → member k r ≡ true
-    pub waits : (w : Point) → List·Memᴰ w (op p j .waits) → w .value ≤ reached p (w .semaphore) r
+    pub waits : (w : Point) → List·Memᴰ w (op p j .waits) → wait-met p r w ≡ true
 
   pub enabled-gives : (r : List ℕ) (j : ℕ) → enabled p r j ≡ true → Enabled r j
   unfolding enabled
   enabled-gives r j h =
       let a = earlier-run p r j in
       let b = all (λ w. wait-met p r w) (op p j .waits) in
-      record { earlier = earlier-gives r j (and-left a b h); waits = met-gives r (op p j .waits) (and-right a b h) }
+      record {
+        earlier = earlier-gives r j (and-left a b h);
+        waits = all-gives (λ w. wait-met p r w) (op p j .waits) (and-right a b h);
+      }
 
   pub enabled-by : (r : List ℕ) (j : ℕ) → Enabled r j → enabled p r j ≡ true
   unfolding enabled
   enabled-by r j h =
       and-both (earlier-run p r j) (all (λ w. wait-met p r w) (op p j .waits)) (earlier-by r j (h .earlier))
-      (met-by r (op p j .waits) (h .waits))
+      (all-by (λ w. wait-met p r w) (op p j .waits) (h .waits))
 
   -- ---- readiness only grows
   pub grows : (r t : List ℕ) (j : ℕ) → Sub r t → enabled p r j ≡ true → enabled p t j ≡ true
+  unfolding wait-met
   grows r t j b h =
       let e = enabled-gives r j h in
       enabled-by t j (record {
         earlier = λ k l q. b k (e .earlier k l q);
-        waits = λ w m. le-trans (e .waits w m) (reached-grows (w .semaphore) r t b);
+        waits = λ w m. rested-grows r t (resolve p w) b (e .waits w m);
       })
 
   -- a run has, with an operation, all that is earlier on its queue
@@ -198,87 +203,58 @@ module _ (p : Plan) where
           or-right (ltb i j && eqb (op p i .queue) (op p j .queue)) (any-rests-on p i (op p j .waits))
           (any-by i (op p j .waits) w m t)
 
-  -- ---- without 6 and 7: what is enabled after a run has all that is directly before it in the run
-  module _ (signals-good : signals-refusal 0 p [] (p .operations) .number ≡ 0) where
-    wait-asks : (r : List ℕ) (w : Point) (x : Signal) → Rests p w x → runs (count p) (enabled p) [] r ≡ true →
-        w .value ≤ reached p (w .semaphore) r → member (x .operation) r ≡ true
-    wait-asks r w x t h m =
-        let i = x .operation in
-        let g = reached-gives (w .semaphore) (w .value) r (t .above) m in
-        let kb = run-below (count p) (enabled p) r h (g .0) (g .2) in
-        let least = t .least (g .0) (g .1) kb (g .4) (g .3) in
-        by-cases (ltb i (g .0))
-        (λ u. queue-in r i (g .0) h (g .2) (ltb-true i (g .0) u)
-        (one-queue p signals-good i (g .0) (w .semaphore) (x .value) (g .1) (t .inside) kb (t .signalled) (g .4)))
-        (λ f. by-cases (eqb i (g .0)) (λ u. subst (λ (z : ℕ). member z r ≡ true) (sym (eqb-true i (g .0) u)) (g .2))
-        (λ n.
-        absurd (let up = rises p signals-good (g .0) i (w .semaphore) (g .1) (x .value)
-        (omega (arith, ltb-false i (g .0) f, eqb-false i (g .0) n)) (t .inside) (g .4) (t .signalled) in omega arith)))
-
-    pub predecessors-run : (r : List ℕ) (i j : ℕ) → runs (count p) (enabled p) [] r ≡ true → enabled p r j ≡ true →
-        direct p i j ≡ true → member i r ≡ true
-    predecessors-run r i j h e d = of-why i j (direct-why i j d) (enabled-gives r j e)
-      where
-        of-why : (i j : ℕ) → Why i j → Enabled r j → member i r ≡ true
-        of-why i j (by-queue l q) e = e .earlier i l q
-        of-why i j (by-wait w m t) e =
-            let g = rests-gives p w i t in
-            subst (λ (z : ℕ). member z r ≡ true) (g .2) (wait-asks r w (g .0) (g .1) h (e .waits w m))
+  -- ---- what is enabled has all that is directly before it in the run
+  pub predecessors-run : (r : List ℕ) (i j : ℕ) → runs (count p) (enabled p) [] r ≡ true → enabled p r j ≡ true →
+      direct p i j ≡ true → member i r ≡ true
+  predecessors-run r i j h e d = of-why i j (direct-why i j d) (enabled-gives r j e)
+    where
+      of-why : (i j : ℕ) → Why i j → Enabled r j → member i r ≡ true
+      of-why i j (by-queue l q) e = e .earlier i l q
+      of-why i j (by-wait w m t) e = rested-has r (resolve p w) i (unfold wait-met in (e .waits w m)) t
 
   -- ---- without 8: what has all that is directly before it in a list is enabled by it
+  rested-by : (r : List ℕ) (w : Point) (z : Resolution) → Resolution-case p w z →
+      (0 < w .value → w .value ≤ highest (w .semaphore) (p .operations)) →
+      ((i : ℕ) → i < count p → rests-on z i ≡ true → member i r ≡ true) → rested r z ≡ true
+  unfolding rested rests-on
+  rested-by r w at-once d low h = refl
+  rested-by r w (on x) (at-signal _ t) low h = h (x .operation) (t .inside) (eq-eqb (x .operation) (x .operation) refl)
+  rested-by r w never (at-none a none-such) low h =
+      absurd (let g = highest-gives (w .semaphore) (w .value) (p .operations) a (low a) in
+      let inside : g .0 < count p =
+      unfold count in (value-inside (w .semaphore) (g .1) (p .operations) (g .0) (g .3)) in
+      omega (arith, g .2, none-such (g .0) (g .1) inside (unfold op in (g .3))))
+
+  low-enough : (ws : List Point) → any-too-high p ws ≡ false → (w : Point) → List·Memᴰ w ws →
+      0 < w .value → w .value ≤ highest (w .semaphore) (p .operations)
+  low-enough [] e w m = absurd (List·Memᴰ·not-nil m)
+  low-enough (v ∷ vs) e w m =
+      let t = too-high-none p v vs e in
+      either (List·Memᴰ·cases-cons m)
+      (λ q. subst (λ (z : Point). 0 < z .value → z .value ≤ highest (z .semaphore) (p .operations)) (sym q) (t .0))
+      (λ m′. low-enough vs (t .1) w m′)
+
   module _ (waits-good : waits-refusal 0 p (p .operations) .number ≡ 0) where
-    wait-holds : (r : List ℕ) (w : Point) → (0 < w .value → w .value ≤ highest (w .semaphore) (p .operations)) →
-        ((i : ℕ) → i < count p → rests-on (resolve p w) i ≡ true → member i r ≡ true) →
-        w .value ≤ reached p (w .semaphore) r
-    unfolding op count
-    wait-holds r w low h =
-        by-cases (ltb 0 (w .value))
-        (λ a. let pos = ltb-true 0 (w .value) a in
-        let g = highest-gives (w .semaphore) (w .value) (p .operations) pos (low pos) in
-        let x = rests-somewhere p w pos (g .0) (g .1) (value-inside (w .semaphore) (g .1) (p .operations) (g .0) (g .3))
-        (g .3) (g .2) in
-        let t = x .1 in
-        le-trans (omega (
-          arith,
-          t .enough,
-          value-under (w .semaphore) (x .0 .value) (op p (x .0 .operation) .signals) (t .signalled),
-        ))
-        (reached-has (w .semaphore) r (x .0 .operation) (h (x .0 .operation) (t .inside) (x .2))))
-        (λ a. omega (arith, ltb-false 0 (w .value) a))
-
-    low-enough : (ws : List Point) → any-too-high p ws ≡ false → (w : Point) → List·Memᴰ w ws →
-        0 < w .value → w .value ≤ highest (w .semaphore) (p .operations)
-    low-enough [] e w m = absurd (List·Memᴰ·not-nil m)
-    low-enough (v ∷ vs) e w m =
-        let t = too-high-none p v vs e in
-        either (List·Memᴰ·cases-cons m)
-        (λ q. subst (λ (z : Point). 0 < z .value → z .value ≤ highest (z .semaphore) (p .operations)) (sym q) (t .0))
-        (λ m′. low-enough vs (t .1) w m′)
-
     -- a wait of an operation of the plan
-    own-wait-holds : (r : List ℕ) (j : ℕ) → j < count p → (w : Point) → List·Memᴰ w (op p j .waits) →
-        ((i : ℕ) → i < count p → rests-on (resolve p w) i ≡ true → member i r ≡ true) →
-        w .value ≤ reached p (w .semaphore) r
-    own-wait-holds r j l w m h =
-        wait-holds r w (low-enough (op p j .waits)
-        (unfold op count in (waits-none 0 p (p .operations) waits-good j l)) w m) h
+    own-rested : (r : List ℕ) (j : ℕ) → j < count p → (w : Point) → List·Memᴰ w (op p j .waits) →
+        ((i : ℕ) → i < count p → rests-on (resolve p w) i ≡ true → member i r ≡ true) → wait-met p r w ≡ true
+    unfolding wait-met
+    own-rested r j l w m h =
+        rested-by r w (resolve p w) (resolve-is p w)
+        (low-enough (op p j .waits) (unfold op count in (waits-none 0 p (p .operations) waits-good j l)) w m) h
+
+    -- it is met exactly if what it rests on has run
+    pub own-wait-met : (r : List ℕ) (j : ℕ) → j < count p → (w : Point) → List·Memᴰ w (op p j .waits) →
+        (wait-met p r w ≡ true) ↔ ((i : ℕ) → rests-on (resolve p w) i ≡ true → member i r ≡ true)
+    own-wait-met r j l w m = (
+      (λ t i e. rested-has r (resolve p w) i (unfold wait-met in t) e),
+      (λ h. own-rested r j l w m (λ i b e. h i e)),
+    )
 
     pub predecessors-suffice : (r : List ℕ) (j : ℕ) → j < count p →
         ((i : ℕ) → direct p i j ≡ true → member i r ≡ true) → enabled p r j ≡ true
     predecessors-suffice r j l h =
         enabled-by r j (record {
           earlier = λ k b q. h k (direct-by k j (omega arith) l (by-queue b q));
-          waits = λ w m. own-wait-holds r j l w m (λ i b t. h i (direct-by i j b l (by-wait w m t)));
+          waits = λ w m. own-rested r j l w m (λ i b t. h i (direct-by i j b l (by-wait w m t)));
         })
-
-    -- ---- without 6 to 8: after a run a wait is met exactly if what it rests on has run
-    pub wait-met-means : signals-refusal 0 p [] (p .operations) .number ≡ 0 → (r : List ℕ) → is-run p r ≡ true →
-        (j : ℕ) → j < count p → (w : Point) → List·Memᴰ w (op p j .waits) →
-        (wait-met p r w ≡ true) ↔ ((i : ℕ) → rests-on (resolve p w) i ≡ true → member i r ≡ true)
-    unfolding wait-met is-run
-    wait-met-means signals-good r run j l w m = (
-      (λ met i t. let g = rests-gives p w i t in
-          subst (λ (z : ℕ). member z r ≡ true) (g .2)
-          (wait-asks signals-good r w (g .0) (g .1) run (leb-true (w .value) (reached p (w .semaphore) r) met))),
-      (λ h. le-leb (w .value) (reached p (w .semaphore) r) (own-wait-holds r j l w m (λ i b t. h i t))),
-    )

@@ -13,10 +13,13 @@ use lib.Dec.{ltb, leb, eqb}
 use lib.ListN.{length, getD}
 use borrow.Author.Tests.{ltb-true, ltb-false, leb-true, le-leb, eqb-true, eqb-false, eq-eqb}
 use Rattle.base_lists.proofs.Tests.{by-cases, by-option, clash, and-left, and-right, and-both, either}
+use Rattle.base_lists.proofs.Pairwise.{Pairwise, pairwise-head, pairwise-tail}
 use Rattle.plan_format.specs.Plan.{Point, Operation, Plan, empty-operation, count, op}
-use Rattle.plan_order.specs.Precedence.{Signal, signals-of, signals-from, plan-signals, reaches, nearer, nearest}
+use Rattle.plan_order.specs.Precedence.{Signal, no-signal, signals-of, signals-from, plan-signals, reaches}
+use Rattle.plan_order.specs.Precedence.{nearer, nearest}
 use Rattle.plan_order.specs.Precedence.{Resolution, at-once, on, never, resolution-of, resolve, rests-on}
 use Rattle.plan_order.proofs.Signals.{signals-value, value-here, value-there, value-cons}
+use Rattle.plan_order.proofs.SignalPlaces.{Sooner, sooner-low, plan-rising}
 
 abbrev pub no-point : Point
 no-point = record { semaphore = 0; value = 0 }
@@ -104,7 +107,7 @@ from-signalled i (o ∷ os) y m =
           (w .listed);
     })
 
-from-has : (i s v : ℕ) (os : List Operation) (k : ℕ) → k < length os →
+pub from-has : (i s v : ℕ) (os : List Operation) (k : ℕ) → k < length os →
     signals-value s v (getD os k empty-operation .signals) ≡ true →
     (y : Signal) × List·Memᴰ y (signals-from i os) × (y .operation ≡ i + k) × (y .semaphore ≡ s) × (y .value ≡ v)
 unfolding signals-from
@@ -174,6 +177,40 @@ nearest-some w (y ∷ ys) x e =
           (λ q. clash (reaches w z) r (ap (λ (u : Signal). reaches w u) q ∙ f)) (λ m′. ih .least z m′ r);
     })
 
+-- of signals in plan order, the first of those with the least value
+nearest-first : (w : Point) (xs : List Signal) (x : Signal) → Pairwise Sooner no-signal xs → nearest w xs ≡ some x →
+    (y : Signal) → List·Memᴰ y xs → reaches w y ≡ true → y .value ≡ x .value → x .operation ≤ y .operation
+unfolding nearest nearer
+nearest-first w [] x rise e y m r v = absurd (List·Memᴰ·not-nil m)
+nearest-first w (z ∷ zs) x rise e y m r v =
+    by-cases (reaches w z)
+    (λ t. by-option (nearest w zs)
+    (λ n. here (let e′ : some z ≡ some x = rw (t, n) at e in cc))
+    (λ b n. by-cases (ltb (b .value) (z .value))
+    (λ u. let same : b ≡ x = let e′ : some b ≡ some x = rw (t, n, u) at e in cc in
+    either (List·Memᴰ·cases-cons m)
+    (λ q. absurd (omega (
+      arith,
+      v,
+      ltb-true (b .value) (z .value) u,
+      ap (λ (k : Signal). k .value) q,
+      ap (λ (k : Signal). k .value) same,
+    )))
+    (λ m′. nearest-first w zs x (pairwise-tail Sooner no-signal z zs rise) (n ∙ ap some same) y m′ r v))
+    (λ u. here (let e′ : some z ≡ some x = rw (t, n, u) at e in cc))))
+    (λ f. either (List·Memᴰ·cases-cons m) (λ q. clash (reaches w y) r (ap (λ (k : Signal). reaches w k) q ∙ f))
+    (λ m′. nearest-first w zs x (pairwise-tail Sooner no-signal z zs rise) (rw f at e) y m′ r v))
+  where
+    here : z ≡ x → x .operation ≤ y .operation
+    here q =
+        either (List·Memᴰ·cases-cons m)
+        (λ s. omega (arith, ap (λ (k : Signal). k .operation) s, ap (λ (k : Signal). k .operation) q))
+        (λ m′. omega (
+          arith,
+          sooner-low z y (pairwise-head Sooner no-signal z zs rise y m′),
+          ap (λ (k : Signal). k .operation) q,
+        ))
+
 pub reaches-by : (w : Point) (y : Signal) → y .semaphore ≡ w .semaphore → w .value ≤ y .value → reaches w y ≡ true
 unfolding reaches
 reaches-by w y a b =
@@ -191,6 +228,8 @@ pub record Rests (p : Plan) (w : Point) (x : Signal) : Type 0 where
   pub enough : w .value ≤ x .value
   pub least : (i v : ℕ) → i < count p → signals-value (w .semaphore) v (op p i .signals) ≡ true →
       w .value ≤ v → x .value ≤ v
+  pub first : (i : ℕ) → i < count p → signals-value (w .semaphore) (x .value) (op p i .signals) ≡ true →
+      x .operation ≤ i
 
 pub data Resolution-case (p : Plan) (w : Point) : Resolution → Type 0 where
   at-zero : w .value ≡ 0 → Resolution-case p w at-once
@@ -231,6 +270,15 @@ module _ (p : Plan) (w : Point) where
             (and-right (eqb (x .semaphore) (w .semaphore)) (leb (w .value) (x .value)) r);
         least = λ i v l g h. let y = from-has 0 (w .semaphore) v (p .operations) i l g in
             omega (arith, y .4, n .least (y .0) (y .1) (reaches-by w (y .0) (y .3) (omega (arith, y .4))));
+        first = λ i l g. let y = from-has 0 (w .semaphore) (x .value) (p .operations) i l g in
+            let low = leb-true (w .value) (x .value)
+            (and-right (eqb (x .semaphore) (w .semaphore)) (leb (w .value) (x .value)) r) in
+            omega (
+              arith,
+              y .2,
+              nearest-first w (plan-signals p) x (plan-rising p) e (y .0) (y .1)
+                  (reaches-by w (y .0) (y .3) (omega (arith, y .4))) (y .4),
+            );
       }
 
   never-rests : 0 < w .value → _≡_ {A = Option Signal} (nearest w (plan-signals p)) none → (i v : ℕ) → i < count p →

@@ -1,30 +1,33 @@
 -- What a run, a full run and readiness are, by quantifiers. Assumes nothing.
 use mathlib.Core.Path.{_≡_, refl, sym, _∙_, subst, subst₂}
-use mathlib.Core.Bool.{true}
-use mathlib.Core.Logic.{_↔_}
+use mathlib.Core.Bool.{true, false≢true}
+use mathlib.Core.Logic.{inl, inr, _↔_}
 use mathlib.Core.List.{List, [], _∷_, _++_}
 use Prim.Native.Nat.{ℕ, _≤_, _<_}
 use native.Mathlib.Nat.{le-refl, le-trans}
 use native.Mathlib.Omega.{arith}
 use lib.Dec.{ltb}
 use lib.ListN.{length, getD, take}
-use borrow.Author.Tests.{ltb-true, ltb-false}
+use borrow.Author.Tests.{ltb-true, ltb-false, eqb-true, eq-eqb}
 use Rattle.base_lists.specs.Lists.{member}
 use Rattle.base_lists.specs.Places.{Among}
-use Rattle.base_lists.proofs.Tests.{by-cases, clash, is-false}
+use Rattle.base_lists.proofs.Tests.{by-cases, clash, is-false, either}
 use Rattle.base_lists.proofs.Distinct.{sized-full}
 use Rattle.base_lists.proofs.Places.{member-place, member-at, place-member, take-place, place-take}
 use Rattle.order.specs.Runs.{step-of}
 use Rattle.order.proofs.Runs.{can-below, can-fresh, can-enabled, can-by, runs-snoc, run-sized}
 use Rattle.order.proofs.Turns.{run-turns, turns-run, run-last, step-is}
-use Rattle.plan_format.specs.Plan.{Plan, count, op}
-use Rattle.plan_format.specs.Sound.{signals-refusal, waits-refusal}
-use Rattle.plan_order.specs.Runs.{reached, enabled, ready, is-run, is-full}
-use Rattle.plan_order.specs.Meaning.{Signals, Highest-signalled, Run-step, Run-means, Full-means, Ready-means}
+use Rattle.plan_format.specs.Plan.{Point, Plan, count, op}
+use Rattle.plan_format.specs.Sound.{waits-refusal}
+use Rattle.plan_order.specs.Precedence.{Resolution, at-once, on, never, resolve, rests-on}
+use Rattle.plan_order.specs.Runs.{reached, rested, wait-met, enabled, ready, is-run, is-full}
+use Rattle.plan_order.specs.Meaning.{Signals, Resolves, Highest-signalled, Met, Run-step, Run-means, Full-means}
+use Rattle.plan_order.specs.Meaning.{Ready-means}
 use Rattle.plan_order.proofs.Signals.{signals-value, value-under}
 use Rattle.plan_order.proofs.Readiness.{reached-has, reached-gives, enabled-gives, enabled-by, predecessors-run}
 use Rattle.plan_order.proofs.Readiness.{predecessors-suffice}
-use Rattle.plan_order.proofs.OrderMeaning.{signals-means, direct-means}
+use Rattle.plan_order.proofs.Resolution.{Resolution-case, at-zero, resolve-is}
+use Rattle.plan_order.proofs.OrderMeaning.{signals-means, rests-means, direct-means}
 use Rattle.plan_order.proofs.Standard.{full-run, run-full, full-has}
 
 module _ (p : Plan) where
@@ -56,7 +59,36 @@ module _ (p : Plan) where
         let b = highest-one s r v (reached p s r) h (reached-highest s r) in omega arith),
   )
 
+  -- ---- waits that are met
+  rested-gives : (has : ℕ → Type 0) (r : List ℕ) (w : Point) → ((i : ℕ) → member i r ≡ true → has i) →
+      (z : Resolution) → Resolution-case p w z → rested r z ≡ true → ((i : ℕ) → rests-on z i ≡ true → Resolves p w i) →
+      Met p has w
+  unfolding rested rests-on
+  rested-gives has r w of at-once (at-zero e) m h = inl e
+  rested-gives has r w of (on x) d m h =
+      inr (x .operation, h (x .operation) (eq-eqb (x .operation) (x .operation) refl), of (x .operation) m)
+  rested-gives has r w of never d m h = absurd (false≢true m)
+
+  pub rested-on : (r : List ℕ) (z : Resolution) (i : ℕ) → rests-on z i ≡ true → member i r ≡ true → rested r z ≡ true
+  unfolding rested rests-on
+  rested-on r at-once i t m = refl
+  rested-on r (on x) i t m = subst (λ (k : ℕ). member k r ≡ true) (sym (eqb-true (x .operation) i t)) m
+  rested-on r never i t m = absurd (false≢true t)
+
+  -- after a run, of which `has` tells what is in it
+  pub wait-met-means : (has : ℕ → Type 0) (r : List ℕ) → ((i : ℕ) → (member i r ≡ true) ↔ has i) → (w : Point) →
+      (wait-met p r w ≡ true) ↔ Met p has w
+  unfolding wait-met resolve rested
+  wait-met-means has r of w = (
+    (λ m. rested-gives has r w (λ i. of i .0) (resolve p w) (resolve-is p w) m (λ i. rests-means p w i .0)),
+    (λ m. either m (λ e. rw (eq-eqb (w .value) 0 e) refl)
+        (λ g. rested-on r (resolve p w) (g .0) (rests-means p w (g .0) .1 (g .1)) (of (g .0) .1 (g .2)))),
+  )
+
   -- ---- runs
+  in-front : (r : List ℕ) (k : ℕ) → k ≤ length r → (i : ℕ) → (member i (take k r) ≡ true) ↔ Among r k i
+  in-front r k l i = (take-place r k i l, place-take r k i l)
+
   step-gives : (r : List ℕ) (k : ℕ) → k < length r → ready p (take k r) (getD r k 0) ≡ true → Run-step p r k
   unfolding ready
   step-gives r k l c =
@@ -68,7 +100,7 @@ module _ (p : Plan) where
         distinct = λ w. clash (member j (take k r)) (place-take r k j short w)
             (can-fresh (count p) (enabled p) (take k r) j c);
         earlier = λ i b q. take-place r k i short (e .earlier i b q);
-        waits = λ w m. (reached p (w .semaphore) (take k r), reached-highest (w .semaphore) (take k r), e .waits w m);
+        waits = λ w m. wait-met-means (Among r k) (take k r) (in-front r k short) w .0 (e .waits w m);
       }
 
   gives-step : (r : List ℕ) (k : ℕ) → k < length r → Run-step p r k → ready p (take k r) (getD r k 0) ≡ true
@@ -80,9 +112,7 @@ module _ (p : Plan) where
       (is-false (member j (take k r)) (λ t. h .distinct (take-place r k j short t)))
       (enabled-by p (take k r) j (record {
         earlier = λ i b q. place-take r k i short (h .earlier i b q);
-        waits = λ w m. let g = h .waits w m in
-            le-trans (g .2) (highest-one (w .semaphore) (take k r) (g .0) (reached p (w .semaphore) (take k r)) (g .1)
-            (reached-highest (w .semaphore) (take k r)));
+        waits = λ w m. wait-met-means (Among r k) (take k r) (in-front r k short) w .1 (h .waits w m);
       }))
 
   pub run-means : (r : List ℕ) → (is-run p r ≡ true) ↔ Run-means p r
@@ -114,19 +144,19 @@ module _ (p : Plan) where
       (λ f. f
       ∙ sym (is-false (is-run p (r ++ (j ∷ []))) (λ t. clash (ready p r j) (run-last (count p) (enabled p) r j t) f)))
 
-  -- without refusals 6 to 8: what is directly before it has run
-  pub ready-means : signals-refusal 0 p [] (p .operations) .number ≡ 0 → waits-refusal 0 p (p .operations) .number ≡ 0 →
+  -- without refusal 8: what is directly before it has run
+  pub ready-means : waits-refusal 0 p (p .operations) .number ≡ 0 →
       (r : List ℕ) (j : ℕ) → is-run p r ≡ true → (ready p r j ≡ true) ↔ Ready-means p r j
   unfolding is-run ready
-  ready-means signals-good waits-good r j h = (
+  ready-means waits-good r j h = (
     (λ c. record {
       operation = can-below (count p) (enabled p) r j c;
       not-run = λ w. clash (member j r) (place-member r j w) (can-fresh (count p) (enabled p) r j c);
       before =
-          λ i d. member-place r i (predecessors-run p signals-good r i j h (can-enabled (count p) (enabled p) r j c)
-          (direct-means p signals-good i j .1 d));
+          λ i d. member-place r i (predecessors-run p r i j h (can-enabled (count p) (enabled p) r j c)
+          (direct-means p i j .1 d));
     }),
     (λ m. can-by (count p) (enabled p) r j (m .operation) (is-false (member j r) (λ t. m .not-run (member-place r j t)))
         (predecessors-suffice p waits-good r j (m .operation)
-        (λ i d. place-member r i (m .before i (direct-means p signals-good i j .0 d))))),
+        (λ i d. place-member r i (m .before i (direct-means p i j .0 d))))),
   )

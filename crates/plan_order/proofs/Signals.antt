@@ -1,5 +1,5 @@
--- Signals of operations: the highest of a semaphore, and what refusals 6 to 8 rule out. Assumes nothing.
-use mathlib.Core.Path.{_≡_, refl, sym, _∙_, subst}
+-- Signals of operations: the highest of a semaphore, and what refusals 7 and 8 rule out. Assumes nothing.
+use mathlib.Core.Path.{_≡_, refl, subst}
 use mathlib.Core.Bool.{Bool, true, false, _&&_, _||_, true≢false, false≢true}
 use mathlib.Core.Logic.{_⊎_, inl, inr}
 use mathlib.Core.List.{List, [], _∷_, _++_, append-assoc, append-nil}
@@ -7,15 +7,15 @@ use Prim.Native.Nat.{ℕ, zero, suc, _≤_, _<_, max}
 use native.Mathlib.Nat.{le-of-suc-le-suc, not-suc-le-zero}
 use native.Mathlib.Omega.{arith}
 use lib.Dec.{ltb, leb, eqb}
-use lib.ListN.{length, getD, take, getElem?}
+use lib.ListN.{length, getD, take}
 use lib.Seq.{getD-take}
 use borrow.Author.Tests.{ltb-false, leb-true, leb-false, eqb-true, eqb-false, eq-eqb, lt-ltb}
-use Rattle.base_lists.proofs.Tests.{by-cases, by-option, clash, is-false, and-left, and-right, and-both, or-cases}
+use Rattle.base_lists.proofs.Tests.{by-cases, clash, is-false, and-left, and-right, and-both, or-cases}
 use Rattle.base_lists.proofs.Tests.{or-left, or-right, either}
 use Rattle.plan_format.specs.Refusal.{refusal, none-given}
 use Rattle.plan_format.specs.Plan.{Point, Operation, Plan, empty-operation, count, op}
-use Rattle.plan_format.specs.Sound.{highest-in, highest, is-queue, owns, signals-number, signals-refusal, too-high}
-use Rattle.plan_format.specs.Sound.{any-too-high, waits-refusal}
+use Rattle.plan_format.specs.Sound.{highest-in, highest, signals-number, signals-refusal, too-high, any-too-high}
+use Rattle.plan_format.specs.Sound.{waits-refusal}
 
 -- an operation's list signals s to v
 unfoldable pub signals-value : (s v : ℕ) → List Point → Bool
@@ -87,50 +87,36 @@ highest-over s v [] i h = absurd (false≢true h)
 highest-over s v (o ∷ os) zero h = omega (arith, value-under s v (o .signals) h)
 highest-over s v (o ∷ os) (suc i) h = omega (arith, highest-over s v os i h)
 
--- ---- refusals 6 to 8, none given
--- a signal is the owner's, and above all signals before its operation
-pub number-none : (p : Plan) (q : ℕ) (bs : List Operation) (own xs : List Point) → signals-number p q bs own xs ≡ 0 →
-    (s v : ℕ) → signals-value s v xs ≡ true →
-    (owns p q s ≡ true) × (highest s bs < v)
+-- ---- refusals 7 and 8, none given
+-- a signal is above all signals before its operation
+number-none : (bs : List Operation) (own xs : List Point) → signals-number bs own xs ≡ 0 →
+    (s v : ℕ) → signals-value s v xs ≡ true → highest s bs < v
 unfolding signals-number signals-value
-number-none p q bs own [] e s v h = absurd (false≢true h)
-number-none p q bs own (x ∷ xs) e s v h =
-    let owned = owns p q (x .semaphore) in
-    let low = leb (x .value) (max (highest (x .semaphore) bs) (highest-in (x .semaphore) own)) in
-    by-cases owned
-    (λ t. by-cases low
-    (λ u. absurd (let z : 7 ≡ 0 = rw (t, u) at e in omega arith))
+number-none bs own [] e s v h = absurd (false≢true h)
+number-none bs own (x ∷ xs) e s v h =
+    let top = max (highest (x .semaphore) bs) (highest-in (x .semaphore) own) in
+    by-cases (leb (x .value) top)
+    (λ u. absurd (let z : 7 ≡ 0 = rw u at e in omega arith))
     (λ u. either (value-cons s v x xs h)
-    (λ d. (
-      subst (λ (z : ℕ). owns p q z ≡ true) (d .0) t,
-      subst (λ (z : ℕ). highest z bs <
-          v) (d .0)
-          (omega (
-            arith,
-            d .1,
-            leb-false (x .value) (max (highest (x .semaphore) bs) (highest-in (x .semaphore) own)) u,
-          )),
-    ))
-    (λ d. number-none p q bs (x ∷ own) xs (rw (t, u) at e) s v d)))
-    (λ f. absurd (let z : 6 ≡ 0 = rw f at e in omega arith))
+    (λ d. subst (λ (z : ℕ). highest z bs < v) (d .0) (omega (arith, d .1, leb-false (x .value) top u)))
+    (λ d. number-none bs (x ∷ own) xs (rw u at e) s v d))
 
-refusal-head : (i : ℕ) (p : Plan) (bs : List Operation) (o : Operation) (os : List Operation) →
-    signals-refusal i p bs (o ∷ os) .number ≡ 0 →
-    (signals-number p (o .queue) bs [] (o .signals) ≡ 0) × (signals-refusal (suc i) p (bs ++ (o ∷ [])) os .number ≡ 0)
+refusal-head : (i : ℕ) (bs : List Operation) (o : Operation) (os : List Operation) →
+    signals-refusal i bs (o ∷ os) .number ≡ 0 →
+    (signals-number bs [] (o .signals) ≡ 0) × (signals-refusal (suc i) (bs ++ (o ∷ [])) os .number ≡ 0)
 unfolding signals-refusal refusal none-given
-refusal-head i p bs o os e =
-    by-cases (eqb (signals-number p (o .queue) bs [] (o .signals)) 0)
-    (λ t. (eqb-true (signals-number p (o .queue) bs [] (o .signals)) 0 t, rw t at e))
-    (λ f. absurd (eqb-false (signals-number p (o .queue) bs [] (o .signals)) 0 f (rw f at e)))
+refusal-head i bs o os e =
+    by-cases (eqb (signals-number bs [] (o .signals)) 0)
+    (λ t. (eqb-true (signals-number bs [] (o .signals)) 0 t, rw t at e))
+    (λ f. absurd (eqb-false (signals-number bs [] (o .signals)) 0 f (rw f at e)))
 
-pub refusal-none : (i : ℕ) (p : Plan) (bs os : List Operation) → signals-refusal i p bs os .number ≡ 0 → (k : ℕ) →
-    k < length os →
-    signals-number p (getD os k empty-operation .queue) (bs ++ take k os) [] (getD os k empty-operation .signals) ≡ 0
-refusal-none i p bs [] e k l = absurd (not-suc-le-zero l)
-refusal-none i p bs (o ∷ os) e zero l = rw append-nil (refusal-head i p bs o os e .0)
-refusal-none i p bs (o ∷ os) e (suc k) l =
+pub refusal-none : (i : ℕ) (bs os : List Operation) → signals-refusal i bs os .number ≡ 0 → (k : ℕ) → k < length os →
+    signals-number (bs ++ take k os) [] (getD os k empty-operation .signals) ≡ 0
+refusal-none i bs [] e k l = absurd (not-suc-le-zero l)
+refusal-none i bs (o ∷ os) e zero l = rw append-nil (refusal-head i bs o os e .0)
+refusal-none i bs (o ∷ os) e (suc k) l =
     rw append-assoc
-    at (refusal-none (suc i) p (bs ++ (o ∷ [])) os (refusal-head i p bs o os e .1) k (le-of-suc-le-suc l))
+    at (refusal-none (suc i) (bs ++ (o ∷ [])) os (refusal-head i bs o os e .1) k (le-of-suc-le-suc l))
 
 -- a wait is not above all signals
 pub too-high-none : (p : Plan) (w : Point) (ws : List Point) → any-too-high p (w ∷ ws) ≡ false →
@@ -164,27 +150,14 @@ value-inside s v [] k e = absurd (false≢true e)
 value-inside s v (o ∷ os) zero e = omega arith
 value-inside s v (o ∷ os) (suc k) e = omega (arith, value-inside s v os k e)
 
--- ---- owners and rising values, for a whole plan
-owns-one : (p : Plan) (a b s : ℕ) → owns p a s ≡ true → owns p b s ≡ true → a ≡ b
-unfolding owns is-queue
-owns-one p a b s h g =
-    by-option (getElem? (p .owners) s) (λ n. absurd (false≢true (rw n at h)))
-    (λ o e. let x : eqb o a ≡ true = rw e at h in let y : eqb o b ≡ true = rw e at g in
-    sym (eqb-true o a x) ∙ eqb-true o b y)
-
-module _ (p : Plan) (signals-good : signals-refusal 0 p [] (p .operations) .number ≡ 0) where
-  pub signal-facts : (k s v : ℕ) → k < count p → signals-value s v (op p k .signals) ≡ true →
-      (owns p (op p k .queue) s ≡ true) × (highest s (take k (p .operations)) < v)
+-- ---- rising values, for a whole plan
+module _ (p : Plan) (signals-good : signals-refusal 0 [] (p .operations) .number ≡ 0) where
+  pub signal-above : (k s v : ℕ) → k < count p → signals-value s v (op p k .signals) ≡ true →
+      highest s (take k (p .operations)) < v
   unfolding op count
-  signal-facts k s v l h =
-      number-none p (op p k .queue) (take k (p .operations)) [] (op p k .signals)
-      (refusal-none 0 p [] (p .operations) signals-good k l) s v h
-
-  -- one queue signals a semaphore
-  pub one-queue : (i k s v w : ℕ) → i < count p → k < count p → signals-value s v (op p i .signals) ≡ true →
-      signals-value s w (op p k .signals) ≡ true → op p i .queue ≡ op p k .queue
-  one-queue i k s v w a b h g =
-      owns-one p (op p i .queue) (op p k .queue) s (signal-facts i s v a h .0) (signal-facts k s w b g .0)
+  signal-above k s v l h =
+      number-none (take k (p .operations)) [] (op p k .signals)
+      (refusal-none 0 [] (p .operations) signals-good k l) s v h
 
   -- a later operation signals higher
   pub rises : (i k s v w : ℕ) → i < k → k < count p → signals-value s v (op p i .signals) ≡ true →
@@ -193,4 +166,4 @@ module _ (p : Plan) (signals-good : signals-refusal 0 p [] (p .operations) .numb
   rises i k s v w a b h g =
       let under : v ≤ highest s (take k (p .operations)) =
       highest-over s v (take k (p .operations)) i (rw (getD-take k (p .operations) i empty-operation a) h) in
-      omega (arith, signal-facts k s w b g .1)
+      omega (arith, signal-above k s w b g)

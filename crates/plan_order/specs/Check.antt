@@ -1,5 +1,5 @@
--- The check of a plan: refusals 9 to 11, what a call tells and what it leaves in table and list. Assumes nothing: these
--- are definitions.
+-- The check of a plan: refusals 9, 10, 17 and 11, what a call tells and what it leaves in table and list. Assumes
+-- nothing: these are definitions.
 use mathlib.Core.Path.{_≡_}
 use mathlib.Core.Bool.{cond}
 use mathlib.Core.List.{List}
@@ -16,6 +16,7 @@ use Rattle.plan_format.specs.declared.Told.{Told}
 use Rattle.plan_order.specs.Rows.{rows}
 use Rattle.plan_order.specs.Runs.{missing, run-list}
 use Rattle.plan_order.specs.Holdings.{broken}
+use Rattle.plan_order.specs.Handovers.{disordered}
 
 -- R46, refusal 9: sixteen numbers of the table and two of the run list for each operation; R55: the table first
 unfoldable pub room-refusal : (n table list : ℕ) → Refusal
@@ -25,9 +26,10 @@ unfoldable pub refused-at : (number : ℕ) → (place : Option ℕ) → (otherwi
 refused-at n none r = r
 refused-at n (some i) r = refusal n i
 
--- R47, R48: 10 at the lowest operation that no run has, then 11 at the lowest with a broken mark
+-- R47, R94, R48: 10 at the lowest operation that no run has, then 17 at the lowest with a signal out of turn, then 11
+-- at the lowest with a broken mark
 unfoldable pub order-refusal : Plan → Refusal
-order-refusal p = refused-at 10 (missing p) (refused-at 11 (broken p) none-given)
+order-refusal p = refused-at 10 (missing p) (refused-at 17 (disordered p) (refused-at 11 (broken p) none-given))
 
 -- R56: what is left in table and list
 pub data Leaves : Type 0 where
@@ -46,7 +48,7 @@ outcome f l = record { refusal = f; leaves = l }
 unfoldable pub or-then : Outcome → Outcome → Outcome
 or-then a b = cond (given (a .refusal)) a b
 
--- R55, the order of 9, 10 and 11, each with what it leaves by R56; a pass leaves rows and run
+-- R55, the order of 9 and those of the order, each with what it leaves by R56; a pass leaves rows and run
 abbrev pub order-outcome : Plan → (table list : ℕ) → Outcome
 order-outcome p t l =
     or-then (outcome (room-refusal (count p) t l) untouched)

@@ -2,9 +2,11 @@ pub mod Precedence
 pub mod Rows
 pub mod Runs
 pub mod Holdings
+pub mod Handovers
 pub mod Check
 pub mod Reuse
 pub mod FiveVerdicts
+pub mod OnlyOwners
 pub mod AsBefore
 pub mod Promise
 pub mod Meaning

@@ -13,7 +13,7 @@ use Rattle.plan_format.specs.RefusalNumbers.{One-of, None-or, order-numbers, re
 use Rattle.plan_format.specs.RefusalNumbers.{check-gives, reuse-gives}
 use Rattle.plan_format.specs.Plan.{Point, Mark, Plan, count, op, queues}
 use Rattle.plan_format.specs.Stored.{plan-in, plan-refusal}
-use Rattle.plan_format.specs.Meaning.{Refuses, signal-at, Plan-refusal-means}
+use Rattle.plan_format.specs.Meaning.{Refuses, signal-at, Is-signal, Earlier, Plan-refusal-means}
 use Rattle.plan_order.specs.Precedence.{Before}
 use Rattle.plan_order.specs.Holdings.{Placed, buffer-marks}
 use Rattle.plan_order.specs.Check.{room-refusal, Outcome, Leaves, untouched, zeros, rows-and-run, check-outcome}
@@ -25,13 +25,15 @@ use Rattle.plan_order.specs.declared.Verdict.the-variants.{Fresh, Reusab
 abbrev pub Signals : Plan → (i s v : ℕ) → Type 0
 Signals p i s v = (x : Point) × List·Memᴰ x (op p i .signals) × (x .semaphore ≡ s) × (x .value ≡ v)
 
--- R17, resolution: operation i has the signal with the least value that reaches the wait; R18: none for a wait for 0
+-- R17, resolution: operation i has the signal with the least value that reaches the wait, the first of equal ones; R18:
+-- none for a wait for 0
 pub record Resolves (p : Plan) (w : Point) (i : ℕ) : Type 0 where
   pub above-zero : 0 < w .value
   pub value : ℕ
   pub signalled : Signals p i (w .semaphore) value
   pub enough : w .value ≤ value
   pub least : (k v : ℕ) → Signals p k (w .semaphore) v → w .value ≤ v → value ≤ v
+  pub first : (k : ℕ) → Signals p k (w .semaphore) value → i ≤ k
 
 -- R19, the steps of before
 pub record Directly (p : Plan) (i j : ℕ) : Type 0 where
@@ -47,10 +49,14 @@ abbrev pub In-column : Plan → (j q i : ℕ) → Type 0
 In-column p j q i = (i < count p) × (op p i .queue ≡ q) × ((i ≡ j) ⊎ Before p i j)
 
 -- ---- runs
--- R22: v is how far the semaphore has come in the run, 0 without a signal
+-- R83: v is how far the semaphore has come in the run, 0 without a signal
 pub record Highest-signalled (p : Plan) (s : ℕ) (r : List ℕ) (v : ℕ) : Type 0 where
   pub highest : (k u : ℕ) → k < length r → Signals p (getD r k 0) s u → u ≤ v
   pub signalled : 0 < v → (k : ℕ) × (k < length r) × Signals p (getD r k 0) s v
+
+-- R22, wait met: what it rests on has run, or it is for 0 (R18)
+abbrev pub Met : Plan → (has-run : ℕ → Type 0) → Point → Type 0
+Met p has w = (w .value ≡ 0) ⊎ ((i : ℕ) × Resolves p w i × has i)
 
 -- R21, run: the operation at step k is one of the plan, comes there for the first time, after all earlier ones of its
 -- queue, and with its waits met (R22)
@@ -58,8 +64,7 @@ pub record Run-step (p : Plan) (r : List ℕ) (k : ℕ) : Type 0 where
   pub operation : getD r k 0 < count p
   pub distinct : Among r k (getD r k 0) → ⊥
   pub earlier : (i : ℕ) → i < getD r k 0 → op p i .queue ≡ op p (getD r k 0) .queue → Among r k i
-  pub waits : (w : Point) → List·Memᴰ w (op p (getD r k 0) .waits) →
-      (v : ℕ) × Highest-signalled p (w .semaphore) (take k r) v × (w .value ≤ v)
+  pub waits : (w : Point) → List·Memᴰ w (op p (getD r k 0) .waits) → Met p (Among r k) w
 
 abbrev pub Run-means : Plan → List ℕ → Type 0
 Run-means p r = (k : ℕ) → k < length r → Run-step p r k
@@ -69,7 +74,7 @@ pub record Full-means (p : Plan) (r : List ℕ) : Type 0 where
   pub run : Run-means p r
   pub every : (i : ℕ) → i < count p → Among r (length r) i
 
--- R22, R25, after a run of a plan without refusals 6 to 8: what is directly before the operation has run
+-- R22, R25, after a run of a plan without refusal 8: what is directly before the operation has run
 pub record Ready-means (p : Plan) (r : List ℕ) (j : ℕ) : Type 0 where
   pub operation : j < count p
   pub not-run : Among r (length r) j → ⊥
@@ -102,6 +107,28 @@ pub record Raises-means (p : Plan) (r : List ℕ) : Type 0 where
   pub above-earlier-in-list : (k m n : ℕ) → k < length r → m < n → n < length (op p (getD r k 0) .signals) →
       signal-at p (getD r k 0) m .semaphore ≡ signal-at p (getD r k 0) n .semaphore →
       signal-at p (getD r k 0) m .value < signal-at p (getD r k 0) n .value
+
+-- ---- handovers
+-- R93: the signal at place l of operation j is the one before that at place k of operation i on their semaphore
+pub record Signal-before (p : Plan) (j l i k : ℕ) : Type 0 where
+  pub earlier-signal : Is-signal p j l
+  pub later-signal : Is-signal p i k
+  pub one-semaphore : signal-at p j l .semaphore ≡ signal-at p i k .semaphore
+  pub earlier : Earlier j l i k
+  pub last : (h m : ℕ) → Is-signal p h m → signal-at p h m .semaphore ≡ signal-at p i k .semaphore → Earlier h m i k →
+      Earlier j l h m → ⊥
+
+-- R93, handover: the operation of the signal before it is its own, or before its own
+abbrev pub In-turn : Plan → (i k : ℕ) → Type 0
+In-turn p i k = (j l : ℕ) → Signal-before p j l i k → (j ≡ i) ⊎ Before p j i
+
+abbrev pub All-in-turn : Plan → Type 0
+All-in-turn p = (i k : ℕ) → Is-signal p i k → In-turn p i k
+
+-- R94, refusal 17: the lowest operation with a signal out of turn
+pub record Lowest-out-of-turn (p : Plan) (i : ℕ) : Type 0 where
+  pub out-of-turn : (k j l : ℕ) × Signal-before p j l i k × ((j ≡ i) ⊎ Before p j i → ⊥)
+  pub lowest : (h k : ℕ) → h < i → Is-signal p h k → In-turn p h k
 
 -- ---- holdings
 abbrev pub mark-at : List Placed → (k : ℕ) → Placed
@@ -221,7 +248,15 @@ pub record Leaves-by (own : List ℕ) (o : Outcome) : Type 0 where
   pub zeros : (o .leaves ≡ zeros) ↔ One-of order-numbers (o .refusal .number)
   pub rows-and-run : (o .leaves ≡ rows-and-run) ↔ None-or own (o .refusal .number)
 
--- R53 to R55: the plan, by what 1 to 8 mean, then 9, 10 and 11, and no other number
+-- some run is full
+abbrev pub Full-run : Plan → Type 0
+Full-run p = (r : List ℕ) × Full-means p r
+
+-- no mark is broken
+abbrev pub All-forced : Plan → Type 0
+All-forced p = (b k : ℕ) → b < length (p .sizes) → k < length (buffer-marks p b) → Forced p b k
+
+-- R53 to R55: the plan, by what 1 to 8 mean, then 9, 10, 17 and 11, and no other number
 pub record Check-means (bytes : List ℕ) (table list : ℕ) (o : Outcome) : Type 0 where
   pub plan : Plan-refusal-means bytes (plan-refusal bytes)
   pub plan-first : (plan-refusal bytes .number ≡ 0 → ⊥) → (o .refusal ≡ plan-refusal bytes) × (o .leaves ≡ untouched)
@@ -229,13 +264,16 @@ pub record Check-means (bytes : List ℕ) (table list : ℕ) (o : Outcome) : Typ
       (i : ℕ) → Gives o 9 i untouched ↔
       ((plan-refusal bytes .number ≡ 0) × Refuses (room-refusal (count (plan-in bytes)) table list) 9 i)
   pub ten : (j : ℕ) → Gives o 10 j zeros ↔ (Unrefused bytes table list × Lowest-in-no-run (plan-in bytes) j)
+  pub seventeen :
+      (i : ℕ) → Gives o 17 i zeros ↔
+      (Unrefused bytes table list × Full-run (plan-in bytes) × Lowest-out-of-turn (plan-in bytes) i)
   pub eleven :
       (i : ℕ) → Gives o 11 i zeros ↔
-      (Unrefused bytes table list × ((r : List ℕ) × Full-means (plan-in bytes) r) × Lowest-broken (plan-in bytes) i)
+      (Unrefused bytes table list × Full-run (plan-in bytes) × All-in-turn (plan-in bytes) ×
+      Lowest-broken (plan-in bytes) i)
   pub passed :
-      Gives o 0 0 rows-and-run ↔ (Unrefused bytes table list × ((r : List ℕ) × Full-means (plan-in bytes) r) ×
-      ((b k : ℕ) → b < length (plan-in bytes .sizes) → k < length (buffer-marks (plan-in bytes) b) →
-      Forced (plan-in bytes) b k))
+      Gives o 0 0 rows-and-run ↔
+      (Unrefused bytes table list × Full-run (plan-in bytes) × All-in-turn (plan-in bytes) × All-forced (plan-in bytes))
   pub only : None-or check-gives (o .refusal .number)
   pub leaves : Leaves-by [] o
 

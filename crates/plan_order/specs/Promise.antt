@@ -15,15 +15,17 @@ use Rattle.plan_format.specs.Sizes.{row-width, plan-bytes, most-input}
 use Rattle.plan_format.specs.Refusal.{given}
 use Rattle.plan_format.specs.RefusalNumbers.{None-or, order-numbers}
 use Rattle.plan_format.specs.Plan.{Plan, count, op}
-use Rattle.plan_format.specs.Sound.{Sound}
+use Rattle.plan_format.specs.Sound.{Sound, waits-refusal}
 use Rattle.plan_format.specs.Limits.{Within, bytes-of}
 use Rattle.plan_format.specs.Stored.{all-bytes, plan-in, too-long, plan-refusal}
 use Rattle.plan_order.specs.Precedence.{direct, Before, before, at-or-before}
 use Rattle.plan_order.specs.Rows.{epoch, row, rows}
 use Rattle.plan_order.specs.Runs.{is-run, is-full, ahead, ready, raises-in-order, next, standard, run-list}
 use Rattle.plan_order.specs.Holdings.{Ask, asks, asked-of, met, keeps, marks-buffer}
+use Rattle.plan_order.specs.Handovers.{handovers}
+use Rattle.plan_order.specs.OnlyOwners.{Only-owners, By-owners}
 use Rattle.plan_format.specs.declared.Told.{Told}
-use Rattle.plan_order.specs.Meaning.{In-column, Check-means, Left-means}
+use Rattle.plan_order.specs.Meaning.{Signals, In-column, Ready-means, All-in-turn, Check-means, Left-means}
 use Rattle.plan_order.specs.Check.{room-refusal, order-refusal, Outcome, check-outcome, Check-says}
 use Rattle.plan_order.specs.Reuse.{verdict, reuse-outcome}
 use Rattle.plan_order.specs.AsBefore.{Checks-as-before}
@@ -53,9 +55,36 @@ pub record Broken-at (p : Plan) (i : ℕ) : Type 0 where
       (b : ℕ) (a : Ask) → List·Memᴰ a (asks p b) → asked-of a < i → (r : List ℕ) → is-full p r ≡ true →
       met (λ i j. ahead r i j) a ≡ true
 
--- demand 3: there is a full run, and all full runs keep all buffers
-abbrev pub Safe : Plan → Type 0
-Safe p = ((r : List ℕ) × (is-full p r ≡ true)) × ((r : List ℕ) (b : ℕ) → is-full p r ≡ true → keeps p r b ≡ true)
+-- R94, refusal 17: some full run does not raise a semaphore in order that operation i signals: it has i at an earlier
+-- step than an operation with a lower signal on that semaphore; and every full run has the handovers of lower
+-- operations
+pub record Disordered-at (p : Plan) (i : ℕ) : Type 0 where
+  pub inside : i < count p
+  pub run : List ℕ
+  pub full : is-full p run ≡ true
+  pub unraised : raises-in-order p run ≡ false
+  pub semaphore : ℕ
+  pub value : ℕ
+  pub signals : Signals p i semaphore value
+  pub other : ℕ
+  pub lower-value : ℕ
+  pub other-signals : Signals p other semaphore lower-value
+  pub falls : lower-value < value
+  pub too-soon : ahead run i other ≡ true
+  pub ask : Ask
+  pub among : List·Memᴰ ask (handovers p)
+  pub own : ask .then ≡ i
+  pub unmet : met (λ i j. ahead run i j) ask ≡ false
+  pub lower :
+      (a : Ask) → List·Memᴰ a (handovers p) → a .then < i → (r : List ℕ) → is-full p r ≡ true →
+      met (λ i j. ahead r i j) a ≡ true
+
+-- demand 3: there is a full run, and all full runs raise all semaphores in order and keep all buffers
+pub record Safe (p : Plan) : Type 0 where
+  pub run : List ℕ
+  pub full : is-full p run ≡ true
+  pub raised : (r : List ℕ) → is-full p r ≡ true → raises-in-order p r ≡ true
+  pub kept : (r : List ℕ) (b : ℕ) → is-full p r ≡ true → keeps p r b ≡ true
 
 -- the number and place handed back for a plan with none of refusals 1 to 9
 pub record Demand-3 (p : Plan) (number place : ℕ) : Type 0 where
@@ -64,8 +93,12 @@ pub record Demand-3 (p : Plan) (number place : ℕ) : Type 0 where
   pub passed-place : number ≡ 0 → place ≡ 0
   pub never-stuck :
       number ≡ 0 → (r : List ℕ) → is-run p r ≡ true → length r < count p → (j : ℕ) × (is-run p (r ++ (j ∷ [])) ≡ true)
-  pub raises : (r : List ℕ) → is-run p r ≡ true → raises-in-order p r ≡ true
+  -- full or not, and also where only a mark is broken
+  pub raises : (number ≡ 0) ⊎ (number ≡ 11) → (r : List ℕ) → is-run p r ≡ true → raises-in-order p r ≡ true
+  -- and in a stuck plan whose signals are in turn
+  pub in-turn-raises : All-in-turn p → (r : List ℕ) → is-run p r ≡ true → raises-in-order p r ≡ true
   pub stuck : number ≡ 10 → Stuck-at p place
+  pub disordered : number ≡ 17 → Disordered-at p place
   pub broken : number ≡ 11 → Broken-at p place
 
 -- none of refusals 1 to 9
@@ -146,12 +179,17 @@ Never-stuck =
     (j : ℕ) × (ready (plan-in bs) r j ≡ true)
 
 unfoldable pub Raises : Type 0
-Raises = (bs r : List ℕ) → good bs ≡ true → is-run (plan-in bs) r ≡ true → raises-in-order (plan-in bs) r ≡ true
+Raises = (bs r : List ℕ) → passed bs ≡ true → is-run (plan-in bs) r ≡ true → raises-in-order (plan-in bs) r ≡ true
 
 unfoldable pub Stuck-truly : Type 0
 Stuck-truly =
     (bs : List ℕ) → good bs ≡ true → order-refusal (plan-in bs) .number ≡ 10 →
     Stuck-at (plan-in bs) (order-refusal (plan-in bs) .place)
+
+unfoldable pub Disordered-truly : Type 0
+Disordered-truly =
+    (bs : List ℕ) → good bs ≡ true → order-refusal (plan-in bs) .number ≡ 17 →
+    Disordered-at (plan-in bs) (order-refusal (plan-in bs) .place)
 
 unfoldable pub Broken-truly : Type 0
 Broken-truly =
@@ -183,8 +221,8 @@ pub record First-bytes (bs : List ℕ) : Type 0 where
 abbrev pub check-outcome-in : (bytes table list : List ℕ) → Outcome
 check-outcome-in bs t l = check-outcome bs (length t) (length l)
 
--- what a caller of the check gets: what it hands back and leaves, by its definition, by quantifiers and by index, and
--- demands 3 and 2
+-- what a caller of the check gets: what it hands back and leaves, by its definition, by quantifiers and by index,
+-- demands 3 and 2, and what stays where only owners signal
 pub record Checked (bytes : List ℕ) (r : Told) (table table-now list list-now : List ℕ) : Type 0 where
   pub says : Check-says bytes r table table-now list list-now
   -- the number and the place are those of the outcome of which `means` speaks
@@ -196,6 +234,10 @@ pub record Checked (bytes : List ℕ) (r : Told) (table table-now list list-now 
   pub demand-3 : Demand-3-stored bytes (length table) (length list) (r .number) (r .place)
   pub demand-2 : r .number ≡ 0 → Demand-2 (plan-in bytes) table-now
   pub left : Left-means (plan-in bytes) (check-outcome-in bytes table list .leaves) table table-now list list-now
+  pub owners : Only-owners (plan-in bytes) → By-owners bytes r table table-now list list-now
+  -- R25, ready after a run of a plan whose waits are all reached: what is directly before it has run
+  pub readies : waits-refusal 0 (plan-in bytes) (plan-in bytes .operations) .number ≡ 0 → (run : List ℕ) (j : ℕ) →
+      is-run (plan-in bytes) run ≡ true → (ready (plan-in bytes) run j ≡ true) ↔ Ready-means (plan-in bytes) run j
   pub demand-3-of-plans : Demand-3-of-plans bytes (length table) (length list) (r .number) (r .place)
   pub first-bytes : First-bytes bytes
   pub as-before : Checks-as-before bytes r table table-now list list-now

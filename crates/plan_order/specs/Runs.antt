@@ -1,25 +1,31 @@
 -- Runs of a plan, raising in order, and the standard run. Assumes nothing: these are definitions.
-use mathlib.Core.Bool.{Bool, true, _&&_, _||_, not}
+use mathlib.Core.Bool.{Bool, true, false, _&&_, _||_, not}
 use mathlib.Core.List.{List, [], _∷_, _++_}
 use mathlib.Core.Option.{Option}
 use Prim.Native.Nat.{ℕ, max}
-use lib.Dec.{ltb, leb, eqb}
+use lib.Dec.{ltb, eqb}
 use lib.ListN.{length}
 use Rattle.base_lists.specs.Lists.{member, all, all-below, tally, first-below, lowest-below, is-some}
 use Rattle.order.specs.Runs.{can, runs, step-of}
 use Rattle.order.specs.Greedy.{greedy}
 use Rattle.plan_format.specs.Plan.{Point, Plan, count, op, queues}
 use Rattle.plan_format.specs.Sound.{highest-in}
-use Rattle.plan_order.specs.Precedence.{same-queue}
+use Rattle.plan_order.specs.Precedence.{Resolution, at-once, on, never, resolve, same-queue}
 
--- R22: how far a semaphore has come in a run
+-- R83: how far a semaphore has come in a run, the highest value signalled
 unfoldable pub reached : Plan → (s : ℕ) → (run : List ℕ) → ℕ
 reached p s [] = 0
 reached p s (i ∷ is) = max (highest-in s (op p i .signals)) (reached p s is)
 
--- R22, wait met: the semaphore has come to the value; R18: to 0 it has from the start
+-- R22: what a wait rests on has run; R18: one for 0 rests on nothing; one that no signal reaches is never met
+unfoldable pub rested : (run : List ℕ) → Resolution → Bool
+rested r at-once = true
+rested r (on x) = member (x .operation) r
+rested r never = false
+
+-- R22, wait met
 unfoldable pub wait-met : Plan → (run : List ℕ) → Point → Bool
-wait-met p r w = leb (w .value) (reached p (w .semaphore) r)
+wait-met p r w = rested r (resolve p w)
 
 -- R21: all earlier operations of the queue are in the run
 unfoldable pub earlier-run : Plan → (run : List ℕ) → (j : ℕ) → Bool

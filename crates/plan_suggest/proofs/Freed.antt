@@ -4,7 +4,7 @@ use mathlib.Core.Path.{_≡_, sym, ap, _∙_, subst}
 use mathlib.Core.Bool.{true, false, _&&_}
 use mathlib.Core.Logic.{inr}
 use mathlib.Core.List.{List, [], _∷_, _++_, List·Memᴰ, List·Memᴰ·not-nil, List·Memᴰ·cases-cons}
-use Prim.Native.Nat.{ℕ, zero, suc, _≤_, _<_}
+use Prim.Native.Nat.{ℕ, zero, suc, _<_}
 use native.Mathlib.Nat.{not-suc-le-zero}
 use native.Mathlib.Omega.{arith}
 use lib.Dec.{ltb}
@@ -16,15 +16,14 @@ use Rattle.plan_format.specs.Plan.{Point, Operation, Plan, count, op, queues}
 use Rattle.plan_format.specs.Sound.{highest, too-high, any-too-high, In-range, Sound}
 use Rattle.plan_format.specs.Meaning.{signal-at, Is-signal}
 use Rattle.plan_format.proofs.RulesFirst.{signal-inside}
-use Rattle.plan_order.specs.Runs.{reached, is-full}
-use Rattle.plan_order.specs.Holdings.{buffer-marks}
+use Rattle.plan_order.specs.Precedence.{resolve}
+use Rattle.plan_order.specs.Runs.{wait-met, is-full}
 use Rattle.plan_order.specs.Check.{order-refusal, plan-outcome}
-use Rattle.plan_order.specs.Meaning.{Forced, Last-on, When}
+use Rattle.plan_order.specs.Meaning.{All-in-turn, All-forced, Last-on, When}
 use Rattle.plan_order.specs.declared.Verdict.the-variants.{Reusable, NotOrdered}
-use Rattle.plan_order.proofs.Signals.{value-under, highest-over}
-use Rattle.plan_order.proofs.Readiness.{reached-has}
+use Rattle.plan_order.proofs.Signals.{highest-over}
 use Rattle.plan_order.proofs.Standard.{full-has}
-use Rattle.plan_order.proofs.RunMeaning.{full-means}
+use Rattle.plan_order.proofs.RunMeaning.{rested-on, full-means}
 use Rattle.plan_order.proofs.VerdictMeaning.{verdict-means}
 use Rattle.plan_order.proofs.Outcomes.{outcome-of-plan}
 use Rattle.plan_order.proofs.Demand3.{demand-3}
@@ -32,9 +31,9 @@ use Rattle.plan_change.specs.Longer.{with-last, waiting, longer}
 use Rattle.plan_change.proofs.Longer.{last-count, last-op, waiting-silent, waiting-unmarked}
 use Rattle.plan_change.proofs.LongerRuns.{last-full}
 use Rattle.plan_change.proofs.LongerSound.{last-sound}
-use Rattle.plan_change.proofs.LongerPasses.{runs-and-keeps, sound-passes, last-forced}
+use Rattle.plan_change.proofs.LongerPasses.{runs-and-keeps, sound-passes, last-in-turn, last-forced}
 use Rattle.plan_suggest.specs.Meaning.{Wait-frees, First-freeing, Freed}
-use Rattle.plan_suggest.proofs.Freeing.{same-marks, value-there}
+use Rattle.plan_suggest.proofs.Freeing.{same-marks, value-there, rests-there}
 
 module _ (p : Plan) (sound : Sound p) (q : ℕ) (known : q < queues p) (i k : ℕ) (signal : Is-signal p i k) where
   abbrev wait : Point
@@ -76,18 +75,17 @@ module _ (p : Plan) (sound : Sound p) (q : ℕ) (known : q < queues p) (i k : �
 
   -- ---- a full run
   module _ (r : List ℕ) (full : is-full p r ≡ true) where
-    reached-there : (w : Point) → List·Memᴰ w (new .waits) → w .value ≤ reached p (w .semaphore) r
-    unfolding waiting
-    reached-there w m =
+    met-there : (w : Point) → List·Memᴰ w (new .waits) → wait-met p r w ≡ true
+    unfolding waiting wait-met
+    met-there w m =
         either (List·Memᴰ·cases-cons m)
-        (λ e. subst (λ (z : Point). z .value ≤ reached p (z .semaphore) r) (sym e)
-        (let value = value-under (wait .semaphore) (wait .value) (op p i .signals) (value-there p sound i k signal) in
-        let has = full-has p r full i (signal-inside p i k signal) in
-        omega (arith, value, reached-has p (wait .semaphore) r i has)))
+        (λ e. subst (λ (z : Point). wait-met p r z ≡ true) (sym e)
+        (rested-on p r (resolve p wait) i (rests-there p sound i k signal)
+        (full-has p r full i (signal-inside p i k signal))))
         (λ u. absurd (List·Memᴰ·not-nil u))
 
     there-full : is-full there (r ++ (count p ∷ [])) ≡ true
-    there-full = last-full p new r full reached-there
+    there-full = last-full p new (waiting-silent q wait) r full met-there
 
   -- ---- reusable
   last-there : Last-on there q (count p)
@@ -104,13 +102,13 @@ module _ (p : Plan) (sound : Sound p) (q : ℕ) (known : q < queues p) (i k : �
       let last = w .1 in
       (w .0, (last .0, same-marks p q b wait ∙ last .1), w .2, λ j marked. (count p, last-there, inr (frees j marked)))
 
-  module _ (r : List ℕ) (full : is-full p r ≡ true)
-      (forced : (b n : ℕ) → b < length (p .sizes) → n < length (buffer-marks p b) → Forced p b n)
+  module _ (r : List ℕ) (full : is-full p r ≡ true) (in-turn : All-in-turn p) (forced : All-forced p)
       (few : count p < most-operations) where
     there-passes : order-refusal there .number ≡ 0
     unfolding with-last
     there-passes =
         runs-and-keeps there (there-sound few) (r ++ (count p ∷ [])) (there-full r full)
+        (last-in-turn p new (waiting-silent q wait) (waiting-unmarked q wait) in-turn)
         (last-forced p new (waiting-silent q wait) (waiting-unmarked q wait) forced)
 
     there-freed : (b : ℕ) → When p q b NotOrdered → Wait-frees p q b wait → Freed there q b
@@ -126,10 +124,11 @@ module _ (p : Plan) (sound : Sound p) (q : ℕ) (known : q < queues p) (i k : �
     }
 
 -- ---- by the first signal that frees
-pub freed : (p : Plan) → Sound p → (r : List ℕ) → is-full p r ≡ true →
-    ((b n : ℕ) → b < length (p .sizes) → n < length (buffer-marks p b) → Forced p b n) → count p < most-operations →
+pub freed : (p : Plan) → Sound p → (r : List ℕ) → is-full p r ≡ true → All-in-turn p → All-forced p →
+    count p < most-operations →
     (q b s v : ℕ) → q < queues p → When p q b NotOrdered → First-freeing p q b s v →
     Freed (longer p q (record { semaphore = s; value = v })) q b
-freed p sound r full forced few q b s v known w first =
+freed p sound r full in-turn forced few q b s v known w first =
     subst (λ (z : Point). Freed (longer p q z) q b) (first .point)
-    (there-freed p sound q known (first .operation) (first .place) (first .signal) r full forced few b w (first .frees))
+    (there-freed p sound q known (first .operation) (first .place) (first .signal) r full in-turn forced few b w
+    (first .frees))

@@ -5,7 +5,7 @@ use mathlib.Core.Bool.{Bool, true, false≢true}
 use mathlib.Core.Logic.{inl, inr, _↔_}
 use mathlib.Core.List.{List, List·Memᴰ, List·Memᴰ·head, List·Memᴰ·not-nil, List·Memᴰ·cases-cons}
 use Prim.Native.Nat.{ℕ, _<_}
-use native.Mathlib.Nat.{le-refl}
+use native.Mathlib.Nat.{le-refl, lt-irrefl}
 use native.Mathlib.Omega.{arith}
 use lib.Dec.{ltb, eqb}
 use lib.ListN.{length}
@@ -22,13 +22,13 @@ use Rattle.plan_order.specs.Precedence.{Resolution, at-once, on, never, resolve
 use Rattle.plan_order.specs.Holdings.{Placed, buffer-marks}
 use Rattle.plan_order.specs.Reuse.{last-on}
 use Rattle.plan_order.specs.Meaning.{Forced, Marked, Last-mark, Seen}
-use Rattle.plan_order.proofs.Signals.{signals-value, signal-facts}
+use Rattle.plan_order.proofs.Signals.{signals-value, signal-above as above-earlier, rises}
 use Rattle.plan_order.proofs.Readiness.{by-queue, direct-by}
-use Rattle.plan_order.proofs.Precedence.{before-chain, chain-before, at-or-means}
+use Rattle.plan_order.proofs.Precedence.{before-chain, chain-before, At, at-join, at-or-means}
 use Rattle.plan_order.proofs.OrderMeaning.{signals-means, rests-means}
 use Rattle.plan_order.proofs.MarksMeaning.{mark-marked, marked-mark}
 use Rattle.plan_order.proofs.VerdictMeaning.{last-means, last-in}
-use Rattle.plan_order.proofs.LastFree.{At, at-join, marked-by-free}
+use Rattle.plan_order.proofs.LastFree.{marked-by-free}
 use Rattle.plan_order.proofs.Demand3.{rules-good}
 use Rattle.plan_change.specs.Longer.{waiting, longer}
 use Rattle.plan_change.proofs.Longer.{Because, same-queue, waited-for, Before-last, new-before, waiting-silent}
@@ -80,17 +80,22 @@ module _ (p : Plan) (sound : Sound p) (i k : ℕ) (signal : Is-signal p i k) whe
   signal-above =
       let good = rules-good p sound .0 in
       let inside = signal-inside p i k signal in
-      omega (arith, signal-facts p good i (wait .semaphore) (wait .value) inside value-there .1)
+      omega (arith, above-earlier p good i (wait .semaphore) (wait .value) inside value-there)
 
   -- R17: on the signal's operation
   pub rests-there : rests-on (resolve p wait) i ≡ true
   rests-there =
-      rests-means p (rules-good p sound .0) wait i .1 (record {
+      rests-means p wait i .1 (record {
         above-zero = signal-above;
         value = wait .value;
         signalled = (wait, mem-at (op p i .signals) (record { semaphore = 0; value = 0 }) k signal, refl, refl);
         enough = le-refl (wait .value);
         least = λ n v s h. h;
+        first = λ n s. by-cases (ltb n i)
+            (λ t. absurd (lt-irrefl (wait .value) (rises p (rules-good p sound .0) n i (wait .semaphore) (wait .value)
+            (wait .value) (ltb-true n i t) (signal-inside p i k signal)
+            (signals-means p n (wait .semaphore) (wait .value) .1 s) value-there)))
+            (λ f. ltb-false n i f);
       })
 
 -- ---- an operation at or before one of the queue is seen

@@ -63,8 +63,8 @@ module _ (bs : List ℕ) (q b : ℕ) (r : Told) (a : Advice) (t x l y : List ℕ
         let checked = check-means bs (length t) (length l) .passed .0 ((passes, place), leaves) in
         let run = checked .1 in
         let case = advised .wait v u .0 e in
-        freed plan (sound-in bs (checked .0 .0)) (run .0) (full-means plan (run .0) .1 (run .1)) (checked .2) few q b
-        v u (w .queue) (case .0) (case .1)
+        freed plan (sound-in bs (checked .0 .0)) (run .0) (full-means plan (run .0) .1 (run .1)) (checked .2)
+        (checked .3) few q b v u (w .queue) (case .0) (case .1)
 
   -- ---- beside a refusal
   nothing-is : given refused ≡ true → a ≡ NoneNeeded

@@ -1,138 +1,33 @@
--- The signals of a plan in one list: each is where it says, every signal of every operation is there, and they are in
--- plan order and then in list order. Assumes nothing.
-use mathlib.Core.Path.{_≡_, sym, ap, _∙_, subst, subst₂}
-use mathlib.Core.Logic.{inl, inr}
-use mathlib.Core.List.{List, [], _∷_, List·Memᴰ, List·Memᴰ·head, List·Memᴰ·tail, List·Memᴰ·not-nil}
-use mathlib.Core.List.{List·Memᴰ·cases-cons, List·Memᴰ·append-cases, Memᴰ·append-left, Memᴰ·append-right}
-use Prim.Native.Nat.{ℕ, zero, suc, _+_, _<_}
-use native.Mathlib.Nat.{not-suc-le-zero, le-of-suc-le-suc, zero-add}
-use native.Mathlib.Omega.{arith}
+-- The signals of a plan by their places in one list: each is where it says, every signal of every operation is there,
+-- and they are in plan order and then in list order. Assumes nothing.
+use mathlib.Core.Path.{_≡_, sym, ap}
+use Prim.Native.Nat.{ℕ, _<_}
 use lib.ListN.{length, getD}
-use Rattle.base_lists.proofs.Tests.{either}
 use Rattle.base_lists.proofs.Places.{mem-place, mem-at}
-use Rattle.base_lists.proofs.Pairwise.{Pairwise, pairwise-nil, pairwise-cons, pairwise-append}
-use Rattle.plan_format.specs.Plan.{Point, Operation, Plan, empty-operation, op}
+use Rattle.plan_format.specs.Plan.{Point, Plan}
 use Rattle.plan_format.specs.Meaning.{signal-at, Is-signal, Earlier}
-use Rattle.plan_order.specs.Precedence.{Signal, no-signal, signals-of, signals-from, plan-signals}
+use Rattle.plan_order.specs.Precedence.{Signal, no-signal, plan-signals}
+use Rattle.plan_order.proofs.SignalPlaces.{signal, plan-signal, signal-there, signal-in, plan-rising}
 use Rattle.plan_suggest.specs.Suggest.{wait-for}
 
-abbrev no-point : Point
-no-point = record { semaphore = 0; value = 0 }
-
--- the signal at a place of an operation's list
-signal : (i k : ℕ) → Point → Signal
-signal i k w = record { operation = i; position = k; semaphore = w .semaphore; value = w .value }
-
--- ---- each is where it says
-of-only : (i n : ℕ) (xs : List Point) (y : Signal) → List·Memᴰ y (signals-of i n xs) →
-    (k : ℕ) × (k < length xs) × (y ≡ signal i (n + k) (getD xs k no-point))
-unfolding signals-of signal
-of-only i n [] y m = absurd (List·Memᴰ·not-nil m)
-of-only i n (x ∷ xs) y m =
-    either (List·Memᴰ·cases-cons m)
-    (λ e. (0, omega arith, e ∙ ap (λ (z : ℕ). signal i z x) (let q : n ≡ n + 0 = omega arith in q)))
-    (λ t. let w = of-only i (suc n) xs y t in (
-      suc (w .0),
-      omega (arith, w .1),
-      w .2 ∙ ap (λ (z : ℕ). signal i z (getD xs (w .0) no-point))
-          (let q : suc n + w .0 ≡ n + suc (w .0) = omega arith in q),
-    ))
-
-from-only : (i : ℕ) (os : List Operation) (y : Signal) → List·Memᴰ y (signals-from i os) →
-    (j k : ℕ) × (k < length (getD os j empty-operation .signals)) ×
-    (y ≡ signal (i + j) k (getD (getD os j empty-operation .signals) k no-point))
-unfolding signals-from
-from-only i [] y m = absurd (List·Memᴰ·not-nil m)
-from-only i (o ∷ os) y m =
-    either (List·Memᴰ·append-cases (signals-of i 0 (o .signals)) m)
-    (λ t. let w = of-only i 0 (o .signals) y t in
-    (0, w .0, w .1, w .2 ∙ same i (w .0) (getD (o .signals) (w .0) no-point)))
-    (λ t. let w = from-only (suc i) os y t in (
-      suc (w .0),
-      w .1,
-      w .2,
-      w .3 ∙ ap (λ (z : ℕ). signal z (w .1) (getD (getD os (w .0) empty-operation .signals) (w .1) no-point))
-          (let q : suc i + w .0 ≡ i + suc (w .0) = omega arith in q),
-    ))
-  where
-    same : (i k : ℕ) (x : Point) → signal i (0 + k) x ≡ signal (i + 0) k x
-    same i k x =
-        ap (λ (z : ℕ). signal i z x) (zero-add k) ∙ ap (λ (z : ℕ). signal z k x) (let q : i ≡ i + 0 = omega arith in q)
-
--- ---- every signal is there
-of-every : (i n k : ℕ) (xs : List Point) → k < length xs →
-    List·Memᴰ (signal i (n + k) (getD xs k no-point)) (signals-of i n xs)
-unfolding signals-of signal
-of-every i n k [] l = absurd (not-suc-le-zero l)
-of-every i n zero (x ∷ xs) l =
-    List·Memᴰ·head (ap (λ (z : ℕ). signal i z x) (let q : n + 0 ≡ n = omega arith in q))
-of-every i n (suc k) (x ∷ xs) l =
-    List·Memᴰ·tail (subst (λ (z : ℕ). List·Memᴰ (signal i z (getD xs k no-point)) (signals-of i (suc n) xs))
-    (let q : suc n + k ≡ n + suc k = omega arith in q) (of-every i (suc n) k xs (le-of-suc-le-suc l)))
-
-from-every : (i j k : ℕ) (os : List Operation) → k < length (getD os j empty-operation .signals) →
-    List·Memᴰ (signal (i + j) k (getD (getD os j empty-operation .signals) k no-point)) (signals-from i os)
-unfolding signals-from
-from-every i j k [] l = absurd (not-suc-le-zero l)
-from-every i zero k (o ∷ os) l =
-    Memᴰ·append-left (signals-from (suc i) os)
-    (subst₂ (λ (y z : ℕ). List·Memᴰ (signal y z (getD (o .signals) k no-point)) (signals-of i 0 (o .signals)))
-    (let q : i ≡ i + 0 = omega arith in q) (zero-add k) (of-every i 0 k (o .signals) l))
-from-every i (suc j) k (o ∷ os) l =
-    let x = getD (getD os j empty-operation .signals) k no-point in
-    Memᴰ·append-right (signals-of i 0 (o .signals))
-    (subst (λ (z : ℕ). List·Memᴰ (signal z k x) (signals-from (suc i) os))
-    (let q : suc i + j ≡ i + suc j = omega arith in q) (from-every (suc i) j k os l))
-
--- ---- in order
-abbrev Sooner : (x y : Signal) → Type 0
-Sooner x y = Earlier (x .operation) (x .position) (y .operation) (y .position)
-
-of-rising : (i n : ℕ) (xs : List Point) → Pairwise Sooner no-signal (signals-of i n xs)
-unfolding signals-of signal
-of-rising i n [] = pairwise-nil Sooner no-signal
-of-rising i n (x ∷ xs) =
-    pairwise-cons Sooner no-signal (signal i n x) (signals-of i (suc n) xs)
-    (λ y t. let w = of-only i (suc n) xs y t in
-    inr (sym (ap (λ (z : Signal). z .operation) (w .2)), omega (arith, ap (λ (z : Signal). z .position) (w .2))))
-    (of-rising i (suc n) xs)
-
-from-rising : (i : ℕ) (os : List Operation) → Pairwise Sooner no-signal (signals-from i os)
-unfolding signals-from signal
-from-rising i [] = pairwise-nil Sooner no-signal
-from-rising i (o ∷ os) =
-    pairwise-append Sooner no-signal (signals-of i 0 (o .signals)) (signals-from (suc i) os)
-    (λ x y t u.
-    let v = of-only i 0 (o .signals) x t in
-    let w = from-only (suc i) os y u in
-    inl (omega (arith, ap (λ (z : Signal). z .operation) (v .2), ap (λ (z : Signal). z .operation) (w .3))))
-    (of-rising i 0 (o .signals)) (from-rising (suc i) os)
-
--- ---- of a plan
 module _ (p : Plan) where
   abbrev pub at : (n : ℕ) → Signal
   at n = getD (plan-signals p) n no-signal
 
   pub place-signal : (n : ℕ) → n < length (plan-signals p) →
       Is-signal p (at n .operation) (at n .position) × (signal-at p (at n .operation) (at n .position) ≡ wait-for p n)
-  unfolding plan-signals op signal wait-for
+  unfolding signal wait-for
   place-signal n l =
-      let w = from-only 0 (p .operations) (at n) (mem-at (plan-signals p) no-signal n l) in
-      let i : w .0 ≡ at n .operation = sym (zero-add (w .0)) ∙ sym (ap (λ (z : Signal). z .operation) (w .3)) in
-      let k : w .1 ≡ at n .position = sym (ap (λ (z : Signal). z .position) (w .3)) in (
-        subst₂ (λ (x y : ℕ). Is-signal p x y) i k (w .2),
-        subst₂ (λ (x y : ℕ). signal-at p x y ≡ wait-for p n) i k
-            (ap {B = Point} (λ z. record { semaphore = z .semaphore; value = z .value }) (sym (w .3))),
-      )
+      let w = signal-there p (at n) (mem-at (plan-signals p) no-signal n l) in
+      (w .0, ap {B = Point} (λ z. record { semaphore = z .semaphore; value = z .value }) (sym (w .1)))
 
   pub signal-place : (i k : ℕ) → Is-signal p i k →
       (n : ℕ) × (n < length (plan-signals p)) × (at n .operation ≡ i) × (at n .position ≡ k)
-  unfolding plan-signals op signal
+  unfolding signal
   signal-place i k l =
-      let w = mem-place (plan-signals p) no-signal _ (from-every 0 i k (p .operations) l) in
-      (w .0, w .1, ap (λ (z : Signal). z .operation) (w .2) ∙ zero-add i, ap (λ (z : Signal). z .position) (w .2))
+      let w = mem-place (plan-signals p) no-signal (plan-signal p i k) (signal-in p i k l) in
+      (w .0, w .1, ap (λ (z : Signal). z .operation) (w .2), ap (λ (z : Signal). z .position) (w .2))
 
   pub signals-rise : (m n : ℕ) → m < n → n < length (plan-signals p) →
       Earlier (at m .operation) (at m .position) (at n .operation) (at n .position)
-  unfolding plan-signals
-  signals-rise m n l inside = from-rising 0 (p .operations) m n l inside
+  signals-rise m n l inside = plan-rising p m n l inside

@@ -8,8 +8,9 @@ use Rattle.base_lists.specs.Lists.{member, all, all-below, tally, first-from, w
 use Rattle.plan_format.specs.Grammar.{value}
 use Rattle.plan_format.specs.Plan.{Point, Plan, count, op}
 use Rattle.plan_format.specs.Sound.{highest-in}
-use Rattle.plan_order.specs.Precedence.{same-queue}
-use Rattle.plan_order.specs.Runs.{reached, wait-met, earlier-run}
+use Rattle.plan_order.specs.Precedence.{signals-of, signals-from, plan-signals, reaches, nearer, nearest, resolution-of}
+use Rattle.plan_order.specs.Precedence.{resolve, same-queue}
+use Rattle.plan_order.specs.Runs.{reached, rested, wait-met, earlier-run}
 use Rattle.plan_trace.specs.Trace.{step-count, step-at, trace-steps, unmet-wait, of-wait, judged, departs, found}
 use Rattle.plan_trace.specs.Trace.{at-end, follow, followed}
 use Rattle.plan_trace.specs.State.{queue-count, queue-counts, semaphore-values, state-of, trace-state, traced-of}
@@ -66,7 +67,8 @@ unfolding chain told step-count step-at trace-steps unmet-wait of-wait judged de
     queue-count queue-counts
     semaphore-values state-of trace-state traced-of number-of operation-of wait-of found-numbers member all all-below
     tally first-from
-    when-true tabulate-from value count op highest-in same-queue reached wait-met earlier-run orElse
+    when-true tabulate-from value count op highest-in same-queue reached rested wait-met earlier-run orElse
+    signals-of signals-from plan-signals reaches nearer nearest resolution-of resolve
 chain-traces = refl
 
 -- the second of a queue before the first; and nothing of no plan, which is full
@@ -77,5 +79,6 @@ unfolding pair empty told step-count step-at trace-steps unmet-wait of-wait judg
     queue-count
     queue-counts semaphore-values state-of trace-state traced-of number-of operation-of wait-of found-numbers member all
     all-below tally
-    first-from when-true tabulate-from value count op highest-in same-queue reached wait-met earlier-run orElse
+    first-from when-true tabulate-from value count op highest-in same-queue reached rested wait-met earlier-run orElse
+    signals-of signals-from plan-signals reaches nearer nearest resolution-of resolve
 pair-traces = refl

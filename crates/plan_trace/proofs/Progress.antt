@@ -17,7 +17,7 @@ use Rattle.order.specs.Closure.{once}
 use Rattle.order.proofs.Columns.{Initial, initial-reaches, reaches-initial}
 use Rattle.plan_format.specs.Sizes.{most-queues}
 use Rattle.plan_format.specs.Plan.{Point, Plan, count, op}
-use Rattle.plan_format.specs.Sound.{signals-refusal, waits-refusal}
+use Rattle.plan_format.specs.Sound.{waits-refusal}
 use Rattle.plan_order.specs.Precedence.{
   Resolution,
   at-once,
@@ -31,20 +31,21 @@ use Rattle.plan_order.specs.Precedence.{
 }
 use Rattle.plan_order.specs.Rows.{epoch}
 use Rattle.plan_order.specs.Runs.{wait-met, earlier-run, is-run, is-full}
-use Rattle.plan_order.proofs.Readiness.{earlier-gives, earlier-by, queue-in, by-queue, direct-by, wait-met-means}
+use Rattle.plan_order.proofs.Readiness.{earlier-gives, earlier-by, queue-in, by-queue, direct-by, own-wait-met}
 use Rattle.plan_order.proofs.Precedence.{chain-before, before-steps}
 use Rattle.plan_order.proofs.Rows.{on-queue, entry, own, own-is}
 use Rattle.plan_trace.specs.State.{queue-count, queue-counts}
 use Rattle.plan_trace.proofs.StateMeaning.{counts-at, counts-long}
 
--- what a wait rests on has run; a wait that rests on nothing is met
-unfoldable pub rested : (run : List ℕ) → Resolution → Bool
-rested r at-once = true
-rested r (on x) = member (x .operation) r
-rested r never = true
+-- what a wait rests on has run, or it rests on nothing
+unfoldable pub rested-or-none : (run : List ℕ) → Resolution → Bool
+rested-or-none r at-once = true
+rested-or-none r (on x) = member (x .operation) r
+rested-or-none r never = true
 
-rested-means : (r : List ℕ) (y : Resolution) → (rested r y ≡ true) ↔ ((i : ℕ) → rests-on y i ≡ true → member i r ≡ true)
-unfolding rested rests-on
+rested-means : (r : List ℕ) (y : Resolution) →
+    (rested-or-none r y ≡ true) ↔ ((i : ℕ) → rests-on y i ≡ true → member i r ≡ true)
+unfolding rested-or-none rests-on
 rested-means r at-once = ((λ _ i t. absurd (false≢true t)), (λ _. refl))
 rested-means r (on x) = (
   (λ m i t. subst (λ (z : ℕ). member z r ≡ true) (eqb-true (x .operation) i t) m),
@@ -53,8 +54,7 @@ rested-means r (on x) = (
 rested-means r never = ((λ _ i t. absurd (false≢true t)), (λ _. refl))
 
 -- ---- the own entry of a row is the epoch
-module _ (p : Plan) (signals-good : signals-refusal 0 p [] (p .operations) .number ≡ 0) (f : List ℕ)
-    (full : is-full p f ≡ true) where
+module _ (p : Plan) (f : List ℕ) (full : is-full p f ≡ true) where
   -- what is earlier on the queue is before, and what is later is not
   queue-order : (i j : ℕ) → i < count p → j < count p → op p i .queue ≡ op p j .queue → at-or-before p i j ≡ leb i j
   unfolding at-or-before
@@ -67,10 +67,10 @@ module _ (p : Plan) (signals-good : signals-refusal 0 p [] (p .operations) .numb
       (by-queue (omega (arith, leb-true i j t, eqb-false i j ne)) q)))) ∙ sym t))
       (λ g. is-false (eqb i j || before p i j) (λ t.
       let later : j < i = leb-false i j g in
-      let back = before-steps p signals-good f full j i
+      let back = before-steps p f full j i
       (chain-before p j i (once j i (direct-by p j i b a (by-queue later (sym q))))) in
       either (or-cases (eqb i j) (before p i j) t) (λ e. omega (arith, eqb-true i j e))
-      (λ c. omega (arith, before-steps p signals-good f full i j c))) ∙ sym g)
+      (λ c. omega (arith, before-steps p f full i j c))) ∙ sym g)
 
   pub own-entry : (j : ℕ) → j < count p → entry p j (op p j .queue) ≡ epoch p j
   unfolding entry on-queue own
@@ -81,6 +81,15 @@ module _ (p : Plan) (signals-good : signals-refusal 0 p [] (p .operations) .numb
       (λ t. rw (t, queue-order i j b l (eqb-true (op p i .queue) q t)) (sym (and-true (leb i j))))
       (λ g. rw g))
       ∙ own-is p q j l ∙ rw (eq-eqb q q refl)
+
+-- ---- without 8 no wait of the plan is one that no signal reaches
+pub wait-is : (p : Plan) → waits-refusal 0 p (p .operations) .number ≡ 0 → (r : List ℕ) (j : ℕ) → j < count p →
+    (w : Point) → List·Memᴰ w (op p j .waits) → wait-met p r w ≡ rested-or-none r (resolve p w)
+wait-is p waits-good r j l w m =
+    let met = own-wait-met p waits-good r j l w m in
+    let on-it = rested-means r (resolve p w) in
+    by-cases (wait-met p r w) (λ t. t ∙ sym (on-it .1 (met .0 t)))
+    (λ f. f ∙ sym (is-false (rested-or-none r (resolve p w)) (λ t. clash (wait-met p r w) (met .1 (on-it .0 t)) f)))
 
 module _ (p : Plan) (r : List ℕ) (a-run : is-run p r ≡ true) where
   -- ---- what has run is an initial part of each queue
@@ -146,17 +155,6 @@ module _ (p : Plan) (r : List ℕ) (a-run : is-run p r ≡ true) where
       (λ t. ap not t ∙ sym (le-ltb c (epoch p j) (first-tells j l .0 t)))
       (λ g. ap not g ∙ sym (is-true (ltb c (epoch p j))
       (λ n. clash (earlier-run p r j) (first-tells j l .1 (ltb-false c (epoch p j) n)) g)))
-
-  -- ---- without 6 to 8 a wait of the plan is met exactly if what it rests on has run
-  module _ (signals-good : signals-refusal 0 p [] (p .operations) .number ≡ 0)
-      (waits-good : waits-refusal 0 p (p .operations) .number ≡ 0) where
-    pub wait-is : (j : ℕ) → j < count p → (w : Point) → List·Memᴰ w (op p j .waits) →
-        wait-met p r w ≡ rested r (resolve p w)
-    wait-is j l w m =
-        let met = wait-met-means p waits-good signals-good r a-run j l w m in
-        let on-it = rested-means r (resolve p w) in
-        by-cases (wait-met p r w) (λ t. t ∙ sym (on-it .1 (met .0 t)))
-        (λ f. f ∙ sym (is-false (rested r (resolve p w)) (λ t. clash (wait-met p r w) (met .1 (on-it .0 t)) f)))
 
   -- ---- one operation more
   module _ (j : ℕ) (inside : j < count p) (fresh : member j r ≡ false) where

@@ -17,9 +17,10 @@ use Rattle.base_lists.proofs.Places.{member-place, place-member, mem-place, mem
 use Rattle.order.proofs.Runs.{can-below, can-fresh, can-enabled, can-by}
 use Rattle.plan_format.specs.Plan.{Point, Plan, count, op}
 use Rattle.plan_format.specs.Meaning.{wait-at}
-use Rattle.plan_order.specs.Runs.{reached, wait-met, earlier-run, enabled, ready}
+use Rattle.plan_order.specs.Runs.{wait-met, earlier-run, enabled, ready}
+use Rattle.plan_order.specs.Meaning.{Met}
 use Rattle.plan_order.proofs.Readiness.{earlier-gives, earlier-by}
-use Rattle.plan_order.proofs.RunMeaning.{reached-means}
+use Rattle.plan_order.proofs.RunMeaning.{wait-met-means}
 use Rattle.plan_trace.specs.declared.Followed.{Followed}
 use Rattle.plan_trace.specs.declared.Followed.the-variants.{
   Full,
@@ -30,7 +31,7 @@ use Rattle.plan_trace.specs.declared.Followed.the-variants.{
   WaitNotMet,
 }
 use Rattle.plan_trace.specs.Trace.{unmet-wait, of-wait, judged, departs}
-use Rattle.plan_trace.specs.Meaning.{Met, First-in-queue, Breaks}
+use Rattle.plan_trace.specs.Meaning.{Has-run, First-in-queue, Breaks}
 use Rattle.plan_trace.proofs.Cases.{chain}
 
 -- an operation that the plan does not have is unknown, also where it is among the steps
@@ -40,17 +41,8 @@ unknown-first = refl
 
 module _ (p : Plan) (r : List ℕ) where
   -- ---- each test by quantifiers
-  pub met-means : (w : Point) → (wait-met p r w ≡ true) ↔ Met p r w
-  unfolding wait-met
-  met-means w = (
-    (λ t. (
-      reached p (w .semaphore) r,
-      reached-means p (w .semaphore) r (reached p (w .semaphore) r) .0 refl,
-      leb-true (w .value) (reached p (w .semaphore) r) t,
-    )),
-    (λ m. let e = reached-means p (w .semaphore) r (m .0) .1 (m .1) in
-        le-leb (w .value) (reached p (w .semaphore) r) (omega (arith, m .2))),
-  )
+  pub met-means : (w : Point) → (wait-met p r w ≡ true) ↔ Met p (Has-run r) w
+  met-means w = wait-met-means p (Has-run r) r (λ i. (member-place r i, place-member r i)) w
 
   first-means : (j : ℕ) → (earlier-run p r j ≡ true) ↔ First-in-queue p r j
   first-means j = (

@@ -16,10 +16,10 @@ use Rattle.plan_format.specs.RefusalNumbers.{
   untouched-numbers,
   trace-gives,
 }
-use Rattle.plan_format.specs.Plan.{Point, Plan, count, op, queues}
+use Rattle.plan_format.specs.Plan.{Plan, count, op, queues}
 use Rattle.plan_format.specs.Meaning.{wait-at}
 use Rattle.plan_order.specs.Check.{Outcome, untouched, zeros, rows-and-run, check-outcome}
-use Rattle.plan_order.specs.Meaning.{Highest-signalled, Run-means, Full-means, Gives, Check-means}
+use Rattle.plan_order.specs.Meaning.{Highest-signalled, Met, Run-means, Full-means, Gives, Check-means}
 use Rattle.plan_trace.specs.declared.Followed.{Followed}
 use Rattle.plan_trace.specs.declared.Followed.the-variants.{
   Full,
@@ -51,10 +51,6 @@ abbrev pub Well-formed : (trace : List ℕ) → Type 0
 Well-formed ts = (step-bytes ≤ length ts) × (length ts ≡ step-place (step-count ts))
 
 -- ---- why a step departs
--- the highest value signalled by the run is at least the value waited for
-abbrev pub Met : Plan → (run : List ℕ) → Point → Type 0
-Met p r w = (v : ℕ) × Highest-signalled p (w .semaphore) r v × (w .value ≤ v)
-
 abbrev pub Has-run : (run : List ℕ) → (i : ℕ) → Type 0
 Has-run r i = Among r (length r) i
 
@@ -71,8 +67,8 @@ Breaks p r j (Repeated i) = (i ≡ j) × (j < count p) × Has-run r j
 Breaks p r j (NotFirst i) = (i ≡ j) × (j < count p) × (Has-run r j → ⊥) × (First-in-queue p r j → ⊥)
 Breaks p r j (WaitNotMet u) =
     (u .operation ≡ j) × (j < count p) × (Has-run r j → ⊥) × First-in-queue p r j ×
-    (u .wait < length (op p j .waits)) × (Met p r (wait-at p j (u .wait)) → ⊥) ×
-    ((k : ℕ) → k < u .wait → Met p r (wait-at p j k))
+    (u .wait < length (op p j .waits)) × (Met p (Has-run r) (wait-at p j (u .wait)) → ⊥) ×
+    ((k : ℕ) → k < u .wait → Met p (Has-run r) (wait-at p j k))
 
 -- ---- what was followed
 -- R82: the first k steps are a run, the first k + 1 are not, for the reason given

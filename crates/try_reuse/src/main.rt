@@ -257,7 +257,7 @@ fn another(queue: u32, buffer: u32) {
     );
 }
 
-// T1 and plans that the reader or the rules refuse: the plan comes before the queue and the buffer.
+// T1, and plans that are refused: the plan comes before the queue and the buffer.
 fn bad_plans() {
     ask(b"T1", b"\x00\x00\x00\x00\x00\x00", 9, 9, 1, 1);
     ask(b"T1, one byte less", b"\x00\x00\x00\x00\x00", 9, 9, 1, 1);
@@ -287,12 +287,12 @@ fn bad_plans() {
         1,
     );
     ask(
-        b"a signal by another queue",
-        b"\x02\x01\x00\x00\x00\x00\x00\x00\x00\x02\x00\x00\x00\x00\x00\x00\x00\x01\x00\x00\x00\x01\x00\x01\x00\x01\x00\x01\x00\x00\x00\x00\x00\x00\x00\x00",
+        b"T15",
+        b"\x02\x01\x00\x00\x00\x00\x00\x00\x00\x02\x00\x00\x00\x00\x00\x00\x00\x01\x00\x00\x00\x02\x00\x00\x00\x01\x00\x01\x00\x00\x00\x00\x00\x00\x00\x00\x01\x00\x01\x00\x02\x00\x00\x00\x00\x00\x00\x00\x00",
         9,
         9,
-        17,
-        3,
+        33,
+        5,
     );
     ask(
         b"a signal of 0",

@@ -2,7 +2,7 @@
 //! plans and frontiers, and everything handed back or left in lent slices must
 //! be equal. Plans of up to seven operations are judged by brute force too.
 
-use harness::brute::{self, EveryRun, Judgement};
+use harness::brute::{self, EveryRun, Judgement, Met, Runs};
 use harness::faults::{self, Fault, Faulty};
 use harness::generate::{self, Family, Rng};
 use harness::plan::{Form, Operation, Plan, Point};
@@ -19,7 +19,7 @@ const USAGE: &str = "\
 differ [--seed N] [--count N] [--fault N] [--trace]
   --seed N    the seed of the first case; the case after it has seed N + 1
   --count N   stop after this many plans (200000)
-  --fault N   compare with the reference under seeded fault 1 to 27 instead of
+  --fault N   compare with the reference under seeded fault 1 to 39 instead of
               with the C library
   --trace     print each case's seed before it is judged";
 
@@ -51,14 +51,14 @@ enum Function {
 const FUNCTIONS: [(&str, &[usize]); 11] = [
     ("read", &[0, 1, 2, 3, 4, 5, 9]),
     ("write", &[0, 1, 2, 3, 4, 5, 9]),
-    ("check", &[0, 1, 2, 3, 4, 5, 6, 7, 8, 9, 10, 11]),
-    ("reuse", &[0, 1, 2, 3, 4, 5, 6, 7, 8, 9, 10, 11, 12, 13]),
+    ("check", &[0, 1, 2, 3, 4, 5, 7, 8, 9, 10, 17, 11]),
+    ("reuse", &[0, 1, 2, 3, 4, 5, 7, 8, 9, 10, 17, 11, 12, 13]),
     (
         "suggest",
-        &[0, 1, 2, 3, 4, 5, 6, 7, 8, 9, 10, 11, 12, 13, 19],
+        &[0, 1, 2, 3, 4, 5, 7, 8, 9, 10, 17, 11, 12, 13, 19],
     ),
-    ("frontier", &[0, 1, 2, 3, 4, 5, 6, 7, 8, 9, 10, 11, 15, 21]),
-    ("trace", &[0, 1, 2, 3, 4, 5, 6, 7, 8, 9, 10, 11, 22]),
+    ("frontier", &[0, 1, 2, 3, 4, 5, 7, 8, 9, 10, 17, 11, 15, 21]),
+    ("trace", &[0, 1, 2, 3, 4, 5, 7, 8, 9, 10, 17, 11, 22]),
     ("lookup", &[0]),
     ("merge", &[0, 14, 15]),
     ("raise", &[0, 14, 15]),
@@ -99,7 +99,47 @@ struct Tally {
     /// Traces of 65,535 steps that were followed.
     longest_traces: u64,
     second_form: SecondForm,
+    handovers: [u64; HANDOVERS.len()],
 }
+
+/// What must occur of plans with a semaphore that several queues signal.
+#[derive(Clone, Copy)]
+enum Handover {
+    Passed,
+    ByOthers,
+    PassedSecondForm,
+    PassedLong,
+    RefusedLong,
+    Traced,
+    NotMet,
+    Advised,
+    FallsInSome,
+    FallsInAll,
+    BrokenLower,
+    BrokenNotLower,
+    StuckToo,
+    StuckElsewhere,
+    FullByValue,
+}
+
+/// What each of them is, in the same order.
+const HANDOVERS: [&str; 15] = [
+    "a plan passed in which two queues signal a semaphore",
+    "a plan passed in which the owner of a signalled semaphore does not signal it",
+    "such a plan in the second form passed",
+    "such a plan of 64 operations or more passed",
+    "a plan of 64 operations or more was refused by 17",
+    "a trace of such a plan was followed",
+    "a wait on a semaphore that two queues signal was not met",
+    "a wait on a semaphore that two queues signal was advised",
+    "17 where some full run raises in order",
+    "17 where no full run raises in order",
+    "17 with a broken mark of a lower operation",
+    "17 with a broken mark of the same or a higher operation",
+    "10 where what is not stuck would be refused by 17",
+    "10 whose place would be another by values",
+    "10 where there is a full run by values",
+];
 
 /// How often what concerns plans in the second form occurred.
 #[derive(Default)]
@@ -140,6 +180,10 @@ impl Tally {
             (Function::Dominates, 0) => self.dominance[told.answer as usize] += 1,
             _ => {}
         }
+    }
+
+    fn add_handover(&mut self, handover: Handover, occurs: bool) {
+        self.handovers[handover as usize] += u64::from(occurs);
     }
 
     fn print(&self) {
@@ -184,6 +228,9 @@ impl Tally {
             "second form passed, too few, written, by brute force, traced, waits: {:?}",
             self.second_form.counts()
         );
+        for (name, count) in HANDOVERS.iter().zip(self.handovers) {
+            println!("{count:>10} times {name}");
+        }
         println!("dominance no, yes, unknown: {:?}", self.dominance);
         println!(
             "axes absent, listed: {:?}; listed in a badly formed frontier: {}",
@@ -222,6 +269,9 @@ impl Tally {
         }
         if self.second_form.counts().contains(&0) {
             return Some("something of the second form never occurred".to_string());
+        }
+        if let Some(which) = self.handovers.iter().position(|&count| count == 0) {
+            return Some(format!("never {}", HANDOVERS[which]));
         }
         None
     }
@@ -423,17 +473,25 @@ impl Differ {
         }
         let counts = Counts::of(rng, &numbers);
         let steps = some_steps(rng, &numbers);
-        self.check(rng, bytes, counts)?;
+        let plan = (!numbers.is_empty()).then(|| Plan::from_numbers(&numbers));
+        self.check(rng, bytes, plan.as_ref(), counts)?;
         self.brute_force(rng, bytes, &steps)?;
         self.reuse(rng, bytes, counts)?;
-        let plan = (!numbers.is_empty()).then(|| Plan::from_numbers(&numbers));
         self.suggest(rng, bytes, plan.as_ref(), counts)?;
         self.sent_out(rng, bytes, counts)?;
         let mut trace = traces::stored(&steps);
         if rng.percent(15) {
             trace = traces::damaged(rng, &trace);
         }
-        self.trace(rng, bytes, &trace, counts)
+        self.trace(rng, bytes, &trace, counts)?;
+        let told = *self.ours.told.lend_told();
+        if let Some(plan) = plan.filter(|plan| told.number == 0 && signallers(plan).any_handed()) {
+            let wait = unmet_wait(&plan, told, self.ours.found.lend_found());
+            let not_met = wait.is_some_and(|wait| signallers(&plan).handed(wait.semaphore));
+            self.tally.add_handover(Handover::Traced, true);
+            self.tally.add_handover(Handover::NotMet, not_met);
+        }
+        Ok(())
     }
 
     /// Hands back the plan's numbers, none if it is unreadable.
@@ -476,7 +534,13 @@ impl Differ {
         Ok(())
     }
 
-    fn check(&mut self, rng: &mut Rng, bytes: &[u8], counts: Counts) -> Compared<()> {
+    fn check(
+        &mut self,
+        rng: &mut Rng,
+        bytes: &[u8],
+        plan: Option<&Plan>,
+        counts: Counts,
+    ) -> Compared<()> {
         let lengths = lent_to_check(rng, counts);
         let told = self.compare(
             rng,
@@ -489,6 +553,25 @@ impl Differ {
             let second_form = &mut self.tally.second_form;
             second_form.passed += u64::from(told.number == 0);
             second_form.too_few += u64::from(too_few(bytes, told));
+        }
+        let long = counts.operations >= 64;
+        match plan {
+            Some(plan) if told.number == 0 => {
+                let signallers = signallers(plan);
+                let handed = signallers.any_handed();
+                let second = in_second_form(bytes);
+                self.tally.add_handover(Handover::Passed, handed);
+                let others = signallers.not_the_owner(plan);
+                self.tally.add_handover(Handover::ByOthers, others);
+                let wide = handed && second;
+                self.tally.add_handover(Handover::PassedSecondForm, wide);
+                self.tally
+                    .add_handover(Handover::PassedLong, handed && long);
+            }
+            _ => {
+                let refused = long && told.number == 17;
+                self.tally.add_handover(Handover::RefusedLong, refused);
+            }
         }
         Ok(())
     }
@@ -550,6 +633,8 @@ impl Differ {
         };
         let wait = as_point(self.theirs.wait.lend_wait());
         self.count_wait(plan, wait);
+        let handed = signallers(plan).handed(wait.semaphore);
+        self.tally.add_handover(Handover::Advised, handed);
         self.tally.second_form.waits += u64::from(in_second_form(bytes));
         if !longest && !self.freed(plan, queue, buffer, wait) {
             print();
@@ -657,7 +742,7 @@ impl Differ {
         self.tally.by_brute_force += 1;
         self.tally.second_form.by_brute_force += u64::from(in_second_form(bytes));
         let judgement = brute::judge(&plan);
-        let wanted = told_by_brute_force(&plan, &judgement);
+        let wanted = judgement.told_and_left(&plan, !0);
         let operations = plan.operations.len();
         let mut left = OwnRooms::filled(!0, [16 * operations, 2 * operations]);
         let told = reference::check(bytes, &mut left.lend());
@@ -669,6 +754,7 @@ impl Differ {
             return Err(Different);
         }
         let Judgement::Passed { rows, runs, .. } = judgement else {
+            self.count_refusal(&plan, told);
             return Ok(());
         };
         if !plan.axes.is_empty() && !plan.sizes.is_empty() {
@@ -680,6 +766,37 @@ impl Differ {
             self.followed_by_brute_force(&plan, &runs, steps)?;
         }
         Ok(())
+    }
+
+    /// What else holds of a plan that brute force refuses by 10 or 17.
+    fn count_refusal(&mut self, plan: &Plan, told: Told) {
+        let place = told.place as usize;
+        match told.number {
+            10 => {
+                let reached = Runs::of(plan, Met::ByWhatItRestsOn).reached;
+                let rest = brute::judge(&only(plan, &reached));
+                let out_of_turn = matches!(rest, Judgement::Refused { number: 17, .. });
+                self.tally.add_handover(Handover::StuckToo, out_of_turn);
+                let by_value = Runs::of(plan, Met::ByValue).reached;
+                let stuck = by_value[..plan.operations.len()].iter().position(|r| !r);
+                let elsewhere = stuck.is_some_and(|stuck| stuck != place);
+                self.tally.add_handover(Handover::StuckElsewhere, elsewhere);
+                self.tally
+                    .add_handover(Handover::FullByValue, stuck.is_none());
+            }
+            17 => {
+                let runs = Runs::of(plan, Met::ByWhatItRestsOn);
+                let some = runs.some_full_raises;
+                self.tally.add_handover(Handover::FallsInSome, some);
+                self.tally.add_handover(Handover::FallsInAll, !some);
+                let broken = runs.lowest_broken(plan);
+                let lower = broken.is_some_and(|broken| broken < place);
+                let not_lower = broken.is_some_and(|broken| broken >= place);
+                self.tally.add_handover(Handover::BrokenLower, lower);
+                self.tally.add_handover(Handover::BrokenNotLower, not_lower);
+            }
+            _ => {}
+        }
     }
 
     /// The reference's trace question against every run of a passed plan.
@@ -822,7 +939,14 @@ impl Differ {
             24..54 => {
                 let family = *rng.pick(&Family::ALL);
                 let operations = rng.between(64, 1024);
-                let plan = family.plan(rng, operations);
+                let plan = match rng.below(3) {
+                    0 => family.plan(rng, operations),
+                    1 => family.handed_plan(rng, operations),
+                    _ => {
+                        let plan = family.handed_plan(rng, operations);
+                        generate::without_one_wait(rng, &plan)
+                    }
+                };
                 self.plan(rng, &plan.bytes())
             }
             54..134 => {
@@ -847,7 +971,11 @@ impl Differ {
                 let damaged = generate::damaged(rng, &plan.bytes());
                 self.plan(rng, &damaged)
             }
-            2000..2600 => {
+            2000..2100 => {
+                let plan = generate::trap(rng);
+                self.plan(rng, &plan.bytes())
+            }
+            2100..2600 => {
                 let plan = pipeline(rng);
                 self.plan(rng, &plan.bytes())
             }
@@ -920,7 +1048,11 @@ impl Differ {
             0 => (Family::Greatest, 63_686),
             _ => (Family::ManySemaphores, 69_768),
         };
-        let bytes = family.plan(rng, MOST_OPERATIONS).bytes();
+        let plan = match rng.below(2) {
+            0 => family.plan(rng, MOST_OPERATIONS),
+            _ => family.handed_plan(rng, MOST_OPERATIONS),
+        };
+        let bytes = plan.bytes();
         assert_eq!(bytes.len(), length);
         self.plan(rng, &bytes)?;
         let mut changed = bytes.clone();
@@ -974,34 +1106,6 @@ fn suggest_by_brute_force(
     Ok(())
 }
 
-/// What brute force expects to be told and left in table and list that were
-/// filled with ones.
-fn told_by_brute_force(plan: &Plan, judgement: &Judgement) -> (Told, OwnRooms) {
-    let mut left = OwnRooms::new(plan.operations.len());
-    match judgement {
-        Judgement::Refused { number, place } => {
-            if *number <= 9 {
-                left.table.fill(!0);
-                left.list.fill(!0);
-            }
-            (Told::refused(*number, *place), left)
-        }
-        Judgement::Passed {
-            run, ready, rows, ..
-        } => {
-            for (to, from) in left.list.iter_mut().zip(run.iter().chain(ready)) {
-                *to = *from as u32;
-            }
-            for (to, from) in left.table.chunks_exact_mut(16).zip(rows) {
-                for (to, from) in to.iter_mut().zip(from) {
-                    *to = *from as u32;
-                }
-            }
-            (Told::PASSED, left)
-        }
-    }
-}
-
 // ---------------------------------------------------------------------------
 // What is given to a call.
 
@@ -1031,6 +1135,51 @@ impl Counts {
             buffers,
             operations: numbers[queues + semaphores + buffers + 3] as usize,
         }
+    }
+}
+
+/// For each semaphore the queues that signal it, a bit for each.
+struct Signallers(Vec<u16>);
+
+fn signallers(plan: &Plan) -> Signallers {
+    let mut queues = vec![0; plan.owners.len()];
+    for operation in &plan.operations {
+        for signal in &operation.signals {
+            queues[usize::from(signal.semaphore)] |= 1 << operation.queue;
+        }
+    }
+    Signallers(queues)
+}
+
+impl Signallers {
+    fn handed(&self, semaphore: u16) -> bool {
+        self.0[usize::from(semaphore)].count_ones() > 1
+    }
+
+    fn any_handed(&self) -> bool {
+        self.0.iter().any(|queues| queues.count_ones() > 1)
+    }
+
+    /// Is some semaphore signalled, and not by its owner?
+    fn not_the_owner(&self, plan: &Plan) -> bool {
+        let mut semaphores = self.0.iter().zip(&plan.owners);
+        semaphores.any(|(&queues, &owner)| queues != 0 && queues >> owner & 1 == 0)
+    }
+}
+
+/// The wait that an answer of the trace question names.
+fn unmet_wait(plan: &Plan, told: Told, found: &Found) -> Option<Point> {
+    let [_, operation, wait, ..] = found.map(|number| number as usize);
+    (told.answer == 5).then(|| plan.operations[operation].waits[wait])
+}
+
+/// The plan with these operations alone.
+fn only(plan: &Plan, kept: &[bool]) -> Plan {
+    let operations = plan.operations.iter().zip(kept);
+    let operations = operations.filter(|(_, &kept)| kept);
+    Plan {
+        operations: operations.map(|(o, _)| o.clone()).collect(),
+        ..plan.clone()
     }
 }
 
@@ -1117,7 +1266,10 @@ fn small_plan(rng: &mut Rng) -> Plan {
 /// with the operations in another order.
 fn pipeline(rng: &mut Rng) -> Plan {
     let (cameras, frames) = (rng.between(1, 4), rng.between(1, 10));
-    let plan = generate::camera_pipeline(rng, cameras, frames);
+    let plan = match rng.below(3) {
+        0 => generate::handed_pipeline(rng, cameras, frames),
+        _ => generate::camera_pipeline(rng, cameras, frames),
+    };
     match rng.below(4) {
         0 => plan,
         1 => generate::without_one_wait(rng, &plan),

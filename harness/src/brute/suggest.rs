@@ -1,6 +1,6 @@
 //! The wait that would free a buffer of a small plan, by its runs.
 
-use super::{highest_so_far, marks_on, reuse, EveryRun, Position};
+use super::{marks_on, reuse, EveryRun, Met, Position};
 use crate::plan::{Plan, Point};
 use crate::side::{Told, Wait};
 
@@ -12,9 +12,8 @@ fn frees(plan: &Plan, runs: &EveryRun, queue: usize, marked: &[Position], wait: 
     let on_queue = |i: &Position| usize::from(plan.operations[*i].queue) == queue;
     let earlier: Vec<Position> = (0..plan.operations.len()).filter(on_queue).collect();
     let has_all = |run: &[Position], all: &[Position]| all.iter().all(|i| run.contains(i));
-    let ready = |run: &[Position]| {
-        has_all(run, &earlier) && highest_so_far(plan, run, wait.semaphore) >= wait.value
-    };
+    let ready =
+        |run: &[Position]| has_all(run, &earlier) && Met::ByWhatItRestsOn.after(plan, run, &wait);
     let mut runs = runs.iter();
     runs.all(|run| !ready(&run) || has_all(&run, marked))
 }

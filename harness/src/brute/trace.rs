@@ -1,6 +1,6 @@
 //! A recorded trace of a small plan, looked up among all its runs.
 
-use super::{highest_so_far, Position};
+use super::{highest_so_far, Met, Position};
 use crate::plan::Plan;
 use crate::side::{Found, STATE};
 use std::fmt;
@@ -92,7 +92,7 @@ fn why(plan: &Plan, run: &[Position], position: Position) -> (u64, usize) {
         return (4, 0);
     }
     let mut waits = operation.waits.iter();
-    let unmet = waits.position(|wait| highest_so_far(plan, run, wait.semaphore) < wait.value);
+    let unmet = waits.position(|wait| !Met::ByWhatItRestsOn.after(plan, run, wait));
     (5, unmet.expect("a step that breaks no rule extends a run"))
 }
 

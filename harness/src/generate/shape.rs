@@ -1,7 +1,8 @@
 //! Plans with long lists, shaped by dials. The search for a costly plan turns
 //! them (`src/bin/worst.rs`); all plans of all shapes pass.
 
-use super::{add_kept_marks, axes, below_signal, run_in_turns, signallers, Rng};
+use super::{add_kept_marks, axes, below_signal, run_in_turns, signallers};
+use super::{Handovers, LastSignals, Rng};
 use crate::plan::{Operation, Plan, Point};
 
 /// The dials. Chances are in percent.
@@ -21,6 +22,9 @@ pub struct Shape {
     /// A signal is on the first of them, else by the same chance on the second,
     /// and so on; what is left over is on any of them.
     pub skew: usize,
+    /// A signal is on one of sixteen semaphores that any queue signals, the last
+    /// of those that each queue owns, after a wait for the signal before.
+    pub handed: usize,
     /// The run that the waits allow is the plan's order, shuffled in windows of
     /// so many operations.
     pub window: usize,
@@ -60,6 +64,7 @@ impl Shape {
         owned: 4,
         semaphores: 4,
         skew: 0,
+        handed: 0,
         window: 1024,
         recent: 64,
         since: 0,
@@ -100,6 +105,11 @@ impl Shape {
         Shape { lists, ..self }
     }
 
+    /// With so many signals in a hundred handed over.
+    pub fn handed(self, handed: usize) -> Shape {
+        Shape { handed, ..self }
+    }
+
     pub fn plan(&self, rng: &mut Rng, operations: usize) -> Plan {
         self.plan_with(rng, operations, |rng| {
             self.lists.map(|[least, most]| rng.between(least, most))
@@ -127,7 +137,8 @@ impl Shape {
             rng.shuffle(window);
         }
         let run = run_in_turns(&queues, &turns);
-        self.add_waits(rng, &mut plan, &run, &counts);
+        let handovers = self.hand_over(rng, &mut plan, (&queues, &run), &counts);
+        self.add_waits(rng, &mut plan, &run, &handovers, &counts);
         let marks: Vec<usize> = counts.iter().map(|count| count[2]).collect();
         add_kept_marks(rng, &mut plan, &run, &marks, self.never_freed);
         plan
@@ -170,15 +181,64 @@ impl Shape {
         }
     }
 
-    /// Waits for what comes earlier in the run.
-    fn add_waits(&self, rng: &mut Rng, plan: &mut Plan, run: &[usize], counts: &[[usize; 3]]) {
+    /// Puts signals on semaphores that any queue signals, where their operations
+    /// come in turn in the run and have room for a wait. Hands back what they have
+    /// to wait for.
+    fn hand_over(
+        &self,
+        rng: &mut Rng,
+        plan: &mut Plan,
+        (queues, run): (&[u8], &[usize]),
+        counts: &[[usize; 3]],
+    ) -> Handovers {
+        let mut handovers = vec![Vec::new(); run.len()];
+        if self.handed == 0 {
+            return handovers;
+        }
+        let first = 16 * (self.owned - 1);
+        let mut signals = LastSignals::new(run, queues, plan.owners.len());
+        for (j, operation) in plan.operations.iter_mut().enumerate() {
+            for signal in &mut operation.signals {
+                // Those that any queue signals are not signalled otherwise.
+                let own = usize::from(signal.semaphore) % first;
+                let room = handovers[j].len() < counts[j][0];
+                let in_turn = |s: &usize| {
+                    let wait = signals.to_wait_for(*s, j);
+                    signals.in_turn(*s, j) && (room || wait.is_none())
+                };
+                let mut tries = (0..8).map(|_| first + rng.below(16));
+                let handed = tries.find(in_turn).filter(|_| rng.percent(self.handed));
+                let semaphore = handed.unwrap_or(own);
+                handovers[j].extend(signals.to_wait_for(semaphore, j));
+                let value = signals.last[semaphore].0 + rng.between(1, 1000) as u64;
+                signals.last[semaphore] = (value, Some(j));
+                *signal = Point {
+                    semaphore: semaphore as u16,
+                    value,
+                };
+            }
+        }
+        handovers
+    }
+
+    /// Waits for what is handed over, then for what comes earlier in the run.
+    fn add_waits(
+        &self,
+        rng: &mut Rng,
+        plan: &mut Plan,
+        run: &[usize],
+        handovers: &[Vec<Point>],
+        counts: &[[usize; 3]],
+    ) {
         let signallers = signallers(plan);
         let mut earlier: Vec<Point> = Vec::new();
         // How many there were after the last operation of each queue.
         let mut own = [0; 16];
         for &j in run {
             let own = &mut own[usize::from(plan.operations[j].queue)];
-            let waits = (0..counts[j][0]).map(|_| self.earlier_signal(rng, *own, earlier.len()));
+            plan.operations[j].waits.clone_from(&handovers[j]);
+            let others = handovers[j].len()..counts[j][0];
+            let waits = others.map(|_| self.earlier_signal(rng, *own, earlier.len()));
             let mut waits: Vec<Option<usize>> = waits.collect();
             if let Some(first) = waits.first_mut().filter(|_| rng.percent(self.latest)) {
                 *first = earlier.len().checked_sub(1);

@@ -1,7 +1,7 @@
 //! A recorded trace held against the plan, from the rules' words (R80 to R84): each step is
-//! taken by the semaphores' values, as a cell would take it.
+//! taken once what its waits rest on has run. The semaphores' values are for the state alone.
 
-use super::{check_then, told, Known, QUEUES};
+use super::{check_then, told, Known, Point, QUEUES};
 use crate::side::{Found, Rooms, Told, STATE};
 
 /// The count, and each step in two bytes.
@@ -64,6 +64,14 @@ impl<'a> Cell<'a> {
         }
     }
 
+    /// R22: has the operation run that the wait rests on? A wait for 0 rests on
+    /// none.
+    fn is_met(&self, wait: &Point) -> bool {
+        let groups = &self.known.order.groups;
+        let rests_on = || groups.resolve(wait.semaphore, wait.value);
+        wait.value == 0 || rests_on().is_some_and(|signaller| self.has_run[usize::from(signaller)])
+    }
+
     /// R81: the first reason why a step with this operation departs.
     fn judge(&self, operation: u16) -> Result<(), Departs> {
         let position = usize::from(operation);
@@ -79,7 +87,7 @@ impl<'a> Cell<'a> {
         }
         let waits = usize::from(self.waits[position])..usize::from(self.waits[position + 1]);
         let mut waits = flat.waits[waits].iter();
-        match waits.position(|wait| self.values[usize::from(wait.semaphore)] < wait.value) {
+        match waits.position(|wait| !self.is_met(wait)) {
             None => Ok(()),
             Some(wait) => Err(Departs::WaitNotMet(wait)),
         }

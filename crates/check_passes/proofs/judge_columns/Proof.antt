@@ -1,4 +1,4 @@
--- `judge_columns` meets its contract: refusals 6 to 8, or what the order gives. Assumes nothing.
+-- `judge_columns` meets its contract: refusals 7 and 8, or what the order gives. Assumes nothing.
 use borrow.Author.Needs.{needs}
 use mathlib.Core.Path.{_∙_}
 use Rattle.check_passes.proofs.Untouched.{not-ruled}

@@ -1,7 +1,7 @@
--- `ruled` meets its contract: refusals 6 and 7, and 8 where neither is given. Assumes nothing.
+-- `ruled` meets its contract: refusal 7, and 8 where it is not given. Assumes nothing.
 use borrow.Author.Needs.{needs}
 use Rattle.plan_format.proofs.Telling.{answer-none}
-use Rattle.check_passes.proofs.Untouched.{six-or-seven, eight}
+use Rattle.check_passes.proofs.Untouched.{seven, eight}
 use Rattle.check_passes.proofs.AnyColumns.{rules-first, rules-second, sources-refused, sources-resolved}
 use Rattle.check_passes.proofs.Columns.{signals-given, waits-given}
 use Rattle.check_passes.proofs.ruled.Statement.{statement}
@@ -18,12 +18,12 @@ returns c =
     let judged = c .before .before .before .before in
     let found = judged .judge .ensures in
     let known = judged .before .before .before in
-    let pre = known .before .before .before .before .before .pre in
+    let pre = known .before .before .before .before .pre in
     let taken = c .if1 .taken in (
-      rules-first _ _ _ _ _ _ _ _ _ _ (rw pre at (found .0)) taken,
+      rules-first _ _ _ _ _ _ _ _ (rw pre at (found .0)) taken,
       (
-        sources-refused _ _ _ _ _ _ _ _ _ _ (rw pre at (found .0)) taken,
-        λ p given. six-or-seven (found .1 .1 p (rw pre (signals-given given))) taken,
+        sources-refused _ _ _ _ _ _ _ _ (rw pre at (found .0)) taken,
+        λ p given. seven (found .1 .1 p (rw pre (signals-given given))) taken,
       ),
     )
 
@@ -40,11 +40,11 @@ returns-2 c =
     let judged = tested .before .before .before .before in
     let found = judged .judge .ensures in
     let known = judged .before .before .before in
-    let pre = known .before .before .before .before .before .pre in
+    let pre = known .before .before .before .before .pre in
     let waits = c .resolve .ensures in (
-      rules-second _ _ _ _ _ _ _ _ _ _ (rw pre at (found .0)) none (rw pre at (found .1 .0)) (waits .0),
+      rules-second _ _ _ _ _ _ _ _ (rw pre at (found .0)) none (rw pre at (found .1 .0)) (waits .0),
       (
-        sources-resolved _ _ _ _ _ _ _ _ _ _ (rw pre at (found .0)) none (rw pre at (found .1 .0)) (waits .0)
+        sources-resolved _ _ _ _ _ _ _ _ (rw pre at (found .0)) none (rw pre at (found .1 .0)) (waits .0)
             (waits .1 .0),
         λ p given.
             let ruled = found .1 .1 p (rw pre (signals-given given)) in

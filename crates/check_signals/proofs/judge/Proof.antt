@@ -9,18 +9,18 @@ use Rattle.plan_format.proofs.Telling.{tells}
 use Rattle.check_signals.specs.Walks.{held-in}
 use Rattle.check_signals.proofs.Clearing.{cleared-long}
 use Rattle.check_signals.proofs.Shows.{judged}
-use Rattle.check_signals.proofs.Loops.{Signals-left, stops-found, signals-none, signals-six, signals-seven}
+use Rattle.check_signals.proofs.Loops.{Signals-left, stops-found, signals-none, signals-seven}
 use Rattle.check_signals.proofs.Loops.{signals-more, signals-end}
 use Rattle.check_signals.proofs.judge.Statement.{statement}
 use Rattle.check_signals.proofs.judge.Tie as tie
 
 abbrev Inv-loop : tie.InvT-loop
-Inv-loop semaphores signals owner queue ssem sval sop last₀ many k₀ last k =
-    (length last ≡ length last₀) × Signals-left owner queue ssem sval sop many last₀ k last × (many ≤ length ssem) ×
+Inv-loop semaphores signals ssem sval sop last₀ many k₀ last k =
+    (length last ≡ length last₀) × Signals-left ssem sval sop many last₀ k last × (many ≤ length ssem) ×
     (many ≤ length sval) × (many ≤ length sop)
 
 abbrev μ-loop : tie.MeasureT-loop
-μ-loop semaphores signals owner queue ssem sval sop last₀ many k₀ last k = many - k
+μ-loop semaphores signals ssem sval sop last₀ many k₀ last k = many - k
 
 clear-requires : tie.Need-clear-requires Inv-loop μ-loop
 clear-requires c κs = search needs
@@ -47,6 +47,15 @@ shared-slice-read-u16-to-usize c = search needs
 u16-to-usize-requires : tie.Need-u16-to-usize-requires Inv-loop μ-loop
 u16-to-usize-requires c κs = search needs
 
+mul-value : tie.Need-mul-value Inv-loop μ-loop
+mul-value c = search needs
+
+shared-slice-read-value : tie.Need-shared-slice-read-value Inv-loop μ-loop
+shared-slice-read-value c = search needs
+
+get64-requires : tie.Need-get64-requires Inv-loop μ-loop
+get64-requires c κs = search needs
+
 mul-u16-to-usize-2 : tie.Need-mul-u16-to-usize-2 Inv-loop μ-loop
 mul-u16-to-usize-2 c = search needs
 
@@ -56,68 +65,26 @@ shared-slice-read-u16-to-usize-2 c = search needs
 u16-to-usize-requires-2 : tie.Need-u16-to-usize-requires-2 Inv-loop μ-loop
 u16-to-usize-requires-2 c κs = search needs
 
-mul-value : tie.Need-mul-value Inv-loop μ-loop
-mul-value c = search needs
-
-shared-slice-read-value : tie.Need-shared-slice-read-value Inv-loop μ-loop
-shared-slice-read-value c = search needs
-
-owner-of-requires : tie.Need-owner-of-requires Inv-loop μ-loop
-owner-of-requires c κs = search needs
-
-get16-requires : tie.Need-get16-requires Inv-loop μ-loop
-get16-requires c κs = search needs
-
 refused-requires : tie.Need-refused-requires Inv-loop μ-loop
 refused-requires c κs = search needs
 
 same-length : tie.Need-same-length Inv-loop μ-loop
 same-length c =
-    let read = c .before .before in
-    let head = read .before .before .before .before .before .before .before .before .before in
+    let tested = c .before .before .before .before in
+    let semaphore = tested .before .before .before in
+    let head = semaphore .before .before .before in
     head .loop .inv .0 ∙ ap length (head .before .before .before .before .clear .ensures) ∙ cleared-long _ _
 
 returns : tie.Need-returns Inv-loop μ-loop
 returns c =
-    let read = c .before .before in
-    let owned = read .before .before in
-    let operation = owned .before .before in
-    let semaphore = operation .before .before in
+    let tested = c .before .before .before .before in
+    let semaphore = tested .before .before .before in
     let turn = semaphore .before .before in
     let head = turn .before in
     let e = stops-found (head .before .before .before .before .clear .ensures) (head .before .held .ensures)
-    (signals-six (head .loop .inv .1) (turn .loop-test .taken)
-    (semaphore .u16-to-usize .ensures .0) (operation .u16-to-usize2 .ensures .0) refl (owned .owner-of .ensures)
-    (read .get16 .ensures) (c .before .if1 .taken)) in
+    (signals-seven (head .loop .inv .1) (turn .loop-test .taken) (semaphore .u16-to-usize .ensures .0) refl
+    (tested .get64 .ensures) (c .before .before .before .if1 .taken) (c .before .u16-to-usize2 .ensures .0)) in
     rw (c .refused .ensures) (tells (sym (e .found)), (e .table, λ p shown. judged shown (e .found) (e .table)))
-
-get64-requires : tie.Need-get64-requires Inv-loop μ-loop
-get64-requires c κs = search needs
-
-refused-requires-2 : tie.Need-refused-requires-2 Inv-loop μ-loop
-refused-requires-2 c κs = search needs
-
-same-length-2 : tie.Need-same-length-2 Inv-loop μ-loop
-same-length-2 c =
-    let read = c .before .before .before .before .before in
-    let head = read .before .before .before .before .before .before .before .before .before in
-    head .loop .inv .0 ∙ ap length (head .before .before .before .before .clear .ensures) ∙ cleared-long _ _
-
-returns-2 : tie.Need-returns-2 Inv-loop μ-loop
-returns-2 c =
-    let tested = c .before .before in
-    let read = tested .before .before .before in
-    let owned = read .before .before in
-    let operation = owned .before .before in
-    let semaphore = operation .before .before in
-    let turn = semaphore .before .before in
-    let head = turn .before in
-    let e = stops-found (head .before .before .before .before .clear .ensures) (head .before .held .ensures)
-    (signals-seven (head .loop .inv .1) (turn .loop-test .taken)
-    (semaphore .u16-to-usize .ensures .0) (operation .u16-to-usize2 .ensures .0) refl (owned .owner-of .ensures)
-    (read .get16 .ensures) (tested .before .before .if1 .left) (tested .get64 .ensures)
-    (c .before .if2 .taken)) in
-    rw (c .refused2 .ensures) (tells (sym (e .found)), (e .table, λ p shown. judged shown (e .found) (e .table)))
 
 put64-requires : tie.Need-put64-requires Inv-loop μ-loop
 put64-requires c κs = search needs
@@ -132,18 +99,12 @@ loop-again : tie.Need-loop-again Inv-loop μ-loop
 loop-again c =
     let stored = c .before .before in
     let tested = stored .before .before .before in
-    let read = tested .before .before .before in
-    let owned = read .before .before in
-    let operation = owned .before .before in
-    let semaphore = operation .before .before in
+    let semaphore = tested .before .before .before in
     let turn = semaphore .before .before in
     let head = turn .before in (
       ap length (stored .put64 .ensures) ∙ simp length-set (head .loop .inv .0),
-      signals-more (head .loop .inv .1) (turn .loop-test .taken)
-          (semaphore .u16-to-usize .ensures .0) (operation .u16-to-usize2 .ensures .0) refl (owned .owner-of .ensures)
-          (read .get16 .ensures)
-          (tested .before .before .if1 .left) (tested .get64 .ensures) (stored .before .before .if2 .left)
-          (stored .put64 .ensures),
+      signals-more (head .loop .inv .1) (turn .loop-test .taken) (semaphore .u16-to-usize .ensures .0) refl
+          (tested .get64 .ensures) (stored .before .before .if1 .left) (stored .put64 .ensures),
       head .loop .inv .2,
       head .loop .inv .3,
       head .loop .inv .4,
@@ -152,14 +113,14 @@ loop-again c =
 answered-requires : tie.Need-answered-requires Inv-loop μ-loop
 answered-requires c κs = search needs
 
-same-length-3 : tie.Need-same-length-3 Inv-loop μ-loop
-same-length-3 c =
+same-length-2 : tie.Need-same-length-2 Inv-loop μ-loop
+same-length-2 c =
     let head = c .before .before in
     head .loop .inv .0 ∙ ap length (head .before .before .before .before .clear .ensures) ∙ cleared-long _ _
 
-returns-3 : tie.Need-returns-3 Inv-loop μ-loop
+returns-2 : tie.Need-returns-2 Inv-loop μ-loop
 unfolding none-given refusal
-returns-3 c =
+returns-2 c =
     let head = c .before .before in
     let e = stops-found (head .before .before .before .before .clear .ensures) (head .before .held .ensures)
     (signals-end (head .loop .inv .1) (c .before .loop-test .left)) in
@@ -177,24 +138,19 @@ judge-spec =
     mul-u16-to-usize
     shared-slice-read-u16-to-usize
     u16-to-usize-requires
+    mul-value
+    shared-slice-read-value
+    get64-requires
     mul-u16-to-usize-2
     shared-slice-read-u16-to-usize-2
     u16-to-usize-requires-2
-    mul-value
-    shared-slice-read-value
-    owner-of-requires
-    get16-requires
     refused-requires
     same-length
     returns
-    get64-requires
-    refused-requires-2
-    same-length-2
-    returns-2
     put64-requires
     add-k
     loop-less
     loop-again
     answered-requires
-    same-length-3
-    returns-3)
+    same-length-2
+    returns-2)

@@ -561,11 +561,12 @@ fn compare(after: &dyn Side, before: &dyn Side) {
     frontier_calls(&mut measure);
 }
 
-/// Does a side read the family's plans at all? One built earlier may not know
-/// their form.
+/// Does a side pass the family's plans at all? One built earlier may not know
+/// their form, or that any queue may signal.
 fn takes(side: &dyn Side, family: Family) -> bool {
     let plan = family.plan(&mut Rng::new(0), SIZES[0]).bytes();
-    told(|told| side.read(&plan, &mut [], told)).number == 9
+    let mut rooms = OwnRooms::new(SIZES[0]);
+    told(|told| side.check(&plan, &mut rooms.lend(), told)) == Told::PASSED
 }
 
 /// `bench --before LIBRARY`.

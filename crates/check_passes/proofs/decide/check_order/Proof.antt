@@ -52,7 +52,7 @@ returns-3 c =
     let lent = room-test .before .before .before .room .ensures in
     let fits = has-room _ _ _ lent (room-test .if2 .left) in
     let room : Results-room _ _ _ = record { few = few; in-table = fits .0; in-list = fits .1 } in (
-      answers-run _ _ _ _ _ _ _ room (run .run .ensures .0) (judge .judge .ensures .0) (left .results .ensures) lent
+      answers-run _ _ _ _ room (run .run .ensures .0) (judge .judge .ensures .0) (left .results .ensures) lent
           (room-test .if2 .left),
       λ p given.
           let ran = run .run .ensures .1 p (run-given given) cleared (fits .1) in
