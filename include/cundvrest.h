@@ -34,6 +34,7 @@
  *   13  a buffer that the plan has not        the number that was asked
  *   14  a frontier that is not well formed    0
  *   15  a capacity of 0 or above 16           0
+ *   16  a wait for 0                          where its value begins
  *   17  a signal out of turn: nothing orders
  *       it after the one before it on its
  *       semaphore                             the lowest operation with one
@@ -42,8 +43,8 @@
  *   21  an operation that the plan has not    the number that was asked
  *   22  a trace that is not well formed       0
  *
- * Of several the first in the rules' order is given: 1 to 5 as they are met in
- * reading, then 7, 8, 9, 10, 17, 11, and what belongs to the question. The
+ * Of several the first in the rules' order is given: 1 to 5 and 16 as they are
+ * met in reading, then 7, 8, 9, 10, 17, 11, and what belongs to the question. The
  * answer is 0 beside every refusal and where a call has nothing to answer.
  *
  * LENT MEMORY. A length counts elements, not bytes. Every pointer must be valid
@@ -88,12 +89,15 @@ extern "C" {
 #define CUNDVREST_REFUSED_NO_SUCH_BUFFER 13
 #define CUNDVREST_REFUSED_BAD_FRONTIER 14
 #define CUNDVREST_REFUSED_BAD_CAPACITY 15
+#define CUNDVREST_REFUSED_WAIT_FOR_ZERO 16
 #define CUNDVREST_REFUSED_OUT_OF_TURN 17
 #define CUNDVREST_REFUSED_NO_SIGNAL_FREES 19
 #define CUNDVREST_REFUSED_NO_SUCH_OPERATION 21
 #define CUNDVREST_REFUSED_BAD_TRACE 22
 
-/* The longest stored plan in bytes, and the most numbers of a read one. */
+/* The longest stored plan in bytes, and the most numbers of a read one. No plan of
+ * this length passes: the longest that pass have 69,738 bytes, and 63,659 with at
+ * most 64 semaphores. */
 #define CUNDVREST_MOST_BYTES 69768
 #define CUNDVREST_MOST_NUMBERS 23828
 
@@ -149,25 +153,25 @@ extern "C" {
 #define CUNDVREST_UNKNOWN 2
 
 /* Reads a stored plan into numbers, one for each field in stored order, counts
- * included. Refusals 1 to 5 and 9. The answer is how many numbers there are:
+ * included. Refusals 1 to 5, 16 and 9. The answer is how many numbers there are:
  * they are at the front of the room, and past them nothing is touched. A refusal
  * leaves the room untouched. */
 void cundvrest_read(const uint8_t *plan, size_t plan_len,
                     uint64_t *room, size_t room_len, uint64_t told[3]);
 
-/* Writes such numbers as a stored plan. Refusals 1 to 5, each with a position in
- * the numbers as its place, and 9. The answer is how many bytes there are: they
- * are at the front of the room, and past them nothing is touched. A refusal leaves
- * the room untouched. */
+/* Writes such numbers as a stored plan. Refusals 1 to 5 and 16, each with a
+ * position in the numbers as its place, and 9. The answer is how many bytes there
+ * are: they are at the front of the room, and past them nothing is touched. A
+ * refusal leaves the room untouched. */
 void cundvrest_write(const uint64_t *numbers, size_t numbers_len,
                      uint8_t *room, size_t room_len, uint64_t told[3]);
 
 /* Checks a stored plan of n operations, by the rules and by its order. Refusals
- * 1 to 5, 7 to 11 and 17. On a pass, the first 16 * n numbers of the table are the
+ * 1 to 5, 16, 7 to 11 and 17. On a pass, the first 16 * n numbers of the table are the
  * rows: row j, column q is how many operations on queue q are operation j or
  * before it; the first n numbers of the list are the standard run, and the n after
- * them how many queues were ready before each step. Refusals 1 to 9 leave both
- * untouched; 10, 17 and 11 leave zeros in those numbers. Past them nothing is ever
+ * them how many queues were ready before each step. Refusals 1 to 9 and 16 leave
+ * both untouched; 10, 17 and 11 leave zeros in those numbers. Past them nothing is ever
  * touched. */
 void cundvrest_check(const uint8_t *plan, size_t plan_len,
                      uint32_t *table, size_t table_len,

@@ -64,7 +64,7 @@ impl Judgement {
     }
 }
 
-/// Judges a plan whose fields are all in range. Panics if a claim of the rules
+/// Judges a plan whose fields are all in range, with no wait for 0. Panics if a claim of the rules
 /// about whole runs fails: that a plan with a full run is never stuck, that a
 /// signal is out of turn exactly if some full run does not raise its semaphore in
 /// order, and that else every run, full or not, raises every semaphore in order.
@@ -136,7 +136,7 @@ fn wait_fault(plan: &Plan) -> Option<Position> {
     };
     plan.operations.iter().position(|operation| {
         let mut waits = operation.waits.iter();
-        waits.any(|wait| wait.value > 0 && wait.value > highest(wait.semaphore))
+        waits.any(|wait| wait.value > highest(wait.semaphore))
     })
 }
 
@@ -161,7 +161,7 @@ fn rests_on(plan: &Plan, wait: &Point) -> Option<Position> {
 /// When a wait is met.
 #[derive(Clone, Copy, PartialEq, Eq, Debug)]
 pub enum Met {
-    /// R22: once the operation that it rests on has run; from the start for 0.
+    /// R22: once the operation that it rests on has run.
     ByWhatItRestsOn,
     /// R95, by owners: once the semaphore has come to its value.
     ByValue,
@@ -170,9 +170,7 @@ pub enum Met {
 impl Met {
     fn after(self, plan: &Plan, run: &[Position], wait: &Point) -> bool {
         match self {
-            Met::ByWhatItRestsOn => {
-                wait.value == 0 || rests_on(plan, wait).is_some_and(|i| run.contains(&i))
-            }
+            Met::ByWhatItRestsOn => rests_on(plan, wait).is_some_and(|i| run.contains(&i)),
             Met::ByValue => highest_so_far(plan, run, wait.semaphore) >= wait.value,
         }
     }

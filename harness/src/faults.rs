@@ -10,10 +10,11 @@ mod forms;
 mod handovers;
 mod suggest;
 mod trace;
+mod zeros;
 
 /// The mistakes that the rules exclude, a row's own column, and mistakes of the
-/// trace question, of the question for a wait, of the lookup, of the second form
-/// and of handovers.
+/// trace question, of the question for a wait, of the lookup, of the second form,
+/// of handovers and of waits for 0.
 #[derive(Clone, Copy, PartialEq, Eq, Debug)]
 pub enum Fault {
     /// A wait takes over what the latest signal knows (R17).
@@ -94,11 +95,31 @@ pub enum Fault {
     SecondOutOfTurn,
     /// 17 leaves a run in the list.
     RefusalKeepsRun,
+    /// A wait for 0 is taken: the least value of a wait is 0.
+    LeastZero,
+    /// A signal of 0 is refused by 16: the least value of a signal is 1.
+    SignalsAboveZero,
+    /// 16 is told as 4.
+    FourForSixteen,
+    /// A wait for 1 is refused by 16: the least value of a wait is 2.
+    LeastTwo,
+    /// 16 is at the wait's semaphore.
+    ZeroAtSemaphore,
+    /// A value of zeros that is cut short is 16.
+    CutIsZero,
+    /// A wait for 0 on an unknown semaphore is 16.
+    ZeroBeforeUnknown,
+    /// 16 is given after 1 to 5, not in reading order.
+    ZeroAfterReading,
+    /// 16 leaves zeros in table and list.
+    ZeroClearsRooms,
+    /// The writer takes a wait for 0.
+    ZeroIsWritten,
 }
 
 impl Fault {
     /// Fault 1 is the first.
-    pub const ALL: [Fault; 39] = [
+    pub const ALL: [Fault; 49] = [
         Fault::NewestSignal,
         Fault::FirstUseOnly,
         Fault::OwnColumnMissing,
@@ -138,6 +159,16 @@ impl Fault {
         Fault::NeverOutOfTurn,
         Fault::SecondOutOfTurn,
         Fault::RefusalKeepsRun,
+        Fault::LeastZero,
+        Fault::SignalsAboveZero,
+        Fault::FourForSixteen,
+        Fault::LeastTwo,
+        Fault::ZeroAtSemaphore,
+        Fault::CutIsZero,
+        Fault::ZeroBeforeUnknown,
+        Fault::ZeroAfterReading,
+        Fault::ZeroClearsRooms,
+        Fault::ZeroIsWritten,
     ];
 
     /// The plan the reference is given instead.
@@ -151,7 +182,7 @@ impl Fault {
     }
 }
 
-/// Each wait above 0 that something meets waits for the highest signal.
+/// Each wait that something meets waits for the highest signal.
 fn wait_for_newest(plan: &mut Plan) {
     let mut highest = vec![0; plan.owners.len()];
     for signal in plan.operations.iter().flat_map(|o| &o.signals) {
@@ -159,9 +190,7 @@ fn wait_for_newest(plan: &mut Plan) {
         highest[semaphore] = signal.value.max(highest[semaphore]);
     }
     for wait in plan.operations.iter_mut().flat_map(|o| &mut o.waits) {
-        if wait.value > 0 {
-            wait.value = wait.value.max(highest[usize::from(wait.semaphore)]);
-        }
+        wait.value = wait.value.max(highest[usize::from(wait.semaphore)]);
     }
 }
 
@@ -245,22 +274,33 @@ impl Side for Faulty {
     }
 
     fn read(&self, plan: &[u8], room: &mut [u64], told: &mut Told) {
+        if let Some(refused) = zeros::refused(self.0, plan) {
+            *told = refused;
+            return;
+        }
         Reference.read(plan, room, told);
         forms::spoil(self.0, plan, told);
+        zeros::read(self.0, plan, room, told);
     }
 
     fn write(&self, numbers: &[u64], room: &mut [u8], told: &mut Told) {
         match self.0 {
             Fault::SecondFormFor64 => forms::write_wide(numbers, room, told),
+            Fault::ZeroIsWritten => zeros::write(numbers, room, told),
             _ => Reference.write(numbers, room, told),
         }
     }
 
     fn check(&self, plan: &[u8], rooms: &mut Rooms, told: &mut Told) {
+        if let Some(refused) = zeros::refused(self.0, plan) {
+            *told = refused;
+            return;
+        }
         Reference.check(&self.rewritten(plan), rooms, told);
         self.spoil(told, plan, rooms);
         forms::spoil(self.0, plan, told);
         handovers::spoil(self.0, plan, told, rooms);
+        zeros::check(self.0, plan, told, rooms);
     }
 
     fn reuse(&self, plan: &[u8], queue: u32, buffer: u32, rooms: &mut Rooms, told: &mut Told) {

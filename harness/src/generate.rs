@@ -98,7 +98,7 @@ impl Known {
         for &j in run {
             let queue = known.queues[j];
             let mut row: Row = newest[queue];
-            for wait in plan.operations[j].waits.iter().filter(|w| w.value > 0) {
+            for wait in &plan.operations[j].waits {
                 let signals = &signallers[usize::from(wait.semaphore)];
                 if let Some(signal) = signals.iter().find(|s| s.0 >= wait.value) {
                     raise(&mut row, &known.rows[signal.1]);
@@ -459,13 +459,11 @@ fn add_waits(
         while plan.operations[j].waits.len() < 3 && rng.percent(dials.waits) {
             let wild = rng.percent(dials.wild_waits);
             let signals = if wild { &all } else { &all[..earlier] };
-            let wait = if signals.is_empty() || rng.percent(5) {
-                wait_for_zero(rng, plan)
-            } else {
-                let signal = recent_signal(rng, queue, signals);
-                Some(below_signal(rng, &signallers, signal))
-            };
-            let Some(wait) = wait else { break };
+            if signals.is_empty() {
+                break; // The first to run waits for nothing.
+            }
+            let signal = recent_signal(rng, queue, signals);
+            let wait = below_signal(rng, &signallers, signal);
             plan.operations[j].waits.push(wait);
         }
         earlier += plan.operations[j].signals.len();
@@ -481,13 +479,6 @@ fn recent_signal(rng: &mut Rng, queue: u8, signals: &[(u8, Point)]) -> Point {
     let tries = [recent(), recent(), recent()];
     let foreign = tries.iter().find(|signal| signal.0 != queue);
     foreign.unwrap_or(&tries[0]).1
-}
-
-fn wait_for_zero(rng: &mut Rng, plan: &Plan) -> Option<Point> {
-    (!plan.owners.is_empty()).then(|| Point {
-        semaphore: rng.below(plan.owners.len()) as u16,
-        value: 0,
-    })
 }
 
 /// A wait that resolves to this signal: for its value, or for one below it that
@@ -876,7 +867,7 @@ impl Family {
         Family::HandedOver,
     ];
 
-    /// Those with every list at its limit, one in each form.
+    /// Those of the longest plans that pass, one in each form.
     pub const GREATEST: [Family; 2] = [Family::Greatest, Family::ManySemaphores];
 
     pub fn name(self) -> &'static str {
@@ -1145,6 +1136,40 @@ pub fn question(rng: &mut Rng, plan: &Plan) -> (u32, u32) {
 
 // ---------------------------------------------------------------------------
 // Damage.
+
+/// The same plan with a wait for 0 put into a list of waits, or in the place of
+/// another; none where a plan has no room for one.
+pub fn with_wait_for_zero(rng: &mut Rng, plan: &Plan) -> Option<Plan> {
+    if plan.operations.is_empty() || plan.owners.is_empty() {
+        return None;
+    }
+    let mut plan = plan.clone();
+    let wait = Point {
+        semaphore: rng.below(plan.owners.len()) as u16,
+        value: 0,
+    };
+    // Of three the one with most waits, so that it is not always the first.
+    let tries = [(); 3].map(|()| rng.below(plan.operations.len()));
+    let at = tries
+        .into_iter()
+        .max_by_key(|&i| plan.operations[i].waits.len())?;
+    add_or_replace(rng, &mut plan.operations[at].waits, 3, wait);
+    Some(plan)
+}
+
+/// The same plan with every wait of every operation: those that miss some wait
+/// for any signals. So nothing can run first, and it is stuck at operation 0.
+pub fn with_all_waits(rng: &mut Rng, plan: &Plan) -> Plan {
+    let mut plan = plan.clone();
+    let signals = plan.operations.iter().flat_map(|o| &o.signals);
+    let signals: Vec<Point> = signals.copied().collect();
+    for operation in &mut plan.operations {
+        while operation.waits.len() < 3 {
+            operation.waits.push(*rng.pick(&signals));
+        }
+    }
+    plan
+}
 
 /// Another value for one byte: near by, at an end, or any.
 pub fn other_byte(rng: &mut Rng, byte: u8) -> u8 {

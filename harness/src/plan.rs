@@ -92,6 +92,50 @@ impl Plan {
         fields
     }
 
+    /// Where an operation begins: its first byte in the stored plan, and its
+    /// position in the list of numbers; counted, not read off the encodings.
+    fn start_of(&self, operation: usize) -> [usize; 2] {
+        let (form, before) = (self.form(), &self.operations[..operation]);
+        let [axes, owners, sizes] = [self.axes.len(), self.owners.len(), self.sizes.len()];
+        let head = form.lead().len() + 1 + 8 * axes + form.width() + owners + 2 + 4 * sizes + 2;
+        let points = |o: &Operation| o.waits.len() + o.signals.len();
+        let bytes = before
+            .iter()
+            .map(|o| 4 + points(o) * (form.width() + 8) + 3 * o.marks.len());
+        let numbers = before.iter().map(|o| 4 + 2 * (points(o) + o.marks.len()));
+        let head_numbers = 4 + axes + owners + sizes;
+        [
+            head + bytes.sum::<usize>(),
+            head_numbers + numbers.sum::<usize>(),
+        ]
+    }
+
+    /// Where the semaphore and the value of a wait are, in bytes and in the list.
+    pub fn wait_at(&self, operation: usize, wait: usize) -> [[usize; 2]; 2] {
+        let width = self.form().width();
+        let [byte, number] = self.start_of(operation);
+        let semaphore = [byte + 2 + wait * (width + 8), number + 2 + 2 * wait];
+        [semaphore, [semaphore[0] + width, semaphore[1] + 1]]
+    }
+
+    /// The same of a signal.
+    pub fn signal_at(&self, operation: usize, signal: usize) -> [[usize; 2]; 2] {
+        let waits = self.operations[operation].waits.len();
+        // After the waits, their places go on, with one more for the count.
+        let places = self.wait_at(operation, waits + signal);
+        places.map(|[byte, number]| [byte + 1, number + 1])
+    }
+
+    /// The first wait for 0: its operation, and its position in the list.
+    pub fn first_wait_for_zero(&self) -> Option<(usize, usize)> {
+        let operations = self.operations.iter().enumerate();
+        let mut zeros = operations.filter_map(|(operation, o)| {
+            let wait = o.waits.iter().position(|wait| wait.value == 0)?;
+            Some((operation, wait))
+        });
+        zeros.next()
+    }
+
     /// The stored plan.
     pub fn bytes(&self) -> Vec<u8> {
         self.bytes_in(self.form())

@@ -28,16 +28,8 @@ struct Running<'a> {
     /// The operations that each queue has still to run, the next one last.
     queues: Vec<Vec<u16>>,
     has_run: Vec<bool>,
-    /// What each operation's waits rest on.
-    rests: Vec<Vec<Rests>>,
-}
-
-/// What a wait rests on.
-#[derive(Clone, Copy)]
-enum Rests {
-    OnNothing,
-    On(usize),
-    Never,
+    /// What each operation's waits rest on; none if nothing ever meets a wait.
+    rests: Vec<Vec<Option<usize>>>,
 }
 
 impl<'a> Running<'a> {
@@ -50,11 +42,7 @@ impl<'a> Running<'a> {
         let rests = |wait: &Point| {
             let signals = signallers[usize::from(wait.semaphore)].iter();
             let least = signals.filter(|s| s.0 >= wait.value).min_by_key(|s| s.0);
-            match least {
-                _ if wait.value == 0 => Rests::OnNothing,
-                Some(&(_, operation)) => Rests::On(operation),
-                None => Rests::Never,
-            }
+            least.map(|signal| signal.1)
         };
         let operations = plan.operations.iter();
         Running {
@@ -67,21 +55,14 @@ impl<'a> Running<'a> {
         }
     }
 
-    fn met(&self, rests: Rests) -> bool {
-        match rests {
-            Rests::OnNothing => true,
-            Rests::On(operation) => self.has_run[operation],
-            Rests::Never => false,
-        }
-    }
-
     /// The next operation of each queue, with the position of its first unmet
     /// wait, if there is one.
     fn heads(&self) -> impl Iterator<Item = (u16, Option<usize>)> + '_ {
         let heads = self.queues.iter().filter_map(|queue| queue.last());
         heads.map(|&head| {
             let mut waits = self.rests[usize::from(head)].iter();
-            (head, waits.position(|&rests| !self.met(rests)))
+            let met = |rests: Option<usize>| rests.is_some_and(|on| self.has_run[on]);
+            (head, waits.position(|&rests| !met(rests)))
         })
     }
 

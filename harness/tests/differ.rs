@@ -17,7 +17,7 @@ fn finds_no_difference() {
 
 #[test]
 fn finds_each_seeded_fault() {
-    for fault in 1..=39 {
+    for fault in 1..=49 {
         let output = differ(&["--seed", "1", "--fault", &fault.to_string()]);
         let printed = String::from_utf8_lossy(&output.stdout);
         assert_eq!(output.status.code(), Some(1), "fault {fault}: {printed}");
@@ -45,7 +45,7 @@ fn repeats_a_difference() {
 
 #[test]
 fn refuses_unknown_arguments() {
-    assert_eq!(differ(&["--fault", "40"]).status.code(), Some(2));
+    assert_eq!(differ(&["--fault", "50"]).status.code(), Some(2));
     assert_eq!(differ(&["--count"]).status.code(), Some(2));
     assert_eq!(differ(&["--colour", "1"]).status.code(), Some(2));
 }

@@ -4,8 +4,8 @@
 mod small;
 
 use harness::brute::{self, Judgement};
-use harness::generate::{Family, Rng};
-use harness::plan::{Form, Plan};
+use harness::generate::{self, Family, Rng};
+use harness::plan::{Form, Operation, Plan};
 use harness::side::{told, OwnRooms, Told, STATE};
 use small::{all_sides, operation, plan, t3, t9};
 
@@ -74,17 +74,16 @@ fn one_wait(semaphores: usize, semaphore: u16, value: u64) -> Plan {
 fn bad_position() {
     // Lead, axis and its count, owners and their count, two counts: the operation
     // begins at 81, its wait's position at 83.
-    let bytes = one_wait(65, 65, 0).bytes();
+    let bytes = one_wait(65, 65, 1).bytes();
     assert_eq!(bytes[81..85], [0, 1, 65, 0]);
     assert_eq!(read(&bytes), (4, 83));
     assert_eq!(check(&bytes), (4, 83));
     assert_eq!(read(&bytes[..84]), (1, 83));
     assert_eq!(check(&bytes[..84]), (1, 83));
     // The higher byte counts: 256 and 64 more are not 64.
-    let bytes = one_wait(65, 320, 0).bytes();
+    let bytes = one_wait(65, 320, 1).bytes();
     assert_eq!(read(&bytes), (4, 83));
-    assert_eq!(read(&one_wait(65, 64, 0).bytes()), (0, 0));
-    assert_eq!(check(&one_wait(65, 64, 0).bytes()), (0, 0));
+    assert_eq!(read(&one_wait(65, 64, 1).bytes()), (0, 0));
     assert_eq!(check(&one_wait(65, 64, 1).bytes()), (8, 0));
     assert_eq!(check(&one_wait(1024, 1023, 1).bytes()), (8, 0));
 }
@@ -107,7 +106,7 @@ fn bad_lists() {
     refused(&[0, 65], 1, 2);
     refused(&[0, 65, 0], 4, 2);
     refused(&[2, 5, 5, 1025], 5, 2);
-    let mut numbers = one_wait(65, 65, 0).numbers();
+    let mut numbers = one_wait(65, 65, 1).numbers();
     refused(&numbers, 4, 72);
     numbers[72] = 64;
     numbers.push(0);
@@ -148,20 +147,33 @@ fn limit_between_the_forms() {
     assert_eq!(told, Told::refused(9, 81));
 }
 
+/// Where every list is at its limit, each operation waits, and nothing can run
+/// first. What runs first in the longest plans that pass has no wait.
 #[test]
 fn greatest_sizes() {
-    for (family, bytes, numbers) in [
-        (Family::Greatest, 63_686, 22_868),
-        (Family::ManySemaphores, 69_768, 23_828),
+    for (family, greatest, passing) in [
+        (Family::Greatest, (63_686, 22_868), (63_659, 22_862)),
+        (Family::ManySemaphores, (69_768, 23_828), (69_738, 23_822)),
     ] {
-        let plan = family.plan(&mut Rng::new(9), 1024);
-        let stored = plan.bytes();
-        assert_eq!((stored.len(), plan.numbers().len()), (bytes, numbers));
-        assert_eq!(check(&stored), (0, 0));
-        assert_eq!(write(&plan.numbers()).1, stored);
-        let longer = [&stored[..], &[0]].concat();
-        assert_eq!(read(&longer), (3, bytes as u64));
-        assert_eq!(check(&stored[..bytes - 1]).0, 1);
+        for handed in [false, true] {
+            let rng = &mut Rng::new(9);
+            let longest = match handed {
+                false => family.plan(rng, 1024),
+                true => family.handed_plan(rng, 1024),
+            };
+            let waits_less = |o: &&Operation| o.waits.len() < 3;
+            assert_eq!(longest.operations.iter().filter(waits_less).count(), 1);
+            let stuck = generate::with_all_waits(rng, &longest);
+            for (plan, sizes, answer) in [(longest, passing, (0, 0)), (stuck, greatest, (10, 0))] {
+                let stored = plan.bytes();
+                assert_eq!((stored.len(), plan.numbers().len()), sizes);
+                assert_eq!(check(&stored), answer);
+                assert_eq!(write(&plan.numbers()).1, stored);
+                let longer = [&stored[..], &[0]].concat();
+                assert_eq!(read(&longer), (3, stored.len() as u64));
+                assert_eq!(check(&stored[..stored.len() - 1]).0, 1);
+            }
+        }
     }
 }
 

@@ -1,7 +1,7 @@
 //! The numbers of the C header are those of the greatest plans and of what the
 //! reference writes.
 
-use harness::generate::{Family, Rng};
+use harness::generate::{self, Family, Rng};
 use harness::side::{Found, Raw, STATE};
 use harness::traces;
 
@@ -22,7 +22,9 @@ fn defined(name: &str) -> usize {
 #[test]
 fn sizes() {
     let operations = defined("CUNDVREST_MOST_OPERATIONS");
-    let plan = Family::ManySemaphores.plan(&mut Rng::new(0), operations);
+    let rng = &mut Rng::new(0);
+    let longest = Family::ManySemaphores.plan(rng, operations);
+    let plan = generate::with_all_waits(rng, &longest);
     assert_eq!(plan.owners.len(), defined("CUNDVREST_MOST_SEMAPHORES"));
     assert_eq!(plan.bytes().len(), defined("CUNDVREST_MOST_BYTES"));
     assert_eq!(plan.numbers().len(), defined("CUNDVREST_MOST_NUMBERS"));

@@ -11,9 +11,10 @@ WORDS = {
     4: 'not in its list', 5: 'an axis appears twice', 7: 'a signal that is not higher than the last, or 0',
     8: 'a wait above every signal of its semaphore', 9: 'too little room', 10: 'stuck: no run is full',
     11: 'a broken mark', 12: 'no such queue', 13: 'no such buffer', 14: 'a frontier is not well formed',
-    15: 'the capacity is not 1 to 16', 17: 'a signal out of turn',
+    15: 'the capacity is not 1 to 16', 16: 'a wait for 0', 17: 'a signal out of turn',
     19: 'no signal of the plan frees the buffer', 21: 'no such operation', 22: 'the recorded trace is not well formed',
 }
+READING = (1, 2, 3, 4, 5, 16)           # refusals of reader and writer: the place is a byte or a position in numbers
 
 
 class Refused(Exception):

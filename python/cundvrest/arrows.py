@@ -63,11 +63,10 @@ class Arrows:
         """An arrow for each wait of each box of the band."""
         for j, k, y, wire in self.laid:
             r = self.order.rests[j][k]
-            why = (f'signalled by operation {r}' if r is not None else 'which no signal reaches'
-                   if self.order.never(j, k) else 'which is met at once')
+            why = f'signalled by operation {r}' if r is not None else 'which no signal reaches'
             with svg.group(f'operation {j} waits for {self._name(j, k)}, {why}', 'wait', f'{j}.{k}'):
                 if r is None:
-                    self._unordered(svg, j, k, y)
+                    self._never(svg, j, k, y)
                 else:
                     self._wait(svg, j, k, y, wire)
 
@@ -106,15 +105,10 @@ class Arrows:
             words = self._name(j, k, int((picture.gap - 34) / 5.5)) + ' not met' * (what == 'unmet')
             svg.text(end, y - 3, words, 9.5, RED if red else '#46525e', 'end', red, halo=True)
 
-    def _unordered(self, svg, j, k, y):
-        """A wait that rests on nothing: for 0, or for what never comes."""
+    def _never(self, svg, j, k, y):
+        """A wait for what never comes."""
         picture = self.picture
         x = picture.x(picture.levels[j]) - 4 * (j in picture.bad)
-        if not self.order.never(j, k):
-            picture.drawn.add('zero')
-            svg.arrow([(x - 12, y), (x, y)], LIGHT)
-            svg.circle(x - 14, y, 2.2, '#fff', LIGHT, 1.2)
-            return
         picture.drawn.add('never')
         svg.arrow([(x - 20, y), (x, y)], RED, 2.2, '4 3')
         svg.cross(x - 23, y, RED)

@@ -105,8 +105,7 @@ def _wait_not_met(said, trace, speaker, order):
 
 def _unmet(trace, order, j):
     """The indices of the waits of an operation that the state does not meet: what they rest on has not run."""
-    return [k for k, r in enumerate(order.rests[j])
-            if r is not None and order.epochs[r] > trace.queues[order.queue[r]]]
+    return [k for k, r in enumerate(order.rests[j]) if order.epochs[r] > trace.queues[order.queue[r]]]
 
 
 def _state(said, trace, speaker, order, title):

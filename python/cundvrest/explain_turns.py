@@ -88,7 +88,7 @@ def _own_semaphore(order, speaker, turn):
     lines = [Shown('', f'semaphore {name} owner {of}', sign='+')]
     for j, o in enumerate(plan.operations):
         signals = tuple(Signal(own, v) if s == old and o.queue == queue else Signal(s, v) for s, v in o.signals)
-        waits = tuple(Wait(own, v) if s == old and r is not None and order.queue[r] == queue else Wait(s, v)
+        waits = tuple(Wait(own, v) if s == old and order.queue[r] == queue else Wait(s, v)
                       for (s, v), r in zip(o.waits, order.rests[j]))
         new.operations[j] = dataclasses.replace(o, signals=signals, waits=waits)
         if new.operations[j] != o:

@@ -118,7 +118,7 @@ def stuck(order):
     """(lowest, lead, circle) of a plan without a full run: the lowest operation that cannot run; links that lead from
     it to the circle, maybe none; and a circle with the fewest waits of all that it leads to."""
     done = set(order.run)
-    waits = {j: [(k, r) for k, r in enumerate(rests) if r is not None and r not in done]
+    waits = {j: [(k, r) for k, r in enumerate(rests) if r not in done]
              for j, rests in enumerate(order.rests) if j not in done}
     lowest = min(waits)
     start = _in_a_shortest_circle(order, waits, lowest)

@@ -56,10 +56,6 @@ class Legend:
             x, y = self._item(34, 'wait for an operation that is not near: its number')
             svg.text(x + 18, y + 3, '12', 8, PALE, 'end')
             svg.arrow([(x + 20, y), (x + 34, y)], DARK)
-        if 'zero' in drawn:
-            x, y = self._item(18, 'wait for 0: met at once')
-            svg.arrow([(x + 5, y), (x + 18, y)], LIGHT)
-            svg.circle(x + 3, y, 2.2, '#fff', LIGHT, 1.2)
 
     def _holdings(self):
         x, y = self._item(46, 'holding: ● use, ✕ free')

@@ -140,13 +140,13 @@ def with_wait(order, at, wait, rests_on):
     others."""
     has, rests = order.plan.operations[at].waits, order.rests[at]
     for k, (s, v) in enumerate(has):
-        if s == wait.semaphore and v < wait.value and (rests[k] is None or order.reaches(rests[k], rests_on)):
+        if s == wait.semaphore and v < wait.value and order.reaches(rests[k], rests_on):
             return has[:k] + (wait,) + has[k + 1:], k
     if len(has) < LIMITS['wait']:
         return has + (wait,), None
     for k, r in enumerate(rests):
         beside = [x for i, x in enumerate(rests) if i != k] + [rests_on, order.previous(at)]
-        if r is None or any(x is not None and order.reaches(r, x) for x in beside):
+        if any(x is not None and order.reaches(r, x) for x in beside):
             return has[:k] + (wait,) + has[k + 1:], k
     return None, None
 

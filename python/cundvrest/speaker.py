@@ -1,4 +1,6 @@
 """Names and lines of a plan, for sentences."""
+from functools import cached_property
+
 from . import text as text_form
 from .explanation import Shown
 
@@ -14,7 +16,11 @@ class Speaker:
     def __init__(self, plan):
         self.plan = plan
         self.has_text = plan.source is not None and bool(plan.source.path)
-        self.source = plan.sourced().source
+
+    @cached_property
+    def source(self):
+        """The text of the plan, which may be its own: of one that the proved writer takes, or that has a text."""
+        return self.plan.sourced().source
 
     def queue(self, j):
         """The queue of operation j."""

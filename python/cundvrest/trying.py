@@ -1,10 +1,10 @@
 """Changes are tried with the proved check before they are shown."""
 from . import library
-from .plan import WORDS, Refused
+from .answers import READING, WORDS, Refused
 
 
 def tried(plan):
-    """(number, place) that the proved functions say of a changed plan; 1 to 5 too."""
+    """(number, place) that the proved functions say of a changed plan; those of the writer too."""
     try:
         return library.check(plan.bytes(), len(plan.operations))[:2]
     except Refused as refused:
@@ -15,4 +15,4 @@ def then(number, place):
     """What that means, after `with this change, `."""
     if number == 0:
         return 'the plan passes'
-    return f'the next refusal is {number} {place}: {WORDS[number]}' if number > 5 else f'it is refused by {number}'
+    return f'it is refused by {number}' if number in READING else f'the next refusal is {number} {place}: {WORDS[number]}'

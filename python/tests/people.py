@@ -50,8 +50,8 @@ def random_plan(rng):
     def some(most):
         return rng.choice([0, 1, 2, most, rng.randint(0, most)])
 
-    def value():
-        return rng.choice([0, 1, GREATEST, rng.randrange(2**64), rng.randrange(100)])
+    def value(least):
+        return rng.choice([least, 1, GREATEST, rng.randrange(least, 2**64), rng.randrange(least, 100)])
     plan = Plan()
     for axis in rng.sample([*range(20), *(GREATEST - k for k in range(20))], some(16)):
         plan.queue(axis=axis)
@@ -60,8 +60,8 @@ def random_plan(rng):
     for _ in range(some(256)):
         plan.buffer(size=rng.choice([0, 64, 2**32 - 1]))
     for _ in range(rng.choice([0, 1, 5, 40, 1024]) if plan.queues else 0):
-        pairs = [[(rng.randrange(len(plan.semaphores)), value()) for _ in range(rng.randint(0, most))]
-                 if plan.semaphores else [] for most in (3, 2)]
+        pairs = [[(rng.randrange(len(plan.semaphores)), value(least)) for _ in range(rng.randint(0, most))]
+                 if plan.semaphores else [] for most, least in ((3, 1), (2, 0))]
         marks = [(rng.randrange(len(plan.buffers)), rng.random() < 0.5) for _ in range(rng.randint(0, 4))
                  ] if plan.buffers else []
         plan.operations.append(Operation(rng.randrange(len(plan.queues)), *pairs, marks, rng.choice(['', 'a # note'])))
@@ -267,6 +267,7 @@ class Errors(unittest.TestCase):
             ('plan\n' + queues(1) + 1025 * 'q0:\n' + 'end', 2, '1027:1'),
             ('plan\n' + queues(1) + 'semaphore s owner q0\nq0: wait s>=1 s>=2 s>=3 s>=4\nend', 2, '4:25'),
             ('plan\n' + queues(1) + 'semaphore s owner q0\nq0: signal s=1 s=2 s=3\nend', 2, '4:20'),
+            ('plan\n' + queues(1) + 'semaphore s owner q0\nq0: wait s>=1 s>=0\nend', 16, '4:15'),
             ('plan\n' + queues(1) + 'buffer b size 1\nq0: use b b b b free b\nend', 2, '4:17'),
             ('plan\nbuffer b c size 0x1_0000_0000\nend', 4, '2:17'),
             ('plan\nqueue a axis 7\nqueue b axis 8\nqueue c axis 7\nend', 5, '4:14'),
@@ -375,7 +376,9 @@ class SecondForm(unittest.TestCase):
                 (bytes.fromhex('00 41'), 2, 1, 'is 65 at byte 1; the limit is 64, or 1024 for a plan that begins'),
                 (bytes.fromhex('f3 00'), 2, 0, 'the number of queues is 243 at byte 0; the limit is 16'),
                 (one_wait + b'\x41\0', 4, 83, 'operation 0, wait 0: its semaphore is 65 at byte 83'),
-                (one_wait + b'\x41', 1, 83, 'operation 0, wait 0: its semaphore begins at byte 83 and takes 2')):
+                (one_wait + b'\x41', 1, 83, 'operation 0, wait 0: its semaphore begins at byte 83 and takes 2'),
+                (one_wait + b'\x40\0' + bytes(8), 16, 85, 'operation 0, wait 0: its value is 0 at byte 85; a wait is for'),
+                (one_wait + b'\x40\0' + bytes(7), 1, 85, 'operation 0, wait 0: its value begins at byte 85 and takes 8')):
             with self.subTest(stored[:6].hex()), self.assertRaises(Refused) as caught:
                 Plan.read(stored)
             self.assertEqual((caught.exception.number, caught.exception.place), (number, place))
@@ -393,6 +396,85 @@ class SecondForm(unittest.TestCase):
         self.assertEqual([(s.name, value) for s, value in traced.reached()[0]], [(f's{984 + k}', 1) for k in range(3)])
         self.assertEqual(traced.reached()[1], 1021)
         self.assertIn('1021 others 0', str(explain_trace(plan, range(3))))
+
+
+class WaitsForZero(unittest.TestCase):
+    """Refusal 16, of texts, of plans that a program makes, and of stored plans."""
+    TEXT = ('plan\nqueue fill axis 1\nqueue show axis 2\nsemaphore filled shown owner fill\n'
+            'fill: signal filled=10\nshow: wait filled>=0 signal shown=1\nend\n')
+
+    def refused(self, plan):
+        with self.assertRaises(Refused) as caught:
+            plan.check()
+        self.assertEqual(caught.exception.number, 16)
+        return caught.exception, caught.exception.explain(strict=True)
+
+    def test_text(self):
+        refused, said = self.refused(Plan.parse(self.TEXT, 'x.plan.txt'))
+        self.assertEqual((refused.place, said.where), (17, 'x.plan.txt:6:7'))
+        self.assertEqual(said.headline, 'show waits for filled>=0; a wait is for 1 or more')
+        self.assertEqual([(change.words, change.lines[-1].text) for change in said.changes],
+                         [('With 10 in place of 0, the plan passes:', 'show:  wait filled>=10  signal shown=1'),
+                          ('Without it, the plan passes:', 'show:                  signal shown=1')])
+        self.assertIn('would be met at once and order nothing', said.text())
+        _, said = self.refused(Plan.parse(self.TEXT.replace('=10', '=9'), 'x.plan.txt'))
+        self.assertEqual([change.words for change in said.changes], ['Without it, the plan passes:'])
+
+    def test_several(self):
+        """A change is of all waits for 0; one that the writer does not take is not shown."""
+        text_ = self.TEXT.replace('end', 'show: wait filled>=1 shown>=0\nend')
+        _, said = self.refused(Plan.parse(text_, 'x.plan.txt'))
+        self.assertIn('The plan has 2 waits for 0', said.text())
+        self.assertEqual([(change.words, [line.label for line in change.lines]) for change in said.changes],
+                         [('Without them, the plan passes:', ['6', '6', '7', '7'])])
+        _, said = self.refused(Plan.parse(text_.replace('shown>=0', 'shown>=0 shown>=1 shown>=1'), 'x.plan.txt'))
+        self.assertEqual([change.number for change in said.changes], [0])
+        plan = Plan.parse(text_)
+        for wrong in (dict(queue=2), dict(waits=[(2, 0)]), dict(marks=[(0, False)])):
+            _, said = self.refused(plan.with_operation(2, **wrong))
+            self.assertEqual(said.changes, [])
+
+    def test_without_a_text(self):
+        plan = Plan.parse(self.TEXT)
+        refused, said = self.refused(plan.with_operation(0, note='changed', waits=[(1, 1)]))
+        self.assertEqual((refused.place, said.where), (19, ''))
+        self.assertEqual([line.label for line in said.changes[0].lines], ['1', '1'])
+        with self.assertRaises(Refused):
+            plan.text()
+        with self.assertRaises(Refused):
+            plan._repr_svg_()
+
+    def test_stored(self):
+        with self.assertRaises(Refused) as caught:
+            load('refused-16-wait-for-zero.plan')
+        self.assertEqual((caught.exception.number, caught.exception.place), (16, 39))
+        said = caught.exception.explain(strict=True)
+        self.assertEqual(said.headline, 'operation 1, wait 0: its value is 0 at byte 39; a wait is for 1 or more')
+        self.assertIn('would be met at once and order nothing', said.text())
+
+    def test_random_plans(self):
+        """Where one wait is set to 0: its line and column, and each change does what is said of it."""
+        rng, seen = random.Random(16), 0
+        for _ in range(100):
+            plan = random_plan(rng)
+            waits = [(j, k) for j, o in enumerate(plan.operations) for k in range(len(o.waits))]
+            if not waits:
+                continue
+            j, k = rng.choice(waits)
+            zero = [(s, 0 if i == k else v) for i, (s, v) in enumerate(plan.operations[j].waits)]
+            made = text.write(plan.with_operation(j, waits=zero))
+            zeroed = Plan.parse(made, 'x.plan.txt')
+            refused, said = self.refused(zeroed)
+            self.assertEqual((16, refused.place), library.write(zeroed.numbers())[:2])
+            line, column, width = zeroed.source.places['operation', j, 'wait', k]
+            self.assertEqual(said.where, f'x.plan.txt:{line}:{column}')
+            self.assertTrue(made.splitlines()[line - 1][:column - 1 + width].endswith('>=0'))
+            self.assertTrue(said.changes)
+            for change in said.changes:
+                self.assertEqual(library.check(change.plan.bytes())[:2], (change.number, change.place))
+                self.assertEqual('the plan passes' in change.words, change.number == 0)
+            seen += 1
+        self.assertGreater(seen, 30)
 
 
 class Header(unittest.TestCase):
@@ -688,8 +770,8 @@ class Damage(unittest.TestCase):
                     counts[kind, self.one(path, data)] += 1
         for kind, least in ((('bytes', 'passed'), 50), (('text', 'passed'), 50), (('text', 'no plan'), 200),
                             (('bytes', 1), 50), (('bytes', 2), 5), (('bytes', 3), 50), (('bytes', 4), 50),
-                            (('bytes', 8), 5), (('bytes', 10), 10), (('bytes', 17), 5), (('bytes', 11), 10),
-                            (('text', 11), 20)):
+                            (('bytes', 8), 5), (('bytes', 10), 10), (('bytes', 17), 5), (('bytes', 11), 5),
+                            (('bytes', 16), 3), (('text', 11), 20)):
             self.assertGreaterEqual(counts[kind], least, kind)
 
     def one(self, path, data):

@@ -80,7 +80,7 @@ def apart(plan):
 def rested(plan):
     """For each operation those that its waits rest on: of the signals that are enough, the one with the least value."""
     signals = [(s, v, j) for j, o in enumerate(plan.operations) for s, v in o.signals]
-    return [[min((x, j) for t, x, j in signals if t == s and x >= v)[1] for s, v in o.waits if v]
+    return [[min((x, j) for t, x, j in signals if t == s and x >= v)[1] for s, v in o.waits]
             for o in plan.operations]
 
 
@@ -169,7 +169,7 @@ def follows(plan, links, to):
     for link, after in zip(links, [*(link.head for link in links[1:]), to]):
         s, v = plan.operations[link.head].waits[link.wait]
         enough = [(x, j) for j, o in enumerate(plan.operations) for t, x in o.signals if t == s and x >= v]
-        if not v or min(enough)[1] != link.signaller or after != link.after:
+        if min(enough)[1] != link.signaller or after != link.after:
             return False
         if plan.operations[link.signaller].queue != plan.operations[after].queue or link.signaller < after:
             return False
@@ -186,7 +186,7 @@ def fewest_waits(plan, place, ran):
                 fewest[j, i] = 0
         for s, v in plan.operations[j].waits:
             enough = [(x, i) for i, o in enumerate(plan.operations) for t, x in o.signals if t == s and x >= v]
-            if v and min(enough)[1] in stuck:
+            if min(enough)[1] in stuck:
                 fewest.setdefault((j, min(enough)[1]), 1)
     for by in stuck:
         for j in stuck:

@@ -31,9 +31,10 @@ def _loose(rng, operations):
         mine = [s for s, x in enumerate(plan.semaphores) if anybody or x.owner == q]
         waits = []
         for _ in range(rng.choice([0, 1, 1, 2, 3])):
-            if last:
-                s = rng.randrange(len(last))
-                waits.append(Wait(s, rng.randint(0, last[s])))
+            signalled = [s for s, value in enumerate(last) if value]
+            if signalled:
+                s = rng.choice(signalled)
+                waits.append(Wait(s, rng.randint(1, last[s])))
         signals = []
         for s in rng.sample(mine, min(len(mine), rng.choice([0, 1, 1, 2]))):
             last[s] += rng.choice([1, 1, 2, 5])
@@ -55,7 +56,9 @@ def _pipeline(rng):
         plan.buffer(f'frame{k}', size=4096)
     for frame in range(rng.randint(1, 6)):
         for k in range(stages):
-            before = {f'done{k - 1}': frame + 1} if k else {f'done{stages - 1}': max(0, frame + 1 - buffers)}
+            before = {f'done{k - 1}': frame + 1} if k else {}
+            if not k and frame >= buffers:
+                before = {f'done{stages - 1}': frame + 1 - buffers}
             buffer = f'frame{frame % buffers}'
             plan.add(k, wait=before, use=buffer, free=buffer if k == stages - 1 else (), signal={f'done{k}': frame + 1})
     if rng.random() < 0.5:                          # with the operations of each queue in order, the rest in any
@@ -95,10 +98,12 @@ def _drop_wait(rng, plan):
 
 
 def _highest(plan):
+    """Of each semaphore that is signalled above 0 its highest value."""
     high = {}
     for o in plan.operations:
         for s, v in o.signals:
-            high[s] = max(v, high.get(s, 0))
+            if v:
+                high[s] = max(v, high.get(s, 0))
     return high
 
 
@@ -107,7 +112,7 @@ def _other_wait(rng, plan):
     high, j = _highest(plan), rng.randrange(len(plan.operations))
     if plan.semaphores:
         s = rng.randrange(len(plan.semaphores))
-        value = rng.randint(0, high.get(s, 0)) + (rng.random() < 0.5)
+        value = rng.randint(1, high.get(s, 0) + 1)
         _change(plan, j, waits=plan.operations[j].waits[:2] + (Wait(s, value),))
 
 
@@ -123,7 +128,7 @@ def _circle(rng, plan):
     """Operations of several queues, each of which waits for the next one's signal."""
     signalling = {}
     for j, o in enumerate(plan.operations):
-        if o.signals:
+        if o.signals and o.signals[0].value:
             signalling.setdefault(o.queue, []).append(j)
     queues = rng.sample(sorted(signalling), min(len(signalling), rng.randint(1, 4)))
     picked = [rng.choice(signalling[q]) for q in queues]
@@ -173,7 +178,7 @@ def _joined_semaphores(rng, plan):
         waits = []
         for s, v in o.waits:
             enough = [x for t, x in new if t == s and x >= v]
-            waits.append(Wait(kept, new[s, min(enough)]) if v and enough else Wait(s, v))
+            waits.append(Wait(kept, new[s, min(enough)]) if enough else Wait(s, v))
         _change(plan, j, waits=tuple(waits),
                 signals=tuple(Signal(kept, new[s, v]) if (s, v) in new else Signal(s, v) for s, v in o.signals))
 

@@ -2,11 +2,11 @@
 use mathlib.Core.Path.{_≡_, refl, sym, ap, _∙_}
 use mathlib.Core.Bool.{Bool, true, false, _&&_, not, and-false, true≢false}
 use mathlib.Core.List.{List, [], _∷_, _++_, append-assoc, append-nil}
-use Prim.Native.Nat.{ℕ, suc, _+_, _*_, _%_, _≤_, _<_}
+use Prim.Native.Nat.{ℕ, suc, _+_, _%_, _≤_, _<_}
 use native.Mathlib.Nat.{mod-eq-of-lt}
 use native.Mathlib.Omega.{arith}
 use lib.Dec.{ltb, leb, eqb}
-use lib.ListN.{length, getD, take, length-append, List·getD-eq-default}
+use lib.ListN.{length, getD, take, length-append}
 use lib.Seq.{ext-getD, take-at, take-length}
 use borrow.Author.Tests.{leb-false, lt-ltb, not-false}
 use Rattle.base_lists.specs.Lists.{member, tally, lowest-below}
@@ -17,17 +17,16 @@ use Rattle.base_lists.proofs.Searches.{lowest-cut}
 use Rattle.base_lists.proofs.Tallies.{tally-ends}
 use Rattle.order.proofs.Runs.{runs-nil}
 use Rattle.plan_format.specs.Sizes.{most-queues, most-operations, most-waits, no-operation}
-use Rattle.plan_format.specs.Plan.{Point, Plan, count, op}
+use Rattle.plan_format.specs.Plan.{Plan, count, op}
 use Rattle.plan_format.specs.Meaning.{wait-at}
 use Rattle.plan_format.specs.Sound.{Sound}
-use Rattle.plan_order.specs.Precedence.{Resolution, at-once, on, never, resolve}
 use Rattle.plan_order.specs.Rows.{epoch}
-use Rattle.plan_order.specs.Runs.{earlier-run, enabled, ready, is-run, is-full, wait-met}
-use Rattle.plan_order.proofs.Demand3.{rules-good}
+use Rattle.plan_order.specs.Runs.{rested, earlier-run, enabled, ready, is-run, is-full, wait-met}
+use Rattle.plan_order.proofs.Demand3.{waits-good}
+use Rattle.plan_order.proofs.Readiness.{own-rests}
 use Rattle.plan_order.proofs.Rows.{row-at}
 use Rattle.plan_order.proofs.RunMeaning.{ready-adds}
-use Rattle.plan_order.proofs.Resolution.{Resolution-case, at-signal, resolve-is}
-use Rattle.check_columns.specs.Columns.{Queue-column, Source-column, Row-columns, source-of, no-point}
+use Rattle.check_columns.specs.Columns.{Queue-column, Source-column, Row-columns, no-point}
 use Rattle.check_columns.specs.Columns as columns
 use Rattle.plan_trace.specs.declared.Followed.{Followed}
 use Rattle.plan_trace.specs.declared.Traced.{Traced}
@@ -44,7 +43,7 @@ use Rattle.plan_trace.proofs.Reasons.{
   departs-ready,
 }
 use Rattle.plan_trace.proofs.StateMeaning.{counts-at, counts-long}
-use Rattle.plan_trace.proofs.Progress.{rested-or-none, own-entry as entry-own, run-is, first-is, wait-is, counts-more}
+use Rattle.plan_trace.proofs.Progress.{own-entry as entry-own, run-is, first-is, counts-more}
 use Rattle.ask_trace.specs.Walk.{
   place-of,
   own-entry,
@@ -104,37 +103,26 @@ module _ (p : Plan) (n : ℕ) (queue source rows : List ℕ) (shown : Trace-give
     late-right i l = rw (entry-right i l, count-right i l) (sym (first-is p r a-run i l))
 
     -- ---- waits
-    -- a wait that rests on an operation, or on none
-    of-source : (w : Point) (y : Resolution) → Resolution-case p w y → (at : ℕ) → getD source at 0 ≡ source-of y →
-        wait-unmet-at queue source rows (queue-counts p r) at ≡ not (rested-or-none r y)
-    unfolding wait-unmet-at source-of rested-or-none
-    of-source w at-once d at e = rw e
-    of-source w (on x) (at-signal _ t) at e =
-        rw (e, lt-ltb (x .operation) no-operation (omega (arith, t .inside, shown .sound .few-operations)))
-        (ap not (ran-right (x .operation) (t .inside)))
-    of-source w never d at e = rw e
-
-    unmet-source : (j k : ℕ) → j < count p → k < most-waits →
-        wait-unmet queue source rows (queue-counts p r) j k ≡ not (rested-or-none r (resolve p (wait-at p j k)))
-    unfolding wait-unmet Source-column columns.wait-at
-    unmet-source j k l b =
-        rw (uncut j l) (of-source (wait-at p j k) (resolve p (wait-at p j k)) (resolve-is p (wait-at p j k))
-        (most-waits * j + k)
-        (shown .sources-shown j k l b))
-
+    -- a wait rests on an operation
     unmet-by-run : (j k : ℕ) → j < count p → k < length (op p j .waits) →
         wait-unmet queue source rows (queue-counts p r) j k ≡ not (wait-met p r (wait-at p j k))
+    unfolding wait-unmet wait-unmet-at wait-met rested columns.wait-at
     unmet-by-run j k l b =
-        unmet-source j k l (omega (arith, shown .few-waits j l))
-        ∙ ap not (sym (wait-is p (rules-good p (shown .sound) .1) r j l (wait-at p j k)
-        (mem-at (op p j .waits) no-point k b)))
+        let (x, t, e) = own-rests p (waits-good p (shown .sound)) j l (wait-at p j k)
+        (mem-at (op p j .waits) no-point k b) in
+        rw (
+          uncut j l,
+          shown .sources-shown .rests j k x l b e,
+          lt-ltb (x .operation) no-operation (omega (arith, t .inside, shown .sound .few-operations)),
+          e,
+        )
+        (ap not (ran-right (x .operation) (t .inside)))
 
-    -- past the waits of an operation there is a wait for 0
+    -- past the waits of an operation nothing is waited for
     unmet-past : (j k : ℕ) → j < count p → length (op p j .waits) ≤ k → k < most-waits →
         wait-unmet queue source rows (queue-counts p r) j k ≡ false
-    unfolding resolve rested-or-none
-    unmet-past j k l a b =
-        unmet-source j k l b ∙ rw (List·getD-eq-default (op p j .waits) no-point a)
+    unfolding wait-unmet wait-unmet-at
+    unmet-past j k l a b = rw (uncut j l, shown .sources-shown .absent j k l a b)
 
     unmet-right : (j : ℕ) → j < count p →
         lowest-below most-waits (λ k. wait-unmet queue source rows (queue-counts p r) j k) ≡ unmet-wait p r j

@@ -12,6 +12,7 @@ use Rattle.base_lists.specs.Lists.{tabulate-from}
 use Rattle.base_lists.proofs.Stores.{map-append, tabulate-map}
 use Rattle.base_lists.proofs.Tables.{tabulate-length, tabulate-at}
 use Rattle.base_lists.proofs.Tests.{by-cases}
+use Rattle.plan_format.specs.Sizes.{no-wait}
 use Rattle.plan_format.specs.Plan.{Point, Mark, Operation, empty-operation, operation-long, operations-in}
 use Rattle.plan_order.specs.Precedence.{Signal, no-signal, signals-of, signals-from}
 use Rattle.check_columns.specs.Columns.{no-point, Marked, no-mark, marked-of, marked-from}
@@ -153,8 +154,8 @@ unfolding joined marked-from
 marks-joined i [] = refl
 marks-joined i (o ∷ os) = rw (marks-joined (suc i) os)
 
--- each of three numbers is the wait's, 0 past the last wait
-three-is : (h : Point → ℕ) (number : ℕ → ℕ) (many : ℕ) (xs : List Point) → h no-point ≡ 0 → many ≡ length xs →
+-- each of three numbers is the wait's, and past the last wait what means none
+three-is : (h : Point → ℕ) (number : ℕ → ℕ) (many : ℕ) (xs : List Point) → h no-point ≡ no-wait → many ≡ length xs →
     ((j : ℕ) → j < length xs → number j ≡ h (getD xs j no-point)) → (j : ℕ) →
     three many number j ≡ h (getD xs j no-point)
 three-is h number many xs z e same j =

@@ -3,11 +3,11 @@ use mathlib.Core.Path.{_≡_, refl, sym, ap, _∙_, subst}
 use mathlib.Core.List.{List, [], _∷_, map}
 use Prim.Native.Nat.{ℕ, _+_, _*_, _≤_, _<_}
 use native.Mathlib.Omega.{arith}
-use lib.ListN.{length, getD, drop, length-map, List·getD-map}
+use lib.ListN.{length, getD, drop, length-map, List·getD-map, List·getD-eq-default}
 use lib.Seq.{sets, length-sets}
 use Rattle.base_lists.proofs.Stores.{sets-at}
 use Rattle.base_lists.proofs.Tables.{tabulate-length, tabulate-at}
-use Rattle.plan_format.specs.Sizes.{most-signals, most-marks}
+use Rattle.plan_format.specs.Sizes.{most-signals, most-marks, no-wait}
 use Rattle.plan_format.specs.Plan.{Point, Operation, Plan, empty-operation, count, op, operations-in}
 use Rattle.plan_order.specs.Precedence.{Signal, no-signal, plan-signals}
 use Rattle.check_columns.specs.Columns.{Columns, no-point, Marked, no-mark, plan-marks, Queue-column}
@@ -115,17 +115,25 @@ module _ (p : Plan) (limits : Limits p) (X : List ℕ) (n first : ℕ)
         ∙ tabulate-at (λ j. getD (o .waits) j no-point) 3 0 k no-point u
         ∙ ap (λ (z : ℕ). getD (o .waits) z no-point) (let e : 0 + k ≡ k = omega arith in e))
 
+    value-at : (j k : ℕ) → j < count p → k < 3 → getD (cs .wait-value) (3 * j + k) 0 ≡ wait-at p j k .value
+    value-at = wait-shown (λ x. x .value) refl
+        (says (wait-value-part X) (λ x. x .value) three-waits (λ i at f. wait-value-same X i at f)) (b .wait-values)
+        (places .wait-values)
+
+    missing : (j k : ℕ) → length (op p j .waits) ≤ k → wait-at p j k .value ≡ no-wait
+    unfolding wait-at
+    missing j k past = ap (λ (x : Point). x .value) (List·getD-eq-default (op p j .waits) no-point past)
+
     waits-shown : Wait-columns p (cs .wait-semaphore) (cs .wait-value)
     waits-shown = record {
       semaphore-room = omega (arith, many-is, column-long done (b .wait-semaphores), places .wait-semaphores);
       value-room = omega (arith, many-is, column-long done (b .wait-values), places .wait-values);
       few = few-waits-of limits;
-      semaphores = wait-shown (λ x. x .semaphore) refl
+      semaphores = λ i k l u. wait-shown (λ x. x .semaphore) refl
           (says (wait-semaphore-part X) (λ x. x .semaphore) three-waits (λ i at f. wait-semaphore-same X i at f))
-          (b .wait-semaphores) (places .wait-semaphores);
-      values = wait-shown (λ x. x .value) refl
-          (says (wait-value-part X) (λ x. x .value) three-waits (λ i at f. wait-value-same X i at f)) (b .wait-values)
-          (places .wait-values);
+          (b .wait-semaphores) (places .wait-semaphores) i k l (omega (arith, few-waits-of limits i l));
+      values = λ i k l u. value-at i k l (omega (arith, few-waits-of limits i l));
+      absent = λ i k l past few. value-at i k l few ∙ missing i k past;
     }
 
     all-signals : joined its-signals 0 (p .operations) ≡ plan-signals p

@@ -5,9 +5,9 @@ use mathlib.Core.Path.{_≡_}
 use mathlib.Core.List.{List, [], _∷_, _++_}
 use Prim.Native.Nat.{ℕ, suc, _+_, _*_, _≤_, _<_}
 use lib.ListN.{length, getD}
-use Rattle.plan_format.specs.Sizes.{most-waits, signal-places, row-width, no-operation}
+use Rattle.plan_format.specs.Sizes.{most-waits, signal-places, row-width, no-operation, no-wait}
 use Rattle.plan_format.specs.Plan.{Point, Mark, Operation, Plan, count, op, queues}
-use Rattle.plan_order.specs.Precedence.{no-signal, plan-signals, Resolution, at-once, on, never, resolve}
+use Rattle.plan_order.specs.Precedence.{Signal, no-signal, plan-signals, on, resolve}
 use Rattle.plan_order.specs.Rows.{row}
 
 -- the columns of operations, side by side: the queue of each; the semaphore and the value of each wait, three places to
@@ -57,18 +57,22 @@ Owner-column p owner = (s : ℕ) → s < length (p .owners) → getD owner s 0 �
 unfoldable pub Queue-column : Plan → (queue : List ℕ) → Type 0
 Queue-column p queue = (i : ℕ) → i < count p → getD queue i 0 ≡ op p i .queue
 
--- the k-th wait of operation i; a wait for 0 where it has fewer
+-- the k-th wait of operation i
 unfoldable pub wait-at : Plan → (i k : ℕ) → Point
 wait-at p i k = getD (op p i .waits) k no-point
 
--- three places for each operation; columns with room for all
+-- three places for each operation: so many as it has waits show them, and each of the others that there is no wait;
+-- columns with room for all
 pub record Wait-columns (p : Plan) (semaphore value : List ℕ) : Type 0 where
   pub semaphore-room : most-waits * count p ≤ length semaphore
   pub value-room : most-waits * count p ≤ length value
   pub few : (i : ℕ) → i < count p → length (op p i .waits) ≤ most-waits
-  pub semaphores : (i k : ℕ) → i < count p → k < most-waits →
+  pub semaphores : (i k : ℕ) → i < count p → k < length (op p i .waits) →
       getD semaphore (most-waits * i + k) 0 ≡ wait-at p i k .semaphore
-  pub values : (i k : ℕ) → i < count p → k < most-waits → getD value (most-waits * i + k) 0 ≡ wait-at p i k .value
+  pub values : (i k : ℕ) → i < count p → k < length (op p i .waits) →
+      getD value (most-waits * i + k) 0 ≡ wait-at p i k .value
+  pub absent : (i k : ℕ) → i < count p → length (op p i .waits) ≤ k → k < most-waits →
+      getD value (most-waits * i + k) 0 ≡ no-wait
 
 -- one place for each signal, and how many there are; columns with room for all
 pub record Signal-columns (p : Plan) (many : ℕ) (semaphore value operation : List ℕ) : Type 0 where
@@ -110,15 +114,12 @@ pub record Mark-columns (p : Plan) (many : ℕ) (mark operation : List ℕ) : Ty
       getD mark k 0 ≡ 2 * getD (plan-marks p) k no-mark .buffer + getD (plan-marks p) k no-mark .kind
   pub operations : (k : ℕ) → k < many → getD operation k 0 ≡ getD (plan-marks p) k no-mark .by
 
--- the operation that a wait rests on; 1,024 for none
-unfoldable pub source-of : Resolution → ℕ
-source-of at-once = no-operation
-source-of (on x) = x .operation
-source-of never = no-operation
-
-unfoldable pub Source-column : Plan → (source : List ℕ) → Type 0
-Source-column p source = (i k : ℕ) → i < count p → k < most-waits →
-    getD source (most-waits * i + k) 0 ≡ source-of (resolve p (wait-at p i k))
+-- the operation that each wait rests on, and no operation where there is no wait
+pub record Source-column (p : Plan) (source : List ℕ) : Type 0 where
+  pub rests : (i k : ℕ) (x : Signal) → i < count p → k < length (op p i .waits) → resolve p (wait-at p i k) ≡ on x →
+      getD source (most-waits * i + k) 0 ≡ x .operation
+  pub absent : (i k : ℕ) → i < count p → length (op p i .waits) ≤ k → k < most-waits →
+      getD source (most-waits * i + k) 0 ≡ no-operation
 
 -- rows one after the other, sixteen places each, of the operations in a list
 unfoldable pub Row-columns : Plan → (done : ℕ → Type 0) → (rows : List ℕ) → Type 0

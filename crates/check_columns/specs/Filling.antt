@@ -9,12 +9,12 @@ use lib.Dec.{ltb}
 use lib.ListN.{length, getD}
 use lib.Seq.{sets}
 use Rattle.base_lists.specs.Lists.{tabulate-from}
-use Rattle.plan_format.specs.Sizes.{most-buffers, most-operations, most-waits}
+use Rattle.plan_format.specs.Sizes.{most-buffers, most-operations, most-waits, no-wait}
 use Rattle.check_columns.specs.Columns.{Columns}
 
--- the number of each of three waits, 0 in place of one that is missing
+-- a number of each of three waits; in place of a wait that is missing, what means none
 abbrev pub three : (many : ℕ) → (number : ℕ → ℕ) → (j : ℕ) → ℕ
-three many number j = cond (ltb j many) (number j) 0
+three many number j = cond (ltb j many) (number j) no-wait
 
 -- the operation of each signal or mark
 abbrev pub repeated : (many i : ℕ) → List ℕ

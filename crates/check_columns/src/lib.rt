@@ -3,6 +3,7 @@ use plan_format::limits::MARK_PLACES;
 use plan_format::limits::MOST_BUFFERS;
 use plan_format::limits::MOST_OPERATIONS;
 use plan_format::limits::MOST_WAITS;
+use plan_format::limits::NO_WAIT;
 use plan_format::limits::ROW_PLACES;
 use plan_format::limits::SIGNAL_PLACES;
 use plan_format::limits::WAIT_PLACES;
@@ -13,7 +14,7 @@ ghost use Prim.Native.Nat.{_+_, _*_, _%_, _<_, _≤_};
 ghost use lib.Dec.{ltb};
 ghost use lib.ListN.{length, getD};
 ghost use lib.Seq.{sets};
-ghost use Rattle.plan_format.specs.Sizes.{most-operations, most-waits, wait-places};
+ghost use Rattle.plan_format.specs.Sizes.{most-operations, most-waits, wait-places, no-wait};
 ghost use Rattle.check_columns.specs.Columns.{columns};
 ghost use Rattle.check_columns.specs.Filling.{wait-semaphores, wait-values, signal-semaphores};
 ghost use Rattle.check_columns.specs.Filling.{signal-values, codes-of-marks, repeated, next-at, Wait-placed};
@@ -111,7 +112,8 @@ pub fn add(
     }
 }
 
-// Stores the three waits of operation i, a wait for 0 in place of each that it lacks; gives how many it has.
+// Stores the waits of operation i at its three places, and that there is none at each place left; gives how many it
+// has.
 fn put_waits(window: &Window, i: usize, semaphore: &mut [u16], value: &mut [u64]) -> usize
     requires { ⌜ (i < most-operations) × (wait-places ≤ length (now semaphore)) ×
         (most-waits * i + most-waits ≤ length (now value)) ⌝ }
@@ -129,11 +131,11 @@ fn put_waits(window: &Window, i: usize, semaphore: &mut [u16], value: &mut [u64]
     many
 }
 
-// The number where j is below a count, else 0.
+// The number where j is below a count, else the one that means no wait.
 fn waited(x: u64, j: usize, many: usize) -> u64
-    ensures { λ r. ⌜ r ≡ cond (ltb j many) x 0 ⌝ }
+    ensures { λ r. ⌜ r ≡ cond (ltb j many) x no-wait ⌝ }
 {
-    if j < many { x } else { 0 }
+    if j < many { x } else { NO_WAIT }
 }
 
 // Stores the signals of operation i; gives how many it has.

@@ -7,10 +7,11 @@ use Prim.Native.Nat.{ℕ, zero, suc, _+_}
 use lib.Dec.{eqb}
 use lib.ListN.{drop}
 use Rattle.base_lists.proofs.Tests.{by-cases}
+use Rattle.plan_format.specs.Sizes.{least-wait, least-signal}
 use Rattle.plan_format.specs.Refusal.{given}
 use Rattle.plan_format.specs.Grammar.{Check, Grammar, field, seq, counted, Source, Scan, scan, refused, field-number}
 use Rattle.plan_format.specs.Grammar.{read-field, last-got, times, count-check, read-by}
-use Rattle.plan_format.specs.Form.{any-number}
+use Rattle.plan_format.specs.Form.{at-least}
 use Rattle.plan_format.specs.Sections.{limited, point-below, mark-below, operation-below}
 use Rattle.plan_format.proofs.Judged.{not-given-zero}
 use Rattle.plan_format.proofs.Fields.{field-done}
@@ -84,10 +85,11 @@ module _ (S : Source) (front : List ℕ) where
       ∙ counted-after t (λ u. read-by S g u) (times-after (λ u. read-by S g u) (blind-read p)) (last-after w c s)
 
 pub operation-blind : (width q m b : ℕ) → Blind (operation-below width q m b)
-unfolding operation-below point-below mark-below limited any-number
+unfolding operation-below point-below mark-below limited at-least
 operation-blind width q m b =
-    let points = seq-blind (field-blind (λ _ _ _. refl)) (field-blind (λ _ _ _. refl)) in
+    let points : (l : ℕ) → Blind (point-below width m l) =
+    λ l. seq-blind (field-blind (λ _ _ _. refl)) (field-blind (λ _ _ _. refl)) in
     seq-blind (field-blind (λ _ _ _. refl))
-    (seq-blind (counted-blind points)
-    (seq-blind (counted-blind points)
+    (seq-blind (counted-blind (points least-wait))
+    (seq-blind (counted-blind (points least-signal))
     (counted-blind (seq-blind (field-blind (λ _ _ _. refl)) (field-blind (λ _ _ _. refl))))))

@@ -12,7 +12,7 @@ use Rattle.plan_format.specs.Plan.{Plan}
 use Rattle.plan_format.specs.Sound.{Sound}
 use Rattle.plan_format.specs.declared.Told.{Told}
 use Rattle.plan_format.proofs.Plans.{limits-sound}
-use Rattle.plan_format.proofs.Positions.{in-range, few-waits}
+use Rattle.plan_format.proofs.Positions.{in-range, few-waits, limits-above-zero}
 use Rattle.plan_order.specs.Runs.{standard}
 use Rattle.check_columns.specs.Columns.{Columns}
 use Rattle.check_columns.proofs.Limits.{few-operations}
@@ -57,6 +57,7 @@ module _ {p : Plan} {n semaphores signals : ℕ} {wsem wval ssem sval sop : List
     own-semaphores = g .own-semaphores;
     few-semaphores = subst (λ (k : ℕ). k ≤ most-semaphores) (g .own-semaphores) (g .limits .few-semaphores);
     in-range = in-range (g .limits);
+    above-zero = limits-above-zero (g .limits);
     rules = sym (j .told .number) ∙ z;
     signals-shown = g .signals-shown;
     waits-shown = g .waits-shown;

@@ -1,5 +1,5 @@
--- Refusals 10, 17 and 11 from what the passes find, and what a plan without refusals 1 to 9 is answered and leaves.
--- Assumes nothing.
+-- Refusals 10, 17 and 11 from what the passes find, and what a plan without refusals 1 to 9 and 16 is answered and
+-- leaves. Assumes nothing.
 use mathlib.Core.Path.{_≡_, sym, ap, _∙_, subst}
 use mathlib.Core.Bool.{Bool, true}
 use mathlib.Core.List.{List}

@@ -1,4 +1,4 @@
-// A plan with none of refusals 1 to 8: the room, its standard run with the rows, and refusals 9, 10, 17 and 11.
+// A plan with none of refusals 1 to 8 and 16: the room, its standard run with the rows, and refusals 9, 10, 17 and 11.
 use check_columns::QueueColumn;
 use check_columns::Rows;
 use check_columns::WaitColumn;
@@ -15,7 +15,7 @@ ghost use Rattle.check_passes.specs.Given.{Order-given, Judge-given};
 
 const MOST: u16 = MOST_OPERATIONS as u16;
 
-// The check of a plan with none of refusals 1 to 8, whose waits are resolved: 9, else the run and what it shows.
+// The check of a plan with none of refusals 1 to 8 and 16, whose waits are resolved: 9, else the run and what it shows.
 pub fn check_order(
     n: u16,
     semaphores: usize,

@@ -1,4 +1,4 @@
--- The check of bytes by the check of their plan; refusals 1 to 5, which leave table and list untouched. Assumes
+-- The check of bytes by the check of their plan; refusals 1 to 5 and 16, which leave table and list untouched. Assumes
 -- nothing.
 use mathlib.Core.Path.{_≡_, refl, sym, ap, _∙_, subst}
 use mathlib.Core.List.{List}
@@ -14,7 +14,7 @@ use Rattle.plan_order.specs.Check.{Outcome, untouched, outcome, table-left, lis
 use Rattle.plan_order.specs.Check.{Plan-check-says}
 use Rattle.plan_order.proofs.Outcomes.{plan-refused, outcome-of-plan}
 
--- 1 to 5
+-- 1 to 5 and 16
 pub not-read : (bs : List ℕ) (r : Told) (t l : List ℕ) → Tells (scanned bs .fault) 0 r → (r .number ≡ 0 → ⊥) →
     Check-says bs r t t l l
 unfolding Check-says plan-refusal outcome table-left list-left left-in

@@ -18,7 +18,7 @@ use Rattle.order.proofs.Runs.{can-below, can-fresh, can-enabled, can-by, run-be
 use Rattle.plan_format.specs.Sizes.{no-operation}
 use Rattle.plan_format.specs.Plan.{Plan, count, op, queues}
 use Rattle.plan_order.specs.Runs.{enabled, ready, is-run, ready-on, next, number-ready}
-use Rattle.plan_order.proofs.Demand3.{rules-good}
+use Rattle.plan_order.proofs.Demand3.{waits-good}
 use Rattle.plan_order.proofs.Readiness.{Why, by-queue, by-wait, direct-why, direct-by, direct-below, enabled-gives}
 use Rattle.plan_order.proofs.Readiness.{predecessors-run, predecessors-suffice}
 use Rattle.check_run.specs.Words.{has, Lowest-bit}
@@ -65,7 +65,7 @@ module _ (p : Plan) (n : ℕ) (queue source : List ℕ) (shown : Run-given p n q
   unblocked-enabled : (j : ℕ) → j < count p → ((k : ℕ) → k < j → op p k .queue ≡ op p j .queue → member k r ≡ true) →
       blocker-of source ran j ≡ no-operation → enabled p r j ≡ true
   unblocked-enabled j l earlier e =
-      predecessors-suffice p (rules-good p (shown .sound) .1) r j l
+      predecessors-suffice p (waits-good p (shown .sound)) r j l
       (λ i d. of-why i (direct-below p i j d .0) (direct-why p i j d))
     where
       of-why : (i : ℕ) → i < count p → Why p i j → member i r ≡ true

@@ -1,22 +1,24 @@
 -- The source column and what is directly before an operation by a wait; what holds an operation, by its three sources.
 -- Assumes nothing.
-use mathlib.Core.Path.{_≡_, refl, sym, ap, _∙_, subst}
-use mathlib.Core.Bool.{true, false≢true}
+use mathlib.Core.Path.{_≡_, sym, ap, _∙_, subst}
+use mathlib.Core.Bool.{true}
 use mathlib.Core.Logic.{_⊎_, inl, inr}
 use mathlib.Core.List.{List, List·Memᴰ}
 use Prim.Native.Nat.{ℕ, zero, suc, _+_, _*_, _≤_, _<_}
 use native.Mathlib.Nat.{le-refl}
 use native.Mathlib.Omega.{arith}
 use lib.Dec.{ltb, eqb}
-use lib.ListN.{length, getD, List·getD-eq-default}
-use borrow.Author.Tests.{ltb-true, ltb-false, eqb-true, eqb-false, eq-eqb}
+use lib.ListN.{length, getD}
+use borrow.Author.Tests.{ltb-true, ltb-false, eqb-true, eqb-false}
 use Rattle.base_lists.proofs.Tests.{by-cases, either}
 use Rattle.base_lists.proofs.Elements.{element-at, element-place}
 use Rattle.plan_format.specs.Sizes.{no-operation}
 use Rattle.plan_format.specs.Plan.{Point, Plan, count, op}
-use Rattle.plan_order.specs.Precedence.{Resolution, at-once, on, never, resolve, rests-on}
-use Rattle.plan_order.proofs.Resolution.{Resolution-case, at-signal, resolve-is}
-use Rattle.check_columns.specs.Columns.{no-point, wait-at, source-of, Source-column}
+use Rattle.plan_order.specs.Precedence.{Signal, Resolution, on, resolve, rests-on}
+use Rattle.plan_order.proofs.Resolution.{Rests, rests-it}
+use Rattle.plan_order.proofs.Readiness.{own-rests}
+use Rattle.plan_order.proofs.Demand3.{waits-good}
+use Rattle.check_columns.specs.Columns.{no-point, wait-at}
 use Rattle.check_run.specs.Queues.{held-by, blocker-of}
 use Rattle.check_run.specs.Run.{Run-given}
 use Rattle.check_run.proofs.Looks.{held-yes, held-no}
@@ -28,44 +30,41 @@ pub data Rest (p : Plan) (j : ℕ) : ℕ → Type 0 where
       rests-on (resolve p w) i ≡ true → Rest p j i
 
 module _ (p : Plan) (n : ℕ) (queue source : List ℕ) (shown : Run-given p n queue source) where
-  source-rest : (j : ℕ) (w : Point) → List·Memᴰ w (op p j .waits) → (x : Resolution) → x ≡ resolve p w →
-      Resolution-case p w x → Rest p j (source-of x)
-  unfolding source-of
-  source-rest j w m at-once e d = on-nothing
-  source-rest j w m (on x) e (at-signal _ t) =
-      on-operation (x .operation) (t .inside) w m (ap (λ (y : Resolution). rests-on y (x .operation)) (sym e)
-      ∙ unfold rests-on in (eq-eqb (x .operation) (x .operation) refl))
-  source-rest j w m never e d = on-nothing
+  -- what a wait at a place rests on
+  wait-in : (j k : ℕ) → k < length (op p j .waits) → List·Memᴰ (wait-at p j k) (op p j .waits)
+  unfolding wait-at
+  wait-in j k b = element-at no-point (op p j .waits) k b
+
+  rest-at : (j k : ℕ) → j < count p → k < length (op p j .waits) →
+      (x : Signal) × Rests p (wait-at p j k) x × (resolve p (wait-at p j k) ≡ on x)
+  rest-at j k l b = own-rests p (waits-good p (shown .sound)) j l (wait-at p j k) (wait-in j k b)
 
   pub source-is : (j k : ℕ) → j < count p → k < 3 → Rest p j (getD source (3 * j + k) 0)
-  unfolding Source-column wait-at
   source-is j k l b =
-      subst (λ (x : ℕ). Rest p j x) (sym (shown .sources j k l b))
-      (by-cases (ltb k (length (op p j .waits)))
-      (λ t. source-rest j (getD (op p j .waits) k no-point)
-      (element-at no-point (op p j .waits) k (ltb-true k (length (op p j .waits)) t))
-      (resolve p (getD (op p j .waits) k no-point)) refl (resolve-is p (getD (op p j .waits) k no-point)))
-      (λ f. subst (λ (x : Point). Rest p j (source-of (resolve p x)))
-      (sym (List·getD-eq-default (op p j .waits) no-point (ltb-false k (length (op p j .waits)) f)))
-      (unfold resolve source-of in on-nothing)))
+      let many = length (op p j .waits) in
+      by-cases (ltb k many)
+      (λ t. let there = ltb-true k many t in
+      let (x, rests, e) = rest-at j k l there in
+      subst (λ (i : ℕ). Rest p j i) (sym (shown .sources .rests j k x l there e))
+      (on-operation (x .operation) (rests .inside) (wait-at p j k) (wait-in j k there)
+      (rests-it p (wait-at p j k) x e)))
+      (λ f. subst (λ (i : ℕ). Rest p j i) (sym (shown .sources .absent j k l (ltb-false k many f) b)) on-nothing)
 
   -- what a wait of j rests on is at one of its three places
   pub source-has : (j : ℕ) → j < count p → (w : Point) → List·Memᴰ w (op p j .waits) → (i : ℕ) →
       rests-on (resolve p w) i ≡ true → (k : ℕ) × (k < 3) × (getD source (3 * j + k) 0 ≡ i)
-  unfolding Source-column wait-at
+  unfolding wait-at rests-on
   source-has j l w m i t =
       let g = element-place no-point (op p j .waits) w m in
-      let few : g .0 < 3 = omega (arith, g .1, shown .few-waits j l) in (
+      let few : g .0 < 3 = omega (arith, g .1, shown .few-waits j l) in
+      let (x, rests, e) = rest-at j (g .0) l (g .1) in
+      let here : rests-on (on x) i ≡ true =
+      subst (λ (r : Resolution). rests-on r i ≡ true) e
+      (subst (λ (v : Point). rests-on (resolve p v) i ≡ true) (sym (g .2)) t) in (
         g .0,
         few,
-        shown .sources j (g .0) l few ∙ ap (λ (x : Point). source-of (resolve p x)) (g .2)
-            ∙ rests-source (resolve p w) t,
+        shown .sources .rests j (g .0) x l (g .1) e ∙ eqb-true (x .operation) i here,
       )
-    where
-      rests-source : (x : Resolution) → rests-on x i ≡ true → source-of x ≡ i
-      rests-source at-once e = absurd (false≢true (unfold rests-on in e))
-      rests-source (on x) e = unfold source-of rests-on in (eqb-true (x .operation) i e)
-      rests-source never e = absurd (false≢true (unfold rests-on in e))
 
   pub source-small : (j k : ℕ) → j < count p → k < 3 → getD source (3 * j + k) 0 ≤ no-operation
   source-small j k l b = small (getD source (3 * j + k) 0) (source-is j k l b)

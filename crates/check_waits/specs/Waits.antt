@@ -8,9 +8,10 @@ use Prim.Native.Nat.{ℕ, zero, suc, _*_, _/_, _%_, _≤_, _<_}
 use lib.Dec.{ltb, leb}
 use lib.ListN.{length, getD}
 use Rattle.plan_format.specs.Sizes.{most-semaphores, most-operations, most-waits, signal-places, no-operation}
+use Rattle.plan_format.specs.Sizes.{no-wait}
 use Rattle.plan_format.specs.Refusal.{Refusal, refusal, none-given}
 use Rattle.plan_format.specs.Plan.{Plan, count, op}
-use Rattle.plan_format.specs.Sound.{signals-refusal, waits-refusal, In-range}
+use Rattle.plan_format.specs.Sound.{signals-refusal, waits-refusal, In-range, Waits-above-zero}
 use Rattle.plan_format.specs.Stored.{Tells}
 use Rattle.plan_format.specs.declared.Told.{Told}
 use Rattle.check_columns.specs.Columns.{Wait-columns, Signal-columns, Source-column}
@@ -23,6 +24,7 @@ pub record Waits-given (p : Plan) (n semaphores signals : ℕ) (ssem sval sop ws
   pub own-semaphores : length (p .owners) ≡ semaphores
   pub few-semaphores : semaphores ≤ most-semaphores
   pub in-range : (i : ℕ) → i < count p → In-range p (op p i)
+  pub above-zero : Waits-above-zero p
   pub rules : signals-refusal 0 [] (p .operations) .number ≡ 0
   pub signals-shown : Signal-columns p signals ssem sval sop
   pub waits-shown : Wait-columns p wsem wval
@@ -64,10 +66,10 @@ unfoldable pub waits-found : (n semaphores signals : ℕ) → (ssem sval sop wse
 waits-found n semaphores signals ssem sval sop wsem wval last =
     cond (has-places n semaphores signals ssem sval sop wval) (waits-walk wsem wval last (most-waits * n) 0) none-given
 
--- signal j is of semaphore s and reaches v, above 0: none before it does, and all from it on do
+-- signal j is of semaphore s and reaches the value v of a wait: none before it does, and all from it on do
 pub record Rests-on-signal (ssem sval : List ℕ) (signals s v j : ℕ) : Type 0 where
   pub inside : j < signals
-  pub above : 0 < v
+  pub above : no-wait < v
   pub own : getD ssem j 0 ≡ s
   pub earlier : (i : ℕ) → i < j → getD ssem i 0 ≡ s → getD sval i 0 < v
   pub later : (i : ℕ) → j ≤ i → i < signals → getD ssem i 0 ≡ s → v ≤ getD sval i 0
@@ -76,18 +78,19 @@ pub record Rests-on-signal (ssem sval : List ℕ) (signals s v j : ℕ) : Type 0
 abbrev pub Rests-within : (signals : ℕ) → (sop : List ℕ) → (r : ℕ) → Type 0
 Rests-within signals sop r = (r ≡ no-operation) ⊎ ((j : ℕ) × (j < signals) × (r ≡ getD sop j 0))
 
--- a wait of semaphore s for v rests on r
+-- a place with semaphore s and value v rests on r
 pub record Rests (semaphores signals : ℕ) (ssem sval sop : List ℕ) (s v r : ℕ) : Type 0 where
-  pub zero : v ≡ 0 → r ≡ no-operation
+  pub absent : v ≡ no-wait → r ≡ no-operation
   pub unsignalled : ((j : ℕ) → j < signals → getD ssem j 0 ≡ s → ⊥) → r ≡ no-operation
   pub lacking : semaphores ≤ s → r ≡ no-operation
   pub within : Rests-within signals sop r
   pub found : s < semaphores → (j : ℕ) → Rests-on-signal ssem sval signals s v j → r ≡ getD sop j 0
 
 -- the column of the waits afterwards, whatever the columns show: as long as before; past the places of n operations as
--- before, and all of it where the columns have no places for the plan. Where nothing is refused a wait for 0 rests on
--- nothing, and so does one of a semaphore that has no signal or that the plan lacks; any other rests on nothing or on
--- the operation of a signal, and on the first signal of its semaphore that reaches it if those after it do
+-- before, and all of it where the columns have no places for the plan. Where nothing is refused a place without a wait
+-- rests on nothing, and so does a wait of a semaphore that has no signal or that the plan lacks; any other rests on
+-- nothing or on the operation of a signal, and on the first signal of its semaphore that reaches it if those after it
+-- do
 pub record Sources (n semaphores signals number : ℕ) (ssem sval sop wsem wval source : List ℕ) : Type 0 where
   pub long : length source ≡ length wsem
   pub past : (k : ℕ) → most-waits * n ≤ k → getD source k 0 ≡ getD wsem k 0

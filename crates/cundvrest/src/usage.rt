@@ -24,7 +24,7 @@ It prints one of these, numbers in decimal; N is the refusal and P its place.
   verdict N fresh|reusable|held|not-ordered     wait none-needed|SEMAPHORE VALUE|none-would-help
   trace full, unfinished STEPS or departs STEP RULE OPERATION, then queues and semaphores: how far each had come
   frontier whole|tainted AXIS:EPOCH ..          refused N P    too long, of 65,537 bytes or more that begin with 242
-     1 cut short       2 count over its limit   3 bytes follow        4 not in its list      5 axis twice
+     1 cut short       2 count over its limit   3 bytes follow        4 not in its list      5 axis twice  16 wait for 0
      7 not higher      8 wait for no signal    10 stuck              17 signal out of turn  11 broken mark  22 bad trace
     12 no such queue  13 no such buffer        21 no such operation  15 capacity not 1..16  19 no signal frees it
 

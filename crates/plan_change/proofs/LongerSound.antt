@@ -1,11 +1,12 @@
--- One operation more at the end, in range, without signals, and with no wait that is too high: a sound plan stays
--- sound. Assumes nothing.
+-- One operation more at the end, in range, without signals, and with no wait that is for 0 or too high: a sound plan
+-- stays sound. Assumes nothing.
 use mathlib.Core.Path.{_≡_, refl, sym, ap, _∙_, subst}
 use mathlib.Core.Bool.{false}
 use mathlib.Core.List.{List, [], _∷_, _++_}
 use Prim.Native.Nat.{ℕ, suc, _<_}
 use native.Mathlib.Omega.{arith}
 use lib.Dec.{ltb}
+use lib.ListN.{length, getD}
 use borrow.Author.Tests.{ltb-true, ltb-false}
 use Rattle.base_lists.proofs.Tests.{by-cases}
 use Rattle.plan_format.specs.Sizes.{most-operations}
@@ -14,6 +15,7 @@ use Rattle.plan_format.specs.Plan.{Point, Operation, Plan, count, op, queues}
 use Rattle.plan_format.specs.Sound.{highest-in, highest, signals-number, signals-refusal, too-high, any-too-high}
 use Rattle.plan_format.specs.Sound.{waits-refusal, rules-refusal, In-range, Sound}
 use Rattle.plan_format.proofs.Judged.{or-else-second}
+use Rattle.plan_format.proofs.RulesFirst.{wait-inside}
 use Rattle.plan_order.proofs.Demand3.{rules-good}
 use Rattle.plan_change.specs.Longer.{with-last}
 use Rattle.plan_change.proofs.Longer.{last-count, last-same, last-op}
@@ -62,18 +64,26 @@ module _ (p : Plan) (o : Operation) (silent : o .signals ≡ []) where
     in-longer x h =
         record { queue = h .queue; waits = h .waits; signals = h .signals; marks = h .marks; kinds = h .kinds }
 
-    pub last-sound : Sound p → count p < most-operations → In-range p o → Sound grown
+    -- what holds of each operation and of the new one
+    each-operation : (P : Operation → Type 0) → ((i : ℕ) → i < count p → P (op p i)) → P o →
+        (i : ℕ) → i < count grown → P (op grown i)
+    each-operation P old new i l =
+        by-cases (ltb i (count p))
+        (λ t. let inside = ltb-true i (count p) t in subst P (sym (last-same p o i inside)) (old i inside))
+        (λ f. let last : count p ≡ i = omega (arith, l, last-count p o, ltb-false i (count p) f) in
+        subst (λ (n : ℕ). P (op grown n)) last (subst P (sym (last-op p o)) new))
+
+    abbrev pub Above-zero : Operation → Type 0
+    Above-zero x = (k : ℕ) → k < length (x .waits) → 0 < getD (x .waits) k (record { semaphore = 0; value = 0 }) .value
+
+    pub last-sound : Sound p → count p < most-operations → In-range p o → Above-zero o → Sound grown
     unfolding with-last queues
-    last-sound sound few known = record {
+    last-sound sound few known above = record {
       few-queues = sound .few-queues;
       few-operations = omega (arith, last-count p o);
       axes-distinct = sound .axes-distinct;
-      in-range = λ i l. by-cases (ltb i (count p))
-          (λ t. let old = ltb-true i (count p) t in
-          subst (λ (x : Operation). In-range grown x) (sym (last-same p o i old))
-          (in-longer (op p i) (sound .in-range i old)))
-          (λ f. let new : count p ≡ i = omega (arith, l, last-count p o, ltb-false i (count p) f) in
-          subst (λ (n : ℕ). In-range grown (op grown n)) new
-          (subst (λ (x : Operation). In-range grown x) (sym (last-op p o)) (in-longer o known)));
+      in-range = each-operation (In-range grown) (λ i l. in-longer (op p i) (sound .in-range i l)) (in-longer o known);
+      waits-above-zero = λ i k h.
+          each-operation Above-zero (λ j l. sound .waits-above-zero j) above i (wait-inside grown i k h) k h;
       rules = rules-none sound;
     }

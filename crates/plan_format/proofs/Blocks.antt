@@ -4,17 +4,18 @@ use mathlib.Core.List.{List, [], _∷_, _++_, append-assoc, append-nil}
 use Prim.Native.Nat.{ℕ, _≤_, _<_}
 use native.Mathlib.Omega.{arith}
 use lib.Dec.{ltb}
-use borrow.Author.Tests.{ltb-true, lt-ltb}
+use borrow.Author.Tests.{ltb-true, ltb-false, lt-ltb}
 use Rattle.base_lists.proofs.Tests.{by-cases}
-use Rattle.plan_format.specs.Sizes.{most-waits, most-signals, most-marks}
-use Rattle.plan_format.specs.Form.{Form, queue-count, semaphore-count, buffer-count, any-number, below, a-queue}
+use Rattle.plan_format.specs.Sizes.{most-waits, most-signals, most-marks, least-wait, least-signal}
+use Rattle.plan_format.specs.Form.{Form, queue-count, semaphore-count, buffer-count, below, at-least, a-queue}
 use Rattle.plan_format.specs.Form.{a-semaphore, a-buffer, a-kind, point, mark, operation}
+use Rattle.plan_format.proofs.ChecksMeaning.{value-means}
 use Rattle.plan_format.proofs.Parses.{Spelt, Many, Parses}
 use Rattle.plan_format.proofs.Entries.{Pairs, listing, many-pairs}
 
--- points of semaphores below s; marks of buffers below b, each a use or a free
-abbrev pub Points : (s k : ℕ) → List ℕ → Type 0
-Points s = Pairs (λ v. v < s) (λ _. Unit {0})
+-- points of semaphores below s, with values from the least on; marks of buffers below b, each a use or a free
+abbrev pub Points : (s least k : ℕ) → List ℕ → Type 0
+Points s l = Pairs (λ v. v < s) (λ v. l ≤ v)
 
 abbrev pub Marks : (b k : ℕ) → List ℕ → Type 0
 Marks b = Pairs (λ v. v < b) (λ v. v < 2)
@@ -31,8 +32,8 @@ pub record Block (q s b : ℕ) (xs : List ℕ) : Type 0 where
   pub few-waits : waits ≤ most-waits
   pub few-signals : signals ≤ most-signals
   pub few-marks : marks ≤ most-marks
-  pub waited : Points s waits ws
-  pub signalled : Points s signals ss
+  pub waited : Points s least-wait waits ws
+  pub signalled : Points s least-signal signals ss
   pub marked : Marks b marks ms
   pub numbers-are : xs ≡ queue ∷ (waits ∷ (ws ++ (signals ∷ (ss ++ (marks ∷ ms)))))
 
@@ -61,6 +62,9 @@ pub passes-below : (l v n : ℕ) → l ≡ n → v < n → below l v ≡ 0
 unfolding below
 passes-below l v n e h = rw (e, lt-ltb v n h)
 
+pub passes-at-least : (l : ℕ) (got : List ℕ) (v : ℕ) → l ≤ v → at-least l got v ≡ 0
+passes-at-least l got v h = value-means l got v .otherwise (λ b. omega arith)
+
 glued : {vs v₁ v₂ v₃ v₄ v₅ v₆ ws ss ms : List ℕ} {q w s m : ℕ} →
     vs ≡ v₁ ++ v₂ → v₁ ≡ q ∷ [] → v₂ ≡ v₃ ++ v₄ → v₃ ≡ w ∷ ws → v₄ ≡ v₅ ++ v₆ → v₅ ≡ s ∷ ss → v₆ ≡ m ∷ ms →
     vs ≡ q ∷ (w ∷ (ws ++ (s ∷ (ss ++ (m ∷ ms)))))
@@ -84,12 +88,18 @@ module _ (D : Spelt) where
     unfolding a-kind
     is-kind got v g e = below-lt 2 v e
 
-    are-points : (k : ℕ) (got vs ds : List ℕ) → Kept q s b got → Many (Parses D (point F)) k got vs ds → Points s k vs
+    pub is-value : (l : ℕ) (got : List ℕ) (v : ℕ) → Kept q s b got → at-least l got v ≡ 0 → l ≤ v
+    is-value l got v g e =
+        by-cases (ltb v l) (λ t. absurd (omega (arith, e, value-means l got v .yes (ltb-true v l t))))
+        (λ f. ltb-false v l f)
+
+    are-points : (l k : ℕ) (got vs ds : List ℕ) → Kept q s b got → Many (Parses D (point F l)) k got vs ds →
+        Points s l k vs
     unfolding point
-    are-points =
+    are-points l =
         many-pairs D (Kept q s b) (kept-more q s b) (λ v. v < s)
-        (λ _. Unit {0}) (F .semaphore-width) 8 a-semaphore any-number is-semaphore
-        (λ _ _ _ _. tt)
+        (λ v. l ≤ v) (F .semaphore-width) 8 a-semaphore (at-least l) is-semaphore
+        (is-value l)
 
     are-marks : (k : ℕ) (got vs ds : List ℕ) → Kept q s b got → Many (Parses D mark) k got vs ds → Marks b k vs
     unfolding mark
@@ -107,8 +117,8 @@ module _ (D : Spelt) where
         let g₁ = kept-more q s b got (p .vs₁) g in
         let g₂ = kept-more q s b got₁ (p₁ .vs₁) g₁ in
         let g₃ = kept-more q s b got₂ (p₂ .vs₁) g₂ in
-        let cw = listing D 0 most-waits 1 (Parses D (point F)) got₁ (p₁ .vs₁) (p₁ .ds₁) (p₁ .first) in
-        let cs = listing D 0 most-signals 1 (Parses D (point F)) got₂ (p₂ .vs₁) (p₂ .ds₁) (p₂ .first) in
+        let cw = listing D 0 most-waits 1 (Parses D (point F least-wait)) got₁ (p₁ .vs₁) (p₁ .ds₁) (p₁ .first) in
+        let cs = listing D 0 most-signals 1 (Parses D (point F least-signal)) got₂ (p₂ .vs₁) (p₂ .ds₁) (p₂ .first) in
         let cm = listing D 0 most-marks 1 (Parses D mark) got₃ (p₂ .vs₂) (p₂ .ds₂) (p₂ .second) in
         let o = p .first in
         record {
@@ -123,10 +133,10 @@ module _ (D : Spelt) where
           few-waits = cw .most;
           few-signals = cs .most;
           few-marks = cm .most;
-          waited = are-points (cw .count) (got₁ ++ (cw .count ∷ [])) (cw .entries) (cw .spelling)
+          waited = are-points least-wait (cw .count) (got₁ ++ (cw .count ∷ [])) (cw .entries) (cw .spelling)
               (kept-more q s b got₁ (cw .count ∷ []) g₁)
               (cw .many);
-          signalled = are-points (cs .count) (got₂ ++ (cs .count ∷ [])) (cs .entries) (cs .spelling)
+          signalled = are-points least-signal (cs .count) (got₂ ++ (cs .count ∷ [])) (cs .entries) (cs .spelling)
               (kept-more q s b got₂ (cs .count ∷ []) g₂)
               (cs .many);
           marked = are-marks (cm .count) (got₃ ++ (cm .count ∷ [])) (cm .entries) (cm .spelling)

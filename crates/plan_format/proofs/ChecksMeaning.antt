@@ -1,4 +1,4 @@
--- What the checks of fields answer, and the number of a field: 1, 2, 4 and 5 by what is asked. Assumes nothing.
+-- What the checks of fields answer, and the number of a field: 1, 2, 4, 5 and 16 by what is asked. Assumes nothing.
 use mathlib.Core.Path.{_≡_, refl}
 use mathlib.Core.Bool.{Bool, true, _||_, cond}
 use mathlib.Core.Logic.{_⊎_, inl, inr}
@@ -13,7 +13,8 @@ use Rattle.base_lists.specs.Lists.{member}
 use Rattle.base_lists.proofs.Tests.{by-cases, either, or-cases, or-left, or-right, is-false}
 use Rattle.base_lists.proofs.Places.{member-place, place-member}
 use Rattle.plan_format.specs.Grammar.{Source, field-number, count-check}
-use Rattle.plan_format.specs.Form.{any-number, below, new-axis, a-queue, a-semaphore, a-buffer, a-kind}
+use Rattle.plan_format.specs.Sizes.{least-wait, least-signal}
+use Rattle.plan_format.specs.Form.{any-number, below, at-least, new-axis, a-queue, a-semaphore, a-buffer, a-kind}
 use Rattle.plan_format.specs.Form.{queue-count, semaphore-count, buffer-count}
 use Rattle.plan_format.specs.Meaning.{Given-when, Earlier-axis, Checks-mean, Field-means}
 
@@ -49,6 +50,18 @@ axis-means g v = given-by (member v (drop 1 g)) 5 (Earlier-axis g v) (among g) (
     found [] t = absurd (let w = member-place [] v t in not-suc-le-zero (w .1))
     found (x ∷ xs) t = let w = member-place xs v t in (suc (w .0), omega arith, omega (arith, w .1), w .2)
 
+pub value-means : (l : ℕ) (g : List ℕ) (v : ℕ) → Given-when (at-least l g v) 16 (v < l)
+unfolding at-least
+value-means l g v = given-by (ltb v l) 16 (v < l) (λ h. lt-ltb v l h) (λ t. ltb-true v l t)
+
+wait-means : (g : List ℕ) (v : ℕ) → Given-when (at-least least-wait g v) 16 (v ≡ 0)
+wait-means g v =
+    let w = value-means least-wait g v in
+    record { yes = λ e. w .yes (omega arith); otherwise = λ h. w .otherwise (λ l. h (omega arith)) }
+
+signal-means : (g : List ℕ) (v : ℕ) → at-least least-signal g v ≡ 0
+signal-means g v = value-means least-signal g v .otherwise (λ l. omega arith)
+
 pub checks-mean : (g : List ℕ) (v : ℕ) → Checks-mean g v
 unfolding a-queue a-semaphore a-buffer a-kind any-number
 checks-mean g v = record {
@@ -58,6 +71,8 @@ checks-mean g v = record {
   buffer = below-means (buffer-count g) v;
   kind = below-means 2 v;
   axis = axis-means g v;
+  wait-value = wait-means g v;
+  signal-value = signal-means g v;
   any = refl;
 }
 

@@ -10,7 +10,7 @@ use lib.ListN.{length, getD, take, length-append, length-take}
 use lib.Seq.{getD-take}
 use borrow.Author.Tests.{lt-ltb, le-ltb, ltb-true, ltb-false}
 use Rattle.base_lists.proofs.Tests.{by-cases}
-use Rattle.plan_format.specs.Sizes.{most-operations}
+use Rattle.plan_format.specs.Sizes.{most-operations, least-wait, least-signal}
 use Rattle.plan_format.specs.Grammar.{field, counted, count-check}
 use Rattle.plan_format.specs.Form.{Form, queue-count, semaphore-count, buffer-count, below, a-queue, a-semaphore}
 use Rattle.plan_format.specs.Form.{a-buffer, a-kind, point, mark, operation}
@@ -50,11 +50,12 @@ module _ (F : Form) where
       let limit : (f : List ℕ → ℕ) (n : ℕ) → ((rest : List ℕ) → f (got ++ rest) ≡ n) → (rest : List ℕ) (v : ℕ) →
       _≡_ {A = ℕ} (cond (ltb v (f (got ++ rest))) 0 4) (cond (ltb v n) 0 4) =
       λ f n e rest v. ap (λ (x : ℕ). cond (ltb v x) 0 4) (e rest) in
-      let points = seq-alike (field-alike (limit semaphore-count m (λ rest. k rest .semaphores)))
+      let points : (l : ℕ) → Alike got (point F l) (point-below (F .semaphore-width) m l) =
+      λ l. seq-alike (field-alike (limit semaphore-count m (λ rest. k rest .semaphores)))
       (field-alike (λ rest v. refl)) in
       seq-alike (field-alike (limit queue-count q (λ rest. k rest .queues)))
-      (seq-alike (counted-alike points)
-      (seq-alike (counted-alike points)
+      (seq-alike (counted-alike (points least-wait))
+      (seq-alike (counted-alike (points least-signal))
       (counted-alike (seq-alike (field-alike (limit buffer-count b (λ rest. k rest .buffers)))
       (field-alike (λ rest v. refl))))))
 

@@ -9,9 +9,10 @@ use lib.ListN.{length, getD, take}
 use Rattle.base_lists.specs.Lists.{member}
 use Rattle.base_lists.proofs.Tests.{is-false}
 use Rattle.base_lists.proofs.Places.{take-place}
-use Rattle.plan_format.specs.Sizes.{most-queues, most-buffers}
+use Rattle.plan_format.specs.Sizes.{most-queues, most-buffers, least-wait, least-signal}
 use Rattle.plan_format.specs.Grammar.{Check, digits}
-use Rattle.plan_format.specs.Form.{Form, queue-count, semaphore-count, buffer-count, any-number, new-axis}
+use Rattle.plan_format.specs.Form.{Form, queue-count, semaphore-count, buffer-count, any-number, at-least}
+use Rattle.plan_format.specs.Form.{new-axis}
 use Rattle.plan_format.specs.Form.{a-queue, a-semaphore, a-buffer, a-kind, point, mark, operation, plan-grammar}
 use Rattle.plan_format.specs.Plan.{Point, Mark, Operation, Plan}
 use Rattle.plan_format.specs.Limits.{Each, In-bytes, Point-within, Mark-within, Operation-within, Within}
@@ -21,7 +22,7 @@ use Rattle.plan_format.specs.Limits.{sections-bytes}
 use Rattle.plan_format.proofs.Parses.{Takes, Exact, Then, Many, Field, Counted, Parses}
 use Rattle.plan_format.proofs.Fields.{count-passes}
 use Rattle.plan_format.proofs.Entries.{Row, row-head, row-tail}
-use Rattle.plan_format.proofs.Blocks.{Kept, kept-now, kept-more, passes-below}
+use Rattle.plan_format.proofs.Blocks.{Kept, kept-now, kept-more, passes-below, passes-at-least}
 use Rattle.plan_format.proofs.Sections.{sections-kept}
 use Rattle.plan_format.proofs.PlanNumbers.{ones}
 use Rattle.plan_format.proofs.Forms.{Proper, Admits}
@@ -92,14 +93,15 @@ module _ (F : Form) (q s b : ℕ) (lq : q ≤ most-queues) (ls : s < 256 ^ F .se
   abbrev width : ℕ
   width = F .semaphore-width
 
-  point-of : (got : List ℕ) (x : Point) → Kept q s b got → Point-within In-bytes s x →
-      Parses Exact (point F) got (point-numbers x) (point-bytes width x)
-  unfolding point point-numbers point-bytes a-semaphore any-number
-  point-of got x k e =
+  point-of : (l : ℕ) (got : List ℕ) (x : Point) → Kept q s b got → Point-within In-bytes s l x →
+      Parses Exact (point F l) got (point-numbers x) (point-bytes width x)
+  unfolding point point-numbers point-bytes a-semaphore
+  point-of l got x k e =
       then-of got (x .semaphore ∷ []) (x .value ∷ []) (digits width (x .semaphore)) (digits 8 (x .value))
       (field-of width a-semaphore got (x .semaphore) (omega (arith, e .semaphore, ls))
       (passes-below (semaphore-count got) (x .semaphore) s (kept-now q s b got k .semaphores) (e .semaphore)))
-      (field-of 8 any-number (got ++ (x .semaphore ∷ [])) (x .value) (e .value) refl)
+      (field-of 8 (at-least l) (got ++ (x .semaphore ∷ [])) (x .value) (e .value)
+      (passes-at-least l (got ++ (x .semaphore ∷ [])) (x .value) (e .not-below)))
 
   mark-of : (got : List ℕ) (m : Mark) → Kept q s b got → Mark-within b m →
       Parses Exact mark got (mark-numbers m) (mark-bytes m)
@@ -111,12 +113,12 @@ module _ (F : Form) (q s b : ℕ) (lq : q ≤ most-queues) (ls : s < 256 ^ F .se
       (field-of 1 a-kind (got ++ (m .buffer ∷ [])) (m .kind) (omega (arith, e .kind))
       (passes-below 2 (m .kind) 2 refl (omega (arith, e .kind))))
 
-  points-of : {l m w : ℕ} (xs : List Point) (got : List ℕ) → Kept q s b got → Counts-to l m w (length xs) →
-      Each (Point-within In-bytes s) xs →
-      Counted Exact l m w (Parses Exact (point F)) got (counted-numbers point-numbers xs)
+  points-of : (least : ℕ) {l m w : ℕ} (xs : List Point) (got : List ℕ) → Kept q s b got →
+      Counts-to l m w (length xs) → Each (Point-within In-bytes s least) xs →
+      Counted Exact l m w (Parses Exact (point F least)) got (counted-numbers point-numbers xs)
       (counted-bytes w (point-bytes width) xs)
-  points-of = list-of (Kept q s b) (kept-more q s b) (Point-within In-bytes s) (Parses Exact (point F))
-      point-numbers (point-bytes width) point-of
+  points-of least = list-of (Kept q s b) (kept-more q s b) (Point-within In-bytes s least)
+      (Parses Exact (point F least)) point-numbers (point-bytes width) (point-of least)
 
   operation-of : (got : List ℕ) (o : Operation) → Kept q s b got → Operation-within In-bytes q s b o →
       Parses Exact (operation F) got (operation-numbers o) (operation-bytes width o)
@@ -137,11 +139,11 @@ module _ (F : Form) (q s b : ℕ) (lq : q ≤ most-queues) (ls : s < 256 ^ F .se
       (field-of 1 a-queue got (o .queue) (omega (arith, e .queue, lq))
       (passes-below (queue-count got) (o .queue) q (kept-now q s b got k .queues) (e .queue)))
       (then-of got₁ ws (ss ++ ms) ws′ (ss′ ++ ms′)
-      (points-of (o .waits) got₁ k₁
+      (points-of least-wait (o .waits) got₁ k₁
       (record { least = omega arith; most = omega (arith, e .few-waits); fits = omega (arith, e .few-waits) })
       (e .waits))
       (then-of got₂ ss ms ss′ ms′
-      (points-of (o .signals) got₂ k₂
+      (points-of least-signal (o .signals) got₂ k₂
       (record { least = omega arith; most = omega (arith, e .few-signals); fits = omega (arith, e .few-signals) })
       (e .signals))
       (list-of (Kept q s b) (kept-more q s b) (Mark-within b) (Parses Exact mark) mark-numbers mark-bytes mark-of

@@ -10,7 +10,7 @@ use lib.ListN.{length, getD, replicate, length-append, length-replicate}
 use Rattle.base_lists.specs.Lists.{tabulate-from}
 use Rattle.base_lists.proofs.Tables.{tabulate-length, tabulate-at}
 use Rattle.plan_format.specs.Sizes.{most-queues, most-semaphores, most-buffers, most-operations, most-waits}
-use Rattle.plan_format.specs.Sizes.{most-signals, most-marks}
+use Rattle.plan_format.specs.Sizes.{most-signals, most-marks, least-wait, least-signal}
 use Rattle.plan_format.specs.Refusal.{none-given}
 use Rattle.plan_format.specs.Grammar.{digits, most-bytes, most-numbers, Scan, scan}
 use Rattle.plan_format.specs.Form.{Form, second-form, form-with, point, mark, operation, plan-grammar}
@@ -39,7 +39,7 @@ flat-long f k e (x ∷ xs) =
 
 -- ---- the largest plan with so many semaphores
 abbrev largest-point : Point
-largest-point = record { semaphore = 0; value = 0 }
+largest-point = record { semaphore = 0; value = least-wait }
 
 abbrev largest-mark : Mark
 largest-mark = record { buffer = 0; kind = 0 }
@@ -78,13 +78,16 @@ axis-at i l = tabulate-at (λ k. k) most-queues 0 i 0 (omega (arith, axes-long))
 
 operation-within : (q s b : ℕ) → 0 < q → 0 < s → 0 < b → Operation-within In-bytes q s b largest-operation
 operation-within q s b lq ls lb =
-    let a-point : Point-within In-bytes s largest-point = record { semaphore = ls; value = lit< tt } in
+    let a-point : (l : ℕ) → l ≤ least-wait → Point-within In-bytes s l largest-point =
+    λ l h. record { semaphore = ls; value = lit< tt; not-below = h } in
     record {
       queue = lq;
       few-waits = lit≤ tt;
-      waits = each-replicate (Point-within In-bytes s) most-waits largest-point a-point;
+      waits = each-replicate (Point-within In-bytes s least-wait) most-waits largest-point
+          (a-point least-wait (lit≤ tt));
       few-signals = lit≤ tt;
-      signals = each-replicate (Point-within In-bytes s) most-signals largest-point a-point;
+      signals = each-replicate (Point-within In-bytes s least-signal) most-signals largest-point
+          (a-point least-signal (lit≤ tt));
       few-marks = lit≤ tt;
       marks = each-replicate (Mark-within b) most-marks largest-mark (record { buffer = lb; kind = lit≤ tt });
     }

@@ -5,33 +5,50 @@ use mathlib.Core.Logic.{_⊎_, inl, inr}
 use mathlib.Core.List.{List, [], _∷_, _++_}
 use Prim.Native.Nat.{ℕ, zero, suc, _+_, _*_}
 use lib.Dec.{ltb, eqb}
-use lib.ListN.{length, drop}
-use Rattle.base_lists.specs.Lists.{member}
-use Rattle.base_lists.proofs.Tests.{either}
-use Rattle.plan_format.specs.Refusal.{Refusal, refusal, none-given, given, or-else}
+use lib.ListN.{length, getD, drop}
+use lib.Seq.{getD-drop}
+use Rattle.base_lists.specs.Lists.{member, all}
+use Rattle.base_lists.proofs.Tests.{by-cases, either, and-left, and-right}
+use Rattle.plan_format.specs.Sizes.{least-wait}
+use Rattle.plan_format.specs.Refusal.{refusal, none-given, given, or-else}
 use Rattle.plan_format.specs.RefusalNumbers.{None-or, reading-numbers, rule-numbers, plan-gives}
 use Rattle.plan_format.specs.Grammar.{Grammar, field, seq, counted, nothing, Source, Scan, bytes, numbers}
 use Rattle.plan_format.specs.Grammar.{scan, refused, field-number, read-field, last-got, times, count-check}
 use Rattle.plan_format.specs.Grammar.{read-by, ended}
 use Rattle.plan_format.specs.Form.{Form, form-in, list-form, queue-count, semaphore-count, buffer-count}
 use Rattle.plan_format.specs.Form.{any-number}
-use Rattle.plan_format.specs.Form.{below, new-axis, a-queue, a-semaphore, a-buffer, a-kind, point, mark}
+use Rattle.plan_format.specs.Form.{below, at-least, new-axis, a-queue, a-semaphore, a-buffer, a-kind, point, mark}
 use Rattle.plan_format.specs.Form.{operation, plan-grammar, scanned-by}
 use Rattle.plan_format.specs.Stored.{scanned, listed, plan-in, plan-refusal}
 use Rattle.plan_format.specs.Sound.{rules-refusal}
-use Rattle.plan_format.specs.Meaning.{Fields-answer, first-of, rest-of, Sections-answer}
+use Rattle.plan_format.specs.Meaning.{fields-in, Fields-answer, field-numbers, Sections-answer}
 use Rattle.plan_format.proofs.RefusalNumbers.{none-or-left, none-or-right}
+use Rattle.plan_format.proofs.Judged.{not-given-zero}
+use Rattle.plan_format.proofs.ChecksMeaning.{checks-mean}
 use Rattle.plan_format.proofs.RulesMeaning.{rules-mean}
+use Rattle.plan_format.proofs.Positions.{limits-above-zero}
+use Rattle.plan_format.proofs.Plans.{scanned-limits}
 
 cond-has : {A : Type 0} (Q : A → Type 0) (b : Bool) (x y : A) → Q x → Q y → Q (cond b x y)
 cond-has Q true x y h g = h
 cond-has Q false x y h g = g
 
-fields-mono : (P Q : ℕ → Type 0) → ((n : ℕ) → P n → Q n) → (g : Grammar) → Fields-answer P g → Fields-answer Q g
-fields-mono P Q f (field w c) h = λ got v. f (c got v) (h got v)
-fields-mono P Q f (seq g k) h = (fields-mono P Q f g (h .0), fields-mono P Q f k (h .1))
-fields-mono P Q f (counted l m w g) h = fields-mono P Q f g h
-fields-mono P Q f nothing h = h
+-- what the check of every field answers has P, counts aside
+abbrev Every-field : (P : ℕ → Type 0) → Grammar → Type 0
+Every-field P (field w c) = (got : List ℕ) (v : ℕ) → P (c got v)
+Every-field P (seq g h) = Every-field P g × Every-field P h
+Every-field P (counted l m w g) = Every-field P g
+Every-field P nothing = Unit {0}
+
+every-field : (P : ℕ → Type 0) → P 0 → (ns : List ℕ) → ((k : ℕ) → P (getD ns k 0)) → (g : Grammar) →
+    Fields-answer ns g → Every-field P g
+every-field P z ns p (field w c) h = λ got v. either (h got v) (λ e. rw e z) (λ e. rw e (p 0))
+every-field P z ns p (seq g k) h = (
+  every-field P z ns p g (h .0),
+  every-field P z (drop (fields-in g) ns) (λ i. rw (getD-drop (fields-in g) ns i 0) (p (fields-in g + i))) k (h .1),
+)
+every-field P z ns p (counted l m w g) h = every-field P z ns p g h
+every-field P z ns p nothing h = tt
 
 abbrev Fault-has : (P : ℕ → Type 0) → Scan → Type 0
 Fault-has P s = P (s .fault .number)
@@ -60,7 +77,7 @@ module _ (P : ℕ → Type 0) (p0 : P 0) (p1 : P 1) (p2 : P 2) (p4 : P 4) (S : S
   times-has zero f h s e = e
   times-has (suc k) f h s e = times-has k f h (f s) (h s e)
 
-  read-has : (g : Grammar) → Fields-answer P g → (s : Scan) → Fault-has P s → Fault-has P (read-by S g s)
+  read-has : (g : Grammar) → Every-field P g → (s : Scan) → Fault-has P s → Fault-has P (read-by S g s)
   unfolding read-by
   read-has (field w c) h s e = field-has w (λ v. c (s .got) v) s (λ v. h (s .got) v) e
   read-has (seq g k) h s e = read-has k (h .1) (read-by S g s) (read-has g (h .0) s e)
@@ -84,44 +101,48 @@ below-four : (limit v : ℕ) → Or-none 4 (below limit v)
 unfolding below
 below-four l v = cond-has (Or-none 4) (ltb v l) 0 4 (inl refl) (inr refl)
 
-any-none : (g : List ℕ) (v : ℕ) → Or-none 4 (any-number g v)
-unfolding any-number
-any-none g v = inl refl
-
-point-four : (F : Form) → Fields-answer (Or-none 4) (point F)
-unfolding point a-semaphore
-point-four F = ((λ g v. below-four (semaphore-count g) v), any-none)
-
 pub sections-answer : (F : Form) → Sections-answer F
-unfolding plan-grammar operation mark new-axis a-queue a-buffer a-kind
+unfolding plan-grammar operation point mark new-axis a-queue a-semaphore a-buffer a-kind any-number at-least
 sections-answer F =
     let queue : (g : List ℕ) (v : ℕ) → Or-none 4 (below (queue-count g) v) = λ g v. below-four (queue-count g) v in
-    record {
-      axes = λ g v. cond-has (Or-none 5) (member v (drop 1 g)) 5 0 (inr refl) (inl refl);
-      others = (
+    let semaphore : (g : List ℕ) (v : ℕ) → Or-none 4 (below (semaphore-count g) v) =
+    λ g v. below-four (semaphore-count g) v in (
+      (λ g v. cond-has (Or-none 5) (member v (drop 1 g)) 5 0 (inr refl) (inl refl)),
+      (
         queue,
         (
-          any-none,
+          (λ g v. inl refl),
           (
             queue,
-            (point-four F, (point-four F, ((λ g v. below-four (buffer-count g) v), (λ g v. below-four 2 v)))),
+            (
+              (semaphore, (λ g v. cond-has (Or-none 16) (ltb v least-wait) 16 0 (inr refl) (inl refl))),
+              (
+                (semaphore, (λ g v. inl (checks-mean g v .signal-value))),
+                ((λ g v. below-four (buffer-count g) v), (λ g v. below-four 2 v)),
+              ),
+            ),
           ),
         ),
-      );
-    }
+      ),
+    )
 
 abbrev Of-a-reading : ℕ → Type 0
 Of-a-reading n = None-or reading-numbers n
 
-grammar-numbers : (F : Form) → Fields-answer Of-a-reading (plan-grammar F)
-unfolding plan-grammar member
+-- a list of such numbers
+of-readings : (ns : List ℕ) → all (λ n. member n (0 ∷ reading-numbers)) ns ≡ true → (k : ℕ) →
+    Of-a-reading (getD ns k 0)
+unfolding all member
+of-readings [] h k = refl
+of-readings (n ∷ ns) h zero =
+    and-left (member n (0 ∷ reading-numbers)) (all (λ m. member m (0 ∷ reading-numbers)) ns) h
+of-readings (n ∷ ns) h (suc k) =
+    of-readings ns (and-right (member n (0 ∷ reading-numbers)) (all (λ m. member m (0 ∷ reading-numbers)) ns) h) k
+
+grammar-numbers : (F : Form) → Every-field Of-a-reading (plan-grammar F)
+unfolding all member
 grammar-numbers F =
-    let g = plan-grammar F in (
-      fields-mono (Or-none 5) Of-a-reading (λ n h. either h (λ e. rw e) (λ e. rw e)) (first-of g)
-          (sections-answer F .axes),
-      fields-mono (Or-none 4) Of-a-reading (λ n h. either h (λ e. rw e) (λ e. rw e)) (rest-of g)
-          (sections-answer F .others),
-    )
+    every-field Of-a-reading refl field-numbers (of-readings field-numbers refl) (plan-grammar F) (sections-answer F)
 
 -- of a reader's fault, and of a writer's
 pub fault-number : (S : Source) (F : Form) (xs : List ℕ) →
@@ -147,6 +168,6 @@ unfolding plan-refusal or-else
 plan-number bs =
     let a = scanned bs .fault in
     let b = rules-refusal (plan-in bs) in
-    cond-has (λ (f : Refusal). None-or plan-gives (f .number)) (given a) a b
-    (none-or-left reading-numbers rule-numbers (a .number) (scanned-number bs))
-    (none-or-right reading-numbers rule-numbers (b .number) (rules-mean (plan-in bs) .only))
+    by-cases (given a) (λ t. rw t (none-or-left reading-numbers rule-numbers (a .number) (scanned-number bs)))
+    (λ f. rw f (none-or-right reading-numbers rule-numbers (b .number)
+    (rules-mean (plan-in bs) (limits-above-zero (scanned-limits bs (not-given-zero a f))) .only)))

@@ -11,7 +11,7 @@ use lib.Seq.{getD-take, length-take-le}
 use Rattle.base_lists.specs.Lists.{member}
 use Rattle.base_lists.proofs.Members.{member-here, member-there}
 use Rattle.plan_format.specs.Sizes.{most-queues, most-buffers, most-operations, most-waits, most-signals}
-use Rattle.plan_format.specs.Sizes.{most-marks}
+use Rattle.plan_format.specs.Sizes.{most-marks, least-wait, least-signal}
 use Rattle.plan_format.specs.Grammar.{Check}
 use Rattle.plan_format.specs.Form.{Form, queue-count, any-number, new-axis, a-queue, point, mark, operation}
 use Rattle.plan_format.specs.Form.{plan-grammar}
@@ -21,7 +21,8 @@ use Rattle.plan_format.specs.Limits.{counted-numbers, one-number, point-
 use Rattle.plan_format.specs.Limits.{numbers-of}
 use Rattle.plan_format.proofs.Parses.{Takes, Spelt, Many, Field, Counted, Parses}
 use Rattle.plan_format.proofs.Entries.{Row, listing, many-fields}
-use Rattle.plan_format.proofs.Blocks.{Kept, kept-more, below-lt, is-queue, is-semaphore, is-buffer, is-kind}
+use Rattle.plan_format.proofs.Blocks.{Kept, kept-more, below-lt, is-queue, is-semaphore, is-value}
+use Rattle.plan_format.proofs.Blocks.{is-buffer, is-kind}
 use Rattle.plan_format.proofs.Sections.{header-kept}
 use Rattle.plan_format.proofs.PlanNumbers.{ones}
 use Rattle.plan_format.proofs.Forms.{Proper, Admits}
@@ -90,16 +91,18 @@ module _ {A : Type 0} (G : List ℕ → Type 0) (stays : (got vs : List ℕ) →
 -- ---- operations, the bytes of a number being such that it fits
 module _ (D : Spelt) (fits : Fits) (spelt-fits : (w v : ℕ) (ds : List ℕ) → D w v ds → fits w v) where
   module _ (F : Form) (q s b : ℕ) where
-    point-is : (got vs ds : List ℕ) → Kept q s b got → Parses D (point F) got vs ds →
-        (x : Point) × Point-within fits s x × (vs ≡ point-numbers x)
+    point-is : (l : ℕ) (got vs ds : List ℕ) → Kept q s b got → Parses D (point F l) got vs ds →
+        (x : Point) × Point-within fits s l x × (vs ≡ point-numbers x)
     unfolding point point-numbers
-    point-is got vs ds k p =
+    point-is l got vs ds k p =
         let x = p .first in
         let y = p .second in (
           record { semaphore = x .number; value = y .number },
           record {
             semaphore = is-semaphore D F q s b got (x .number) k (x .holds .passes);
             value = spelt-fits 8 (y .number) (p .ds₂) (y .holds .spelt);
+            not-below = is-value D F q s b l (got ++ p .vs₁) (y .number) (kept-more q s b got (p .vs₁) k)
+                (y .holds .passes);
           },
           p .numbers-are ∙ ap₂ {C = List ℕ} (λ z u. z ++ u) (x .holds .numbers-are) (y .holds .numbers-are),
         )
@@ -117,10 +120,10 @@ module _ (D : Spelt) (fits : Fits) (spelt-fits : (w v : ℕ) (ds : List ℕ) →
           p .numbers-are ∙ ap₂ {C = List ℕ} (λ z u. z ++ u) (x .holds .numbers-are) (y .holds .numbers-are),
         )
 
-    points-are : (m : ℕ) (got vs ds : List ℕ) → Kept q s b got → Counted D 0 m 1 (Parses D (point F)) got vs ds →
-        Listed (Point-within fits s) point-numbers 0 m vs
-    points-are m = list-is (Kept q s b) (kept-more q s b) (Point-within fits s) (Parses D (point F)) point-numbers
-        point-is D 0 m 1
+    points-are : (l m : ℕ) (got vs ds : List ℕ) → Kept q s b got → Counted D 0 m 1 (Parses D (point F l)) got vs ds →
+        Listed (Point-within fits s l) point-numbers 0 m vs
+    points-are l m = list-is (Kept q s b) (kept-more q s b) (Point-within fits s l) (Parses D (point F l)) point-numbers
+        (point-is l) D 0 m 1
 
     operation-is : (got vs ds : List ℕ) → Kept q s b got → Parses D (operation F) got vs ds →
         (o : Operation) × Operation-within fits q s b o × (vs ≡ operation-numbers o)
@@ -135,8 +138,8 @@ module _ (D : Spelt) (fits : Fits) (spelt-fits : (w v : ℕ) (ds : List ℕ) →
         let k₁ = kept-more q s b got (p .vs₁) k in
         let k₂ = kept-more q s b got₁ (p₁ .vs₁) k₁ in
         let k₃ = kept-more q s b got₂ (p₂ .vs₁) k₂ in
-        let w = points-are most-waits got₁ (p₁ .vs₁) (p₁ .ds₁) k₁ (p₁ .first) in
-        let n = points-are most-signals got₂ (p₂ .vs₁) (p₂ .ds₁) k₂ (p₂ .first) in
+        let w = points-are least-wait most-waits got₁ (p₁ .vs₁) (p₁ .ds₁) k₁ (p₁ .first) in
+        let n = points-are least-signal most-signals got₂ (p₂ .vs₁) (p₂ .ds₁) k₂ (p₂ .first) in
         let m = list-is (Kept q s b) (kept-more q s b) (Mark-within b) (Parses D mark) mark-numbers mark-is D 0
         most-marks 1 got₃ (p₂ .vs₂)
         (p₂ .ds₂) k₃ (p₂ .second) in (

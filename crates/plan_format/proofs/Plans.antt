@@ -18,7 +18,7 @@ use Rattle.plan_format.proofs.Sections.{Sections, sections}
 use Rattle.plan_format.proofs.PlanNumbers.{plan-back}
 use Rattle.plan_format.proofs.Forms.{Proper, list-proper, proper-in}
 use Rattle.plan_format.proofs.OnlyPlans.{parsed-plan}
-use Rattle.plan_format.proofs.Positions.{in-range}
+use Rattle.plan_format.proofs.Positions.{in-range, limits-above-zero}
 
 module _ (F : Form) (bs : List ℕ) (e : scanned-by bytes F bs .fault .number ≡ 0) where
   pub bytes-sections : Sections F (scanned-by bytes F bs .got)
@@ -70,6 +70,7 @@ limits-sound p l e =
       axes-distinct =
           l .axes-distinct;
       in-range = in-range l;
+      waits-above-zero = limits-above-zero l;
       rules = e;
     }
 

@@ -7,7 +7,8 @@ use lib.ListN.{length, getD}
 use Rattle.plan_format.specs.Sizes.{most-waits, most-signals, most-marks}
 use Rattle.plan_format.specs.Plan.{Plan, empty-operation, count, op, queues}
 use Rattle.plan_format.specs.Limits.{Each, Fits, Operation-within, Plan-within}
-use Rattle.plan_format.specs.Sound.{In-range}
+use Rattle.plan_format.specs.Sound.{In-range, Waits-above-zero}
+use Rattle.plan_format.proofs.RulesFirst.{wait-inside}
 
 each-at : {A : Type 0} (W : A → Type 0) (d : A) (xs : List A) → Each W xs → (i : ℕ) → i < length xs → W (getD xs i d)
 each-at W d [] e i l = absurd (not-suc-le-zero l)
@@ -36,6 +37,13 @@ module _ {fits : Fits} {p : Plan} (w : Plan-within fits p) where
       kinds = λ k h. omega (arith, each-at _ (record { buffer = 0; kind = 0 }) (op p i .marks) (o .marks) k h .kind);
     }
 
+    above-zero : (k : ℕ) → k < length (op p i .waits) →
+        0 < getD (op p i .waits) k (record { semaphore = 0; value = 0 }) .value
+    above-zero k h = omega (
+      arith,
+      each-at _ (record { semaphore = 0; value = 0 }) (op p i .waits) (operation-in .waits) k h .not-below,
+    )
+
     pub few-waits : length (op p i .waits) ≤ most-waits
     few-waits = operation-in .few-waits
 
@@ -44,3 +52,6 @@ module _ {fits : Fits} {p : Plan} (w : Plan-within fits p) where
 
     pub few-marks : length (op p i .marks) ≤ most-marks
     few-marks = operation-in .few-marks
+
+  pub limits-above-zero : Waits-above-zero p
+  limits-above-zero i k h = above-zero i (wait-inside p i k h) k h

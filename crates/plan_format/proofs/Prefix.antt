@@ -230,7 +230,7 @@ bytes-alike bs cs same =
       got = a .got ∙ ap (λ z. scanned z .got) same ∙ sym (b .got);
     }
 
--- bytes that are read alike are the same plan, with the same refusals 1 to 8
+-- bytes that are read alike are the same plan, with the same refusals 1 to 8 and 16
 module _ (bs cs : List ℕ) (alike : Reads-alike (scanned bs) (scanned cs)) where
   pub plan-alike : plan-in bs ≡ plan-in cs
   unfolding plan-in

@@ -1,5 +1,5 @@
--- Numbers 1 to 5 of a whole reading come from the first fault in reading order; those of a stored plan are these, then
--- 7 and 8. Assumes nothing.
+-- Numbers 1 to 5 and 16 of a whole reading come from the first fault in reading order; those of a stored plan are
+-- these, then 7 and 8. Assumes nothing.
 use mathlib.Core.Path.{_≡_, refl, sym, ap, _∙_, subst}
 use mathlib.Core.Logic.{_⊎_, inl, inr}
 use mathlib.Core.List.{List}
@@ -20,8 +20,11 @@ use Rattle.plan_format.specs.Meaning.{Numbers-mean, Plan-refusal-means}
 use Rattle.plan_format.proofs.Forms.{led-in}
 use Rattle.plan_format.proofs.Judged.{refusal-given, other-given, or-else-first, or-else-second}
 use Rattle.plan_format.proofs.Faults.{ended-stays}
-use Rattle.plan_format.proofs.Numbers.{scanned-number, listed-number, plan-number}
+use Rattle.plan_format.proofs.ChecksMeaning.{checks-mean}
+use Rattle.plan_format.proofs.Numbers.{sections-answer, scanned-number, listed-number, plan-number}
 use Rattle.plan_format.proofs.RulesMeaning.{rules-mean}
+use Rattle.plan_format.proofs.Positions.{limits-above-zero}
+use Rattle.plan_format.proofs.Plans.{scanned-limits}
 use Rattle.plan_format.proofs.Stopping.{at, through, reads-back, stops-back, stops-given}
 use Rattle.plan_format.proofs.Stopping.{reads-level, stops-level}
 
@@ -132,6 +135,8 @@ module _ (S : Source) (F : Form) (xs : List ℕ) where
     none = (none-reads read-case, (λ w. none-at (w .0) read (whole-is (w .0) (w .1) (w .2)) .0));
     only = number;
     inside = place-inside led read-case;
+    fields = sections-answer F;
+    checks = checks-mean;
   }
 
 pub scanned-means : (bs : List ℕ) → Bytes-mean bs
@@ -142,7 +147,7 @@ pub listed-means : (xs : List ℕ) → Numbers-mean xs
 unfolding listed scanned-by numbers
 listed-means xs = reading-means numbers list-form xs (omega arith) (listed-number xs)
 
--- 1 to 5 first, then 7 and 8
+-- 1 to 5 and 16 first, then 7 and 8
 pub plan-refusal-means : (bs : List ℕ) → Plan-refusal-means bs (plan-refusal bs)
 unfolding plan-refusal
 plan-refusal-means bs =
@@ -151,6 +156,7 @@ plan-refusal-means bs =
     record {
       reading = scanned-means bs;
       reading-first = λ h. or-else-first a b (other-given a h);
-      then-rules = λ e. rw (or-else-second a b e) (rules-mean (plan-in bs));
+      then-rules = λ e. rw (or-else-second a b e)
+          (rules-mean (plan-in bs) (limits-above-zero (scanned-limits bs e)));
       only = plan-number bs;
     }

@@ -10,11 +10,11 @@ use lib.Dec.{ltb, leb, eqb}
 use lib.ListN.{length, getD, take, drop, List·getD-eq-default}
 use lib.Seq.{take-suc}
 use borrow.Author.Tests.{ltb-true, ltb-false, leb-true, leb-false, lt-ltb, eqb-true, eqb-false, eq-eqb}
-use Rattle.base_lists.proofs.Tests.{by-cases, clash, and-right, and-both, or-cases, or-left, or-right, either}
+use Rattle.base_lists.proofs.Tests.{by-cases, clash, or-cases, or-left, or-right, either}
 use Rattle.plan_format.specs.Refusal.{Refusal, refusal, none-given}
 use Rattle.plan_format.specs.Plan.{Point, Operation, Plan, empty-operation, count, op}
 use Rattle.plan_format.specs.Sound.{highest-in, highest, signals-number, signals-refusal}
-use Rattle.plan_format.specs.Sound.{too-high, any-too-high, waits-refusal}
+use Rattle.plan_format.specs.Sound.{too-high, any-too-high, waits-refusal, Waits-above-zero}
 use Rattle.plan_format.specs.Meaning.{signal-at, wait-at, Is-signal, Rising, Good-before, Not-rising}
 use Rattle.plan_format.specs.Meaning.{Signals-good, Too-high}
 use Rattle.plan_format.proofs.Heights.{begins, ends, Over, over-in, in-over, over-highest}
@@ -163,19 +163,16 @@ module _ (p : Plan) where
   unfolding too-high op
   high-too i k inside h =
       let w = wait-at p i k in
-      let high = highest (w .semaphore) (p .operations) in
       let over = highest-over (w .semaphore) (w .value) (p .operations)
-      (ltb-true high (w .value) (and-right (ltb 0 (w .value)) (ltb high (w .value)) h)) in
-      record { wait = inside; above-zero = over .0; above-all = over .1 }
+      (ltb-true (highest (w .semaphore) (p .operations)) (w .value) h) in
+      record { wait = inside; above-all = over .1 }
 
-  too-is-high : (i k : ℕ) → Too-high p i k → too-high p (wait-at p i k) ≡ true
+  too-is-high : (i k : ℕ) → 0 < wait-at p i k .value → Too-high p i k → too-high p (wait-at p i k) ≡ true
   unfolding too-high op
-  too-is-high i k t =
+  too-is-high i k above t =
       let w = wait-at p i k in
-      and-both (ltb 0 (w .value)) (ltb (highest (w .semaphore) (p .operations)) (w .value))
-      (lt-ltb 0 (w .value) (t .above-zero))
-      (lt-ltb (highest (w .semaphore) (p .operations)) (w .value)
-      (over-highest (w .semaphore) (w .value) (p .operations) (t .above-zero) (t .above-all)))
+      lt-ltb (highest (w .semaphore) (p .operations)) (w .value)
+      (over-highest (w .semaphore) (w .value) (p .operations) above (t .above-all))
 
   any-gives : (ws : List Point) → any-too-high p ws ≡ true →
       (k : ℕ) × (k < length ws) × (too-high p (getD ws k no-point) ≡ true)
@@ -195,33 +192,36 @@ module _ (p : Plan) where
     waits-good : f ≡ none-given → ((i k : ℕ) → Too-high p i k → ⊥) → Waits-say f
     waits-eight : (i k : ℕ) → f ≡ refusal 8 i → Too-high p i k → ((j l : ℕ) → j < i → Too-high p j l → ⊥) → Waits-say f
 
-  wait-inside : (i k : ℕ) → Too-high p i k → i < length (p .operations)
-  unfolding op
-  wait-inside i k t =
+  -- past the last operation there is no wait
+  pub wait-inside : (i k : ℕ) → k < length (op p i .waits) → i < count p
+  unfolding count op
+  wait-inside i k h =
       by-cases (ltb i (length (p .operations))) (λ a. ltb-true i (length (p .operations)) a)
       (λ f. absurd (not-suc-le-zero (subst (λ (o : Operation). k < length (o .waits))
-      (List·getD-eq-default (p .operations) empty-operation (ltb-false i (length (p .operations)) f)) (t .wait))))
+      (List·getD-eq-default (p .operations) empty-operation (ltb-false i (length (p .operations)) f)) h)))
 
-  waits-say : (i : ℕ) (os : List Operation) → drop i (p .operations) ≡ os → ((j l : ℕ) → j < i → Too-high p j l → ⊥) →
+  waits-say : Waits-above-zero p → (i : ℕ) (os : List Operation) → drop i (p .operations) ≡ os →
+      ((j l : ℕ) → j < i → Too-high p j l → ⊥) →
       Waits-say (waits-refusal i p os)
-  unfolding waits-refusal op
-  waits-say i [] e low =
-      waits-good refl (λ j l t. low j l (omega (arith, ends (p .operations) i e, wait-inside j l t)) t)
-  waits-say i (o ∷ os) e low =
+  unfolding waits-refusal count op
+  waits-say above i [] e low =
+      waits-good refl (λ j l t. low j l (omega (arith, ends (p .operations) i e, wait-inside j l (t .wait))) t)
+  waits-say above i (o ∷ os) e low =
       let w = begins empty-operation (p .operations) i o os e in
       let same : any-too-high p (op p i .waits) ≡ any-too-high p (o .waits) =
       ap (λ (z : Operation). any-too-high p (z .waits)) (w .here) in
       by-cases (any-too-high p (o .waits))
       (λ t. let r = any-gives (op p i .waits) (same ∙ t) in
       rw t (waits-eight i (r .0) refl (high-too i (r .0) (r .1) (r .2)) low))
-      (λ f. rw f (waits-say (suc i) os (w .on) (λ j l a h. by-cases (eqb j i)
+      (λ f. rw f (waits-say above (suc i) os (w .on) (λ j l a h. by-cases (eqb j i)
       (λ t. let here : Too-high p i l = subst (λ (z : ℕ). Too-high p z l) (eqb-true j i t) h in
-      clash (any-too-high p (op p i .waits)) (any-by (op p i .waits) l (here .wait) (too-is-high i l here)) (same ∙ f))
+      clash (any-too-high p (op p i .waits))
+      (any-by (op p i .waits) l (here .wait) (too-is-high i l (above i l (here .wait)) here)) (same ∙ f))
       (λ g. low j l (omega (arith, eqb-false j i g)) h))))
 
   -- ---- of a whole plan
   pub plan-signals-say : Signals-say (signals-refusal 0 [] (p .operations))
   plan-signals-say = signals-say 0 (p .operations) refl (λ j l a. absurd (not-suc-le-zero a))
 
-  pub plan-waits-say : Waits-say (waits-refusal 0 p (p .operations))
-  plan-waits-say = waits-say 0 (p .operations) refl (λ j l a. absurd (not-suc-le-zero a))
+  pub plan-waits-say : Waits-above-zero p → Waits-say (waits-refusal 0 p (p .operations))
+  plan-waits-say above = waits-say above 0 (p .operations) refl (λ j l a. absurd (not-suc-le-zero a))

@@ -12,7 +12,7 @@ use Rattle.base_lists.proofs.Tests.{by-cases}
 use Rattle.plan_format.specs.Refusal.{Refusal, refusal, none-given, or-else}
 use Rattle.plan_format.specs.RefusalNumbers.{None-or, rule-numbers}
 use Rattle.plan_format.specs.Plan.{Plan}
-use Rattle.plan_format.specs.Sound.{signals-refusal, waits-refusal, rules-refusal}
+use Rattle.plan_format.specs.Sound.{signals-refusal, waits-refusal, rules-refusal, Waits-above-zero}
 use Rattle.plan_format.specs.Meaning.{Refuses, Earlier, Not-rising, Signals-good, Too-high}
 use Rattle.plan_format.specs.Meaning.{Unmet-wait, Rules-mean}
 use Rattle.plan_format.proofs.Judged.{or-else-first, or-else-second, refusal-given}
@@ -62,11 +62,11 @@ module _ (p : Plan) where
       let same = or-else-second a b (ap (λ (z : Refusal). z .number) e) ∙ d in
       say-none (ap (λ (z : Refusal). z .number) same, ap (λ (z : Refusal). z .place) same) g low
 
-  rules-say : Rules-say (rules-refusal p)
+  rules-say : Waits-above-zero p → Rules-say (rules-refusal p)
   unfolding rules-refusal
-  rules-say =
+  rules-say above =
       either-say (signals-refusal 0 [] (p .operations)) (waits-refusal 0 p (p .operations)) (plan-signals-say p)
-      (plan-waits-say p)
+      (plan-waits-say p above)
 
   -- ---- exactly if
   module _ (f : Refusal) where
@@ -104,12 +104,13 @@ module _ (p : Plan) where
     only (say-eight j r w) = one-is (0 ∷ rule-numbers) (r .0) (unfold member in refl)
     only (say-none r g low) = one-is (0 ∷ rule-numbers) (r .0) (unfold member in refl)
 
-  pub rules-mean : Rules-mean p (rules-refusal p)
-  rules-mean =
+  pub rules-mean : Waits-above-zero p → Rules-mean p (rules-refusal p)
+  rules-mean above =
       let f = rules-refusal p in
+      let says = rules-say above in
       record {
-        seven = seven f rules-say;
-        eight = eight f rules-say;
-        none = none f rules-say;
-        only = only f rules-say;
+        seven = seven f says;
+        eight = eight f says;
+        none = none f says;
+        only = only f says;
       }

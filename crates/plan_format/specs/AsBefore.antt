@@ -23,8 +23,8 @@ first-plan bs = plan-of (first-scan bs .got)
 abbrev pub Not-second : List ℕ → Type 0
 Not-second bs = getD bs 0 0 ≡ second-lead → ⊥
 
--- of such bytes: the reading, and with it the plan and its refusals 1 to 8, of which all that is asked of a plan is
--- made
+-- of such bytes: the reading, and with it the plan and its refusals 1 to 8 and 16, of which all that is asked of
+-- a plan is made
 pub record Read-as-before (bs : List ℕ) : Type 0 where
   pub read : scanned bs ≡ first-scan bs
   pub plan : plan-in bs ≡ first-plan bs

@@ -17,7 +17,7 @@ use lib.ListN.{length, getD, drop}
 use Rattle.base_lists.specs.Lists.{member}
 use Rattle.plan_format.specs.Sizes.{most-queues, most-semaphores, most-buffers, most-operations, most-waits}
 use Rattle.plan_format.specs.Sizes.{most-signals, most-marks, first-semaphores, second-lead, first-width}
-use Rattle.plan_format.specs.Sizes.{second-width}
+use Rattle.plan_format.specs.Sizes.{second-width, least-wait, least-signal}
 use Rattle.plan_format.specs.Refusal.{none-given}
 use Rattle.plan_format.specs.Grammar.{Check, Grammar, field, seq, counted, Source, Scan, scan, read-by, ended}
 use Rattle.plan_format.specs.Grammar.{spell-by}
@@ -90,13 +90,17 @@ semaphore-count g = getD g (1 + queue-count g) 0
 unfoldable pub buffer-count : (got : List ℕ) → ℕ
 buffer-count g = getD g (2 + queue-count g + semaphore-count g) 0
 
--- R6, open fields: nothing is asked of an axis beyond R5, of a size or of a value
+-- R6, open fields: nothing is asked of a size
 unfoldable pub any-number : Check
 any-number g v = 0
 
 -- R41, refusal 4: a position is below the count of its section, a kind below 2
 unfoldable pub below : (limit v : ℕ) → ℕ
 below l v = cond (ltb v l) 0 4
+
+-- R18, refusal 16: a value is not below the least
+unfoldable pub at-least : (least : ℕ) → Check
+at-least l g v = cond (ltb v l) 16 0
 
 -- R5 and R42, refusal 5: an axis differs from the earlier ones; the numbers read before it are the count and those axes
 unfoldable pub new-axis : Check
@@ -115,9 +119,9 @@ a-buffer g v = below (buffer-count g) v
 unfoldable pub a-kind : Check
 a-kind g v = below 2 v
 
--- R2, a wait or a signal: a semaphore, then a value
-unfoldable pub point : Form → Grammar
-point F = seq (field (F .semaphore-width) a-semaphore) (field 8 any-number)
+-- R2, R18, a wait or a signal, which differ in their least value: a semaphore, then a value
+unfoldable pub point : Form → (least : ℕ) → Grammar
+point F l = seq (field (F .semaphore-width) a-semaphore) (field 8 (at-least l))
 
 -- R2, a mark: a buffer, then a kind
 unfoldable pub mark : Grammar
@@ -127,7 +131,8 @@ mark = seq (field 2 a-buffer) (field 1 a-kind)
 unfoldable pub operation : Form → Grammar
 operation F =
     seq (field 1 a-queue)
-    (seq (counted 0 most-waits 1 (point F)) (seq (counted 0 most-signals 1 (point F)) (counted 0 most-marks 1 mark)))
+    (seq (counted 0 most-waits 1 (point F least-wait))
+    (seq (counted 0 most-signals 1 (point F least-signal)) (counted 0 most-marks 1 mark)))
 
 -- R1, sections: queues, semaphores, buffers, operations
 unfoldable pub plan-grammar : Form → Grammar

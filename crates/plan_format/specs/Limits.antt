@@ -5,7 +5,7 @@ use mathlib.Core.List.{List, [], _∷_, _++_, flatMap}
 use Prim.Native.Nat.{ℕ, _^_, _≤_, _<_}
 use lib.ListN.{length, getD}
 use Rattle.plan_format.specs.Sizes.{most-queues, most-semaphores, most-buffers, most-operations, most-waits}
-use Rattle.plan_format.specs.Sizes.{most-signals, most-marks}
+use Rattle.plan_format.specs.Sizes.{most-signals, most-marks, least-wait, least-signal}
 use Rattle.plan_format.specs.Grammar.{digits}
 use Rattle.plan_format.specs.Form.{Form, form-with}
 use Rattle.plan_format.specs.Plan.{Point, Mark, Operation, Plan}
@@ -24,10 +24,11 @@ In-bytes w v = v < 256 ^ w
 abbrev pub Unbounded : Fits
 Unbounded w v = Unit {0}
 
--- R2, R4, a wait or a signal: its semaphore is in the plan, its value any number of 8 bytes
-pub record Point-within (fits : Fits) (semaphores : ℕ) (x : Point) : Type 0 where
+-- R2, R4, R18, a wait or a signal: its semaphore is in the plan, its value any number of 8 bytes from the least on
+pub record Point-within (fits : Fits) (semaphores least : ℕ) (x : Point) : Type 0 where
   pub semaphore : x .semaphore < semaphores
   pub value : fits 8 (x .value)
+  pub not-below : least ≤ x .value
 
 -- R2, R4, a mark: its buffer is in the plan, and it is a use or a free
 pub record Mark-within (buffers : ℕ) (m : Mark) : Type 0 where
@@ -38,9 +39,9 @@ pub record Mark-within (buffers : ℕ) (m : Mark) : Type 0 where
 pub record Operation-within (fits : Fits) (queues semaphores buffers : ℕ) (o : Operation) : Type 0 where
   pub queue : o .queue < queues
   pub few-waits : length (o .waits) ≤ most-waits
-  pub waits : Each (Point-within fits semaphores) (o .waits)
+  pub waits : Each (Point-within fits semaphores least-wait) (o .waits)
   pub few-signals : length (o .signals) ≤ most-signals
-  pub signals : Each (Point-within fits semaphores) (o .signals)
+  pub signals : Each (Point-within fits semaphores least-signal) (o .signals)
   pub few-marks : length (o .marks) ≤ most-marks
   pub marks : Each (Mark-within buffers) (o .marks)
 
@@ -61,7 +62,7 @@ pub record Plan-within (fits : Fits) (p : Plan) : Type 0 where
 abbrev pub Within : Plan → Type 0
 Within = Plan-within In-bytes
 
--- its counts and positions alone
+-- its counts and positions, and the least value of a wait, alone
 abbrev pub Limits : Plan → Type 0
 Limits = Plan-within Unbounded
 

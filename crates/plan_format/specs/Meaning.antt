@@ -11,8 +11,10 @@ use Rattle.plan_format.specs.RefusalNumbers.{None-or, reading-numbers, r
 use Rattle.plan_format.specs.RefusalNumbers.{writer-gives}
 use Rattle.plan_format.specs.Grammar.{Grammar, field, seq, counted, nothing, Source, bytes, numbers, Scan, scan}
 use Rattle.plan_format.specs.Grammar.{count-check}
-use Rattle.plan_format.specs.Form.{Form, form-in, list-form, plan-grammar, any-number, new-axis, a-queue}
-use Rattle.plan_format.specs.Form.{a-semaphore, a-buffer, a-kind, queue-count, semaphore-count, buffer-count}
+use Rattle.plan_format.specs.Sizes.{least-wait, least-signal}
+use Rattle.plan_format.specs.Form.{Form, form-in, list-form, plan-grammar, any-number, at-least, new-axis}
+use Rattle.plan_format.specs.Form.{a-queue, a-semaphore, a-buffer, a-kind, queue-count, semaphore-count}
+use Rattle.plan_format.specs.Form.{buffer-count}
 use Rattle.plan_format.specs.Plan.{Point, Plan, op, plan-of}
 use Rattle.plan_format.specs.Limits.{Within, numbers-of, bytes-of}
 use Rattle.plan_format.specs.Stored.{scanned, listed, plan-in, spelled}
@@ -38,7 +40,7 @@ pub record Room-after (numbers : List ℕ) (fault : Refusal) (needed room : ℕ)
   -- R10: neither looks at 7 and 8
   pub only : None-or numbers (f .number)
 
--- ---- 2, 4 and 5: a field's number is n exactly if what is said of it holds, else 0
+-- ---- 2, 4, 5 and 16: a field's number is n exactly if what is said of it holds, else 0
 pub record Given-when (answer n : ℕ) (P : Type 0) : Type 0 where
   pub yes : P → answer ≡ n
   pub otherwise : (P → ⊥) → answer ≡ 0
@@ -47,7 +49,7 @@ pub record Given-when (answer n : ℕ) (P : Type 0) : Type 0 where
 abbrev pub Earlier-axis : (got : List ℕ) → (v : ℕ) → Type 0
 Earlier-axis g v = (k : ℕ) × (1 ≤ k) × (k < length g) × (getD g k 0 ≡ v)
 
--- R39, R41, R42: which fields give 2, 4 and 5, and when
+-- R39, R41, R42, R18: which fields give 2, 4, 5 and 16, and when
 pub record Checks-mean (got : List ℕ) (v : ℕ) : Type 0 where
   pub count : (least most : ℕ) → Given-when (count-check least most v) 2 ((v < least) ⊎ (most < v))
   pub queue : Given-when (a-queue got v) 4 (queue-count got ≤ v)
@@ -55,31 +57,31 @@ pub record Checks-mean (got : List ℕ) (v : ℕ) : Type 0 where
   pub buffer : Given-when (a-buffer got v) 4 (buffer-count got ≤ v)
   pub kind : Given-when (a-kind got v) 4 (1 < v)
   pub axis : Given-when (new-axis got v) 5 (Earlier-axis got v)
+  pub wait-value : Given-when (at-least least-wait got v) 16 (v ≡ 0)
+  pub signal-value : at-least least-signal got v ≡ 0
   pub any : any-number got v ≡ 0
 
--- what every field of a grammar answers, counts aside
-abbrev pub Fields-answer : (P : ℕ → Type 0) → Grammar → Type 0
-Fields-answer P (field w c) = (got : List ℕ) (v : ℕ) → P (c got v)
-Fields-answer P (seq g h) = Fields-answer P g × Fields-answer P h
-Fields-answer P (counted l m w g) = Fields-answer P g
-Fields-answer P nothing = Unit {0}
+-- how many fields a grammar has, counts aside
+abbrev pub fields-in : Grammar → ℕ
+fields-in (field w c) = 1
+fields-in (seq g h) = fields-in g + fields-in h
+fields-in (counted l m w g) = fields-in g
+fields-in nothing = 0
 
-abbrev pub first-of : Grammar → Grammar
-first-of (field w c) = nothing
-first-of (seq g h) = g
-first-of (counted l m w g) = nothing
-first-of nothing = nothing
+-- what the check of each field answers, counts aside: 0 or the number that is listed for it
+abbrev pub Fields-answer : (numbers : List ℕ) → Grammar → Type 0
+Fields-answer ns (field w c) = (got : List ℕ) (v : ℕ) → (c got v ≡ 0) ⊎ (c got v ≡ getD ns 0 0)
+Fields-answer ns (seq g h) = Fields-answer ns g × Fields-answer (drop (fields-in g) ns) h
+Fields-answer ns (counted l m w g) = Fields-answer ns g
+Fields-answer ns nothing = Unit {0}
 
-abbrev pub rest-of : Grammar → Grammar
-rest-of (field w c) = nothing
-rest-of (seq g h) = h
-rest-of (counted l m w g) = nothing
-rest-of nothing = nothing
+-- which fields give which number, 0 for none: axis, owner, size; an operation's queue; semaphore and value of a wait,
+-- and of a signal; buffer and kind of a mark. 2 is for counts alone
+abbrev pub field-numbers : List ℕ
+field-numbers = 5 ∷ 4 ∷ 0 ∷ 4 ∷ 4 ∷ 16 ∷ 4 ∷ 0 ∷ 4 ∷ 4 ∷ []
 
--- which sections give which number: axes 5 and no other, every other field 4 and no other; 2 is for counts alone
-pub record Sections-answer (F : Form) : Type 0 where
-  pub axes : Fields-answer (λ n. (n ≡ 0) ⊎ (n ≡ 5)) (first-of (plan-grammar F))
-  pub others : Fields-answer (λ n. (n ≡ 0) ⊎ (n ≡ 4)) (rest-of (plan-grammar F))
+abbrev pub Sections-answer : Form → Type 0
+Sections-answer F = Fields-answer field-numbers (plan-grammar F)
 
 -- R53, reading order, of one field: 1 if it is cut short, else what its check says, else 4 if it is too wide (R11)
 pub record Field-means (S : Source) (width : ℕ) (check : ℕ → ℕ) (rest : List ℕ) (n : ℕ) : Type 0 where
@@ -90,7 +92,7 @@ pub record Field-means (S : Source) (width : ℕ) (check : ℕ → ℕ) (rest : 
   pub passed : S .wide width ≤ length rest → check (S .front width rest) ≡ 0 →
       S .fits width (S .front width rest) ≡ true → n ≡ 0
 
--- ---- 1 to 5 of a whole reading: the first fault in reading order
+-- ---- 1 to 5 and 16 of a whole reading: the first fault in reading order
 -- a reading on its way, without a fault: what is left, the place, the numbers got
 pub record Cursor : Type 0 where
   pub rest : List ℕ
@@ -142,7 +144,8 @@ Stops S nothing a b n = ⊥
 abbrev pub start : Source → Form → List ℕ → Cursor
 start S F xs = let k = S .leads * length (F .lead) in record { rest = drop k xs; place = k; got = [] }
 
--- R53, R40: the refusal is that of the first field at which the reading stops, or 3 where input is left over
+-- R53, R40: the refusal is that of the first field at which the reading stops, or 3 where input is left over; and which
+-- fields give which numbers, and when
 pub record Reading-means (S : Source) (F : Form) (xs : List ℕ) (s : Scan) : Type 0 where
   pub fault :
       (n i : ℕ) → (n ≡ 0 → ⊥) → Refuses (s .fault) n i ↔ ((b : Cursor) × (b .place ≡ i) ×
@@ -152,8 +155,10 @@ pub record Reading-means (S : Source) (F : Form) (xs : List ℕ) (s : Scan) : Ty
       ((b : Cursor) × Reads S (plan-grammar F) (start S F xs) b × (length (b .rest) ≡ 0) × (s .got ≡ b .got))
   pub only : None-or reading-numbers (s .fault .number)
   pub inside : s .fault .place ≤ length xs
+  pub fields : Sections-answer F
+  pub checks : (got : List ℕ) (v : ℕ) → Checks-mean got v
 
--- what 1 to 5 mean of bytes, and of a list of numbers
+-- what 1 to 5 and 16 mean of bytes, and of a list of numbers
 abbrev pub Bytes-mean : List ℕ → Type 0
 Bytes-mean bs = Reading-means bytes (form-in bs) bs (scanned bs)
 
@@ -196,10 +201,9 @@ pub record Not-rising (p : Plan) (i k : ℕ) : Type 0 where
 abbrev pub Signals-good : Plan → Type 0
 Signals-good p = (j l : ℕ) → Is-signal p j l → Rising p j l
 
--- R45, refusal 8: a wait for a value above 0 that no signal reaches
+-- R45, refusal 8: a wait for a value that no signal reaches
 pub record Too-high (p : Plan) (i k : ℕ) : Type 0 where
   pub wait : k < length (op p i .waits)
-  pub above-zero : 0 < wait-at p i k .value
   pub above-all : (j l : ℕ) → Is-signal p j l → signal-at p j l .semaphore ≡ wait-at p i k .semaphore →
       signal-at p j l .value < wait-at p i k .value
 

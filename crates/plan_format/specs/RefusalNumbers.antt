@@ -15,9 +15,10 @@ abbrev pub None-or : (numbers : List ℕ) → (n : ℕ) → Type 0
 None-or ns n = One-of (0 ∷ ns) n
 
 -- ---- classes
--- R38 to R42, of a reading: a field cut short, a count, input left over, a position in no section, an axis twice
+-- R38 to R42, R18, of a reading: a field cut short, a count, input left over, a position in no section, an axis twice,
+-- a wait for 0
 abbrev pub reading-numbers : List ℕ
-reading-numbers = 1 ∷ 2 ∷ 3 ∷ 4 ∷ 5 ∷ []
+reading-numbers = 1 ∷ 2 ∷ 3 ∷ 4 ∷ 5 ∷ 16 ∷ []
 
 -- R44 and R45, of signals and waits: not rising, above the highest; R43: 6 is never given
 abbrev pub rule-numbers : List ℕ

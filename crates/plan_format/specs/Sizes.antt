@@ -39,6 +39,13 @@ most-signals = 2
 abbrev pub most-marks : ℕ
 most-marks = 4
 
+-- R18: the least value of a wait and of a signal
+abbrev pub least-wait : ℕ
+least-wait = 1
+
+abbrev pub least-signal : ℕ
+least-signal = 0
+
 -- places for the waits, the signals and the marks of all operations
 abbrev pub wait-places : ℕ
 wait-places = most-waits * most-operations
@@ -104,3 +111,7 @@ state-size = most-queues + most-semaphores
 -- the number that means no operation
 abbrev pub no-operation : ℕ
 no-operation = most-operations
+
+-- the value that means no wait: it is below the least
+abbrev pub no-wait : ℕ
+no-wait = 0

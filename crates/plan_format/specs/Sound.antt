@@ -1,7 +1,7 @@
--- Refusals 7 and 8, and sound plans: those with neither, every position in range. Assumes nothing: these are
--- definitions.
+-- Refusals 7 and 8, and sound plans: those with neither, every position in range and every wait above 0. Assumes
+-- nothing: these are definitions.
 use mathlib.Core.Path.{_≡_}
-use mathlib.Core.Bool.{Bool, false, _&&_, _||_, cond}
+use mathlib.Core.Bool.{Bool, false, _||_, cond}
 use mathlib.Core.List.{List, [], _∷_, _++_}
 use Prim.Native.Nat.{ℕ, suc, _≤_, _<_, max}
 use lib.Dec.{ltb, leb, eqb}
@@ -32,9 +32,9 @@ signals-refusal i bs (o ∷ os) =
     let n = signals-number bs [] (o .signals) in
     cond (eqb n 0) (signals-refusal (suc i) (bs ++ (o ∷ [])) os) (refusal n i)
 
--- R45, refusal 8: a wait for a value above 0 that no signal of its semaphore reaches
+-- R45, refusal 8: a wait for a value that no signal of its semaphore reaches
 unfoldable pub too-high : Plan → Point → Bool
-too-high p w = ltb 0 (w .value) && ltb (highest (w .semaphore) (p .operations)) (w .value)
+too-high p w = ltb (highest (w .semaphore) (p .operations)) (w .value)
 
 unfoldable pub any-too-high : Plan → List Point → Bool
 any-too-high p [] = false
@@ -59,10 +59,16 @@ pub record In-range (p : Plan) (o : Operation) : Type 0 where
       getD (o .marks) k (record { buffer = 0; kind = 0 }) .buffer < length (p .sizes)
   pub kinds : (k : ℕ) → k < length (o .marks) → getD (o .marks) k (record { buffer = 0; kind = 0 }) .kind < 2
 
--- what the theorems on plans need of one that gets none of refusals 1 to 8
+-- R18: every wait is for a value above 0
+abbrev pub Waits-above-zero : Plan → Type 0
+Waits-above-zero p =
+    (i k : ℕ) → k < length (op p i .waits) → 0 < getD (op p i .waits) k (record { semaphore = 0; value = 0 }) .value
+
+-- what the theorems on plans need of one that gets none of refusals 1 to 8 and 16
 pub record Sound (p : Plan) : Type 0 where
   pub few-queues : queues p ≤ most-queues
   pub few-operations : count p ≤ most-operations
   pub axes-distinct : (i k : ℕ) → i < k → k < queues p → getD (p .axes) i 0 ≡ getD (p .axes) k 0 → ⊥
   pub in-range : (i : ℕ) → i < count p → In-range p (op p i)
+  pub waits-above-zero : Waits-above-zero p
   pub rules : rules-refusal p .number ≡ 0

@@ -38,7 +38,7 @@ spelled xs = spelled-by (form-with (semaphore-count xs)) xs
 unfoldable pub too-long : List ℕ → Bool
 too-long bs = is-second bs && ltb most-input (length bs)
 
--- R53, R54: refusals 1 to 5, then 7 and 8
+-- R53, R54: refusals 1 to 5 and 16, then 7 and 8
 unfoldable pub plan-refusal : List ℕ → Refusal
 plan-refusal bs = or-else (scanned bs .fault) (rules-refusal (plan-in bs))
 

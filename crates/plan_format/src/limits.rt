@@ -26,6 +26,11 @@ pub const MOST_SIGNALS: usize = 2;
 
 pub const MOST_MARKS: usize = 4;
 
+// The least value of a wait and of a signal.
+pub const LEAST_WAIT: u64 = 1;
+
+pub const LEAST_SIGNAL: u64 = 0;
+
 // Places for the waits, the signals and the marks of all operations.
 pub const WAIT_PLACES: usize = MOST_WAITS * MOST_OPERATIONS;
 
@@ -83,6 +88,9 @@ pub const WINDOW: usize = 32;
 pub const NO_OPERATION: usize = MOST_OPERATIONS;
 
 pub const NO_OPERATION_STORED: u16 = NO_OPERATION as u16;
+
+// The value that means no wait: it is below the least.
+pub const NO_WAIT: u64 = 0;
 
 // The numbers before the operations, those of one operation, those of a plan, and its bytes.
 pub type HeadNumbers = [u64; HEAD_NUMBERS];

@@ -16,7 +16,7 @@ use Rattle.plan_order.specs.Precedence.{before}
 use Rattle.plan_order.specs.Promise.{Demand-2, Before-forces, Row-epoch, most-of, Row-step, Standard-right}
 use Rattle.plan_order.specs.Rows.{row, rows}
 use Rattle.plan_order.specs.Runs.{standard}
-use Rattle.plan_order.proofs.Demand3.{rules-good}
+use Rattle.plan_order.proofs.Demand3.{waits-good}
 use Rattle.plan_order.proofs.Precedence.{before-chain, chain-before, at-or-means, before-steps, unordered}
 use Rattle.plan_order.proofs.RowsMeaning.{rows-means}
 use Rattle.plan_order.proofs.Rows.{row-at, most, any-at-has, entry-merged, entry-tells, own-is, unused-zero}
@@ -55,15 +55,14 @@ module _ (p : Plan) where
 
   pub before-forces : Before-forces p
   unfolding Before-forces
-  before-forces sound f full i j a b =
-      let good = rules-good p sound in (
-        (λ c r h. before-steps p r h i j (chain-before p i j c)),
-        (λ h. before-chain p i j (is-true (before p i j) (λ n.
-            by-cases (eqb i j)
-            (λ t. absurd (let z = h f full in omega (arith, ap (λ (x : ℕ). step-of 0 f x) (eqb-true i j t))))
-            (λ ne. let w = unordered p (good .1) f full i j b (eqb-false i j ne) n in
-            absurd (let z = h (w .0) (w .1) in omega (arith, w .2)))))),
-      )
+  before-forces sound f full i j a b = (
+    (λ c r h. before-steps p r h i j (chain-before p i j c)),
+    (λ h. before-chain p i j (is-true (before p i j) (λ n.
+        by-cases (eqb i j)
+        (λ t. absurd (let z = h f full in omega (arith, ap (λ (x : ℕ). step-of 0 f x) (eqb-true i j t))))
+        (λ ne. let w = unordered p (waits-good p sound) f full i j b (eqb-false i j ne) n in
+        absurd (let z = h (w .0) (w .1) in omega (arith, w .2)))))),
+  )
 
   pub standard-right : Sound p → Standard-right p
   standard-right sound =

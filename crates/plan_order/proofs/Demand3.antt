@@ -22,6 +22,7 @@ use Rattle.plan_order.specs.Handovers.{disordered}
 use Rattle.plan_order.specs.Promise.{Stuck-at, Disordered-at, Broken-at, Safe, Demand-3}
 use Rattle.plan_order.specs.Runs.{enabled, ready, is-run, is-full, ahead, raises-in-order, standard, missing}
 use Rattle.plan_order.specs.Meaning.{Signals, All-in-turn}
+use Rattle.plan_order.proofs.Readiness.{Waits-good}
 use Rattle.plan_order.proofs.Keeping.{Marks, asks-mark, asked-marks, all-asks-has, broken-some, broken-none}
 use Rattle.plan_order.proofs.Keeping.{forced-met, unforced-breaks, keeps-by, keeps-no}
 use Rattle.plan_order.proofs.Handovers.{disordered-some}
@@ -60,8 +61,8 @@ module _ (p : Plan) (sound : Sound p) where
   signals-good : signals-refusal 0 [] (p .operations) .number ≡ 0
   signals-good = rules-good .0
 
-  waits-good : waits-refusal 0 p (p .operations) .number ≡ 0
-  waits-good = rules-good .1
+  pub waits-good : Waits-good p
+  waits-good = record { above-zero = sound .waits-above-zero; low-enough = rules-good .1 }
 
   queue-known : (j : ℕ) → j < count p → op p j .queue < queues p
   queue-known j l = sound .in-range j l .queue

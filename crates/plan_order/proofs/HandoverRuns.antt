@@ -19,7 +19,7 @@ use Rattle.order.specs.Runs.{step-of}
 use Rattle.order.proofs.Runs.{run-below}
 use Rattle.order.proofs.Extensions.{chain-steps}
 use Rattle.plan_format.specs.Plan.{Plan, count, op}
-use Rattle.plan_format.specs.Sound.{signals-refusal, waits-refusal}
+use Rattle.plan_format.specs.Sound.{signals-refusal}
 use Rattle.plan_format.specs.Meaning.{signal-at}
 use Rattle.plan_format.proofs.RulesFirst.{no-point, signal-inside}
 use Rattle.plan_order.specs.Precedence.{Signal, no-signal, signals-from, plan-signals, direct, before, Before}
@@ -30,7 +30,7 @@ use Rattle.plan_order.specs.Meaning.{Signals}
 use Rattle.plan_order.proofs.Signals.{rises}
 use Rattle.plan_order.proofs.SignalPlaces.{signal, Sooner, sooner-low, signal-there, plan-rising}
 use Rattle.plan_order.proofs.Resolution.{from-has}
-use Rattle.plan_order.proofs.Readiness.{predecessors-run}
+use Rattle.plan_order.proofs.Readiness.{predecessors-run, Waits-good}
 use Rattle.plan_order.proofs.Standard.{full-run, full-has}
 use Rattle.plan_order.proofs.Precedence.{At, at-join, unordered}
 use Rattle.plan_order.proofs.Keeping.{not-met}
@@ -224,7 +224,7 @@ module _ (p : Plan) where
     pub unmet : met (λ i j. ahead run i j) a ≡ false
 
   pub unforced-unraised : signals-refusal 0 [] (p .operations) .number ≡ 0 →
-      waits-refusal 0 p (p .operations) .number ≡ 0 → (f : List ℕ) → is-full p f ≡ true →
+      Waits-good p → (f : List ℕ) → is-full p f ≡ true →
       (a : Ask) → List·Memᴰ a (handovers p) → met (λ i j. before p i j) a ≡ false → Unraised a
   unforced-unraised signals-good waits-good f full a m e =
       let h = hands a m in

@@ -16,12 +16,12 @@ use Rattle.base_lists.proofs.Searches.{all-gives, all-by, all-fails, all-no, lo
 use Rattle.base_lists.proofs.Tables.{join-gives, join-has}
 use Rattle.order.specs.Runs.{step-of}
 use Rattle.plan_format.specs.Plan.{Mark, Operation, Plan, empty-operation, count, op}
-use Rattle.plan_format.specs.Sound.{waits-refusal}
 use Rattle.plan_order.specs.Precedence.{before}
 use Rattle.plan_order.specs.Runs.{is-full, ahead}
 use Rattle.plan_order.specs.Holdings.{Placed, placed, marks-of, marks-from, buffer-marks, marks-buffer, is-free}
 use Rattle.plan_order.specs.Holdings.{freed-by, free-after, Ask, use-asks, later-asks, asks-from, asks, asked-of}
 use Rattle.plan_order.specs.Holdings.{met, keeps, all-asks, has-broken, broken}
+use Rattle.plan_order.proofs.Readiness.{Waits-good}
 use Rattle.plan_order.proofs.Precedence.{before-steps, unordered}
 
 -- ---- a fact of every mark's operation
@@ -218,7 +218,7 @@ module _ (p : Plan) where
       met-more forced (λ i j. ahead r i j) a
       (λ t. lt-ltb (step-of 0 r (a .first)) (step-of 0 r (a .then)) (before-steps p r full (a .first) (a .then) t)) e
 
-  module _ (waits-good : waits-refusal 0 p (p .operations) .number ≡ 0) (std : List ℕ)
+  module _ (waits-good : Waits-good p) (std : List ℕ)
       (std-full : is-full p std ≡ true) where
     -- a full run that does not have i ahead of j, where before does not force it
     not-ahead : (i j : ℕ) → j < count p → before p i j ≡ false →

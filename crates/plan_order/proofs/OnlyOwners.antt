@@ -22,15 +22,16 @@ use Rattle.order.proofs.Runs.{run-below, runs-nil, runs-head, runs-tail, runs-s
 use Rattle.order.proofs.Same.{same-can, same-runs, same-greedy}
 use Rattle.plan_format.specs.Refusal.{Refusal, none-given, or-else}
 use Rattle.plan_format.specs.Plan.{Point, Operation, Plan, empty-operation, count, op, queues}
-use Rattle.plan_format.specs.Sound.{signals-number, signals-refusal, waits-refusal, rules-refusal}
+use Rattle.plan_format.specs.Sound.{signals-number, signals-refusal, waits-refusal, rules-refusal, Waits-above-zero}
 use Rattle.plan_format.specs.Stored.{scanned, plan-in, plan-refusal, Tells}
 use Rattle.plan_format.specs.Meaning.{Signals-good}
 use Rattle.plan_format.specs.declared.Told.{Told}
 use Rattle.plan_format.proofs.Judged.{other-given}
-use Rattle.plan_format.proofs.Plans.{sound-in}
+use Rattle.plan_format.proofs.Positions.{limits-above-zero}
+use Rattle.plan_format.proofs.Plans.{scanned-limits, sound-in}
 use Rattle.plan_format.proofs.RulesFirst.{no-point, signal-inside, Signals-say, signals-good, signals-seven}
 use Rattle.plan_format.proofs.RulesFirst.{plan-signals-say}
-use Rattle.plan_order.specs.Precedence.{Resolution, at-once, on, never, resolve}
+use Rattle.plan_order.specs.Precedence.{Resolution, on, never, resolve}
 use Rattle.plan_order.specs.Runs.{reached, rested, wait-met, earlier-run, enabled, ready, is-run, raises-in-order}
 use Rattle.plan_order.specs.Runs.{ready-on, next, standard, number-ready, ready-numbers, run-list, missing}
 use Rattle.plan_order.specs.Handovers.{disordered}
@@ -45,8 +46,8 @@ use Rattle.plan_order.specs.OnlyOwners.{number-ready-by-value, ready-num
 use Rattle.plan_order.specs.OnlyOwners.{missing-by-value, order-by-value, outcome-by-owners, list-by-value}
 use Rattle.plan_order.specs.OnlyOwners.{By-owners}
 use Rattle.plan_order.proofs.Signals.{signals-value, value-under, rises}
-use Rattle.plan_order.proofs.Resolution.{Resolution-case, at-zero, at-signal, at-none, resolve-is}
-use Rattle.plan_order.proofs.Readiness.{reached-has, reached-gives, queue-in, by-queue, direct-by}
+use Rattle.plan_order.proofs.Resolution.{Resolution-case, at-signal, at-none, resolve-is}
+use Rattle.plan_order.proofs.Readiness.{reached-has, reached-gives, queue-in, wait-above, by-queue, direct-by}
 use Rattle.plan_order.proofs.Standard.{next-ready, standard-runs}
 use Rattle.plan_order.proofs.Raises.{In-plan-order, runs-raise}
 use Rattle.plan_order.proofs.OrderMeaning.{signals-means}
@@ -128,12 +129,19 @@ module _ (p : Plan) (owners : Only-owners p) where
   in-turn = ordered-means p .1 all-in-turn
 
   module _ (rising : signals-refusal 0 [] (p .operations) .number ≡ 0) where
+    pub raises-same : (r : List ℕ) → is-run p r ≡ true → raises-in-order p r ≡ true
+    unfolding is-run
+    raises-same r h = runs-raise p rising (enabled p) in-order r h
+      where
+        in-order : In-plan-order p (enabled p)
+        in-order r h i k s v w l b e g m = queue-in p r i k h m l (one-queue i k s v w e g)
+
     -- ---- after a run a wait is met by value exactly when what it rests on has run
     module _ (r : List ℕ) (h : runs (count p) (enabled p) [] r ≡ true) where
-      on-same : (w : Point) (z : Resolution) → Resolution-case p w z → rested r z ≡ met-by-value p r w
+      on-same : (w : Point) → 0 < w .value → (z : Resolution) → Resolution-case p w z →
+          rested r z ≡ met-by-value p r w
       unfolding met-by-value rested
-      on-same w at-once (at-zero e) = sym (le-leb (w .value) (reached p (w .semaphore) r) (omega arith))
-      on-same w (on x) (at-signal _ t) =
+      on-same w above (on x) (at-signal _ t) =
           by-cases (member (x .operation) r)
           (λ m. m ∙ sym (le-leb (w .value) (reached p (w .semaphore) r)
           (le-trans (omega (
@@ -144,7 +152,7 @@ module _ (p : Plan) (owners : Only-owners p) where
           (reached-has p (w .semaphore) r (x .operation) m))))
           (λ f. f ∙ sym (is-false (leb (w .value) (reached p (w .semaphore) r)) (λ u.
           let i = x .operation in
-          let g = reached-gives p (w .semaphore) (w .value) r (t .above)
+          let g = reached-gives p (w .semaphore) (w .value) r above
           (leb-true (w .value) (reached p (w .semaphore) r) u) in
           let kb = run-below (count p) (enabled p) r h (g .0) (g .2) in
           let least = t .least (g .0) (g .1) kb (g .4) (g .3) in
@@ -156,108 +164,109 @@ module _ (p : Plan) (owners : Only-owners p) where
           (λ q. let up = rises p rising (g .0) i (w .semaphore) (g .1) (x .value)
           (omega (arith, ltb-false i (g .0) l, eqb-false i (g .0) q)) (t .inside) (g .4) (t .signalled) in
           omega arith)))))
-      on-same w never (at-none a none-such) =
+      on-same w above never (at-none none-such) =
           sym (is-false (leb (w .value) (reached p (w .semaphore) r)) (λ u.
-          let g = reached-gives p (w .semaphore) (w .value) r a (leb-true (w .value) (reached p (w .semaphore) r) u) in
+          let g = reached-gives p (w .semaphore) (w .value) r above
+          (leb-true (w .value) (reached p (w .semaphore) r) u) in
           omega (arith, g .3, none-such (g .0) (g .1) (run-below (count p) (enabled p) r h (g .0) (g .2)) (g .4))))
 
-      waits-same : (w : Point) → wait-met p r w ≡ met-by-value p r w
+      waits-same : (w : Point) → 0 < w .value → wait-met p r w ≡ met-by-value p r w
       unfolding wait-met
-      waits-same w = on-same w (resolve p w) (resolve-is p w)
+      waits-same w above = on-same w above (resolve p w) (resolve-is p w)
 
-      all-same : (ws : List Point) → all (λ w. wait-met p r w) ws ≡ all (λ w. met-by-value p r w) ws
+      all-same : (ws : List Point) → ((w : Point) → List·Memᴰ w ws → 0 < w .value) →
+          all (λ w. wait-met p r w) ws ≡ all (λ w. met-by-value p r w) ws
       unfolding all
-      all-same [] = refl
-      all-same (w ∷ ws) = ap₂ (λ (a b : Bool). a && b) (waits-same w) (all-same ws)
+      all-same [] above = refl
+      all-same (w ∷ ws) above =
+          ap₂ (λ (a b : Bool). a && b) (waits-same w (above w (List·Memᴰ·head refl)))
+          (all-same ws (λ v m. above v (List·Memᴰ·tail m)))
 
-      enabled-same : (j : ℕ) → enabled p r j ≡ enabled-by-value p r j
+    pub met-same : (r : List ℕ) → is-run p r ≡ true → (w : Point) → 0 < w .value →
+        wait-met p r w ≡ met-by-value p r w
+    unfolding is-run
+    met-same r h w above = waits-same r h w above
+
+    module _ (above-zero : Waits-above-zero p) where
+      -- ---- the runs are the same
+      enabled-same : (r : List ℕ) → runs (count p) (enabled p) [] r ≡ true → (j : ℕ) →
+          enabled p r j ≡ enabled-by-value p r j
       unfolding enabled enabled-by-value
-      enabled-same j = ap (λ (b : Bool). earlier-run p r j && b) (all-same (op p j .waits))
+      enabled-same r h j =
+          ap (λ (b : Bool). earlier-run p r j && b) (all-same r h (op p j .waits) (wait-above p above-zero j))
 
-    pub met-same : (r : List ℕ) → is-run p r ≡ true → (w : Point) → wait-met p r w ≡ met-by-value p r w
-    unfolding is-run
-    met-same r h w = waits-same r h w
+      abbrev here : List ℕ → ℕ → Bool
+      here r j = enabled p r j
 
-    -- ---- the runs are the same
-    abbrev here : List ℕ → ℕ → Bool
-    here r j = enabled p r j
+      abbrev there : List ℕ → ℕ → Bool
+      there r j = enabled-by-value p r j
 
-    abbrev there : List ℕ → ℕ → Bool
-    there r j = enabled-by-value p r j
+      agree : (r : List ℕ) (j : ℕ) → runs (count p) here [] r ≡ true → runs (count p) there [] r ≡ true → j < count p →
+          here r j ≡ there r j
+      agree r j a b l = enabled-same r a j
 
-    agree : (r : List ℕ) (j : ℕ) → runs (count p) here [] r ≡ true → runs (count p) there [] r ≡ true → j < count p →
-        here r j ≡ there r j
-    agree r j a b l = enabled-same r a j
+      pub runs-same : (r : List ℕ) → is-run p r ≡ is-run-by-value p r
+      unfolding is-run-by-value is-run
+      runs-same r =
+          same-runs (count p) here there agree [] r (runs-nil (count p) here []) (runs-nil (count p) there [])
 
-    pub runs-same : (r : List ℕ) → is-run p r ≡ is-run-by-value p r
-    unfolding is-run-by-value is-run
-    runs-same r =
-        same-runs (count p) here there agree [] r (runs-nil (count p) here []) (runs-nil (count p) there [])
+      module _ (r : List ℕ) (h : is-run p r ≡ true) where
+        ready-same : (j : ℕ) → ready p r j ≡ ready-by-value p r j
+        unfolding ready ready-by-value is-run is-run-by-value
+        ready-same j = same-can (count p) here there agree r j h (sym (runs-same r) ∙ h)
 
-    module _ (r : List ℕ) (h : is-run p r ≡ true) where
-      ready-same : (j : ℕ) → ready p r j ≡ ready-by-value p r j
-      unfolding ready ready-by-value is-run is-run-by-value
-      ready-same j = same-can (count p) here there agree r j h (sym (runs-same r) ∙ h)
+        ready-on-same : (q : ℕ) → ready-on p r q ≡ ready-on-by-value p r q
+        unfolding ready-on ready-on-by-value
+        ready-on-same q =
+            lowest-same (count p) (λ j. eqb (op p j .queue) q && ready p r j)
+            (λ j. eqb (op p j .queue) q && ready-by-value p r j)
+            (λ j l. ap (λ (b : Bool). eqb (op p j .queue) q && b) (ready-same j))
 
-      ready-on-same : (q : ℕ) → ready-on p r q ≡ ready-on-by-value p r q
-      unfolding ready-on ready-on-by-value
-      ready-on-same q =
-          lowest-same (count p) (λ j. eqb (op p j .queue) q && ready p r j)
-          (λ j. eqb (op p j .queue) q && ready-by-value p r j)
-          (λ j l. ap (λ (b : Bool). eqb (op p j .queue) q && b) (ready-same j))
+        first-same : (left i : ℕ) → first-from left i (ready-on p r) ≡ first-from left i (ready-on-by-value p r)
+        unfolding first-from
+        first-same zero i = refl
+        first-same (suc k) i = ap₂ (λ (a b : Option ℕ). orElse a b) (ready-on-same i) (first-same k (suc i))
 
-      first-same : (left i : ℕ) → first-from left i (ready-on p r) ≡ first-from left i (ready-on-by-value p r)
-      unfolding first-from
-      first-same zero i = refl
-      first-same (suc k) i = ap₂ (λ (a b : Option ℕ). orElse a b) (ready-on-same i) (first-same k (suc i))
+        next-same : next p r ≡ next-by-value p r
+        unfolding next next-by-value
+        next-same = first-same (queues p) 0
 
-      next-same : next p r ≡ next-by-value p r
-      unfolding next next-by-value
-      next-same = first-same (queues p) 0
+        number-ready-same : number-ready p r ≡ number-ready-by-value p r
+        unfolding number-ready number-ready-by-value
+        number-ready-same =
+            tally-same (queues p) (λ q. is-some (ready-on p r q)) (λ q. is-some (ready-on-by-value p r q))
+            (λ q l. ap is-some (ready-on-same q))
 
-      number-ready-same : number-ready p r ≡ number-ready-by-value p r
-      unfolding number-ready number-ready-by-value
-      number-ready-same =
-          tally-same (queues p) (λ q. is-some (ready-on p r q)) (λ q. is-some (ready-on-by-value p r q))
-          (λ q l. ap is-some (ready-on-same q))
+      -- ---- the standard run is the same
+      pub standard-same : standard p ≡ standard-by-value p
+      unfolding standard standard-by-value is-run ready
+      standard-same =
+          same-greedy (count p) here (λ r. next p r) (λ r. next-by-value p r) (next-ready p) next-same (count p) []
+          (runs-nil (count p) here [])
 
-    -- ---- the standard run is the same
-    pub standard-same : standard p ≡ standard-by-value p
-    unfolding standard standard-by-value is-run ready
-    standard-same =
-        same-greedy (count p) here (λ r. next p r) (λ r. next-by-value p r) (next-ready p) next-same (count p) []
-        (runs-nil (count p) here [])
+      ready-numbers-same : (r js : List ℕ) → runs (count p) here [] r ≡ true → runs (count p) here r js ≡ true →
+          ready-numbers p r js ≡ ready-numbers-by-value p r js
+      unfolding ready-numbers ready-numbers-by-value is-run
+      ready-numbers-same r [] a b = refl
+      ready-numbers-same r (j ∷ js) a b =
+          ap₂ (λ (n : ℕ) (ns : List ℕ). n ∷ ns) (number-ready-same r a)
+          (ready-numbers-same (r ++ (j ∷ [])) js (runs-snoc (count p) here r j a (runs-head (count p) here r j js b))
+          (runs-tail (count p) here r j js b))
 
-    ready-numbers-same : (r js : List ℕ) → runs (count p) here [] r ≡ true → runs (count p) here r js ≡ true →
-        ready-numbers p r js ≡ ready-numbers-by-value p r js
-    unfolding ready-numbers ready-numbers-by-value is-run
-    ready-numbers-same r [] a b = refl
-    ready-numbers-same r (j ∷ js) a b =
-        ap₂ (λ (n : ℕ) (ns : List ℕ). n ∷ ns) (number-ready-same r a)
-        (ready-numbers-same (r ++ (j ∷ [])) js (runs-snoc (count p) here r j a (runs-head (count p) here r j js b))
-        (runs-tail (count p) here r j js b))
+      pub run-list-same : ((j : ℕ) → j < count p → op p j .queue < queues p) → run-list p ≡ run-list-by-value p
+      unfolding run-list run-list-by-value is-run
+      run-list-same known =
+          ap (λ (ns : List ℕ). standard p ++ ns)
+          (ready-numbers-same [] (standard p) (runs-nil (count p) here []) (standard-runs p known))
+          ∙ ap (λ (r : List ℕ). r ++ ready-numbers-by-value p [] r) standard-same
 
-    pub run-list-same : ((j : ℕ) → j < count p → op p j .queue < queues p) → run-list p ≡ run-list-by-value p
-    unfolding run-list run-list-by-value is-run
-    run-list-same known =
-        ap (λ (ns : List ℕ). standard p ++ ns)
-        (ready-numbers-same [] (standard p) (runs-nil (count p) here []) (standard-runs p known))
-        ∙ ap (λ (r : List ℕ). r ++ ready-numbers-by-value p [] r) standard-same
+      pub missing-same : missing p ≡ missing-by-value p
+      unfolding missing missing-by-value
+      missing-same = ap (λ (r : List ℕ). lowest-below (count p) (λ j. not (member j r))) standard-same
 
-    pub missing-same : missing p ≡ missing-by-value p
-    unfolding missing missing-by-value
-    missing-same = ap (λ (r : List ℕ). lowest-below (count p) (λ j. not (member j r))) standard-same
-
-    pub order-same : order-refusal p ≡ order-by-value p
-    unfolding order-refusal order-by-value refused-at
-    order-same = rw (in-turn, missing-same) refl
-
-    pub raises-same : (r : List ℕ) → is-run p r ≡ true → raises-in-order p r ≡ true
-    unfolding is-run
-    raises-same r h = runs-raise p rising (enabled p) in-order r h
-      where
-        in-order : In-plan-order p (enabled p)
-        in-order r h i k s v w l b e g m = queue-in p r i k h m l (one-queue i k s v w e g)
+      pub order-same : order-refusal p ≡ order-by-value p
+      unfolding order-refusal order-by-value refused-at
+      order-same = rw (in-turn, missing-same) refl
 
 -- every signal rises, and so 7 is not given
 rising-by : (p : Plan) → Signals-good p → signals-refusal 0 [] (p .operations) .number ≡ 0
@@ -289,7 +298,8 @@ module _ (bs : List ℕ) (owners : Only-owners (plan-in bs)) where
   outcome-same t l =
       let p = plan-in bs in
       let room = room-refusal (count p) t l in
-      judged-same (plan-refusal bs) room (order-refusal p) (order-by-value p) (λ z. order-same p owners (plan-good z))
+      judged-same (plan-refusal bs) room (order-refusal p) (order-by-value p)
+      (λ z. order-same p owners (plan-good z) (sound-in bs z .waits-above-zero))
       ∙ ap (λ (f : Refusal). judged (or-else (scanned bs .fault) f) room (order-by-value p)) (rules-same p owners)
 
   -- rows and run are left only where the plan is not refused
@@ -309,7 +319,9 @@ module _ (bs : List ℕ) (owners : Only-owners (plan-in bs)) where
   left-same rows-and-run l h = ap (λ (new : List ℕ). left-in rows-and-run (2 * count (plan-in bs)) new l) (h refl)
 
   runs-left : plan-refusal bs .number ≡ 0 → run-list (plan-in bs) ≡ run-list-by-value (plan-in bs)
-  runs-left z = run-list-same (plan-in bs) owners (plan-good z) (λ j a. sound-in bs z .in-range j a .queue)
+  runs-left z =
+      let sound = sound-in bs z in
+      run-list-same (plan-in bs) owners (plan-good z) (sound .waits-above-zero) (λ j a. sound .in-range j a .queue)
 
   pub by-owners : (r : Told) (t x l y : List ℕ) → Check-says bs r t x l y → By-owners bs r t x l y
   unfolding Check-says
@@ -322,8 +334,9 @@ module _ (bs : List ℕ) (owners : Only-owners (plan-in bs)) where
         table-holds = subst (λ (z : Outcome). x ≡ table-left (z .leaves) p t) same (s .table-holds);
         list-holds = subst (λ (z : Outcome). y ≡ list-by-value (z .leaves) p l) same
             (s .list-holds ∙ left-same (o .leaves) l (λ e. runs-left (left-good (length t) (length l) e)));
-        runs = λ good. runs-same p owners (rising-by p good);
+        runs = λ read good. runs-same p owners (rising-by p good) (limits-above-zero (scanned-limits bs read));
         waits = λ good. met-same p owners (rising-by p good);
         raises = λ good. raises-same p owners (rising-by p good);
-        standard-run = λ good. standard-same p owners (rising-by p good);
+        standard-run = λ read good. standard-same p owners (rising-by p good)
+            (limits-above-zero (scanned-limits bs read));
       }

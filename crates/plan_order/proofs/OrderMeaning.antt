@@ -11,7 +11,7 @@ use Rattle.plan_format.specs.Plan.{Point, Plan, count, op}
 use Rattle.plan_order.specs.Precedence.{Signal, resolve, rests-on, direct}
 use Rattle.plan_order.specs.Meaning.{Signals, Resolves, Directly}
 use Rattle.plan_order.proofs.Signals.{signals-value, value-here, value-there, value-cons, value-inside}
-use Rattle.plan_order.proofs.Resolution.{Rests, rests-gives, rests-somewhere}
+use Rattle.plan_order.proofs.Resolution.{Rests, rests-gives, rests-somewhere, rests-it}
 use Rattle.plan_order.proofs.Readiness.{Why, by-queue, by-wait, direct-below, direct-why, direct-by}
 
 -- ---- signals of an operation, as a test and by membership
@@ -43,7 +43,6 @@ module _ (p : Plan) where
   -- ---- what a wait rests on
   rests-resolves : (w : Point) (x : Signal) → Rests p w x → Resolves p w (x .operation)
   rests-resolves w x t = record {
-    above-zero = t .above;
     value = x .value;
     signalled = signals-means (x .operation) (w .semaphore) (x .value) .0 (t .signalled);
     enough = t .enough;
@@ -66,11 +65,11 @@ module _ (p : Plan) where
   rests-means w i = (
     (λ e. let g = rests-gives p w i e in subst (λ (z : ℕ). Resolves p w z) (g .2) (rests-resolves w (g .0) (g .1))),
     (λ r.
-        let x = rests-somewhere p w (r .above-zero) i (r .value)
+        let x = rests-somewhere p w i (r .value)
         (signals-inside i (w .semaphore) (r .value) (r .signalled))
         (signals-means i (w .semaphore) (r .value) .1 (r .signalled)) (r .enough) in
         subst (λ (z : ℕ). rests-on (resolve p w) z ≡ true)
-        (resolves-one w (x .0 .operation) i (rests-resolves w (x .0) (x .1)) r) (x .2)),
+        (resolves-one w (x .0 .operation) i (rests-resolves w (x .0) (x .1)) r) (rests-it p w (x .0) (x .2))),
   )
 
   -- ---- directly before

@@ -14,10 +14,9 @@ use Rattle.order.specs.Closure.{once, more}
 use Rattle.order.proofs.Closure.{chain-from, worked-chain, chain-worked}
 use Rattle.order.proofs.Extensions.{chain-steps, either-first}
 use Rattle.plan_format.specs.Plan.{Plan, count}
-use Rattle.plan_format.specs.Sound.{waits-refusal}
 use Rattle.plan_order.specs.Precedence.{direct, Before, all-before, before, at-or-before}
 use Rattle.plan_order.specs.Runs.{enabled, is-run, is-full}
-use Rattle.plan_order.proofs.Readiness.{direct-below, predecessors-run, predecessors-suffice}
+use Rattle.plan_order.proofs.Readiness.{direct-below, predecessors-run, Waits-good, predecessors-suffice}
 use Rattle.plan_order.proofs.Standard.{full-run, run-full, full-has}
 
 module _ (p : Plan) where
@@ -78,7 +77,7 @@ module _ (p : Plan) where
   pub not-itself : (r : List ℕ) → is-full p r ≡ true → (j : ℕ) → before p j j ≡ false
   not-itself r h j = is-false (before p j j) (λ t. lt-irrefl (step-of 0 r j) (before-steps r h j j t))
 
-  module _ (waits-good : waits-refusal 0 p (p .operations) .number ≡ 0) where
+  module _ (waits-good : Waits-good p) where
     -- not before, and another: some full run has it the other way
     pub unordered : (f : List ℕ) → is-full p f ≡ true → (i j : ℕ) → j < count p → (i ≡ j → ⊥) → before p i j ≡ false →
         (g : List ℕ) × (is-full p g ≡ true) × (step-of 0 g j < step-of 0 g i)

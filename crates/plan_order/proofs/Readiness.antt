@@ -2,7 +2,6 @@
 -- before it has run. Assumes nothing.
 use mathlib.Core.Path.{_≡_, refl, sym, subst}
 use mathlib.Core.Bool.{Bool, true, false, _&&_, _||_, not, false≢true}
-use mathlib.Core.Logic.{_↔_}
 use mathlib.Core.List.{List, [], _∷_, List·Memᴰ, List·Memᴰ·head, List·Memᴰ·tail, List·Memᴰ·not-nil}
 use mathlib.Core.List.{List·Memᴰ·cases-cons}
 use Prim.Native.Nat.{ℕ, _≤_, _<_, zero-le, max}
@@ -13,18 +12,19 @@ use Rattle.base_lists.specs.Lists.{member, all}
 use Rattle.base_lists.proofs.Tests.{by-cases, clash, and-left, and-right, and-both, or-cases, or-left, or-right}
 use Rattle.base_lists.proofs.Tests.{not-of-false, either}
 use Rattle.base_lists.proofs.Members.{Sub, member-nil, member-here, member-there, member-cons}
+use Rattle.base_lists.proofs.Places.{mem-place}
 use Rattle.base_lists.proofs.Searches.{all-below-gives, all-below-by, all-gives, all-by}
 use Rattle.order.specs.Runs.{runs}
 use Rattle.order.specs.Closure.{once}
 use Rattle.order.proofs.Extensions.{chain-steps}
 use Rattle.plan_format.specs.Plan.{Point, Plan, count, op}
-use Rattle.plan_format.specs.Sound.{highest-in, highest, any-too-high, waits-refusal}
-use Rattle.plan_order.specs.Precedence.{Resolution, at-once, on, never, resolve, rests-on, any-rests-on}
+use Rattle.plan_format.specs.Sound.{highest-in, highest, any-too-high, waits-refusal, Waits-above-zero}
+use Rattle.plan_order.specs.Precedence.{Signal, Resolution, on, never, resolve, rests-on, any-rests-on}
 use Rattle.plan_order.specs.Precedence.{same-queue, direct}
 use Rattle.plan_order.specs.Runs.{reached, rested, wait-met, earlier-run, enabled}
 use Rattle.plan_order.proofs.Signals.{signals-value, high-gives, highest-gives, too-high-none, waits-none}
 use Rattle.plan_order.proofs.Signals.{value-inside}
-use Rattle.plan_order.proofs.Resolution.{Resolution-case, at-signal, at-none, resolve-is}
+use Rattle.plan_order.proofs.Resolution.{Rests, rests-somewhere, rests-it}
 
 module _ (p : Plan) where
   -- ---- the value that a semaphore has reached
@@ -84,13 +84,11 @@ module _ (p : Plan) where
   -- ---- a wait that is met
   pub rested-has : (r : List ℕ) (z : Resolution) (i : ℕ) → rested r z ≡ true → rests-on z i ≡ true → member i r ≡ true
   unfolding rested rests-on
-  rested-has r at-once i m e = absurd (false≢true e)
   rested-has r (on x) i m e = subst (λ (k : ℕ). member k r ≡ true) (eqb-true (x .operation) i e) m
   rested-has r never i m e = absurd (false≢true e)
 
   rested-grows : (r t : List ℕ) (z : Resolution) → Sub r t → rested r z ≡ true → rested t z ≡ true
   unfolding rested
-  rested-grows r t at-once b m = refl
   rested-grows r t (on x) b m = b (x .operation) m
   rested-grows r t never b m = m
 
@@ -212,44 +210,42 @@ module _ (p : Plan) where
       of-why i j (by-queue l q) e = e .earlier i l q
       of-why i j (by-wait w m t) e = rested-has r (resolve p w) i (unfold wait-met in (e .waits w m)) t
 
-  -- ---- without 8: what has all that is directly before it in a list is enabled by it
-  rested-by : (r : List ℕ) (w : Point) (z : Resolution) → Resolution-case p w z →
-      (0 < w .value → w .value ≤ highest (w .semaphore) (p .operations)) →
-      ((i : ℕ) → i < count p → rests-on z i ≡ true → member i r ≡ true) → rested r z ≡ true
-  unfolding rested rests-on
-  rested-by r w at-once d low h = refl
-  rested-by r w (on x) (at-signal _ t) low h = h (x .operation) (t .inside) (eq-eqb (x .operation) (x .operation) refl)
-  rested-by r w never (at-none a none-such) low h =
-      absurd (let g = highest-gives (w .semaphore) (w .value) (p .operations) a (low a) in
-      let inside : g .0 < count p =
-      unfold count in (value-inside (w .semaphore) (g .1) (p .operations) (g .0) (g .3)) in
-      omega (arith, g .2, none-such (g .0) (g .1) inside (unfold op in (g .3))))
+  -- ---- without 8 and 16: what has all that is directly before it in a list is enabled by it
+  pub record Waits-good : Type 0 where
+    pub above-zero : Waits-above-zero p
+    pub low-enough : waits-refusal 0 p (p .operations) .number ≡ 0
 
   low-enough : (ws : List Point) → any-too-high p ws ≡ false → (w : Point) → List·Memᴰ w ws →
-      0 < w .value → w .value ≤ highest (w .semaphore) (p .operations)
+      w .value ≤ highest (w .semaphore) (p .operations)
   low-enough [] e w m = absurd (List·Memᴰ·not-nil m)
   low-enough (v ∷ vs) e w m =
       let t = too-high-none p v vs e in
       either (List·Memᴰ·cases-cons m)
-      (λ q. subst (λ (z : Point). 0 < z .value → z .value ≤ highest (z .semaphore) (p .operations)) (sym q) (t .0))
+      (λ q. subst (λ (z : Point). z .value ≤ highest (z .semaphore) (p .operations)) (sym q) (t .0))
       (λ m′. low-enough vs (t .1) w m′)
 
-  module _ (waits-good : waits-refusal 0 p (p .operations) .number ≡ 0) where
-    -- a wait of an operation of the plan
+  pub wait-above : Waits-above-zero p → (j : ℕ) (w : Point) → List·Memᴰ w (op p j .waits) → 0 < w .value
+  wait-above above j w m =
+      let k = mem-place (op p j .waits) (record { semaphore = 0; value = 0 }) w m in
+      subst (λ (z : Point). 0 < z .value) (k .2) (above j (k .0) (k .1))
+
+  module _ (waits-good : Waits-good) where
+    -- a wait of an operation of the plan rests on a signal
+    pub own-rests : (j : ℕ) → j < count p → (w : Point) → List·Memᴰ w (op p j .waits) →
+        (x : Signal) × Rests p w x × (resolve p w ≡ on x)
+    unfolding op count
+    own-rests j l w m =
+        let none = waits-none 0 p (p .operations) (waits-good .low-enough) j l in
+        let s = w .semaphore in
+        let g = highest-gives s (w .value) (p .operations) (wait-above (waits-good .above-zero) j w m)
+        (low-enough (op p j .waits) none w m) in
+        rests-somewhere p w (g .0) (g .1) (value-inside s (g .1) (p .operations) (g .0) (g .3)) (g .3) (g .2)
+
     own-rested : (r : List ℕ) (j : ℕ) → j < count p → (w : Point) → List·Memᴰ w (op p j .waits) →
         ((i : ℕ) → i < count p → rests-on (resolve p w) i ≡ true → member i r ≡ true) → wait-met p r w ≡ true
-    unfolding wait-met
+    unfolding wait-met rested
     own-rested r j l w m h =
-        rested-by r w (resolve p w) (resolve-is p w)
-        (low-enough (op p j .waits) (unfold op count in (waits-none 0 p (p .operations) waits-good j l)) w m) h
-
-    -- it is met exactly if what it rests on has run
-    pub own-wait-met : (r : List ℕ) (j : ℕ) → j < count p → (w : Point) → List·Memᴰ w (op p j .waits) →
-        (wait-met p r w ≡ true) ↔ ((i : ℕ) → rests-on (resolve p w) i ≡ true → member i r ≡ true)
-    own-wait-met r j l w m = (
-      (λ t i e. rested-has r (resolve p w) i (unfold wait-met in t) e),
-      (λ h. own-rested r j l w m (λ i b e. h i e)),
-    )
+        let (x, t, e) = own-rests j l w m in rw e (h (x .operation) (t .inside) (rests-it p w x e))
 
     pub predecessors-suffice : (r : List ℕ) (j : ℕ) → j < count p →
         ((i : ℕ) → direct p i j ≡ true → member i r ≡ true) → enabled p r j ≡ true

@@ -1,5 +1,4 @@
--- What a wait resolves to: nothing where it is for 0, else the least signal that is high enough, or never. Assumes
--- nothing.
+-- What a wait resolves to: the least signal that is high enough, or never. Assumes nothing.
 use mathlib.Core.Path.{_≡_, refl, sym, ap, _∙_, subst}
 use mathlib.Core.Bool.{true, false, false≢true}
 use mathlib.Core.Logic.{_⊎_, inl, inr}
@@ -11,13 +10,13 @@ use native.Mathlib.Nat.{le-of-suc-le-suc, not-suc-le-zero, le-refl}
 use native.Mathlib.Omega.{arith}
 use lib.Dec.{ltb, leb, eqb}
 use lib.ListN.{length, getD}
-use borrow.Author.Tests.{ltb-true, ltb-false, leb-true, le-leb, eqb-true, eqb-false, eq-eqb}
+use borrow.Author.Tests.{ltb-true, ltb-false, leb-true, le-leb, eqb-true, eq-eqb}
 use Rattle.base_lists.proofs.Tests.{by-cases, by-option, clash, and-left, and-right, and-both, either}
 use Rattle.base_lists.proofs.Pairwise.{Pairwise, pairwise-head, pairwise-tail}
 use Rattle.plan_format.specs.Plan.{Point, Operation, Plan, empty-operation, count, op}
 use Rattle.plan_order.specs.Precedence.{Signal, no-signal, signals-of, signals-from, plan-signals, reaches}
 use Rattle.plan_order.specs.Precedence.{nearer, nearest}
-use Rattle.plan_order.specs.Precedence.{Resolution, at-once, on, never, resolution-of, resolve, rests-on}
+use Rattle.plan_order.specs.Precedence.{Resolution, on, never, resolution-of, resolve, rests-on}
 use Rattle.plan_order.proofs.Signals.{signals-value, value-here, value-there, value-cons}
 use Rattle.plan_order.proofs.SignalPlaces.{Sooner, sooner-low, plan-rising}
 
@@ -219,7 +218,6 @@ reaches-by w y a b =
 
 -- ---- what resolution says
 pub record Rests (p : Plan) (w : Point) (x : Signal) : Type 0 where
-  pub above : 0 < w .value
   pub inside : x .operation < count p
   pub place-inside : x .position < length (op p (x .operation) .signals)
   pub semaphore-there : getD (op p (x .operation) .signals) (x .position) no-point .semaphore ≡ w .semaphore
@@ -232,16 +230,14 @@ pub record Rests (p : Plan) (w : Point) (x : Signal) : Type 0 where
       x .operation ≤ i
 
 pub data Resolution-case (p : Plan) (w : Point) : Resolution → Type 0 where
-  at-zero : w .value ≡ 0 → Resolution-case p w at-once
   at-signal : (x : Signal) → Rests p w x → Resolution-case p w (on x)
-  at-none : 0 < w .value →
-      ((i v : ℕ) → i < count p → signals-value (w .semaphore) v (op p i .signals) ≡ true → v < w .value) →
+  at-none : ((i v : ℕ) → i < count p → signals-value (w .semaphore) v (op p i .signals) ≡ true → v < w .value) →
       Resolution-case p w never
 
 module _ (p : Plan) (w : Point) where
-  rests : (x : Signal) → 0 < w .value → nearest w (plan-signals p) ≡ some x → Rests p w x
+  rests : (x : Signal) → nearest w (plan-signals p) ≡ some x → Rests p w x
   unfolding plan-signals op count reaches
-  rests x pos e =
+  rests x e =
       let n = nearest-some w (plan-signals p) x e in
       let s = from-signalled 0 (p .operations) x (n .among) in
       let st = s .listed in
@@ -259,7 +255,6 @@ module _ (p : Plan) (w : Point) where
       ap (λ (k : ℕ). getD (op p (x .operation) .signals) k no-point .value) (sym in-it) ∙ whole .value-there-is in
       let inside-it : x .position < length (op p (x .operation) .signals) = omega (arith, whole .high) in
       record {
-        above = pos;
         inside = omega (arith, s .high);
         place-inside = inside-it;
         semaphore-there = sem-at;
@@ -281,10 +276,10 @@ module _ (p : Plan) (w : Point) where
             );
       }
 
-  never-rests : 0 < w .value → _≡_ {A = Option Signal} (nearest w (plan-signals p)) none → (i v : ℕ) → i < count p →
+  never-rests : _≡_ {A = Option Signal} (nearest w (plan-signals p)) none → (i v : ℕ) → i < count p →
       signals-value (w .semaphore) v (op p i .signals) ≡ true → v < w .value
   unfolding plan-signals op count
-  never-rests pos e i v l g =
+  never-rests e i v l g =
       let y = from-has 0 (w .semaphore) v (p .operations) i l g in
       by-cases (ltb v (w .value)) (λ t. ltb-true v (w .value) t)
       (λ f. clash (reaches w (y .0)) (reaches-by w (y .0) (y .3) (omega (arith, y .4, ltb-false v (w .value) f)))
@@ -293,11 +288,18 @@ module _ (p : Plan) (w : Point) where
   pub resolve-is : Resolution-case p w (resolve p w)
   unfolding resolve resolution-of
   resolve-is =
-      by-cases (eqb (w .value) 0)
-      (λ t. rw t (at-zero (eqb-true (w .value) 0 t)))
-      (λ f. let pos : 0 < w .value = omega (arith, eqb-false (w .value) 0 f) in
-      by-option (nearest w (plan-signals p)) (λ n. rw (f, n) (at-none pos (never-rests pos n)))
-      (λ x n. rw (f, n) (at-signal x (rests x pos n))))
+      by-option (nearest w (plan-signals p)) (λ n. rw n (at-none (never-rests n)))
+      (λ x n. rw n (at-signal x (rests x n)))
+
+  -- the signal that it resolves to is one of the plan, and reaches the wait
+  pub resolved-signal : (x : Signal) → resolve p w ≡ on x → List·Memᴰ x (plan-signals p) × (reaches w x ≡ true)
+  unfolding resolve resolution-of
+  resolved-signal x e =
+      by-option (nearest w (plan-signals p))
+      (λ n. let z : never ≡ on x = rw n at e in absurd (let q : _≡_ {A = ℕ} 0 1 = cc in omega arith))
+      (λ y n. let z : on y ≡ on x = rw n at e in
+      let same : y ≡ x = cc in
+      let s = nearest-some w (plan-signals p) x (n ∙ ap some same) in (s .among, s .reaching))
 
   -- what a wait rests on
   pub rests-gives : (i : ℕ) → rests-on (resolve p w) i ≡ true → (x : Signal) × Rests p w x × (x .operation ≡ i)
@@ -305,18 +307,20 @@ module _ (p : Plan) (w : Point) where
     where
       rests-of : (r : Resolution) → Resolution-case p w r → (i : ℕ) → rests-on r i ≡ true →
           (x : Signal) × Rests p w x × (x .operation ≡ i)
-      rests-of at-once d i e = absurd (false≢true (unfold rests-on in e))
       rests-of (on x) (at-signal _ t) i e = (x, t, eqb-true (x .operation) i (unfold rests-on in e))
       rests-of never d i e = absurd (false≢true (unfold rests-on in e))
 
-  -- a wait above 0 that some signal reaches rests on an operation
-  pub rests-somewhere : 0 < w .value → (k v : ℕ) → k < count p →
+  -- a wait that some signal reaches rests on an operation
+  pub rests-somewhere : (k v : ℕ) → k < count p →
       signals-value (w .semaphore) v (op p k .signals) ≡ true → w .value ≤ v →
-      (x : Signal) × Rests p w x × (rests-on (resolve p w) (x .operation) ≡ true)
-  rests-somewhere pos k v l g h = rests-of (resolve p w) resolve-is
+      (x : Signal) × Rests p w x × (resolve p w ≡ on x)
+  rests-somewhere k v l g h = rests-of (resolve p w) resolve-is refl
     where
-      rests-of : (r : Resolution) → Resolution-case p w r →
-          (x : Signal) × Rests p w x × (rests-on r (x .operation) ≡ true)
-      rests-of at-once (at-zero z) = absurd (omega arith)
-      rests-of (on x) (at-signal _ t) = (x, t, unfold rests-on in (eq-eqb (x .operation) (x .operation) refl))
-      rests-of never (at-none a none-such) = absurd (omega (arith, none-such k v l g))
+      rests-of : (r : Resolution) → Resolution-case p w r → resolve p w ≡ r →
+          (x : Signal) × Rests p w x × (resolve p w ≡ on x)
+      rests-of (on x) (at-signal _ t) e = (x, t, e)
+      rests-of never (at-none none-such) e = absurd (omega (arith, none-such k v l g))
+
+  pub rests-it : (x : Signal) → resolve p w ≡ on x → rests-on (resolve p w) (x .operation) ≡ true
+  unfolding rests-on
+  rests-it x e = rw e (eq-eqb (x .operation) (x .operation) refl)

@@ -1,7 +1,7 @@
 -- What a run, a full run and readiness are, by quantifiers. Assumes nothing.
 use mathlib.Core.Path.{_≡_, refl, sym, _∙_, subst, subst₂}
 use mathlib.Core.Bool.{true, false≢true}
-use mathlib.Core.Logic.{inl, inr, _↔_}
+use mathlib.Core.Logic.{_↔_}
 use mathlib.Core.List.{List, [], _∷_, _++_}
 use Prim.Native.Nat.{ℕ, _≤_, _<_}
 use native.Mathlib.Nat.{le-refl, le-trans}
@@ -11,22 +11,20 @@ use lib.ListN.{length, getD, take}
 use borrow.Author.Tests.{ltb-true, ltb-false, eqb-true, eq-eqb}
 use Rattle.base_lists.specs.Lists.{member}
 use Rattle.base_lists.specs.Places.{Among}
-use Rattle.base_lists.proofs.Tests.{by-cases, clash, is-false, either}
+use Rattle.base_lists.proofs.Tests.{by-cases, clash, is-false}
 use Rattle.base_lists.proofs.Distinct.{sized-full}
 use Rattle.base_lists.proofs.Places.{member-place, member-at, place-member, take-place, place-take}
 use Rattle.order.specs.Runs.{step-of}
 use Rattle.order.proofs.Runs.{can-below, can-fresh, can-enabled, can-by, runs-snoc, run-sized}
 use Rattle.order.proofs.Turns.{run-turns, turns-run, run-last, step-is}
 use Rattle.plan_format.specs.Plan.{Point, Plan, count, op}
-use Rattle.plan_format.specs.Sound.{waits-refusal}
-use Rattle.plan_order.specs.Precedence.{Resolution, at-once, on, never, resolve, rests-on}
+use Rattle.plan_order.specs.Precedence.{Resolution, on, never, resolve, rests-on}
 use Rattle.plan_order.specs.Runs.{reached, rested, wait-met, enabled, ready, is-run, is-full}
 use Rattle.plan_order.specs.Meaning.{Signals, Resolves, Highest-signalled, Met, Run-step, Run-means, Full-means}
 use Rattle.plan_order.specs.Meaning.{Ready-means}
 use Rattle.plan_order.proofs.Signals.{signals-value, value-under}
 use Rattle.plan_order.proofs.Readiness.{reached-has, reached-gives, enabled-gives, enabled-by, predecessors-run}
-use Rattle.plan_order.proofs.Readiness.{predecessors-suffice}
-use Rattle.plan_order.proofs.Resolution.{Resolution-case, at-zero, resolve-is}
+use Rattle.plan_order.proofs.Readiness.{Waits-good, predecessors-suffice}
 use Rattle.plan_order.proofs.OrderMeaning.{signals-means, rests-means, direct-means}
 use Rattle.plan_order.proofs.Standard.{full-run, run-full, full-has}
 
@@ -61,28 +59,24 @@ module _ (p : Plan) where
 
   -- ---- waits that are met
   rested-gives : (has : ℕ → Type 0) (r : List ℕ) (w : Point) → ((i : ℕ) → member i r ≡ true → has i) →
-      (z : Resolution) → Resolution-case p w z → rested r z ≡ true → ((i : ℕ) → rests-on z i ≡ true → Resolves p w i) →
-      Met p has w
+      (z : Resolution) → rested r z ≡ true → ((i : ℕ) → rests-on z i ≡ true → Resolves p w i) → Met p has w
   unfolding rested rests-on
-  rested-gives has r w of at-once (at-zero e) m h = inl e
-  rested-gives has r w of (on x) d m h =
-      inr (x .operation, h (x .operation) (eq-eqb (x .operation) (x .operation) refl), of (x .operation) m)
-  rested-gives has r w of never d m h = absurd (false≢true m)
+  rested-gives has r w of (on x) m h =
+      (x .operation, h (x .operation) (eq-eqb (x .operation) (x .operation) refl), of (x .operation) m)
+  rested-gives has r w of never m h = absurd (false≢true m)
 
   pub rested-on : (r : List ℕ) (z : Resolution) (i : ℕ) → rests-on z i ≡ true → member i r ≡ true → rested r z ≡ true
   unfolding rested rests-on
-  rested-on r at-once i t m = refl
   rested-on r (on x) i t m = subst (λ (k : ℕ). member k r ≡ true) (sym (eqb-true (x .operation) i t)) m
   rested-on r never i t m = absurd (false≢true t)
 
   -- after a run, of which `has` tells what is in it
   pub wait-met-means : (has : ℕ → Type 0) (r : List ℕ) → ((i : ℕ) → (member i r ≡ true) ↔ has i) → (w : Point) →
       (wait-met p r w ≡ true) ↔ Met p has w
-  unfolding wait-met resolve rested
+  unfolding wait-met
   wait-met-means has r of w = (
-    (λ m. rested-gives has r w (λ i. of i .0) (resolve p w) (resolve-is p w) m (λ i. rests-means p w i .0)),
-    (λ m. either m (λ e. rw (eq-eqb (w .value) 0 e) refl)
-        (λ g. rested-on r (resolve p w) (g .0) (rests-means p w (g .0) .1 (g .1)) (of (g .0) .1 (g .2)))),
+    (λ m. rested-gives has r w (λ i. of i .0) (resolve p w) m (λ i. rests-means p w i .0)),
+    (λ g. rested-on r (resolve p w) (g .0) (rests-means p w (g .0) .1 (g .1)) (of (g .0) .1 (g .2))),
   )
 
   -- ---- runs
@@ -144,8 +138,8 @@ module _ (p : Plan) where
       (λ f. f
       ∙ sym (is-false (is-run p (r ++ (j ∷ []))) (λ t. clash (ready p r j) (run-last (count p) (enabled p) r j t) f)))
 
-  -- without refusal 8: what is directly before it has run
-  pub ready-means : waits-refusal 0 p (p .operations) .number ≡ 0 →
+  -- without refusals 8 and 16: what is directly before it has run
+  pub ready-means : Waits-good p →
       (r : List ℕ) (j : ℕ) → is-run p r ≡ true → (ready p r j ≡ true) ↔ Ready-means p r j
   unfolding is-run ready
   ready-means waits-good r j h = (

@@ -9,8 +9,8 @@ use native.Mathlib.Omega.{arith}
 use lib.Dec.{ltb, leb, eqb}
 use lib.ListN.{length, getD, take}
 use lib.Seq.{getD-take}
-use borrow.Author.Tests.{ltb-false, leb-true, leb-false, eqb-true, eqb-false, eq-eqb, lt-ltb}
-use Rattle.base_lists.proofs.Tests.{by-cases, clash, is-false, and-left, and-right, and-both, or-cases}
+use borrow.Author.Tests.{ltb-false, leb-true, leb-false, eqb-true, eqb-false, eq-eqb}
+use Rattle.base_lists.proofs.Tests.{by-cases, is-false, and-left, and-right, and-both, or-cases}
 use Rattle.base_lists.proofs.Tests.{or-left, or-right, either}
 use Rattle.plan_format.specs.Refusal.{refusal, none-given}
 use Rattle.plan_format.specs.Plan.{Point, Operation, Plan, empty-operation, count, op}
@@ -120,18 +120,12 @@ refusal-none i bs (o ∷ os) e (suc k) l =
 
 -- a wait is not above all signals
 pub too-high-none : (p : Plan) (w : Point) (ws : List Point) → any-too-high p (w ∷ ws) ≡ false →
-    (0 < w .value → w .value ≤ highest (w .semaphore) (p .operations)) × (any-too-high p ws ≡ false)
+    (w .value ≤ highest (w .semaphore) (p .operations)) × (any-too-high p ws ≡ false)
 unfolding any-too-high too-high
 too-high-none p w ws e =
-    let high = ltb (highest (w .semaphore) (p .operations)) (w .value) in
-    by-cases (ltb 0 (w .value) && high)
+    by-cases (ltb (highest (w .semaphore) (p .operations)) (w .value))
     (λ t. absurd (let z : true ≡ false = rw t at e in true≢false z))
-    (λ f. (
-      (λ h. ltb-false (highest (w .semaphore) (p .operations)) (w .value)
-          (is-false high
-          (λ u. clash (ltb 0 (w .value) && high) (and-both (ltb 0 (w .value)) high (lt-ltb 0 (w .value) h) u) f))),
-      (rw f at e),
-    ))
+    (λ f. (ltb-false (highest (w .semaphore) (p .operations)) (w .value) f, rw f at e))
 
 pub waits-none : (i : ℕ) (p : Plan) (os : List Operation) → waits-refusal i p os .number ≡ 0 → (k : ℕ) → k < length os →
     any-too-high p (getD os k empty-operation .waits) ≡ false

@@ -11,7 +11,7 @@ use Rattle.plan_order.specs.Check.{untouched, rows-and-run, Outcome, out
 use Rattle.plan_order.specs.Check.{plan-outcome, Says}
 use Rattle.plan_order.specs.Reuse.{question-refusal, reuse-outcome}
 
--- R53 to R55: 1 to 5 of a reading in the first form, then what the plan decides
+-- R53 to R55: 1 to 5 and 16 of a reading in the first form, then what the plan decides
 unfoldable pub first-outcome : (bytes : List ℕ) → (table list : ℕ) → Outcome
 first-outcome bs t l = or-then (outcome (first-scan bs .fault) untouched) (plan-outcome (first-plan bs) t l)
 

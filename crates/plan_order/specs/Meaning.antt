@@ -25,10 +25,8 @@ use Rattle.plan_order.specs.declared.Verdict.the-variants.{Fresh, Reusab
 abbrev pub Signals : Plan → (i s v : ℕ) → Type 0
 Signals p i s v = (x : Point) × List·Memᴰ x (op p i .signals) × (x .semaphore ≡ s) × (x .value ≡ v)
 
--- R17, resolution: operation i has the signal with the least value that reaches the wait, the first of equal ones; R18:
--- none for a wait for 0
+-- R17, resolution: operation i has the signal with the least value that reaches the wait, the first of equal ones
 pub record Resolves (p : Plan) (w : Point) (i : ℕ) : Type 0 where
-  pub above-zero : 0 < w .value
   pub value : ℕ
   pub signalled : Signals p i (w .semaphore) value
   pub enough : w .value ≤ value
@@ -54,9 +52,9 @@ pub record Highest-signalled (p : Plan) (s : ℕ) (r : List ℕ) (v : ℕ) : Typ
   pub highest : (k u : ℕ) → k < length r → Signals p (getD r k 0) s u → u ≤ v
   pub signalled : 0 < v → (k : ℕ) × (k < length r) × Signals p (getD r k 0) s v
 
--- R22, wait met: what it rests on has run, or it is for 0 (R18)
+-- R22, wait met: what it rests on has run
 abbrev pub Met : Plan → (has-run : ℕ → Type 0) → Point → Type 0
-Met p has w = (w .value ≡ 0) ⊎ ((i : ℕ) × Resolves p w i × has i)
+Met p has w = (i : ℕ) × Resolves p w i × has i
 
 -- R21, run: the operation at step k is one of the plan, comes there for the first time, after all earlier ones of its
 -- queue, and with its waits met (R22)
@@ -74,7 +72,7 @@ pub record Full-means (p : Plan) (r : List ℕ) : Type 0 where
   pub run : Run-means p r
   pub every : (i : ℕ) → i < count p → Among r (length r) i
 
--- R22, R25, after a run of a plan without refusal 8: what is directly before the operation has run
+-- R22, R25, after a run of a plan without refusals 8 and 16: what is directly before the operation has run
 pub record Ready-means (p : Plan) (r : List ℕ) (j : ℕ) : Type 0 where
   pub operation : j < count p
   pub not-run : Among r (length r) j → ⊥
@@ -237,7 +235,7 @@ pub record Room-means (n table list : ℕ) (f : Refusal) : Type 0 where
 abbrev pub Gives : Outcome → (number place : ℕ) → Leaves → Type 0
 Gives o n i l = Refuses (o .refusal) n i × (o .leaves ≡ l)
 
--- none of refusals 1 to 9
+-- none of refusals 1 to 9 and 16
 abbrev pub Unrefused : (bytes : List ℕ) → (table list : ℕ) → Type 0
 Unrefused bs t l = (plan-refusal bs .number ≡ 0) × (room-refusal (count (plan-in bs)) t l .number ≡ 0)
 
@@ -256,7 +254,7 @@ Full-run p = (r : List ℕ) × Full-means p r
 abbrev pub All-forced : Plan → Type 0
 All-forced p = (b k : ℕ) → b < length (p .sizes) → k < length (buffer-marks p b) → Forced p b k
 
--- R53 to R55: the plan, by what 1 to 8 mean, then 9, 10, 17 and 11, and no other number
+-- R53 to R55: the plan, by what 1 to 8 and 16 mean, then 9, 10, 17 and 11, and no other number
 pub record Check-means (bytes : List ℕ) (table list : ℕ) (o : Outcome) : Type 0 where
   pub plan : Plan-refusal-means bytes (plan-refusal bytes)
   pub plan-first : (plan-refusal bytes .number ≡ 0 → ⊥) → (o .refusal ≡ plan-refusal bytes) × (o .leaves ≡ untouched)

@@ -91,7 +91,7 @@ run-list-by-value p = let r = standard-by-value p in r ++ ready-numbers-by-value
 unfoldable pub missing-by-value : Plan → Option ℕ
 missing-by-value p = let r = standard-by-value p in lowest-below (count p) (λ j. not (member j r))
 
--- ---- the outcome: 1 to 5, then 6 and 7, then 8, 9, 10 and 11
+-- ---- the outcome: 1 to 5 and 16, then 6 and 7, then 8, 9, 10 and 11
 unfoldable pub order-by-value : Plan → Refusal
 order-by-value p = refused-at 10 (missing-by-value p) (refused-at 11 (broken p) none-given)
 
@@ -107,18 +107,19 @@ list-by-value v p l = left-in v (2 * count p) (run-list-by-value p) l
 
 -- ---- what stays
 -- R95, only owners: number, place, rows, run and what is left are those by owners and by value; where every signal
--- rises, also in a plan that is refused with 8, so are the runs; after a run a wait is met by what it rests on exactly
--- if it is by value; and each run raises every semaphore in order
+-- rises, also if the plan is refused with 8, after a run a wait above 0 is met by what it rests on exactly if it is by
+-- value, and each run raises every semaphore in order; so a plan that is read has the same runs
 pub record By-owners (bytes : List ℕ) (r : Told) (table table-now list list-now : List ℕ) : Type 0 where
   pub tells : Tells (outcome-by-owners bytes (length table) (length list) .refusal) 0 r
   pub table-holds :
       table-now ≡ table-left (outcome-by-owners bytes (length table) (length list) .leaves) (plan-in bytes) table
   pub list-holds :
       list-now ≡ list-by-value (outcome-by-owners bytes (length table) (length list) .leaves) (plan-in bytes) list
-  pub runs : Signals-good (plan-in bytes) → (run : List ℕ) →
+  pub runs : scanned bytes .fault .number ≡ 0 → Signals-good (plan-in bytes) → (run : List ℕ) →
       is-run (plan-in bytes) run ≡ is-run-by-value (plan-in bytes) run
   pub waits : Signals-good (plan-in bytes) → (run : List ℕ) → is-run (plan-in bytes) run ≡ true → (w : Point) →
-      wait-met (plan-in bytes) run w ≡ met-by-value (plan-in bytes) run w
+      0 < w .value → wait-met (plan-in bytes) run w ≡ met-by-value (plan-in bytes) run w
   pub raises : Signals-good (plan-in bytes) → (run : List ℕ) → is-run (plan-in bytes) run ≡ true →
       raises-in-order (plan-in bytes) run ≡ true
-  pub standard-run : Signals-good (plan-in bytes) → standard (plan-in bytes) ≡ standard-by-value (plan-in bytes)
+  pub standard-run : scanned bytes .fault .number ≡ 0 → Signals-good (plan-in bytes) →
+      standard (plan-in bytes) ≡ standard-by-value (plan-in bytes)

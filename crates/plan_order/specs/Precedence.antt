@@ -46,10 +46,8 @@ unfoldable pub nearest : Point → List Signal → Option Signal
 nearest w [] = none
 nearest w (x ∷ xs) = cond (reaches w x) (some (nearer x (nearest w xs))) (nearest w xs)
 
--- R17, resolution: a wait for a value above 0 rests on the signal with the least value that reaches it, or never ends,
--- which is refusal 8; R18: a wait for 0 rests on nothing
+-- R17, resolution: a wait rests on the signal with the least value that reaches it, or never ends, which is refusal 8
 pub data Resolution : Type 0 where
-  at-once : Resolution
   on : Signal → Resolution
   never : Resolution
 
@@ -58,10 +56,9 @@ resolution-of none = never
 resolution-of (some x) = on x
 
 unfoldable pub resolve : Plan → (wait : Point) → Resolution
-resolve p w = cond (eqb (w .value) 0) at-once (resolution-of (nearest w (plan-signals p)))
+resolve p w = resolution-of (nearest w (plan-signals p))
 
 unfoldable pub rests-on : Resolution → (i : ℕ) → Bool
-rests-on at-once i = false
 rests-on (on x) i = eqb (x .operation) i
 rests-on never i = false
 

@@ -17,7 +17,7 @@ use Rattle.plan_format.specs.RefusalNumbers.{None-or, order-numbers}
 use Rattle.plan_format.specs.Plan.{Plan, count, op}
 use Rattle.plan_format.specs.Sound.{Sound, waits-refusal}
 use Rattle.plan_format.specs.Limits.{Within, bytes-of}
-use Rattle.plan_format.specs.Stored.{all-bytes, plan-in, too-long, plan-refusal}
+use Rattle.plan_format.specs.Stored.{scanned, all-bytes, plan-in, too-long, plan-refusal}
 use Rattle.plan_order.specs.Precedence.{direct, Before, before, at-or-before}
 use Rattle.plan_order.specs.Rows.{epoch, row, rows}
 use Rattle.plan_order.specs.Runs.{is-run, is-full, ahead, ready, raises-in-order, next, standard, run-list}
@@ -86,7 +86,7 @@ pub record Safe (p : Plan) : Type 0 where
   pub raised : (r : List ℕ) → is-full p r ≡ true → raises-in-order p r ≡ true
   pub kept : (r : List ℕ) (b : ℕ) → is-full p r ≡ true → keeps p r b ≡ true
 
--- the number and place handed back for a plan with none of refusals 1 to 9
+-- the number and place handed back for a plan with none of refusals 1 to 9 and 16
 pub record Demand-3 (p : Plan) (number place : ℕ) : Type 0 where
   pub only : None-or order-numbers number
   pub exactly : (number ≡ 0) ↔ Safe p
@@ -101,7 +101,7 @@ pub record Demand-3 (p : Plan) (number place : ℕ) : Type 0 where
   pub disordered : number ≡ 17 → Disordered-at p place
   pub broken : number ≡ 11 → Broken-at p place
 
--- none of refusals 1 to 9
+-- none of refusals 1 to 9 and 16
 unfoldable pub unrefused : (bytes : List ℕ) → (table list : ℕ) → Bool
 unrefused bs t l = not (given (plan-refusal bs)) && not (given (room-refusal (count (plan-in bs)) t l))
 
@@ -159,7 +159,7 @@ pub record Standard-right (p : Plan) : Type 0 where
   pub ends : (j : ℕ) → ready p (standard p) j ≡ false
 
 -- ---- OVER STORED PLANS
--- a plan that gets none of refusals 1 to 8
+-- a plan that gets none of refusals 1 to 8 and 16
 unfoldable pub good : List ℕ → Bool
 good bs = all-bytes bs && eqb (plan-refusal bs .number) 0
 
@@ -236,7 +236,8 @@ pub record Checked (bytes : List ℕ) (r : Told) (table table-now list list-now 
   pub left : Left-means (plan-in bytes) (check-outcome-in bytes table list .leaves) table table-now list list-now
   pub owners : Only-owners (plan-in bytes) → By-owners bytes r table table-now list list-now
   -- R25, ready after a run of a plan whose waits are all reached: what is directly before it has run
-  pub readies : waits-refusal 0 (plan-in bytes) (plan-in bytes .operations) .number ≡ 0 → (run : List ℕ) (j : ℕ) →
+  pub readies : scanned bytes .fault .number ≡ 0 →
+      waits-refusal 0 (plan-in bytes) (plan-in bytes .operations) .number ≡ 0 → (run : List ℕ) (j : ℕ) →
       is-run (plan-in bytes) run ≡ true → (ready (plan-in bytes) run j ≡ true) ↔ Ready-means (plan-in bytes) run j
   pub demand-3-of-plans : Demand-3-of-plans bytes (length table) (length list) (r .number) (r .place)
   pub first-bytes : First-bytes bytes

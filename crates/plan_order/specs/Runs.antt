@@ -10,16 +10,15 @@ use Rattle.order.specs.Runs.{can, runs, step-of}
 use Rattle.order.specs.Greedy.{greedy}
 use Rattle.plan_format.specs.Plan.{Point, Plan, count, op, queues}
 use Rattle.plan_format.specs.Sound.{highest-in}
-use Rattle.plan_order.specs.Precedence.{Resolution, at-once, on, never, resolve, same-queue}
+use Rattle.plan_order.specs.Precedence.{Resolution, on, never, resolve, same-queue}
 
 -- R83: how far a semaphore has come in a run, the highest value signalled
 unfoldable pub reached : Plan → (s : ℕ) → (run : List ℕ) → ℕ
 reached p s [] = 0
 reached p s (i ∷ is) = max (highest-in s (op p i .signals)) (reached p s is)
 
--- R22: what a wait rests on has run; R18: one for 0 rests on nothing; one that no signal reaches is never met
+-- R22: what a wait rests on has run; one that no signal reaches is never met
 unfoldable pub rested : (run : List ℕ) → Resolution → Bool
-rested r at-once = true
 rested r (on x) = member (x .operation) r
 rested r never = false
 

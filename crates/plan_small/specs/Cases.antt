@@ -1,5 +1,5 @@
--- R79: the small plans and frontiers, T1 to T13 and those of the second form, each with its answer. Assumes nothing:
--- these are definitions.
+-- R79: the small plans and frontiers, T1 to T13, those of the second form and those with a wait for 0, each with its
+-- answer. Assumes nothing: these are definitions.
 use mathlib.Core.Bool.{true, false, cond}
 use mathlib.Core.List.{List, [], _∷_, _++_, map, flatten}
 use Prim.Native.Nat.{ℕ, _-_}
@@ -253,7 +253,35 @@ written-forms =
     ∷ asked (write (with-semaphores 64)) (written (plan (7 ∷ []) (replicate 64 0) [] []))
     ∷ asked (write (with-semaphores 65)) (written (second-plan (7 ∷ []) 65 [] [])) ∷ []
 
+-- one queue, one semaphore, and an operation at 15: a wait for 0; with 7 of the 8 bytes of its value; of a semaphore
+-- that the plan lacks; after another wait; after a count of 4; and in the second form, at 81
+unfoldable pub lone : (operation : List ℕ) → List ℕ
+lone o = plan (7 ∷ []) (0 ∷ []) [] (o ∷ [])
+
+unfoldable pub waits-for-0 : List Case
+waits-for-0 =
+    case (lone (operation 0 (at 0 0 ∷ []) [] [])) (refused 16 18)
+    ∷ case (lone (0 ∷ 1 ∷ 0 ∷ replicate 7 0)) (refused 1 18)
+    ∷ case (lone (operation 0 (at 1 0 ∷ []) [] [])) (refused 4 17)
+    ∷ case (lone (operation 0 (at 0 1 ∷ at 0 0 ∷ []) [] [])) (refused 16 27)
+    ∷ case (lone (operation 0 (replicate 4 (at 0 0)) [] [])) (refused 2 16)
+    ∷ case (second-plan (7 ∷ []) 65 [] (operation 0 (at-wide 64 0 ∷ []) [] [] ∷ [])) (refused 16 85) ∷ []
+
+-- a signal of 0; a wait for 1 without a signal
+unfoldable pub least-values : List Case
+least-values =
+    case (lone (operation 0 [] (at 0 0 ∷ []) [])) (refused 7 0)
+    ∷ case (lone (operation 0 (at 0 1 ∷ []) [] [])) (refused 8 0) ∷ []
+
+-- the writer: a wait for 0; of a semaphore that the plan lacks; without its value
+unfoldable pub written-for-0 : List Case
+written-for-0 =
+    asked (write (1 ∷ 7 ∷ 1 ∷ 0 ∷ 0 ∷ 1 ∷ 0 ∷ 1 ∷ 0 ∷ 0 ∷ 0 ∷ 0 ∷ [])) (refused 16 9)
+    ∷ asked (write (1 ∷ 7 ∷ 1 ∷ 0 ∷ 0 ∷ 1 ∷ 0 ∷ 1 ∷ 1 ∷ 0 ∷ 0 ∷ 0 ∷ [])) (refused 4 8)
+    ∷ asked (write (1 ∷ 7 ∷ 1 ∷ 0 ∷ 0 ∷ 1 ∷ 0 ∷ 1 ∷ 0 ∷ [])) (refused 1 9) ∷ []
+
 unfoldable pub cases : List Case
 cases =
     t1 ++ t2 ++ first-17 ++ t3 ++ t4 ++ t5 ++ t6 ++ t7 ++ t8 ++ t9 ++ t10 ++ t11 ++ t12 ++ t13 ++ greatest-signal
-    ++ second-plans ++ second-refused ++ other-leads ++ second-positions ++ written-forms
+    ++ second-plans ++ second-refused ++ other-leads ++ second-positions ++ written-forms ++ waits-for-0
+    ++ least-values ++ written-for-0

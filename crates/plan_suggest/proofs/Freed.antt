@@ -1,16 +1,15 @@
 -- The longer plan with the wait that is advised: it is sound, has a full run and passes, and the queue may take the
 -- buffer anew. Assumes nothing.
 use mathlib.Core.Path.{_≡_, sym, ap, _∙_, subst}
-use mathlib.Core.Bool.{true, false, _&&_}
+use mathlib.Core.Bool.{true, false}
 use mathlib.Core.Logic.{inr}
 use mathlib.Core.List.{List, [], _∷_, _++_, List·Memᴰ, List·Memᴰ·not-nil, List·Memᴰ·cases-cons}
 use Prim.Native.Nat.{ℕ, zero, suc, _<_}
 use native.Mathlib.Nat.{not-suc-le-zero}
 use native.Mathlib.Omega.{arith}
-use lib.Dec.{ltb}
 use lib.ListN.{length, getD}
 use borrow.Author.Tests.{le-ltb}
-use Rattle.base_lists.proofs.Tests.{clash, is-false, and-right, either}
+use Rattle.base_lists.proofs.Tests.{either}
 use Rattle.plan_format.specs.Sizes.{most-operations}
 use Rattle.plan_format.specs.Plan.{Point, Operation, Plan, count, op, queues}
 use Rattle.plan_format.specs.Sound.{highest, too-high, any-too-high, In-range, Sound}
@@ -33,7 +32,7 @@ use Rattle.plan_change.proofs.LongerRuns.{last-full}
 use Rattle.plan_change.proofs.LongerSound.{last-sound}
 use Rattle.plan_change.proofs.LongerPasses.{runs-and-keeps, sound-passes, last-in-turn, last-forced}
 use Rattle.plan_suggest.specs.Meaning.{Wait-frees, First-freeing, Freed}
-use Rattle.plan_suggest.proofs.Freeing.{same-marks, value-there, rests-there}
+use Rattle.plan_suggest.proofs.Freeing.{same-marks, value-there, signal-above, rests-there}
 
 module _ (p : Plan) (sound : Sound p) (q : ℕ) (known : q < queues p) (i k : ℕ) (signal : Is-signal p i k) where
   abbrev wait : Point
@@ -51,9 +50,7 @@ module _ (p : Plan) (sound : Sound p) (q : ℕ) (known : q < queues p) (i k : �
   wait-low =
       let top = highest (wait .semaphore) (p .operations) in
       let under = highest-over (wait .semaphore) (wait .value) (p .operations) i (value-there p sound i k signal) in
-      rw (is-false (ltb 0 (wait .value) && ltb top (wait .value))
-      (λ t. clash (ltb top (wait .value)) (and-right (ltb 0 (wait .value)) (ltb top (wait .value)) t)
-      (le-ltb top (wait .value) under)))
+      rw (le-ltb top (wait .value) under)
 
   wait-known : (n : ℕ) → n < length (wait ∷ []) →
       getD (wait ∷ []) n (record { semaphore = 0; value = 0 }) .semaphore < length (p .owners)
@@ -70,8 +67,14 @@ module _ (p : Plan) (sound : Sound p) (q : ℕ) (known : q < queues p) (i k : �
     kinds = λ n l. absurd (not-suc-le-zero l);
   }
 
+  wait-above : (n : ℕ) → n < length (wait ∷ []) →
+      0 < getD (wait ∷ []) n (record { semaphore = 0; value = 0 }) .value
+  wait-above zero l = signal-above p sound i k signal
+  wait-above (suc n) l = absurd (omega arith)
+
   there-sound : count p < most-operations → Sound there
-  there-sound few = last-sound p new (waiting-silent q wait) wait-low sound few new-known
+  unfolding waiting
+  there-sound few = last-sound p new (waiting-silent q wait) wait-low sound few new-known wait-above
 
   -- ---- a full run
   module _ (r : List ℕ) (full : is-full p r ≡ true) where

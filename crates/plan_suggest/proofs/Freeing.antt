@@ -18,7 +18,7 @@ use Rattle.plan_format.specs.Plan.{Point, Plan, count, op}
 use Rattle.plan_format.specs.Sound.{Sound}
 use Rattle.plan_format.specs.Meaning.{signal-at, Is-signal}
 use Rattle.plan_format.proofs.RulesFirst.{signal-inside}
-use Rattle.plan_order.specs.Precedence.{Resolution, at-once, on, never, resolve, rests-on, Before, before, at-or-before}
+use Rattle.plan_order.specs.Precedence.{Resolution, on, never, resolve, rests-on, Before, before, at-or-before}
 use Rattle.plan_order.specs.Holdings.{Placed, buffer-marks}
 use Rattle.plan_order.specs.Reuse.{last-on}
 use Rattle.plan_order.specs.Meaning.{Forced, Marked, Last-mark, Seen}
@@ -62,7 +62,6 @@ module _ (p : Plan) (q b : ℕ) (w : Point) where
 -- ---- what a wait for a signal's value rests on
 rests-one : (r : Resolution) (i j : ℕ) → rests-on r i ≡ true → rests-on r j ≡ true → i ≡ j
 unfolding rests-on
-rests-one at-once i j a b = absurd (false≢true a)
 rests-one (on x) i j a b = sym (eqb-true (x .operation) i a) ∙ eqb-true (x .operation) j b
 rests-one never i j a b = absurd (false≢true a)
 
@@ -86,7 +85,6 @@ module _ (p : Plan) (sound : Sound p) (i k : ℕ) (signal : Is-signal p i k) whe
   pub rests-there : rests-on (resolve p wait) i ≡ true
   rests-there =
       rests-means p wait i .1 (record {
-        above-zero = signal-above;
         value = wait .value;
         signalled = (wait, mem-at (op p i .signals) (record { semaphore = 0; value = 0 }) k signal, refl, refl);
         enough = le-refl (wait .value);

@@ -20,7 +20,7 @@ abbrev pub pt : (s v : ℕ) → Point
 pt s v = record { semaphore = s; value = v }
 
 -- three queues; operation 0 signals S0 to 1; operation 1 waits for that and signals S1 to 1, for which operation 2
--- waits twice, after a wait for 0
+-- waits twice, after a wait for S0
 unfoldable pub chain : Plan
 chain = record {
   axes = 7 ∷ 8 ∷ 9 ∷ [];
@@ -29,7 +29,7 @@ chain = record {
   operations =
       record { queue = 0; waits = []; signals = pt 0 1 ∷ []; marks = [] }
       ∷ record { queue = 1; waits = pt 0 1 ∷ []; signals = pt 1 1 ∷ []; marks = [] }
-      ∷ record { queue = 2; waits = pt 0 0 ∷ pt 1 1 ∷ pt 1 1 ∷ []; signals = []; marks = [] } ∷ [];
+      ∷ record { queue = 2; waits = pt 0 1 ∷ pt 1 1 ∷ pt 1 1 ∷ []; signals = []; marks = [] } ∷ [];
 }
 
 -- one queue with two operations; and no operation

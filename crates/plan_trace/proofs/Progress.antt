@@ -1,8 +1,8 @@
--- After a run, what has run and which waits are met, by the counts of the queues. Assumes nothing.
+-- After a run, what has run, by the counts of the queues. Assumes nothing.
 use mathlib.Core.Path.{_≡_, refl, sym, ap, _∙_, subst}
-use mathlib.Core.Bool.{Bool, true, false, _&&_, _||_, not, and-true, and-false, false≢true}
+use mathlib.Core.Bool.{Bool, true, false, _&&_, _||_, not, and-true, and-false}
 use mathlib.Core.Logic.{_↔_}
-use mathlib.Core.List.{List, [], _∷_, _++_, List·Memᴰ}
+use mathlib.Core.List.{List, [], _∷_, _++_}
 use Prim.Native.Nat.{ℕ, suc, _≤_, _<_}
 use native.Mathlib.Omega.{arith}
 use lib.Dec.{ltb, leb, eqb}
@@ -16,42 +16,15 @@ use Rattle.base_lists.proofs.Tallies.{tally-mono, tally-same, tally-further, ta
 use Rattle.order.specs.Closure.{once}
 use Rattle.order.proofs.Columns.{Initial, initial-reaches, reaches-initial}
 use Rattle.plan_format.specs.Sizes.{most-queues}
-use Rattle.plan_format.specs.Plan.{Point, Plan, count, op}
-use Rattle.plan_format.specs.Sound.{waits-refusal}
-use Rattle.plan_order.specs.Precedence.{
-  Resolution,
-  at-once,
-  on,
-  never,
-  resolve,
-  rests-on,
-  same-queue,
-  before,
-  at-or-before,
-}
+use Rattle.plan_format.specs.Plan.{Plan, count, op}
+use Rattle.plan_order.specs.Precedence.{same-queue, before, at-or-before}
 use Rattle.plan_order.specs.Rows.{epoch}
-use Rattle.plan_order.specs.Runs.{wait-met, earlier-run, is-run, is-full}
-use Rattle.plan_order.proofs.Readiness.{earlier-gives, earlier-by, queue-in, by-queue, direct-by, own-wait-met}
+use Rattle.plan_order.specs.Runs.{earlier-run, is-run, is-full}
+use Rattle.plan_order.proofs.Readiness.{earlier-gives, earlier-by, queue-in, by-queue, direct-by}
 use Rattle.plan_order.proofs.Precedence.{chain-before, before-steps}
 use Rattle.plan_order.proofs.Rows.{on-queue, entry, own, own-is}
 use Rattle.plan_trace.specs.State.{queue-count, queue-counts}
 use Rattle.plan_trace.proofs.StateMeaning.{counts-at, counts-long}
-
--- what a wait rests on has run, or it rests on nothing
-unfoldable pub rested-or-none : (run : List ℕ) → Resolution → Bool
-rested-or-none r at-once = true
-rested-or-none r (on x) = member (x .operation) r
-rested-or-none r never = true
-
-rested-means : (r : List ℕ) (y : Resolution) →
-    (rested-or-none r y ≡ true) ↔ ((i : ℕ) → rests-on y i ≡ true → member i r ≡ true)
-unfolding rested-or-none rests-on
-rested-means r at-once = ((λ _ i t. absurd (false≢true t)), (λ _. refl))
-rested-means r (on x) = (
-  (λ m i t. subst (λ (z : ℕ). member z r ≡ true) (eqb-true (x .operation) i t) m),
-  (λ h. h (x .operation) (eq-eqb (x .operation) (x .operation) refl)),
-)
-rested-means r never = ((λ _ i t. absurd (false≢true t)), (λ _. refl))
 
 -- ---- the own entry of a row is the epoch
 module _ (p : Plan) (f : List ℕ) (full : is-full p f ≡ true) where
@@ -81,15 +54,6 @@ module _ (p : Plan) (f : List ℕ) (full : is-full p f ≡ true) where
       (λ t. rw (t, queue-order i j b l (eqb-true (op p i .queue) q t)) (sym (and-true (leb i j))))
       (λ g. rw g))
       ∙ own-is p q j l ∙ rw (eq-eqb q q refl)
-
--- ---- without 8 no wait of the plan is one that no signal reaches
-pub wait-is : (p : Plan) → waits-refusal 0 p (p .operations) .number ≡ 0 → (r : List ℕ) (j : ℕ) → j < count p →
-    (w : Point) → List·Memᴰ w (op p j .waits) → wait-met p r w ≡ rested-or-none r (resolve p w)
-wait-is p waits-good r j l w m =
-    let met = own-wait-met p waits-good r j l w m in
-    let on-it = rested-means r (resolve p w) in
-    by-cases (wait-met p r w) (λ t. t ∙ sym (on-it .1 (met .0 t)))
-    (λ f. f ∙ sym (is-false (rested-or-none r (resolve p w)) (λ t. clash (wait-met p r w) (met .1 (on-it .0 t)) f)))
 
 module _ (p : Plan) (r : List ℕ) (a-run : is-run p r ≡ true) where
   -- ---- what has run is an initial part of each queue

@@ -1,15 +1,15 @@
 -- The lists of points of an operation, one after the other. Assumes nothing.
-use mathlib.Core.Path.{_≡_, refl, subst}
+use mathlib.Core.Path.{_≡_, refl, subst, subst₂}
 use mathlib.Core.Bool.{Bool, true, false}
 use mathlib.Core.List.{List}
 use Prim.Native.Nat.{ℕ, zero, suc, _+_, _*_, _≤_, _<_}
 use native.Mathlib.Numerals.{add-one}
 use native.Mathlib.Omega.{arith}
 use lib.ListN.{length}
-use Rattle.plan_format.specs.Sizes.{most-semaphores, most-waits, most-signals, second-width}
+use Rattle.plan_format.specs.Sizes.{most-semaphores, most-waits, most-signals, second-width, least-wait, least-signal}
 use Rattle.plan_format.specs.Form.{first-form, list-form, list-by}
 use Rattle.plan_format.specs.Grammar.{counted, read-by, spell-by}
-use Rattle.plan_format.specs.Sections.{point-below, most-in, lists-below}
+use Rattle.plan_format.specs.Sections.{point-below, most-in, least-in, lists-below}
 use Rattle.stored_bytes.specs.declared.cursor.Cursor.{Cursor}
 use Rattle.stored_bytes.specs.Writing.{Writes, point-most}
 use Rattle.stored_bytes.proofs.Cursors.{writes-seq}
@@ -46,13 +46,13 @@ lists-room (suc zero) l = omega arith
 lists-room (suc (suc i)) l = absurd (omega arith)
 
 -- the waits come first, and after them the signals
-pub waits-first : most-waits ≡ most-in 0
-unfolding most-in
-waits-first = refl
+pub waits-first : (most-waits ≡ most-in 0) × (least-wait ≡ least-in 0)
+unfolding most-in least-in
+waits-first = (refl, refl)
 
-pub signals-later : (i : ℕ) → most-signals ≡ most-in (i + 1)
-unfolding most-in
-signals-later i = rw (add-one i) refl
+pub signals-later : (i : ℕ) → (most-signals ≡ most-in (i + 1)) × (least-signal ≡ least-in (i + 1))
+unfolding most-in least-in
+signals-later i = rw (add-one i) (refl, refl)
 
 module _ (w m : ℕ) {xs : List ℕ} {c : Cursor} {bytes : List ℕ} where
   pub lists-none : c .at ≤ length xs → Writes (lists-below w m 0) (bytes-in 0) xs c bytes c bytes
@@ -68,15 +68,17 @@ module _ (w m : ℕ) {xs : List ℕ} {c : Cursor} {bytes : List ℕ} where
     past = refl;
   }
 
-  pub lists-more : {d r : Cursor} {bytes₁ bytes₂ : List ℕ} (i : ℕ) {most : ℕ} → most ≡ most-in i →
+  pub lists-more : {d r : Cursor} {bytes₁ bytes₂ : List ℕ} (i : ℕ) {most least : ℕ} →
+      (most ≡ most-in i) × (least ≡ least-in i) →
       Writes (lists-below w m i) (bytes-in i) xs c bytes d bytes₁ →
-      Writes (counted 0 most 1 (point-below w m)) (1 + point-most * most) xs d bytes₁ r bytes₂ →
+      Writes (counted 0 most 1 (point-below w m least)) (1 + point-most * most) xs d bytes₁ r bytes₂ →
       Writes (lists-below w m (i + 1)) (bytes-in (i + 1)) xs c bytes r bytes₂
   unfolding lists-below bytes-in
   lists-more {d} {r} {bytes₁} {bytes₂} i e p q =
       rw (add-one i)
       (writes-seq p
-      (subst (λ (k : ℕ). Writes (counted 0 k 1 (point-below w m)) (1 + point-most * k) xs d bytes₁ r bytes₂) e q))
+      (subst₂ (λ (k l : ℕ). Writes (counted 0 k 1 (point-below w m l)) (1 + point-most * k) xs d bytes₁ r bytes₂)
+      (e .0) (e .1) q))
 
   pub lists-both : {r : Cursor} {bytes-now : List ℕ} (i : ℕ) → i ≡ 2 →
       Writes (lists-below w m i) (bytes-in i) xs c bytes r bytes-now →

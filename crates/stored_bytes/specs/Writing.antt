@@ -95,8 +95,8 @@ tried-bytes b xs = spelled-by (form-by b) xs
 abbrev pub unspecified : (wide : Bool) → (place : ℕ) → ℕ
 unspecified b place = length (form-by b .lead) + 8 * place
 
--- R10, the writer in one form, before its room is judged: 1 to 5, or the length in bytes as the answer. Past the bytes
--- the array stays, and beside a refusal past what is unspecified.
+-- R10, the writer in one form, before its room is judged: 1 to 5 and 16, or the length in bytes as the answer. Past the
+-- bytes the array stays, and beside a refusal past what is unspecified.
 pub record Bytes-written (wide : Bool) (xs bytes : List ℕ) (r : Told) (bytes-now : List ℕ) : Type 0 where
   pub told : Tells (tried wide xs .fault) (length (tried-bytes wide xs)) r
   pub passed : r .number ≡ 0 → bytes-now ≡ in-front (tried-bytes wide xs) bytes

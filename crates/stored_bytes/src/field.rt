@@ -3,7 +3,7 @@
 use crate::cursor::Cursor;
 use crate::digits;
 ghost use Prim.Native.Nat.{_≤_};
-ghost use Rattle.plan_format.specs.Form.{list-by, any-number};
+ghost use Rattle.plan_format.specs.Form.{list-by, at-least};
 ghost use Rattle.plan_format.specs.Grammar.{field};
 ghost use Rattle.plan_format.specs.Sections.{axis-field, size-field};
 ghost use Rattle.stored_bytes.specs.Writing.{Write-room, Writes, Write-limited};
@@ -99,10 +99,10 @@ pub fn size(numbers: &[u64], c: Cursor, bytes: &mut [u8]) -> Cursor
     c.past(4, value)
 }
 
-// The value of a wait or a signal: any number.
-pub fn point_value(numbers: &[u64], c: Cursor, bytes: &mut [u8]) -> Cursor
+// The value of a wait or a signal: at least `least`; a lower one is refused by 16.
+pub fn point_value(numbers: &[u64], c: Cursor, least: u64, bytes: &mut [u8]) -> Cursor
     requires { ⌜ Write-room 8 (now numbers) c (now bytes) ⌝ }
-    ensures { λ r. ⌜ Writes (field 8 any-number) 8 (now (numbers .entry)) c (now (bytes .entry)) r
+    ensures { λ r. ⌜ Writes (field 8 (at-least least)) 8 (now (numbers .entry)) c (now (bytes .entry)) r
         (now (bytes .exit)) ⌝ }
 {
     let at = c.at;
@@ -113,6 +113,9 @@ pub fn point_value(numbers: &[u64], c: Cursor, bytes: &mut [u8]) -> Cursor
         return c.refused(1);
     }
     let value = numbers[at];
+    if value < least {
+        return c.refused(16);
+    }
     digits::put8(bytes, c.put, value);
     c.past(8, value)
 }

@@ -1,6 +1,8 @@
 // Operations: a queue, waits, signals and marks.
 use crate::cursor::Cursor;
 use crate::field;
+use plan_format::limits::LEAST_SIGNAL;
+use plan_format::limits::LEAST_WAIT;
 use plan_format::limits::MOST_MARKS;
 use plan_format::limits::MOST_OPERATIONS;
 use plan_format::limits::MOST_SIGNALS;
@@ -21,27 +23,35 @@ const TOO_MANY_MARKS: u64 = MOST_MARKS as u64 + 1;
 
 const TOO_MANY_OPERATIONS: u64 = MOST_OPERATIONS as u64 + 1;
 
-// A wait or a signal: a semaphore and a value.
-fn point(numbers: &[u64], c: Cursor, wide: bool, semaphores: u64, bytes: &mut [u8]) -> Cursor
+// A wait or a signal: a semaphore and a value, at least `least`.
+fn point(
+    numbers: &[u64],
+    c: Cursor,
+    least: u64,
+    wide: bool,
+    semaphores: u64,
+    bytes: &mut [u8],
+) -> Cursor
     requires { ⌜ Write-room point-most (now numbers) c (now bytes) ⌝ }
-    ensures { λ r. ⌜ Writes (point-below (list-by wide .semaphore-width) semaphores) point-most (now (numbers .entry)) c
-        (now (bytes .entry)) r (now (bytes .exit)) ⌝ }
+    ensures { λ r. ⌜ Writes (point-below (list-by wide .semaphore-width) semaphores least) point-most
+        (now (numbers .entry)) c (now (bytes .entry)) r (now (bytes .exit)) ⌝ }
 {
     let semaphore = field::sized(numbers, c, wide, semaphores, 4, bytes);
-    field::point_value(numbers, semaphore, bytes)
+    field::point_value(numbers, semaphore, least, bytes)
 }
 
-// The waits or the signals: a count, at most `most`, and the points.
+// The waits or the signals: a count, at most `most`, and the points, with values of at least `least`.
 fn points(
     numbers: &[u64],
     c: Cursor,
     most: u64,
+    least: u64,
     wide: bool,
     semaphores: u64,
     bytes: &mut [u8],
 ) -> Cursor
     requires { ⌜ Write-room (1 + point-most * most) (now numbers) c (now bytes) ⌝ }
-    ensures { λ r. ⌜ Writes (counted 0 most 1 (point-below (list-by wide .semaphore-width) semaphores))
+    ensures { λ r. ⌜ Writes (counted 0 most 1 (point-below (list-by wide .semaphore-width) semaphores least))
         (1 + point-most * most) (now (numbers .entry)) c (now (bytes .entry)) r (now (bytes .exit)) ⌝ }
 {
     let start = field::byte(numbers, c, most + 1, 2, bytes);
@@ -49,7 +59,7 @@ fn points(
     let mut p = start;
     let mut i: u64 = 0;
     while i < count {
-        p = point(numbers, p, wide, semaphores, bytes);
+        p = point(numbers, p, least, wide, semaphores, bytes);
         if p.number != 0 {
             return p;
         }
@@ -72,11 +82,13 @@ fn waits_and_signals(
         (now (bytes .exit)) ⌝ }
 {
     let mut most = WAITS;
+    let mut least = LEAST_WAIT;
     let mut p = c;
     let mut i: u64 = 0;
     while i < 2 {
-        p = points(numbers, p, most, wide, semaphores, bytes);
+        p = points(numbers, p, most, least, wide, semaphores, bytes);
         most = SIGNALS;
+        least = LEAST_SIGNAL;
         i += 1;
     }
     p

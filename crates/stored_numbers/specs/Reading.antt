@@ -190,7 +190,7 @@ pub record Operation-read (width q m b : ℕ) (bs : List ℕ) (at : ℕ) (r : En
 unfoldable pub Ends : Scan → Told → Type 0
 Ends s r = Tells (s .fault) (length (s .got)) r
 
--- R9, R10, the reader before its room is judged: 1 to 5, or the numbers; R7: they fit
+-- R9, R10, the reader before its room is judged: 1 to 5 and 16, or the numbers; R7: they fit
 pub record Numbers-read (bs : List ℕ) (r : Told) (nums-now : List ℕ) : Type 0 where
   pub told : Tells (scanned bs .fault) (length (scanned bs .got)) r
   pub numbers : r .number ≡ 0 → take (length (scanned bs .got)) nums-now ≡ scanned bs .got

@@ -3,7 +3,7 @@
 use crate::cursor::Cursor;
 use crate::word;
 ghost use Prim.Native.Nat.{_-_, _≤_};
-ghost use Rattle.plan_format.specs.Form.{any-number, width-by};
+ghost use Rattle.plan_format.specs.Form.{at-least, width-by};
 ghost use Rattle.plan_format.specs.Grammar.{field};
 ghost use Rattle.plan_format.specs.Sections.{axis-field, size-field};
 ghost use Rattle.stored_numbers.specs.Reading.{Read-room, Reads-on, Read-limited, Read-count};
@@ -109,10 +109,10 @@ pub fn size(plan: &[u8], c: Cursor, numbers: &mut [u64]) -> Cursor
     c.past(4, value)
 }
 
-// The value of a wait or a signal: eight bytes, any number.
-pub fn point_value(plan: &[u8], c: Cursor, numbers: &mut [u64]) -> Cursor
+// The value of a wait or a signal: eight bytes, at least `least`; a lower one is refused by 16.
+pub fn point_value(plan: &[u8], c: Cursor, least: u64, numbers: &mut [u64]) -> Cursor
     requires { ⌜ Read-room 1 (now plan) c (now numbers) ⌝ }
-    ensures { λ r. ⌜ Reads-on (field 8 any-number) 1 (now (plan .entry)) c (now (numbers .entry)) r
+    ensures { λ r. ⌜ Reads-on (field 8 (at-least least)) 1 (now (plan .entry)) c (now (numbers .entry)) r
         (now (numbers .exit)) ⌝ }
 {
     let at = c.at;
@@ -124,6 +124,9 @@ pub fn point_value(plan: &[u8], c: Cursor, numbers: &mut [u64]) -> Cursor
         return c.refused(1);
     }
     let value = word::word8(plan, at);
+    if value < least {
+        return c.refused(16);
+    }
     numbers[got] = value;
     c.past(8, value)
 }

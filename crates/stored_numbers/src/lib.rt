@@ -127,7 +127,7 @@ fn read_head_in(plan: &[u8], wide: bool, numbers: &mut [u64]) -> Head
 }
 
 // The numbers of the operation at a place, in front of the window, where the width of a semaphore's position and the
-// counts are as given; or the first of refusals 1, 2 and 4. Past the numbers read the window stays.
+// counts are as given; or the first of refusals 1, 2, 4 and 16. Past the numbers read the window stays.
 pub fn read_operation(
     plan: &[u8],
     at: usize,
@@ -190,8 +190,8 @@ fn finished(plan: &[u8], c: Cursor) -> Told
     answered(c.got as u64)
 }
 
-// The numbers of a stored plan in front of the array, with their length as the answer; or the first of refusals 1 to 5,
-// with the numbers read before it. Past the numbers read the array stays.
+// The numbers of a stored plan in front of the array, with their length as the answer; or the first of refusals 1 to 5
+// and 16, with the numbers read before it. Past the numbers read the array stays.
 pub fn read_numbers(plan: &[u8], numbers: &mut [u64; PLAN_NUMBERS]) -> Told
     ensures told { λ r. ⌜ Numbers-read (now (plan .entry)) r (now (numbers .exit)) ⌝ }
     ensures array { λ _. ⌜ now (numbers .exit) ≡ in-front (scanned (now (plan .entry)) .got) (now (numbers .entry)) ⌝ }
@@ -201,8 +201,8 @@ pub fn read_numbers(plan: &[u8], numbers: &mut [u64; PLAN_NUMBERS]) -> Told
 }
 
 // The rest of a plan whose head was read, from a place on: the head's numbers and then those of its operations in front
-// of the array, with their length as the answer; or the head's refusal, or the first of refusals 1 to 4 after it. Past
-// the numbers read the array stays.
+// of the array, with their length as the answer; or the head's refusal, or the first of refusals 1 to 4 and 16 after
+// it. Past the numbers read the array stays.
 pub fn read_rest(
     plan: &[u8],
     at: usize,

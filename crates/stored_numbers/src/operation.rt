@@ -1,6 +1,8 @@
 // Operations: a queue, waits, signals and marks.
 use crate::cursor::Cursor;
 use crate::field;
+use plan_format::limits::LEAST_SIGNAL;
+use plan_format::limits::LEAST_WAIT;
 use plan_format::limits::MOST_MARKS;
 use plan_format::limits::MOST_OPERATIONS;
 use plan_format::limits::MOST_SIGNALS;
@@ -21,27 +23,35 @@ const TOO_MANY_MARKS: u64 = MOST_MARKS as u64 + 1;
 
 const TOO_MANY_OPERATIONS: u64 = MOST_OPERATIONS as u64 + 1;
 
-// A wait or a signal: a semaphore and a value.
-fn point(plan: &[u8], c: Cursor, wide: bool, semaphores: u64, numbers: &mut [u64]) -> Cursor
+// A wait or a signal: a semaphore and a value, at least `least`.
+fn point(
+    plan: &[u8],
+    c: Cursor,
+    least: u64,
+    wide: bool,
+    semaphores: u64,
+    numbers: &mut [u64],
+) -> Cursor
     requires { ⌜ Read-room 2 (now plan) c (now numbers) ⌝ }
-    ensures { λ r. ⌜ Reads-on (point-below (width-by wide) semaphores) 2 (now (plan .entry)) c (now (numbers .entry)) r
-        (now (numbers .exit)) ⌝ }
+    ensures { λ r. ⌜ Reads-on (point-below (width-by wide) semaphores least) 2 (now (plan .entry)) c
+        (now (numbers .entry)) r (now (numbers .exit)) ⌝ }
 {
     let semaphore = field::position(plan, c, wide, semaphores, numbers);
-    field::point_value(plan, semaphore, numbers)
+    field::point_value(plan, semaphore, least, numbers)
 }
 
-// The waits or the signals: a count, at most `most`, and the points.
+// The waits or the signals: a count, at most `most`, and the points, with values of at least `least`.
 fn points(
     plan: &[u8],
     c: Cursor,
     most: u64,
+    least: u64,
     wide: bool,
     semaphores: u64,
     numbers: &mut [u64],
 ) -> Cursor
     requires { ⌜ Read-room (1 + 2 * most) (now plan) c (now numbers) ⌝ }
-    ensures { λ r. ⌜ Reads-on (counted 0 most 1 (point-below (width-by wide) semaphores)) (1 + 2 * most)
+    ensures { λ r. ⌜ Reads-on (counted 0 most 1 (point-below (width-by wide) semaphores least)) (1 + 2 * most)
         (now (plan .entry)) c (now (numbers .entry)) r (now (numbers .exit)) ⌝ }
 {
     let start = field::byte(plan, c, most + 1, 2, numbers);
@@ -49,7 +59,7 @@ fn points(
     let mut p = start;
     let mut i: u64 = 0;
     while i < count {
-        p = point(plan, p, wide, semaphores, numbers);
+        p = point(plan, p, least, wide, semaphores, numbers);
         if p.number != 0 {
             return p;
         }
@@ -71,11 +81,13 @@ fn waits_and_signals(
         (now (plan .entry)) c (now (numbers .entry)) r (now (numbers .exit)) ⌝ }
 {
     let mut most = WAITS;
+    let mut least = LEAST_WAIT;
     let mut p = c;
     let mut i: u64 = 0;
     while i < 2 {
-        p = points(plan, p, most, wide, semaphores, numbers);
+        p = points(plan, p, most, least, wide, semaphores, numbers);
         most = SIGNALS;
+        least = LEAST_SIGNAL;
         i += 1;
     }
     p

@@ -395,16 +395,25 @@ fn faults() {
     changed(9, 1);
     changed(17, 1);
     changed(17, 2);
+    text(
+        b"waits for 0, one after the other; one of no semaphore; after four waits; a signal of 0\n",
+    );
+    changed(55, 0);
+    changed(83, 0);
+    changed_pair(54, 2, 0);
+    changed(53, 4);
+    changed(40, 0);
 }
 
 // What the reader refuses, refused by the check.
 fn bad_input() {
     text(b"cut short\n");
     cuts();
-    text(b"cut inside a field whose part would be 5, 5, 4\n");
+    text(b"cut inside a field whose part would be 5, 5, 4, 16\n");
     changed_cut(9, 1, 10);
     changed_cut(17, 2, 24);
     changed_cut(93, 1, 94);
+    changed_cut(55, 0, 62);
     faults();
     text(b"bytes after the last section\n");
     longer(1);

@@ -156,6 +156,15 @@ fn main() {
     changed(9, 1);
     changed(17, 1);
     changed(17, 2);
+    head(
+        b"waits for 0, one after the other; one cut short; one of no semaphore; after four waits; a signal of 0\n",
+    );
+    changed(55, 0);
+    changed(83, 0);
+    changed_cut(55, 0, 62);
+    changed_pair(54, 2, 0);
+    changed(53, 4);
+    changed(40, 0);
     head(b"bytes after the last section\n");
     longer(1);
     longer(1048576);

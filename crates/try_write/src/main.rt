@@ -179,6 +179,10 @@ fn main() {
     changed(2, 1);
     changed(3, 1);
     changed(3, 2);
+    head(b"waits for 0, one after the other; a signal of 0\n");
+    changed(21, 0);
+    changed(33, 0);
+    changed(14, 0);
     head(b"numbers after the last field\n");
     first(39);
     first(40);

@@ -19,7 +19,7 @@ const USAGE: &str = "\
 differ [--seed N] [--count N] [--fault N] [--trace]
   --seed N    the seed of the first case; the case after it has seed N + 1
   --count N   stop after this many plans (200000)
-  --fault N   compare with the reference under seeded fault 1 to 39 instead of
+  --fault N   compare with the reference under seeded fault 1 to 49 instead of
               with the C library
   --trace     print each case's seed before it is judged";
 
@@ -49,16 +49,22 @@ enum Function {
 
 /// Names, and the numbers that each function must have given.
 const FUNCTIONS: [(&str, &[usize]); 11] = [
-    ("read", &[0, 1, 2, 3, 4, 5, 9]),
-    ("write", &[0, 1, 2, 3, 4, 5, 9]),
-    ("check", &[0, 1, 2, 3, 4, 5, 7, 8, 9, 10, 17, 11]),
-    ("reuse", &[0, 1, 2, 3, 4, 5, 7, 8, 9, 10, 17, 11, 12, 13]),
+    ("read", &[0, 1, 2, 3, 4, 5, 16, 9]),
+    ("write", &[0, 1, 2, 3, 4, 5, 16, 9]),
+    ("check", &[0, 1, 2, 3, 4, 5, 16, 7, 8, 9, 10, 17, 11]),
+    (
+        "reuse",
+        &[0, 1, 2, 3, 4, 5, 16, 7, 8, 9, 10, 17, 11, 12, 13],
+    ),
     (
         "suggest",
-        &[0, 1, 2, 3, 4, 5, 7, 8, 9, 10, 17, 11, 12, 13, 19],
+        &[0, 1, 2, 3, 4, 5, 16, 7, 8, 9, 10, 17, 11, 12, 13, 19],
     ),
-    ("frontier", &[0, 1, 2, 3, 4, 5, 7, 8, 9, 10, 17, 11, 15, 21]),
-    ("trace", &[0, 1, 2, 3, 4, 5, 7, 8, 9, 10, 17, 11, 22]),
+    (
+        "frontier",
+        &[0, 1, 2, 3, 4, 5, 16, 7, 8, 9, 10, 17, 11, 15, 21],
+    ),
+    ("trace", &[0, 1, 2, 3, 4, 5, 16, 7, 8, 9, 10, 17, 11, 22]),
     ("lookup", &[0]),
     ("merge", &[0, 14, 15]),
     ("raise", &[0, 14, 15]),
@@ -100,7 +106,35 @@ struct Tally {
     longest_traces: u64,
     second_form: SecondForm,
     handovers: [u64; HANDOVERS.len()],
+    zeros: [u64; ZEROS.len()],
 }
+
+/// What must occur of values of 0, by counting places in the plan.
+#[derive(Clone, Copy)]
+enum Zero {
+    First,
+    Second,
+    Third,
+    SecondForm,
+    Long,
+    Followed,
+    Cut,
+    Unknown,
+    Signal,
+}
+
+/// What each of them is, in the same order.
+const ZEROS: [&str; 9] = [
+    "16 for the first wait of a list",
+    "16 for the second wait of a list",
+    "16 for the third wait of a list",
+    "16 in the second form",
+    "16 in a plan of 64 operations or more",
+    "16 before a field that is bad or cut",
+    "1 for a value of a wait for 0 that is cut short",
+    "4 for a wait for 0 on no semaphore of the plan",
+    "7 for a signal of 0",
+];
 
 /// What must occur of plans with a semaphore that several queues signal.
 #[derive(Clone, Copy)]
@@ -228,7 +262,8 @@ impl Tally {
             "second form passed, too few, written, by brute force, traced, waits: {:?}",
             self.second_form.counts()
         );
-        for (name, count) in HANDOVERS.iter().zip(self.handovers) {
+        let handovers = HANDOVERS.iter().zip(&self.handovers);
+        for (name, count) in handovers.chain(ZEROS.iter().zip(&self.zeros)) {
             println!("{count:>10} times {name}");
         }
         println!("dominance no, yes, unknown: {:?}", self.dominance);
@@ -272,6 +307,9 @@ impl Tally {
         }
         if let Some(which) = self.handovers.iter().position(|&count| count == 0) {
             return Some(format!("never {}", HANDOVERS[which]));
+        }
+        if let Some(which) = self.zeros.iter().position(|&count| count == 0) {
+            return Some(format!("never {}", ZEROS[which]));
         }
         None
     }
@@ -975,7 +1013,8 @@ impl Differ {
                 let plan = generate::trap(rng);
                 self.plan(rng, &plan.bytes())
             }
-            2100..2600 => {
+            2100..2250 => self.zero(rng),
+            2250..2600 => {
                 let plan = pipeline(rng);
                 self.plan(rng, &plan.bytes())
             }
@@ -1042,18 +1081,123 @@ impl Differ {
         Ok(())
     }
 
-    /// A plan with every list at its limit: as it is, changed, cut, too long.
-    fn greatest(&mut self, rng: &mut Rng) -> Compared<()> {
-        let (family, length) = match rng.below(2) {
-            0 => (Family::Greatest, 63_686),
-            _ => (Family::ManySemaphores, 69_768),
+    /// A plan with a value of 0. What is told is counted from the plan as well.
+    fn zero(&mut self, rng: &mut Rng) -> Compared<()> {
+        let plan = match rng.below(8) {
+            0 => pipeline(rng),
+            1 if rng.percent(20) => {
+                let operations = rng.between(64, MOST_OPERATIONS);
+                rng.pick(&Family::ALL).handed_plan(rng, operations)
+            }
+            _ => small_plan(rng),
         };
-        let plan = match rng.below(2) {
+        if rng.percent(15) {
+            return self.signal_of_zero(rng, plan);
+        }
+        let Some(mut plan) = generate::with_wait_for_zero(rng, &plan) else {
+            return Ok(());
+        };
+        let zero = plan.first_wait_for_zero();
+        let (operation, wait) = zero.expect("a wait for 0 was put in");
+        let [semaphore, value] = plan.wait_at(operation, wait);
+        let told = |number, places: [usize; 2]| places.map(|p| Told::refused(number, p as u64));
+        let (mut wanted, mut occurs) = (
+            told(16, value),
+            vec![[Zero::First, Zero::Second, Zero::Third][wait]],
+        );
+        let (mut bytes, mut numbers) = (plan.bytes(), plan.numbers());
+        match rng.below(6) {
+            0 => {
+                bytes.truncate(value[0] + rng.below(8));
+                numbers.truncate(value[1]);
+                (wanted, occurs) = (told(1, value), vec![Zero::Cut]);
+            }
+            1 => {
+                plan.operations[operation].waits[wait].semaphore = plan.owners.len() as u16;
+                (bytes, numbers) = (plan.bytes(), plan.numbers());
+                (wanted, occurs) = (told(4, semaphore), vec![Zero::Unknown]);
+            }
+            2 => {
+                bytes.truncate(value[0] + 8);
+                bytes.extend((0..rng.below(4)).map(|_| 255));
+                numbers.truncate(value[1] + 1);
+                numbers.extend((0..rng.below(4)).map(|_| u64::MAX));
+                occurs.push(Zero::Followed);
+            }
+            _ => {}
+        }
+        if wanted[0].number == 16 {
+            let long = plan.operations.len() >= 64;
+            occurs.extend(long.then_some(Zero::Long));
+            occurs.extend(in_second_form(&bytes).then_some(Zero::SecondForm));
+        }
+        self.counted(rng, (&bytes, &numbers), wanted)?;
+        for zero in occurs {
+            self.tally.zeros[zero as usize] += 1;
+        }
+        Ok(())
+    }
+
+    /// Reader and writer against what is counted from the plan; then all else.
+    fn counted(
+        &mut self,
+        rng: &mut Rng,
+        (bytes, numbers): (&[u8], &[u64]),
+        wanted: [Told; 2],
+    ) -> Compared<()> {
+        let told = [
+            reference::read(bytes, &mut []),
+            reference::write(numbers, &mut []),
+        ];
+        if told != wanted {
+            println!("DIFFERENCE between the reference and what is counted");
+            println!("reference: {told:?}\ncounted:   {wanted:?}");
+            print_plan(bytes);
+            return Err(Different);
+        }
+        self.writer(rng, numbers)?;
+        self.plan(rng, bytes)
+    }
+
+    /// A plan with a signal of 0, which can be read, and is 7 if no signal before
+    /// it is.
+    fn signal_of_zero(&mut self, rng: &mut Rng, mut plan: Plan) -> Compared<()> {
+        let signals = plan.operations.iter_mut().enumerate();
+        let first = signals
+            .flat_map(|(position, o)| o.signals.first_mut().map(|signal| (position, signal)))
+            .next();
+        let Some((position, signal)) = first else {
+            return Ok(());
+        };
+        signal.value = 0;
+        let bytes = plan.bytes();
+        let told = reference::check(&bytes, &mut OwnRooms::new(0).lend());
+        if told != Told::refused(7, position as u64) {
+            println!("DIFFERENCE: a signal of 0 in operation {position}: {told:?}");
+            print_plan(&bytes);
+            return Err(Different);
+        }
+        self.tally.zeros[Zero::Signal as usize] += 1;
+        self.plan(rng, &bytes)
+    }
+
+    /// One of the longest plans that pass, or one with every list at its limit,
+    /// which is stuck: as it is, changed, cut, too long.
+    fn greatest(&mut self, rng: &mut Rng) -> Compared<()> {
+        let (family, passing, greatest) = match rng.below(2) {
+            0 => (Family::Greatest, 63_659, 63_686),
+            _ => (Family::ManySemaphores, 69_738, 69_768),
+        };
+        let mut plan = match rng.below(2) {
             0 => family.plan(rng, MOST_OPERATIONS),
             _ => family.handed_plan(rng, MOST_OPERATIONS),
         };
+        assert_eq!(plan.bytes().len(), passing);
+        if rng.percent(30) {
+            plan = generate::with_all_waits(rng, &plan);
+            assert_eq!(plan.bytes().len(), greatest);
+        }
         let bytes = plan.bytes();
-        assert_eq!(bytes.len(), length);
         self.plan(rng, &bytes)?;
         let mut changed = bytes.clone();
         let at = rng.below(bytes.len());

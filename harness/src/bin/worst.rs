@@ -30,7 +30,7 @@ fn turned(rng: &mut Rng, shape: &Shape) -> Shape {
 }
 
 fn turn_one(rng: &mut Rng, shape: &mut Shape) {
-    match rng.below(17) {
+    match rng.below(16) {
         0 => turn_list(rng, &mut shape.lists[0], 3),
         1 => turn_list(rng, &mut shape.lists[1], 2),
         2 => turn_list(rng, &mut shape.lists[2], 4),
@@ -43,13 +43,12 @@ fn turn_one(rng: &mut Rng, shape: &mut Shape) {
         9 => shape.since = some_percent(rng),
         10 => shape.latest = some_percent(rng),
         11 => shape.less = some_percent(rng),
-        12 => shape.zero = some_percent(rng) / 2,
-        13 => shape.ends = [(); 2].map(|()| some_percent(rng) / 2),
-        14 => {
+        12 => shape.ends = [(); 2].map(|()| some_percent(rng) / 2),
+        13 => {
             let orders = [WaitOrder::Random, WaitOrder::Rising, WaitOrder::Falling];
             shape.wait_order = *rng.pick(&orders);
         }
-        15 => shape.handed = some_percent(rng),
+        14 => shape.handed = some_percent(rng),
         _ => {
             shape.buffers = 1 << rng.between(0, 8);
             shape.never_freed = rng.between(0, shape.buffers.div_ceil(2));

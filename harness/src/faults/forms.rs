@@ -12,7 +12,7 @@ pub(super) fn spoil(fault: Fault, plan: &[u8], told: &mut Told) {
         return;
     }
     match (fault, told.number) {
-        (Fault::LeadNotCounted, 1..=5) => told.place -= 1,
+        (Fault::LeadNotCounted, 1..=5 | 16) => told.place -= 1,
         (Fault::FirstFormOnly, _) => *told = Told::refused(2, 0),
         _ => {}
     }

@@ -36,8 +36,6 @@ pub struct Shape {
     pub latest: usize,
     /// A wait is for less than was signalled.
     pub less: usize,
-    /// A wait is for 0.
-    pub zero: usize,
     pub wait_order: WaitOrder,
     pub buffers: usize,
     /// Of them so many are never freed.
@@ -54,8 +52,9 @@ pub enum WaitOrder {
 }
 
 impl Shape {
-    /// Every list at its limit, all semaphores of the first form, all buffers.
-    /// With 1,024 operations it has 63,686 bytes.
+    /// Every list at its limit, but for the waits of what runs first, which has
+    /// none; all semaphores of the first form, all buffers. With 1,024 operations
+    /// it has 63,659 bytes, and no plan that passes has more.
     pub const GREATEST: Shape = Shape {
         lists: [[3, 3], [2, 2], [4, 4]],
         queues: 16,
@@ -70,13 +69,12 @@ impl Shape {
         since: 0,
         latest: 0,
         less: 0,
-        zero: 0,
         wait_order: WaitOrder::Random,
         buffers: 256,
         never_freed: 32,
     };
 
-    /// The same in the second form: 69,768 bytes.
+    /// The same in the second form: 69,738 bytes.
     pub const GREATEST_OF_ALL: Shape = Shape {
         owned: 64,
         semaphores: 64,
@@ -237,11 +235,15 @@ impl Shape {
         for &j in run {
             let own = &mut own[usize::from(plan.operations[j].queue)];
             plan.operations[j].waits.clone_from(&handovers[j]);
-            let others = handovers[j].len()..counts[j][0];
-            let waits = others.map(|_| self.earlier_signal(rng, *own, earlier.len()));
-            let mut waits: Vec<Option<usize>> = waits.collect();
+            // What runs first has nothing to wait for.
+            let others = match earlier.len() {
+                0 => 0,
+                _ => counts[j][0] - handovers[j].len(),
+            };
+            let waits = (0..others).map(|_| self.earlier_signal(rng, *own, earlier.len()));
+            let mut waits: Vec<usize> = waits.collect();
             if let Some(first) = waits.first_mut().filter(|_| rng.percent(self.latest)) {
-                *first = earlier.len().checked_sub(1);
+                *first = earlier.len() - 1;
             }
             match self.wait_order {
                 WaitOrder::Random => {}
@@ -249,15 +251,9 @@ impl Shape {
                 WaitOrder::Falling => waits.sort_unstable_by_key(|&at| std::cmp::Reverse(at)),
             }
             for at in waits {
-                let wait = match at {
-                    None => Point {
-                        semaphore: rng.below(plan.owners.len()) as u16,
-                        value: 0,
-                    },
-                    Some(at) if rng.percent(self.less) => {
-                        below_signal(rng, &signallers, earlier[at])
-                    }
-                    Some(at) => earlier[at],
+                let wait = match rng.percent(self.less) {
+                    true => below_signal(rng, &signallers, earlier[at]),
+                    false => earlier[at],
                 };
                 plan.operations[j].waits.push(wait);
             }
@@ -266,15 +262,12 @@ impl Shape {
         }
     }
 
-    /// The position of one of so many earlier signals in the run; none for a wait
-    /// for 0. The operation that runs first can wait for 0 only.
-    fn earlier_signal(&self, rng: &mut Rng, own: usize, many: usize) -> Option<usize> {
-        if many == 0 || rng.percent(self.zero) {
-            None
-        } else if own < many && rng.percent(self.since) {
-            Some(rng.between(own, many - 1))
+    /// The position of one of so many earlier signals in the run.
+    fn earlier_signal(&self, rng: &mut Rng, own: usize, many: usize) -> usize {
+        if own < many && rng.percent(self.since) {
+            rng.between(own, many - 1)
         } else {
-            Some(many - 1 - rng.below(many.min(self.recent)))
+            many - 1 - rng.below(many.min(self.recent))
         }
     }
 }

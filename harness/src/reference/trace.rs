@@ -1,7 +1,7 @@
 //! A recorded trace held against the plan, from the rules' words (R80 to R84): each step is
 //! taken once what its waits rest on has run. The semaphores' values are for the state alone.
 
-use super::{check_then, told, Known, Point, QUEUES};
+use super::{check_then, told, Known, QUEUES};
 use crate::side::{Found, Rooms, Told, STATE};
 
 /// The count, and each step in two bytes.
@@ -37,8 +37,7 @@ enum Departs {
 /// A plan that is being run.
 struct Cell<'a> {
     known: &'a Known<'a>,
-    /// Where each operation's waits and signals begin.
-    waits: Vec<u16>,
+    /// Where each operation's signals begin.
     signals: Vec<u16>,
     has_run: Vec<bool>,
     /// The next operation of each queue, or `NONE`, which is no operation.
@@ -55,21 +54,12 @@ impl<'a> Cell<'a> {
         let operations = flat.operation_count();
         Cell {
             known,
-            waits: starts(operations, flat.waits.iter().map(|wait| wait.operation)),
             signals: starts(operations, flat.signals.iter().map(|s| s.operation)),
             has_run: vec![false; operations],
             heads: known.order.first,
             counts: [0; QUEUES],
             values: vec![0; flat.owners.len()],
         }
-    }
-
-    /// R22: has the operation run that the wait rests on? A wait for 0 rests on
-    /// none.
-    fn is_met(&self, wait: &Point) -> bool {
-        let groups = &self.known.order.groups;
-        let rests_on = || groups.resolve(wait.semaphore, wait.value);
-        wait.value == 0 || rests_on().is_some_and(|signaller| self.has_run[usize::from(signaller)])
     }
 
     /// R81: the first reason why a step with this operation departs.
@@ -85,9 +75,9 @@ impl<'a> Cell<'a> {
         if self.heads[usize::from(flat.queues[position])] != operation {
             return Err(Departs::NotFirst);
         }
-        let waits = usize::from(self.waits[position])..usize::from(self.waits[position + 1]);
-        let mut waits = flat.waits[waits].iter();
-        match waits.position(|wait| !self.is_met(wait)) {
+        // R22: a wait is met once what it rests on has run.
+        let mut rests_on = self.known.order.targets(position).iter();
+        match rests_on.position(|&signaller| !self.has_run[usize::from(signaller)]) {
             None => Ok(()),
             Some(wait) => Err(Departs::WaitNotMet(wait)),
         }

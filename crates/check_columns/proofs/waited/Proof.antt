@@ -1,4 +1,4 @@
--- `check_columns::waited` gives the number below the count, and 0 past it. Assumes nothing.
+-- `check_columns::waited` gives the number below the count, and what means no wait past it. Assumes nothing.
 use borrow.Author.Tests.{lt-ltb, le-ltb}
 use Rattle.check_columns.proofs.waited.Statement.{statement}
 use Rattle.check_columns.proofs.waited.Tie as tie

@@ -11,12 +11,12 @@ use Rattle.stored_bytes.proofs.operation.points.Statement.{statement}
 use Rattle.stored_bytes.proofs.operation.points.Tie as tie
 
 abbrev Inv-loop : tie.InvT-loop
-Inv-loop numbers most wide semaphores bytes₀ count p₀ i₀ bytes p i =
-    (i ≤ count) × Writes (repeat i (point-below (list-by wide .semaphore-width) semaphores)) (point-most * i) numbers
-    p₀ bytes₀ p bytes
+Inv-loop numbers most least wide semaphores bytes₀ count p₀ i₀ bytes p i =
+    (i ≤ count) × Writes (repeat i (point-below (list-by wide .semaphore-width) semaphores least)) (point-most * i)
+    numbers p₀ bytes₀ p bytes
 
 abbrev μ-loop : tie.MeasureT-loop
-μ-loop numbers most wide semaphores bytes₀ count p₀ i₀ bytes p i = count - i
+μ-loop numbers most least wide semaphores bytes₀ count p₀ i₀ bytes p i = count - i
 
 add-byte : tie.Need-add-byte Inv-loop μ-loop
 add-byte c = search needs
@@ -28,7 +28,8 @@ loop-holds : tie.Need-loop-holds Inv-loop μ-loop
 loop-holds c =
     let s = c .before .before .before .before .before .before in (
       omega arith,
-      writes-none (point-below (list-by (s .args .wide) .semaphore-width) (s .args .semaphores)) point-most _ _ _
+      writes-none (point-below (list-by (s .args .wide) .semaphore-width) (s .args .semaphores) (s .args .least))
+          point-most _ _ _
           (c .before .before .byte .ensures .writes .inside),
     )
 
@@ -45,8 +46,8 @@ returns c =
     let start = head .before .before .before in
     let s = start .before .before .before .before in
     writes-counted point-most (start .byte .ensures) (start .byte .result .value) refl
-    (writes-stopped (point-below (list-by (s .args .wide) .semaphore-width) (s .args .semaphores)) point-most
-    (head .loop .i + 1) (start .byte .result .value)
+    (writes-stopped (point-below (list-by (s .args .wide) .semaphore-width) (s .args .semaphores) (s .args .least))
+    point-most (head .loop .i + 1) (start .byte .result .value)
     (c .if1 .taken) (omega arith)
     (writes-more (head .loop .i) (head .loop .inv .1) (turn .point .ensures)))
 

@@ -4,7 +4,7 @@ use Prim.Native.Nat.{_-_, _≤_}
 use native.Mathlib.Omega.{arith}
 use borrow.Author.Needs.{needs}
 use Rattle.plan_format.specs.Form.{list-by}
-use Rattle.plan_format.specs.Sections.{most-in, lists-below}
+use Rattle.plan_format.specs.Sections.{most-in, least-in, lists-below}
 use Rattle.stored_bytes.specs.Writing.{Writes}
 use Rattle.stored_bytes.proofs.Lists.{bytes-in, lists-room, waits-first, signals-later, lists-none, lists-more}
 use Rattle.stored_bytes.proofs.Lists.{lists-both}
@@ -12,12 +12,12 @@ use Rattle.stored_bytes.proofs.operation.waits_and_signals.Statement.{s
 use Rattle.stored_bytes.proofs.operation.waits_and_signals.Tie as tie
 
 abbrev Inv-loop : tie.InvT-loop
-Inv-loop numbers wide semaphores bytes₀ most₀ p₀ i₀ bytes most p i =
-    (i ≤ 2) × (most ≡ most-in i) ×
+Inv-loop numbers wide semaphores bytes₀ most₀ least₀ p₀ i₀ bytes most least p i =
+    (i ≤ 2) × ((most ≡ most-in i) × (least ≡ least-in i)) ×
     Writes (lists-below (list-by wide .semaphore-width) semaphores i) (bytes-in i) numbers p₀ bytes₀ p bytes
 
 abbrev μ-loop : tie.MeasureT-loop
-μ-loop numbers wide semaphores bytes₀ most₀ p₀ i₀ bytes most p i = 2 - i
+μ-loop numbers wide semaphores bytes₀ most₀ least₀ p₀ i₀ bytes most least p i = 2 - i
 
 loop-holds : tie.Need-loop-holds Inv-loop μ-loop
 loop-holds c =
@@ -36,7 +36,7 @@ points-requires c κs =
       inside = written .inside;
       room = omega (
         arith,
-        l .inv .1,
+        l .inv .1 .0,
         lists-room (l .i) (omega arith),
         written .few,
         written .as-long,

@@ -1,7 +1,7 @@
 -- `operation` meets its contract: one part after the other.
 use borrow.Author.Needs.{needs}
 use Rattle.plan_format.specs.Grammar.{read-by}
-use Rattle.plan_format.specs.Sections.{operation-below, most-in, lists-below}
+use Rattle.plan_format.specs.Sections.{operation-below, most-in, least-in, lists-below}
 use Rattle.stored_numbers.proofs.Cursors.{reads-seq}
 use Rattle.stored_numbers.proofs.operation.operation.Statement.{statement}
 use Rattle.stored_numbers.proofs.operation.operation.Tie as tie
@@ -19,7 +19,7 @@ same-length : tie.Need-same-length
 same-length c = search needs
 
 returns : tie.Need-returns
-unfolding operation-below lists-below most-in read-by
+unfolding operation-below lists-below most-in least-in read-by
 returns c =
     let lists = c .before .before .before .before .before .before in
     let queue = lists .before .before .before .before in

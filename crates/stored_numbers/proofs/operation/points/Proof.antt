@@ -11,11 +11,11 @@ use Rattle.stored_numbers.proofs.operation.points.Statement.{statement}
 use Rattle.stored_numbers.proofs.operation.points.Tie as tie
 
 abbrev Inv-loop : tie.InvT-loop
-Inv-loop plan most wide semaphores numbers₀ count p₀ i₀ numbers p i =
-    (i ≤ count) × Reads-on (repeat i (point-below (width-by wide) semaphores)) (2 * i) plan p₀ numbers₀ p numbers
+Inv-loop plan most least wide semaphores numbers₀ count p₀ i₀ numbers p i =
+    (i ≤ count) × Reads-on (repeat i (point-below (width-by wide) semaphores least)) (2 * i) plan p₀ numbers₀ p numbers
 
 abbrev μ-loop : tie.MeasureT-loop
-μ-loop plan most wide semaphores numbers₀ count p₀ i₀ numbers p i = count - i
+μ-loop plan most least wide semaphores numbers₀ count p₀ i₀ numbers p i = count - i
 
 add-byte : tie.Need-add-byte Inv-loop μ-loop
 add-byte c = search needs
@@ -27,7 +27,7 @@ loop-holds : tie.Need-loop-holds Inv-loop μ-loop
 loop-holds c =
     let s = c .before .before .before .before .before .before in (
       omega arith,
-      reads-none (point-below (width-by (s .args .wide)) (s .args .semaphores)) 2 _ _ _
+      reads-none (point-below (width-by (s .args .wide)) (s .args .semaphores) (s .args .least)) 2 _ _ _
           (c .before .before .byte .ensures .reads .inside),
     )
 
@@ -44,7 +44,7 @@ returns c =
     let start = head .before .before .before in
     let s = start .before .before .before .before in
     reads-counted 0 2 (limited-count (start .byte .ensures)) (start .byte .result .value) refl
-    (reads-stopped (point-below (width-by (s .args .wide)) (s .args .semaphores)) 2 (head .loop .i + 1)
+    (reads-stopped (point-below (width-by (s .args .wide)) (s .args .semaphores) (s .args .least)) 2 (head .loop .i + 1)
     (start .byte .result .value)
     (c .if1 .taken) (omega arith)
     (reads-more (head .loop .i) (head .loop .inv .1) (turn .point .ensures)))

@@ -4,7 +4,7 @@ use Prim.Native.Nat.{_-_, _≤_}
 use native.Mathlib.Omega.{arith}
 use borrow.Author.Needs.{needs}
 use Rattle.plan_format.specs.Form.{width-by}
-use Rattle.plan_format.specs.Sections.{most-in, lists-below}
+use Rattle.plan_format.specs.Sections.{most-in, least-in, lists-below}
 use Rattle.stored_numbers.specs.Reading.{Reads-on}
 use Rattle.stored_numbers.proofs.Lists.{numbers-in, lists-room, waits-first, signals-later, lists-none}
 use Rattle.stored_numbers.proofs.Lists.{lists-more, lists-both}
@@ -12,12 +12,12 @@ use Rattle.stored_numbers.proofs.operation.waits_and_signals.Statement.
 use Rattle.stored_numbers.proofs.operation.waits_and_signals.Tie as tie
 
 abbrev Inv-loop : tie.InvT-loop
-Inv-loop plan wide semaphores numbers₀ most₀ p₀ i₀ numbers most p i =
-    (i ≤ 2) × (most ≡ most-in i) ×
+Inv-loop plan wide semaphores numbers₀ most₀ least₀ p₀ i₀ numbers most least p i =
+    (i ≤ 2) × ((most ≡ most-in i) × (least ≡ least-in i)) ×
     Reads-on (lists-below (width-by wide) semaphores i) (numbers-in i) plan p₀ numbers₀ p numbers
 
 abbrev μ-loop : tie.MeasureT-loop
-μ-loop plan wide semaphores numbers₀ most₀ p₀ i₀ numbers most p i = 2 - i
+μ-loop plan wide semaphores numbers₀ most₀ least₀ p₀ i₀ numbers most least p i = 2 - i
 
 loop-holds : tie.Need-loop-holds Inv-loop μ-loop
 loop-holds c =
@@ -33,7 +33,7 @@ points-requires c κs =
       inside = read .inside;
       room = omega (
         arith,
-        l .inv .1,
+        l .inv .1 .0,
         lists-room (l .i) (omega arith),
         read .few,
         read .as-long,
