@@ -1,15 +1,18 @@
--- Reading by a grammar, from any source: a thing repeated, and a count and its things. Assumes nothing.
+-- Reading by a grammar, from any source: a thing repeated, a count and its things, an operation's lists of points.
+-- Assumes nothing.
 use mathlib.Core.Path.{_≡_, refl, sym, ap, _∙_}
 use mathlib.Core.Bool.{true}
-use Prim.Native.Nat.{ℕ, zero, suc, _≤_}
+use Prim.Native.Nat.{ℕ, zero, suc, _+_, _≤_}
+use native.Mathlib.Numerals.{add-one}
 use native.Mathlib.Omega.{arith}
 use lib.Dec.{eqb}
 use borrow.Author.Tests.{eqb-true, eqb-false}
 use Rattle.base_lists.proofs.Tests.{by-cases}
+use Rattle.plan_format.specs.Sizes.{most-waits, most-signals, least-wait, least-signal}
 use Rattle.plan_format.specs.Refusal.{given}
 use Rattle.plan_format.specs.Grammar.{Grammar, counted, Source, Scan, field-number, read-field, last-got, times}
 use Rattle.plan_format.specs.Grammar.{count-check, read-by}
-use Rattle.plan_format.specs.Sections.{repeat}
+use Rattle.plan_format.specs.Sections.{repeat, most-in, least-in}
 use Rattle.plan_format.proofs.Judged.{not-given-zero}
 use Rattle.plan_format.proofs.Faults.{read-stays}
 
@@ -49,3 +52,13 @@ module _ (S : Source) where
       read-field S w c s ≡ read-field S w d s
   unfolding read-field field-number
   field-same w c d s e = rw e
+
+-- ---- the lists of points of an operation
+-- the waits come first, and after them the signals
+pub waits-first : (most-waits ≡ most-in 0) × (least-wait ≡ least-in 0)
+unfolding most-in least-in
+waits-first = (refl, refl)
+
+pub signals-later : (i : ℕ) → (most-signals ≡ most-in (i + 1)) × (least-signal ≡ least-in (i + 1))
+unfolding most-in least-in
+signals-later i = rw (add-one i) (refl, refl)

@@ -5,7 +5,7 @@ use Prim.Native.Nat.{ℕ, zero, suc}
 use lib.Dec.{ltb}
 use Rattle.plan_format.specs.Sizes.{most-waits, most-signals, most-marks, least-wait, least-signal}
 use Rattle.plan_format.specs.Grammar.{Check, Grammar, field, seq, counted, nothing}
-use Rattle.plan_format.specs.Form.{any-number, at-least, new-axis}
+use Rattle.plan_format.specs.Form.{Form, any-number, at-least, new-axis}
 
 unfoldable pub limited : (limit over : ℕ) → Check
 limited l n g v = cond (ltb v l) 0 n
@@ -20,6 +20,10 @@ axis-field = field 8 new-axis
 
 unfoldable pub size-field : Grammar
 size-field = field 4 any-number
+
+-- the section of owners, in the form's bytes
+abbrev pub owned : Form → Check → Grammar
+owned F c = counted (F .semaphores-least) (F .semaphores-most) (F .semaphore-width) (field 1 c)
 
 -- a semaphore's position has as many bytes as the form says
 unfoldable pub point-below : (width semaphores least : ℕ) → Grammar

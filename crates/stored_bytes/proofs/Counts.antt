@@ -13,12 +13,12 @@ use Rattle.plan_format.specs.Sizes.{block-bytes}
 use Rattle.plan_format.specs.Grammar.{Grammar, counted, numbers, Scan, scan, read-by, Spelling, spell-by}
 use Rattle.plan_format.specs.Form.{Form, first-form, second-form, list-by, form-by, queue-count, any-number}
 use Rattle.plan_format.specs.Form.{new-axis, a-queue, operation, plan-grammar}
-use Rattle.plan_format.specs.Sections.{limited, axis-field, size-field, operation-below}
+use Rattle.plan_format.specs.Sections.{limited, axis-field, size-field, owned, operation-below}
 use Rattle.plan_format.proofs.Alike.{Alike, alike-from, alike-spell}
 use Rattle.plan_format.proofs.Follows.{Section, section}
 use Rattle.plan_format.proofs.Counts.{number-at, owners-alike, operations-alike, counts-of}
 use Rattle.stored_bytes.specs.declared.cursor.Cursor.{Cursor}
-use Rattle.stored_bytes.specs.Writing.{fault-of, here, spelling, Writes, owned, Lead-put, Plan-written}
+use Rattle.stored_bytes.specs.Writing.{fault-of, here, spelling, Writes, Lead-put, Plan-written}
 use Rattle.stored_bytes.proofs.Cursors.{clean-before}
 use Rattle.stored_bytes.proofs.Fields.{fault-clean}
 

@@ -6,7 +6,7 @@ use Prim.Native.Nat.{ℕ, zero, suc, _+_, _*_, _≤_, _<_}
 use native.Mathlib.Numerals.{add-one}
 use native.Mathlib.Omega.{arith}
 use lib.ListN.{length}
-use Rattle.plan_format.specs.Sizes.{most-semaphores, most-waits, most-signals, second-width, least-wait, least-signal}
+use Rattle.plan_format.specs.Sizes.{most-semaphores, most-waits, most-signals, second-width}
 use Rattle.plan_format.specs.Form.{first-form, list-form, list-by}
 use Rattle.plan_format.specs.Grammar.{counted, read-by, spell-by}
 use Rattle.plan_format.specs.Sections.{point-below, most-in, least-in, lists-below}
@@ -44,15 +44,6 @@ unfolding bytes-in most-in
 lists-room zero l = omega arith
 lists-room (suc zero) l = omega arith
 lists-room (suc (suc i)) l = absurd (omega arith)
-
--- the waits come first, and after them the signals
-pub waits-first : (most-waits ≡ most-in 0) × (least-wait ≡ least-in 0)
-unfolding most-in least-in
-waits-first = (refl, refl)
-
-pub signals-later : (i : ℕ) → (most-signals ≡ most-in (i + 1)) × (least-signal ≡ least-in (i + 1))
-unfolding most-in least-in
-signals-later i = rw (add-one i) (refl, refl)
 
 module _ (w m : ℕ) {xs : List ℕ} {c : Cursor} {bytes : List ℕ} where
   pub lists-none : c .at ≤ length xs → Writes (lists-below w m 0) (bytes-in 0) xs c bytes c bytes

@@ -9,9 +9,9 @@ use lib.ListN.{length, getD, take, drop}
 use Rattle.base_lists.specs.Lists.{in-front}
 use Rattle.plan_format.specs.Sizes.{second-width, plan-bytes}
 use Rattle.plan_format.specs.Refusal.{Refusal, refusal, none-given}
-use Rattle.plan_format.specs.Grammar.{Check, Grammar, field, counted, digits, numbers, Scan, scan}
+use Rattle.plan_format.specs.Grammar.{Grammar, field, digits, numbers, Scan, scan}
 use Rattle.plan_format.specs.Grammar.{last-got, read-by, Spelling, spell-by}
-use Rattle.plan_format.specs.Form.{Form, list-by, form-by, plan-grammar, scanned-by, spelled-by}
+use Rattle.plan_format.specs.Form.{list-by, form-by, plan-grammar, scanned-by, spelled-by}
 use Rattle.plan_format.specs.Stored.{Tells}
 use Rattle.plan_format.specs.declared.Told.{Told}
 use Rattle.plan_format.specs.Sections.{limited}
@@ -62,10 +62,6 @@ pub record Write-limited (width limit over : ℕ) (xs : List ℕ) (c : Cursor) (
 -- the most bytes of a point
 abbrev pub point-most : ℕ
 point-most = second-width + 8
-
--- the section of owners, in the form's bytes
-abbrev pub owned : Form → Check → Grammar
-owned F c = counted (F .semaphores-least) (F .semaphores-most) (F .semaphore-width) (field 1 c)
 
 -- a form's lead was put in front of the array
 pub record Lead-put (lead bytes : List ℕ) (k : ℕ) (bytes-now : List ℕ) : Type 0 where

@@ -58,7 +58,7 @@ pub fn pair(numbers: &[u64], c: Cursor, limit: u64, over: u32, bytes: &mut [u8])
     c.past(2, value)
 }
 
-// A semaphore's position or their count, in two bytes if `wide`, else in one: below `limit`, or refused by `over`.
+// The count of the semaphores, in two bytes if `wide`, else in one: below `limit`, or refused by `over`.
 pub fn sized(
     numbers: &[u64],
     c: Cursor,

@@ -13,8 +13,8 @@ ghost use lib.ListN.{length, getD};
 ghost use Rattle.plan_format.specs.Sizes.{most-queues, most-semaphores, most-buffers, second-width, plan-bytes};
 ghost use Rattle.plan_format.specs.Form.{list-by, form-by};
 ghost use Rattle.plan_format.specs.Grammar.{counted};
-ghost use Rattle.plan_format.specs.Sections.{axis-field, size-field, limited};
-ghost use Rattle.stored_bytes.specs.Writing.{Write-room, Writes, owned, Lead-put, Plan-written};
+ghost use Rattle.plan_format.specs.Sections.{axis-field, size-field, owned, limited};
+ghost use Rattle.stored_bytes.specs.Writing.{Write-room, Writes, Lead-put, Plan-written};
 
 // The least counts that are too many.
 const TOO_MANY_QUEUES: u64 = MOST_QUEUES as u64 + 1;

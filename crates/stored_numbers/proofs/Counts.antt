@@ -12,14 +12,13 @@ use Rattle.plan_format.specs.Refusal.{none-given}
 use Rattle.plan_format.specs.Grammar.{Grammar, counted, bytes, Scan, scan, read-by}
 use Rattle.plan_format.specs.Form.{Form, form-by, is-second, queue-count, any-number, new-axis, a-queue, operation}
 use Rattle.plan_format.specs.Form.{plan-grammar}
-use Rattle.plan_format.specs.Sections.{limited, axis-field, size-field, operation-below}
+use Rattle.plan_format.specs.Sections.{limited, axis-field, size-field, owned, operation-below}
 use Rattle.plan_format.proofs.Alike.{alike-from}
 use Rattle.plan_format.proofs.Counts.{number-at, owners-alike, operations-alike, counts-of}
 use Rattle.plan_format.proofs.Follows.{Section, section}
 use Rattle.plan_format.proofs.Forms.{led-in}
 use Rattle.stored_numbers.specs.declared.cursor.Cursor.{Cursor}
-use Rattle.stored_numbers.specs.Reading.{fault-of, here, Past, Reads-on, begun, front-numbers, Heading, owned}
-use Rattle.stored_numbers.specs.Reading.{fronted}
+use Rattle.stored_numbers.specs.Reading.{fault-of, here, Past, Reads-on, begun, front-numbers, Heading, fronted}
 use Rattle.stored_numbers.specs.Reading.{Front-read}
 use Rattle.stored_numbers.proofs.Fields.{here-clean}
 use Rattle.stored_numbers.proofs.Cursors.{past-then, reads-past}

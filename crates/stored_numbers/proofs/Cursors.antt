@@ -1,20 +1,24 @@
 -- What cursors read, put together: one thing after another, a count and its things, a loop that stops at a refusal.
 -- Assumes nothing.
 use mathlib.Core.Path.{_≡_, refl, sym, ap, _∙_, subst}
+use mathlib.Core.Bool.{cond}
 use mathlib.Core.List.{List}
 use Prim.Native.Nat.{ℕ, _+_, _*_, _≤_}
 use native.Mathlib.Nat.{mul-le-mul-left, mul-suc}
 use native.Mathlib.Numerals.{add-one}
 use native.Mathlib.Omega.{arith}
+use lib.Dec.{eqb}
 use lib.ListN.{length, take, drop}
 use Rattle.base_lists.proofs.Fronts.{past-later}
-use Rattle.plan_format.specs.Refusal.{given}
+use Rattle.plan_format.specs.Refusal.{refusal, none-given, given}
 use Rattle.plan_format.specs.Grammar.{Grammar, seq, counted, bytes, Scan, scan, count-check, read-by}
 use Rattle.plan_format.specs.Sections.{repeat, limited}
 use Rattle.plan_format.proofs.Counts.{count-limited}
+use Rattle.plan_format.proofs.Faults.{read-stays}
 use Rattle.plan_format.proofs.Repeats.{read-counted, repeat-stops, field-same}
 use Rattle.stored_numbers.specs.declared.cursor.Cursor.{Cursor}
-use Rattle.stored_numbers.specs.Reading.{fault-of, here, Past, Reads-on, Read-limited, Read-count}
+use Rattle.stored_numbers.specs.Reading.{fault-of, here, reading, Past, Reads-on, Read-limited}
+use Rattle.stored_numbers.specs.Reading.{Read-count}
 use Rattle.stored_numbers.proofs.Fields.{here-given, fault-none, value-last}
 
 -- ---- the array past the numbers
@@ -53,6 +57,23 @@ pub reads-none : (g : Grammar) (m : ℕ) (bs : List ℕ) (c : Cursor) (nums : Li
 unfolding repeat read-by
 reads-none g m bs c nums h = record
     { read = refl; inside = h; more = omega arith; few = omega arith; as-long = refl; past = refl }
+
+-- what is read at a cursor's place is read from the cursor, if it has no refusal
+pub reads-from : (g : Grammar) {many : ℕ} {bs : List ℕ} (c : Cursor) {r : Cursor} {nums nums-now : List ℕ} →
+    c .number ≡ 0 → Reads-on g many bs (reading (c .at) (c .got)) nums r nums-now →
+    Reads-on g many bs c nums r nums-now
+unfolding here fault-of
+reads-from g {bs = bs} c {nums = nums} z p =
+    record {
+      read = ap (λ (k : ℕ). read-by bytes g
+          (scan (drop (c .at) bs) (c .at) (take (c .got) nums) (cond (eqb k 0) none-given (refusal k (c .at))))) z
+          ∙ p .read;
+      inside = p .inside;
+      more = p .more;
+      few = p .few;
+      as-long = p .as-long;
+      past = p .past;
+    }
 
 -- a count below a limit is one from 0 on
 pub limited-count : {bs : List ℕ} {c r : Cursor} {nums nums-now : List ℕ} {w most : ℕ} →
@@ -109,6 +130,21 @@ pub reads-within : {g : Grammar} {bs : List ℕ} {c r : Cursor} {nums nums-now :
 reads-within n l p =
     record {
       read = p .read;
+      inside = p .inside;
+      more = p .more;
+      few = omega (arith, p .few);
+      as-long = p .as-long;
+      past = p .past;
+    }
+
+-- where a thing is refused, nothing is read of what comes after it
+pub reads-refused : {g : Grammar} (h : Grammar) {bs : List ℕ} {c r : Cursor} {nums nums-now : List ℕ} {m : ℕ} (n : ℕ) →
+    (r .number ≡ 0 → ⊥) → m ≤ n → Reads-on g m bs c nums r nums-now → Reads-on (seq g h) n bs c nums r nums-now
+unfolding read-by
+reads-refused h {bs} {c} {r} {nums} {nums-now} n z l p =
+    record {
+      read = ap (λ (s : Scan). read-by bytes h s) (p .read)
+          ∙ read-stays bytes h (here bs r nums-now) (here-given bs r nums-now z);
       inside = p .inside;
       more = p .more;
       few = omega (arith, p .few);

@@ -5,7 +5,7 @@ use Prim.Native.Nat.{ℕ, zero, suc, _+_, _*_, _≤_, _<_}
 use native.Mathlib.Numerals.{add-one}
 use native.Mathlib.Omega.{arith}
 use lib.ListN.{length}
-use Rattle.plan_format.specs.Sizes.{most-waits, most-signals, least-wait, least-signal}
+use Rattle.plan_format.specs.Sizes.{most-waits, most-signals}
 use Rattle.plan_format.specs.Grammar.{counted, read-by}
 use Rattle.plan_format.specs.Sections.{point-below, most-in, least-in, lists-below}
 use Rattle.stored_numbers.specs.declared.cursor.Cursor.{Cursor}
@@ -23,15 +23,6 @@ unfolding numbers-in most-in
 lists-room zero l = omega arith
 lists-room (suc zero) l = omega arith
 lists-room (suc (suc i)) l = absurd (omega arith)
-
--- the waits come first, and after them the signals
-pub waits-first : (most-waits ≡ most-in 0) × (least-wait ≡ least-in 0)
-unfolding most-in least-in
-waits-first = (refl, refl)
-
-pub signals-later : (i : ℕ) → (most-signals ≡ most-in (i + 1)) × (least-signal ≡ least-in (i + 1))
-unfolding most-in least-in
-signals-later i = rw (add-one i) (refl, refl)
 
 module _ (w m : ℕ) {bs : List ℕ} {c : Cursor} {nums : List ℕ} where
   pub lists-none : c .at ≤ length bs → Reads-on (lists-below w m 0) (numbers-in 0) bs c nums c nums

@@ -83,15 +83,44 @@ module _ (bs : List ℕ) (c : Cursor) (nums : List ℕ) where
       ∙ ap (λ (l : List ℕ). take (c .got) nums ++ l) (past .past)
       ∙ sym (ap (λ (k : ℕ). end .got ++ drop k nums₀) long ∙ ap (λ (l : List ℕ). l ++ drop (c .got) nums₀) ends-front)
 
+-- ---- bytes taken in a form
+scanned-in : (F : Form) (bs : List ℕ) → scanned-by bytes F bs ≡ ended (read-by bytes (plan-grammar F) (begun F bs))
+unfolding scanned-by begun bytes
+scanned-in F bs = ap (λ (k : ℕ). ended (read-by bytes (plan-grammar F) (scan (drop k bs) k [] none-given)))
+    (let e : 1 * length (F .lead) ≡ length (F .lead) = omega arith in e)
+
+module _ {F : Form} {bs : List ℕ} {c : Cursor} {nums : List ℕ} (p : Plan-read F bs c nums)
+    (fits : c .got ≤ length nums) where
+  by-form : scanned-by bytes F bs ≡ ended (here bs c nums)
+  by-form = scanned-in F bs ∙ ap ended (p .read)
+
+  -- what the cursor tells at the end, whatever array its numbers are in
+  abbrev pub Told-by : Told → Type 0
+  Told-by r = (n : List ℕ) → c .got ≤ length n → Ends (ended (here bs c n)) r
+
+  pub form-ends : (r : Told) → Told-by r → Ends (scanned-by bytes F bs) r
+  form-ends r t = subst (λ (s : Scan). Ends s r) (sym by-form) (t nums fits)
+
+  pub form-array : {nums₀ : List ℕ} → Past (c .got) nums₀ nums → nums ≡ in-front (scanned-by bytes F bs .got) nums₀
+  form-array {nums₀} past =
+      ends-array bs c nums fits past ∙ ap (λ (s : Scan). in-front (s .got) nums₀) (sym by-form)
+
+  pub form-few : (r : Told) → Told-by r → r .answer ≤ plan-numbers
+  unfolding Ends
+  form-few r t =
+      let many : length (ended (here bs c nums) .got) ≡ c .got = ap length (ends-front bs c nums)
+      ∙ length-take-le (c .got) nums fits in
+      answer-few (ended (here bs c nums) .fault) (length (ended (here bs c nums) .got)) plan-numbers (t nums fits)
+      (omega (arith, many, p .few))
+
 -- ---- the form in which some bytes are read
 abbrev pub Read-in : Form → (bs : List ℕ) → Type 0
 Read-in F bs = scanned bs ≡ ended (read-by bytes (plan-grammar F) (begun F bs))
 
 -- the first byte tells it
 pub read-in : (bs : List ℕ) → Read-in (form-in bs) bs
-unfolding scanned scanned-by begun bytes
-read-in bs = ap (λ (k : ℕ). ended (read-by bytes (plan-grammar (form-in bs)) (scan (drop k bs) k [] none-given)))
-    (let e : 1 * length (form-in bs .lead) ≡ length (form-in bs .lead) = omega arith in e)
+unfolding scanned
+read-in bs = scanned-in (form-in bs) bs
 
 pub read-in-told : {wide : Bool} (bs : List ℕ) → wide ≡ is-second bs → Read-in (form-by wide) bs
 read-in-told bs e = subst (λ (b : Bool). Read-in (form-by b) bs) (sym e) (read-in bs)

@@ -3,18 +3,18 @@
 use mathlib.Core.Path.{_≡_}
 use mathlib.Core.Bool.{cond}
 use mathlib.Core.List.{List, [], _∷_, _++_}
-use Prim.Native.Nat.{ℕ, _+_, _-_, _≤_, _<_, _^_, min}
+use Prim.Native.Nat.{ℕ, _+_, _-_, _*_, _≤_, _<_, _^_, min}
 use lib.Dec.{eqb}
 use lib.ListN.{length, take, drop}
 use Rattle.base_lists.specs.Lists.{in-front}
-use Rattle.plan_format.specs.Sizes.{most-queues, most-buffers, most-operations, head-numbers}
+use Rattle.plan_format.specs.Sizes.{most-queues, first-semaphores, most-buffers, most-operations, head-numbers}
 use Rattle.plan_format.specs.Sizes.{block-numbers, plan-numbers}
 use Rattle.plan_format.specs.Refusal.{Refusal, refusal, none-given, given}
 use Rattle.plan_format.specs.Grammar.{Check, Grammar, field, seq, counted, value, bytes, Scan, scan, last-got, times}
 use Rattle.plan_format.specs.Grammar.{count-check, read-by, ended}
 use Rattle.plan_format.specs.Form.{Form, form-in, queue-count, semaphore-count, buffer-count, any-number, new-axis}
 use Rattle.plan_format.specs.Form.{a-queue, plan-grammar}
-use Rattle.plan_format.specs.Sections.{limited, operation-below}
+use Rattle.plan_format.specs.Sections.{limited, owned, operation-below}
 use Rattle.plan_format.specs.Stored.{scanned, Tells}
 use Rattle.plan_format.specs.declared.Told.{Told}
 use Rattle.stored_numbers.specs.declared.End.{End}
@@ -28,10 +28,19 @@ fault-of c = cond (eqb (c .number) 0) none-given (refusal (c .number) (c .at))
 unfoldable pub here : (bs : List ℕ) → Cursor → (nums : List ℕ) → Scan
 here bs c nums = scan (drop (c .at) bs) (c .at) (take (c .got) nums) (fault-of c)
 
+-- a cursor at a place, with so many numbers and no refusal
+abbrev pub reading : (at got : ℕ) → Cursor
+reading at got = record { number = 0; at = at; got = got; value = 0 }
+
 -- a cursor that is inside the bytes, with room for so many numbers more
 pub record Read-room (many : ℕ) (bs : List ℕ) (c : Cursor) (nums : List ℕ) : Type 0 where
   pub inside : c .at ≤ length bs
   pub room : c .got + many ≤ length nums
+
+-- a cursor without a refusal, with so many bytes before the end
+pub record Whole (width : ℕ) (bs : List ℕ) (c : Cursor) : Type 0 where
+  pub clean : c .number ≡ 0
+  pub whole : c .at + width ≤ length bs
 
 -- past so many numbers the array stays
 pub record Past (got : ℕ) (nums nums-now : List ℕ) : Type 0 where
@@ -73,13 +82,16 @@ Read-count width least most = Read-checked width (λ _ v. count-check least most
 unfoldable pub begun : Form → (bs : List ℕ) → Scan
 begun F bs = let k = length (F .lead) in scan (drop k bs) k [] none-given
 
--- the section of owners, in the form's bytes
-abbrev pub owned : Form → Check → Grammar
-owned F c = counted (F .semaphores-least) (F .semaphores-most) (F .semaphore-width) (field 1 c)
-
 -- the most numbers of three sections
 unfoldable pub front-numbers : Form → ℕ
 front-numbers F = 3 + most-queues + F .semaphores-most + most-buffers
+
+-- and of the whole plan
+abbrev pub first-numbers : ℕ
+first-numbers = 4 + most-queues + first-semaphores + most-buffers + most-operations * block-numbers
+
+unfoldable pub form-numbers : Form → ℕ
+form-numbers F = front-numbers F + 1 + most-operations * block-numbers
 
 -- the whole plan was read, but for its end
 pub record Plan-read (F : Form) (bs : List ℕ) (r : Cursor) (nums-now : List ℕ) : Type 0 where

@@ -2,11 +2,12 @@
 // and its place.
 use crate::cursor::Cursor;
 use crate::word;
-ghost use Prim.Native.Nat.{_-_, _≤_};
+ghost use Prim.Native.Nat.{_+_, _-_, _≤_};
 ghost use Rattle.plan_format.specs.Form.{at-least, width-by};
 ghost use Rattle.plan_format.specs.Grammar.{field};
 ghost use Rattle.plan_format.specs.Sections.{axis-field, size-field};
-ghost use Rattle.stored_numbers.specs.Reading.{Read-room, Reads-on, Read-limited, Read-count};
+ghost use Rattle.plan_format.specs.Sizes.{second-width};
+ghost use Rattle.stored_numbers.specs.Reading.{Read-room, Whole, Reads-on, Read-limited, Read-count};
 
 // A byte below `limit`; any other is refused by `over`.
 pub fn byte(plan: &[u8], c: Cursor, limit: u64, over: u32, numbers: &mut [u64]) -> Cursor
@@ -14,15 +15,25 @@ pub fn byte(plan: &[u8], c: Cursor, limit: u64, over: u32, numbers: &mut [u64]) 
     requires { ⌜ 1 ≤ over ⌝ }
     ensures { λ r. ⌜ Read-limited 1 limit over (now (plan .entry)) c (now (numbers .entry)) r (now (numbers .exit)) ⌝ }
 {
-    let at = c.at;
-    let got = c.got;
     if c.number != 0 {
         return c.refused(c.number);
     }
-    if plan.len() - at < 1 {
+    if plan.len() - c.at < 1 {
         return c.refused(1);
     }
-    let value = word::word1(plan, at);
+    whole_byte(plan, c, limit, over, numbers)
+}
+
+// The same where it is known that the bytes are there.
+pub fn whole_byte(plan: &[u8], c: Cursor, limit: u64, over: u32, numbers: &mut [u64]) -> Cursor
+    requires { ⌜ Read-room 1 (now plan) c (now numbers) × Whole 1 (now plan) c ⌝ }
+    requires { ⌜ 1 ≤ over ⌝ }
+    ensures read { λ r. ⌜ Read-limited 1 limit over (now (plan .entry)) c (now (numbers .entry)) r
+        (now (numbers .exit)) ⌝ }
+    ensures near { λ r. ⌜ r .at ≤ c .at + 1 ⌝ }
+{
+    let got = c.got;
+    let value = word::word1(plan, c.at);
     if limit <= value {
         return c.refused(over);
     }
@@ -36,15 +47,25 @@ pub fn pair(plan: &[u8], c: Cursor, limit: u64, over: u32, numbers: &mut [u64]) 
     requires { ⌜ 1 ≤ over ⌝ }
     ensures { λ r. ⌜ Read-limited 2 limit over (now (plan .entry)) c (now (numbers .entry)) r (now (numbers .exit)) ⌝ }
 {
-    let at = c.at;
-    let got = c.got;
     if c.number != 0 {
         return c.refused(c.number);
     }
-    if plan.len() - at < 2 {
+    if plan.len() - c.at < 2 {
         return c.refused(1);
     }
-    let value = word::word2(plan, at);
+    whole_pair(plan, c, limit, over, numbers)
+}
+
+// The same where it is known that the bytes are there.
+pub fn whole_pair(plan: &[u8], c: Cursor, limit: u64, over: u32, numbers: &mut [u64]) -> Cursor
+    requires { ⌜ Read-room 1 (now plan) c (now numbers) × Whole 2 (now plan) c ⌝ }
+    requires { ⌜ 1 ≤ over ⌝ }
+    ensures read { λ r. ⌜ Read-limited 2 limit over (now (plan .entry)) c (now (numbers .entry)) r
+        (now (numbers .exit)) ⌝ }
+    ensures near { λ r. ⌜ r .at ≤ c .at + 2 ⌝ }
+{
+    let got = c.got;
+    let value = word::word2(plan, c.at);
     if limit <= value {
         return c.refused(over);
     }
@@ -62,6 +83,26 @@ pub fn position(plan: &[u8], c: Cursor, wide: bool, semaphores: u64, numbers: &m
         pair(plan, c, semaphores, 4, numbers)
     } else {
         byte(plan, c, semaphores, 4, numbers)
+    }
+}
+
+// The same where it is known that two bytes are there.
+pub fn whole_position(
+    plan: &[u8],
+    c: Cursor,
+    wide: bool,
+    semaphores: u64,
+    numbers: &mut [u64],
+) -> Cursor
+    requires { ⌜ Read-room 1 (now plan) c (now numbers) × Whole second-width (now plan) c ⌝ }
+    ensures read { λ r. ⌜ Read-limited (width-by wide) semaphores 4 (now (plan .entry)) c (now (numbers .entry)) r
+        (now (numbers .exit)) ⌝ }
+    ensures near { λ r. ⌜ r .at ≤ c .at + second-width ⌝ }
+{
+    if wide {
+        whole_pair(plan, c, semaphores, 4, numbers)
+    } else {
+        whole_byte(plan, c, semaphores, 4, numbers)
     }
 }
 
@@ -115,15 +156,23 @@ pub fn point_value(plan: &[u8], c: Cursor, least: u64, numbers: &mut [u64]) -> C
     ensures { λ r. ⌜ Reads-on (field 8 (at-least least)) 1 (now (plan .entry)) c (now (numbers .entry)) r
         (now (numbers .exit)) ⌝ }
 {
-    let at = c.at;
-    let got = c.got;
     if c.number != 0 {
         return c;
     }
-    if plan.len() - at < 8 {
+    if plan.len() - c.at < 8 {
         return c.refused(1);
     }
-    let value = word::word8(plan, at);
+    whole_value(plan, c, least, numbers)
+}
+
+// The same where it is known that the bytes are there.
+pub fn whole_value(plan: &[u8], c: Cursor, least: u64, numbers: &mut [u64]) -> Cursor
+    requires { ⌜ Read-room 1 (now plan) c (now numbers) × Whole 8 (now plan) c ⌝ }
+    ensures { λ r. ⌜ Reads-on (field 8 (at-least least)) 1 (now (plan .entry)) c (now (numbers .entry)) r
+        (now (numbers .exit)) ⌝ }
+{
+    let got = c.got;
+    let value = word::word8(plan, c.at);
     if value < least {
         return c.refused(16);
     }

@@ -9,6 +9,7 @@ mod word;
 use crate::cursor::Cursor;
 use plan_format::Told;
 use plan_format::answered;
+use plan_format::limits::BLOCK_NUMBERS;
 use plan_format::limits::FIRST_SEMAPHORES;
 use plan_format::limits::HEAD_NUMBERS;
 use plan_format::limits::MOST_BUFFERS;
@@ -23,11 +24,11 @@ ghost use mathlib.Core.Bool.{false};
 ghost use Prim.Native.Nat.{ℕ, _+_, _≤_, min};
 ghost use lib.ListN.{length, take};
 ghost use Rattle.base_lists.specs.Lists.{in-front};
-ghost use Rattle.plan_format.specs.Form.{is-second, first-form, form-by, width-by};
-ghost use Rattle.plan_format.specs.Grammar.{ended};
+ghost use Rattle.plan_format.specs.Form.{is-second, first-form, form-by, width-by, scanned-by};
+ghost use Rattle.plan_format.specs.Grammar.{bytes, ended};
 ghost use Rattle.plan_format.specs.Sizes.{most-operations, plan-numbers};
 ghost use Rattle.plan_format.specs.Stored.{scanned};
-ghost use Rattle.stored_numbers.specs.Reading.{here, head-scan, head-scan-by, front-numbers};
+ghost use Rattle.stored_numbers.specs.Reading.{here, head-scan, head-scan-by, front-numbers, first-numbers};
 ghost use Rattle.stored_numbers.specs.Reading.{Head-told, Head-read, Operation-told};
 ghost use Rattle.stored_numbers.specs.Reading.{Operation-read, Ends, Numbers-read, rest-scan};
 
@@ -40,6 +41,11 @@ const TOO_MANY_OPERATIONS: u64 = OPERATIONS + 1;
 pub const FIRST_HEAD_NUMBERS: usize = 4 + MOST_QUEUES + FIRST_SEMAPHORES + MOST_BUFFERS;
 
 pub type FirstHeadNumbers = [u64; FIRST_HEAD_NUMBERS];
+
+// And of the whole plan.
+pub const FIRST_NUMBERS: usize = FIRST_HEAD_NUMBERS + MOST_OPERATIONS * BLOCK_NUMBERS;
+
+pub type FirstNumbers = [u64; FIRST_NUMBERS];
 
 // What comes before the operations: the refusal met there, or 0; the place where the reading stopped and how many
 // numbers are stored; the four counts, 0 beside a refusal; and whether the plan is in the second form, in which a
@@ -142,13 +148,8 @@ pub fn read_operation(
     ensures means { λ r. ⌜ Operation-read (width-by wide) queues semaphores buffers (now (plan .entry)) at r
         (now (window .exit)) ⌝ }
 {
-    let start = Cursor {
-        number: 0,
-        at: base_numbers::min_usize(at, plan.len()),
-        got: 0,
-        value: 0,
-    };
-    let end = operation::operation(plan, start, wide, queues, semaphores, buffers, window);
+    let from = base_numbers::min_usize(at, plan.len());
+    let end = operation::operation(plan, from, 0, wide, queues, semaphores, buffers, window);
     End {
         number: end.number,
         at: end.at,
@@ -196,7 +197,20 @@ pub fn read_numbers(plan: &[u8], numbers: &mut [u64; PLAN_NUMBERS]) -> Told
     ensures told { λ r. ⌜ Numbers-read (now (plan .entry)) r (now (numbers .exit)) ⌝ }
     ensures array { λ _. ⌜ now (numbers .exit) ≡ in-front (scanned (now (plan .entry)) .got) (now (numbers .entry)) ⌝ }
 {
-    let c = section::sections(plan, numbers);
+    let wide = section::in_second_form(plan);
+    let c = section::sections(plan, wide, numbers);
+    finished(plan, c)
+}
+
+// The same of bytes taken as a plan in the first form, whatever the first byte is: fewer numbers have to be cleared.
+pub fn read_first_numbers(plan: &[u8], numbers: &mut FirstNumbers) -> Told
+    ensures told { λ r. ⌜ Ends (scanned-by bytes first-form (now (plan .entry))) r ⌝ }
+    ensures array { λ _. ⌜ now (numbers .exit) ≡
+        in-front (scanned-by bytes first-form (now (plan .entry)) .got) (now (numbers .entry)) ⌝ }
+    ensures few { λ r. ⌜ r .answer ≤ plan-numbers ⌝ }
+    ensures long { λ _. ⌜ length (now (numbers .exit)) ≡ first-numbers ⌝ }
+{
+    let c = section::sections(plan, false, numbers);
     finished(plan, c)
 }
 
@@ -215,6 +229,7 @@ pub fn read_rest(
         in-front (rest-scan (width-by (h .wide)) (now (plan .entry)) at h (now (head .entry)) .got)
         (now (numbers .entry)) ⌝ }
     ensures few { λ r. ⌜ r .answer ≤ plan-numbers ⌝ }
+    ensures long { λ _. ⌜ length (now (numbers .exit)) ≡ plan-numbers ⌝ }
 {
     let before = base_numbers::min_usize(h.got, HEAD_NUMBERS);
     copy(head, before, numbers);

@@ -10,12 +10,12 @@ use plan_format::limits::SECOND_LEAD;
 ghost use mathlib.Core.Path.{_≡_};
 ghost use Prim.Native.Nat.{_+_, _≤_};
 ghost use lib.ListN.{length, getD};
-ghost use Rattle.plan_format.specs.Sizes.{most-queues, most-buffers, head-numbers, plan-numbers};
-ghost use Rattle.plan_format.specs.Form.{is-second, form-by, width-by, form-in};
+ghost use Rattle.plan_format.specs.Sizes.{most-queues, most-buffers, head-numbers};
+ghost use Rattle.plan_format.specs.Form.{is-second, form-by, width-by};
 ghost use Rattle.plan_format.specs.Grammar.{counted};
-ghost use Rattle.plan_format.specs.Sections.{axis-field, size-field, limited};
-ghost use Rattle.stored_numbers.specs.Reading.{Read-room, Reads-on, Read-count, Past, owned, front-numbers};
-ghost use Rattle.stored_numbers.specs.Reading.{Front-read, Plan-read};
+ghost use Rattle.plan_format.specs.Sections.{axis-field, size-field, owned, limited};
+ghost use Rattle.stored_numbers.specs.Reading.{Read-room, Reads-on, Read-count, Past, front-numbers};
+ghost use Rattle.stored_numbers.specs.Reading.{form-numbers, Front-read, Plan-read};
 
 // The least counts that are too many.
 const TOO_MANY_QUEUES: u64 = MOST_QUEUES as u64 + 1;
@@ -161,13 +161,14 @@ pub fn in_second_form(plan: &[u8]) -> bool
     plan[0] == SECOND_LEAD
 }
 
-// The four sections.
-pub fn sections(plan: &[u8], numbers: &mut [u64]) -> Cursor
-    requires { ⌜ plan-numbers ≤ length (now numbers) ⌝ }
-    ensures read { λ r. ⌜ Plan-read (form-in (now (plan .entry))) (now (plan .entry)) r (now (numbers .exit)) ⌝ }
+// The four sections, in the form that is told.
+pub fn sections(plan: &[u8], wide: bool, numbers: &mut [u64]) -> Cursor
+    requires { ⌜ form-numbers (form-by wide) ≤ length (now numbers) ⌝ }
+    requires { ⌜ length (form-by wide .lead) ≤ length (now plan) ⌝ }
+    ensures read { λ r. ⌜ Plan-read (form-by wide) (now (plan .entry)) r (now (numbers .exit)) ⌝ }
     ensures past { λ r. ⌜ Past (r .got) (now (numbers .entry)) (now (numbers .exit)) ⌝ }
+    ensures few { λ r. ⌜ r .got ≤ form-numbers (form-by wide) ⌝ }
 {
-    let wide = in_second_form(plan);
     let f = first_sections(plan, wide, numbers);
     let c = f.cursor;
     operation::operations(plan, c, wide, f.queues, f.semaphores, f.buffers, numbers)

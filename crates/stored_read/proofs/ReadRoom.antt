@@ -1,6 +1,6 @@
 -- What the numbers that were read are to the room. Assumes nothing.
 use mathlib.Core.Path.{_≡_, refl, sym, ap, _∙_, subst}
-use mathlib.Core.Bool.{true}
+use mathlib.Core.Bool.{Bool, true, false}
 use mathlib.Core.List.{List, []}
 use Prim.Native.Nat.{ℕ, _-_, _≤_, _<_}
 use native.Mathlib.Omega.{arith}
@@ -10,12 +10,12 @@ use mir.Syntax.{w8}
 use mir.Val.{Fits}
 use Rattle.base_lists.specs.Lists.{in-front}
 use Rattle.base_lists.proofs.Tests.{by-cases}
-use Rattle.plan_format.specs.Form.{form-by, is-second}
-use Rattle.plan_format.specs.Grammar.{Scan}
+use Rattle.plan_format.specs.Form.{form-by, is-second, first-form, scanned-by}
+use Rattle.plan_format.specs.Grammar.{bytes, Scan}
 use Rattle.plan_format.specs.Meaning.{Read-means}
 use Rattle.plan_format.specs.Refusal.{Refusal, given, or-else}
 use Rattle.plan_format.specs.Sizes.{head-numbers, plan-numbers}
-use Rattle.plan_format.specs.Stored.{all-bytes, room-for, read-refusal, Tells, Fills, Read-says}
+use Rattle.plan_format.specs.Stored.{all-bytes, scanned, room-for, read-refusal, Tells, Fills, Read-says}
 use Rattle.plan_format.specs.declared.Told.{Told}
 use Rattle.plan_format.proofs.HandedBack.{answer-long}
 use Rattle.plan_format.proofs.RoundTripRoom.{bytes-by, read-means}
@@ -46,6 +46,19 @@ pub both : (bs : List ℕ) → ((i : ℕ) → Fits w8 (getD bs i 0)) → (r : To
     Read-says bs r room room-now →
     Read-says bs r room room-now × Read-means bs r room room-now
 both bs h r room room-now w = (w, read-means bs (slice-bytes bs h) r room room-now w)
+
+-- ---- a plan in the first form
+first-scanned : (bs : List ℕ) → is-second bs ≡ false → scanned bs ≡ scanned-by bytes first-form bs
+unfolding scanned form-by
+first-scanned bs e = ap (λ (b : Bool). scanned-by bytes (form-by b) bs) e
+
+pub first-says : (bs : List ℕ) → is-second bs ≡ false → (r : Told) (o x : List ℕ) →
+    (let s = scanned-by bytes first-form bs in
+    Fills (or-else (s .fault) (room-for (length (s .got)) (length o))) (s .got) r o x) → Read-says bs r o x
+unfolding Read-says read-refusal
+first-says bs e r o x f =
+    subst (λ (s : Scan). Fills (or-else (s .fault) (room-for (length (s .got)) (length o))) (s .got) r o x)
+    (sym (first-scanned bs e)) f
 
 -- ---- a plan in two parts
 -- what is past the end, and from a place on

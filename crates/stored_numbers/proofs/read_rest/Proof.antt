@@ -1,5 +1,6 @@
 -- `read_rest` meets its contract: the head's numbers are copied, the operations are read after them, and so it ends.
 -- Assumes nothing.
+use native.Mathlib.Omega.{arith}
 use borrow.Author.Needs.{needs}
 use Rattle.plan_format.specs.Form.{width-by}
 use Rattle.stored_numbers.proofs.Rests.{rest-told, rest-few}
@@ -43,10 +44,12 @@ returns c =
       told,
       (
         law .1,
-        rest-few (width-by (a .h .wide)) (a .plan .now) (a .head .now) (a .numbers .now) (a .at) (a .h)
-            (place .min-usize2 .ensures)
-            (before .min-usize .ensures) (few .few .ensures)
-            (copied .copy .ensures) (asked .0) (asked .1) room p (c .finished .result) told,
+        (
+          rest-few (width-by (a .h .wide)) (a .plan .now) (a .head .now) (a .numbers .now) (a .at) (a .h)
+              (place .min-usize2 .ensures) (before .min-usize .ensures) (few .few .ensures)
+              (copied .copy .ensures) (asked .0) (asked .1) room p (c .finished .result) told,
+          omega arith,
+        ),
       ),
     )
 

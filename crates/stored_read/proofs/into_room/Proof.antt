@@ -7,15 +7,17 @@ use Rattle.stored_read.proofs.into_room.Statement.{statement}
 use Rattle.stored_read.proofs.into_room.Tie as tie
 
 returns : tie.Need-returns
-returns c f got t e = not-read f got t (c .before .before .before .args .room .now) (c .if1 .taken)
+returns c f got t e = not-read f got t (c .before .before .before .before .args .room .now) (c .if1 .taken)
 
 refused-requires : tie.Need-refused-requires
 refused-requires c κs = search needs
 
 returns-2 : tie.Need-returns-2
-returns-2 c = rw (c .refused .ensures)
-    (λ f got t e. no-room f got t (c .before .before .before .before .before .args .room .now)
-    (c .before .before .if1 .left) (c .before .if2 .taken))
+returns-2 c =
+    let left = c .before .before in
+    rw (c .refused .ensures)
+    (λ f got t e. no-room f got t (left .before .before .before .before .args .room .now) (left .if1 .left)
+    (c .before .if2 .taken))
 
 store-requires : tie.Need-store-requires
 store-requires c κs = search needs
@@ -31,7 +33,7 @@ returns-3 c = rw (c .answered .ensures) (λ f got t e.
     let store = c .before .before .before in
     let branch = store .before .before in
     let clean = branch .before .if1 .left in
-    let a = branch .before .before .before .before .args in
+    let a = branch .before .before .before .before .before .args in
     stored f got t (a .room .now) clean (branch .if2 .left)
     (store .store .ensures ∙ in-room f got t (a .room .now) (a .numbers .now) clean (e clean)))
 

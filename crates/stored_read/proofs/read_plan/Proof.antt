@@ -1,30 +1,40 @@
--- `read_plan` meets its contract: what was read goes into the room.
+-- `read_plan` meets its contract: the plan in the first form, or in either.
+use mathlib.Core.Path.{sym, _∙_}
 use borrow.Author.Needs.{needs}
-use Rattle.plan_format.specs.Stored.{scanned, read-refusal, Read-says}
-use Rattle.stored_read.proofs.ReadRoom.{read-fits, both}
+use Rattle.stored_read.proofs.ReadRoom.{both}
 use Rattle.stored_read.proofs.read_plan.Statement.{statement}
 use Rattle.stored_read.proofs.read_plan.Tie as tie
 
-read-numbers-requires : tie.Need-read-numbers-requires
-read-numbers-requires c κs = search needs
+is-second-requires : tie.Need-is-second-requires
+is-second-requires c κs = search needs
 
-into-room-requires : tie.Need-into-room-requires
-into-room-requires c κs = read-fits (c .before .before .read-numbers .ensures .0)
+read-either-requires : tie.Need-read-either-requires
+read-either-requires c κs = search needs
 
 same-length : tie.Need-same-length
 same-length c = search needs
 
 returns : tie.Need-returns
-unfolding Read-says read-refusal
 returns c =
-    let stored = c .before .before in
-    let read = stored .before .before .before in
-    let known = read .before .before .before in
-    let s = known .before in
-    let bs = s .args .plan .now in
-    let n = read .read-numbers .ensures .0 in
-    both bs (known .shared-slice-known .given) _ _ _
-    (stored .into-room .ensures (scanned bs .fault) (scanned bs .got) (n .told) (n .numbers))
+    let read = c .before .before in
+    let branch = read .before .before in
+    let known = branch .before .before .before in
+    both (known .before .args .plan .now) (known .shared-slice-known .given) _ _ _ (read .read-either .ensures)
+
+read-first-requires : tie.Need-read-first-requires
+read-first-requires c κs = sym (c .before .before .is-second .ensures) ∙ c .before .if1 .left
+
+same-length-2 : tie.Need-same-length-2
+same-length-2 c = search needs
+
+returns-2 : tie.Need-returns-2
+returns-2 c =
+    let read = c .before .before in
+    let branch = read .before .before in
+    let known = branch .before .before .before in
+    both (known .before .args .plan .now) (known .shared-slice-known .given) _ _ _ (read .read-first .ensures)
 
 pub read-plan-spec : {M : Type 1} → statement M
-read-plan-spec = tie.close (tie.spec read-numbers-requires into-room-requires same-length returns)
+read-plan-spec =
+    tie.close
+    (tie.spec is-second-requires read-either-requires same-length returns read-first-requires same-length-2 returns-2)

@@ -10,6 +10,9 @@ use Rattle.stored_read.proofs.read_rest.Tie as tie
 read-rest-requires : tie.Need-read-rest-requires
 read-rest-requires c κs = search needs
 
+slice-aggregate-into-room : tie.Need-slice-aggregate-into-room
+slice-aggregate-into-room c = search needs
+
 into-room-requires : tie.Need-into-room-requires
 into-room-requires c κs =
     let read = c .before .before in
@@ -17,7 +20,7 @@ into-room-requires c κs =
     let fits = rest-fits (rest-scan (width-by (s .args .h .head .wide)) (s .args .plan .now) (s .args .at)
     (s .args .h .head) (s .args .h .numbers))
     (read .read-rest .result) _ (read .read-rest .ensures .0) (read .read-rest .ensures .1 .0) in
-    (read .read-rest .ensures .1 .1, fits)
+    (read .read-rest .ensures .1 .1 .0, fits)
 
 same-length : tie.Need-same-length
 same-length c = search needs
@@ -35,4 +38,6 @@ returns c =
     (λ _. rest-taken scan (read .read-rest .result) _ (told .0) (told .1 .0))
 
 pub read-rest-spec : {M : Type 1} → statement M
-read-rest-spec = tie.close (tie.spec read-rest-requires into-room-requires same-length returns)
+read-rest-spec =
+    tie.close
+    (tie.spec read-rest-requires slice-aggregate-into-room into-room-requires same-length returns)

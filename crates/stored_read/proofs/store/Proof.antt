@@ -23,8 +23,8 @@ loop-holds c = (omega arith, sym (front-none (c .args .numbers .now) (c .args .r
 mul-room : tie.Need-mul-room Inv-loop μ-loop
 mul-room c = search needs
 
-element-copy-out-room : tie.Need-element-copy-out-room Inv-loop μ-loop
-element-copy-out-room c = search needs
+shared-slice-read-room : tie.Need-shared-slice-read-room Inv-loop μ-loop
+shared-slice-read-room c = search needs
 
 mul-room-2 : tie.Need-mul-room-2 Inv-loop μ-loop
 mul-room-2 c = search needs
@@ -62,5 +62,5 @@ returns c =
 pub store-spec : {M : Type 1} → statement M
 store-spec =
     tie.close
-    (tie.spec Inv-loop μ-loop loop-holds mul-room element-copy-out-room mul-room-2 slice-write-room add-i loop-less
+    (tie.spec Inv-loop μ-loop loop-holds mul-room shared-slice-read-room mul-room-2 slice-write-room add-i loop-less
     loop-again same-length returns)

@@ -6,8 +6,8 @@ use borrow.Author.Needs.{needs}
 use Rattle.plan_format.specs.Form.{list-by}
 use Rattle.plan_format.specs.Sections.{most-in, least-in, lists-below}
 use Rattle.stored_bytes.specs.Writing.{Writes}
-use Rattle.stored_bytes.proofs.Lists.{bytes-in, lists-room, waits-first, signals-later, lists-none, lists-more}
-use Rattle.stored_bytes.proofs.Lists.{lists-both}
+use Rattle.plan_format.proofs.Repeats.{waits-first, signals-later}
+use Rattle.stored_bytes.proofs.Lists.{bytes-in, lists-room, lists-none, lists-more, lists-both}
 use Rattle.stored_bytes.proofs.operation.waits_and_signals.Statement.{statement}
 use Rattle.stored_bytes.proofs.operation.waits_and_signals.Tie as tie
 

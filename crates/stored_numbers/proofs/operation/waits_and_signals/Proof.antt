@@ -6,8 +6,8 @@ use borrow.Author.Needs.{needs}
 use Rattle.plan_format.specs.Form.{width-by}
 use Rattle.plan_format.specs.Sections.{most-in, least-in, lists-below}
 use Rattle.stored_numbers.specs.Reading.{Reads-on}
-use Rattle.stored_numbers.proofs.Lists.{numbers-in, lists-room, waits-first, signals-later, lists-none}
-use Rattle.stored_numbers.proofs.Lists.{lists-more, lists-both}
+use Rattle.plan_format.proofs.Repeats.{waits-first, signals-later}
+use Rattle.stored_numbers.proofs.Lists.{numbers-in, lists-room, lists-none, lists-more, lists-both}
 use Rattle.stored_numbers.proofs.operation.waits_and_signals.Statement.{statement}
 use Rattle.stored_numbers.proofs.operation.waits_and_signals.Tie as tie
 
