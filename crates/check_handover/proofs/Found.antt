@@ -5,7 +5,7 @@ use mathlib.Core.Logic.{_⊎_, inl, inr}
 use mathlib.Core.List.{List, [], _∷_, List·Memᴰ, List·Memᴰ·head, List·Memᴰ·tail, List·Memᴰ·not-nil}
 use mathlib.Core.List.{List·Memᴰ·cases-cons, List·Memᴰ·append-cases, Memᴰ·append-left, Memᴰ·append-right}
 use mathlib.Core.Option.{Option, none, some}
-use Prim.Native.Nat.{ℕ, suc, _%_, _≤_, _<_, min}
+use Prim.Native.Nat.{ℕ, suc, _%_, _≤_, _<_}
 use native.Mathlib.Omega.{arith}
 use lib.Dec.{leb, eqb}
 use lib.ListN.{length, getD, set, drop, replicate, length-set, length-replicate, getD-replicate}
@@ -23,11 +23,10 @@ use Rattle.plan_order.specs.Holdings.{Ask, met}
 use Rattle.plan_order.specs.Handovers.{last-signaller, handover, handovers-from, handovers, disordered}
 use Rattle.plan_order.proofs.SignalPlaces.{signal, Sooner, sooner-low, signal-there, plan-rising}
 use Rattle.plan_order.proofs.Handovers.{disordered-some, disordered-none, handover-inside}
+use Rattle.plan_order.proofs.OnlyOwners.{in-turn}
 use Rattle.check_columns.proofs.Ordered.{ordered-right}
-use Rattle.check_handover.specs.Walk.{none-yet, held, owned-from, by-owners, unturned, turn-walk, turns-found}
-use Rattle.check_handover.specs.Walk.{first-unturned}
+use Rattle.check_handover.specs.Walk.{none-yet, held, unturned, turn-walk, turns-found, first-unturned}
 use Rattle.check_handover.specs.Given.{Handovers-given}
-use Rattle.check_handover.proofs.Owners.{none-out}
 
 -- ---- the same walk over signals, with the table as a function of what was signalled before
 module _ (out : (g i : ℕ) → Bool) where
@@ -75,8 +74,8 @@ shows-more semaphores table bs x l w = record {
 }
 
 -- ---- the walk over the columns is the walk over the signals
-module _ (p : Plan) (n semaphores signals : ℕ) (owner queue ssem sop rows : List ℕ)
-    (c : Handovers-given p n semaphores signals owner queue ssem sop rows) where
+module _ (p : Plan) (n semaphores signals : ℕ) (owned : Bool) (queue ssem sop rows : List ℕ)
+    (c : Handovers-given p n semaphores signals owned queue ssem sop rows) where
   abbrev out : (g i : ℕ) → Bool
   out g i = not (at-or-before p g i)
 
@@ -238,18 +237,18 @@ module _ (p : Plan) where
       (λ w. by-cases (leb i r) (λ t. omega (arith, leb-true i r t))
       (λ f. clash (met forced (w .0)) (s .1 (w .0) (w .1) (omega (arith, w .3, leb-false i r f))) (w .2)))))
 
-pub unturned-found : (p : Plan) (n semaphores signals : ℕ) (owner queue ssem sop rows : List ℕ) →
-    Handovers-given p n semaphores signals owner queue ssem sop rows →
-    first-unturned queue rows ssem sop owner n semaphores signals ≡ place-or n (disordered p)
-unfolding first-unturned turns-found by-owners place-or
-unturned-found p n semaphores signals owner queue ssem sop rows c =
+pub unturned-found : (p : Plan) (n semaphores signals : ℕ) (owned : Bool) (queue ssem sop rows : List ℕ) →
+    Handovers-given p n semaphores signals owned queue ssem sop rows →
+    first-unturned queue rows ssem sop owned n semaphores signals ≡ place-or n (disordered p)
+unfolding first-unturned turns-found place-or
+unturned-found p n semaphores signals owned queue ssem sop rows c =
     let all : held signals ssem sop ≡ length (plan-signals p) =
     omega (arith, c .signals-shown .semaphore-room, c .signals-shown .operation-room, c .signals-shown .all) in
-    by-cases (owned-from owner queue ssem sop (length (plan-signals p)) 0)
-    (λ t. rw (all, t, none-out p n semaphores signals owner queue ssem sop rows c t) refl)
+    by-cases owned
+    (λ t. rw (t, in-turn p (c .only-owners t)) refl)
     (λ f. rw (all, f, ← c .many)
-    (walked p (count p) semaphores signals owner queue ssem sop rows
-    (subst (λ (z : ℕ). Handovers-given p z semaphores signals owner queue ssem sop rows) (sym (c .many)) c) 0
+    (walked p (count p) semaphores signals owned queue ssem sop rows
+    (subst (λ (z : ℕ). Handovers-given p z semaphores signals owned queue ssem sop rows) (sym (c .many)) c) 0
     (none-yet semaphores) [] (plan-signals p) refl (λ y m. m) (λ y m. absurd (List·Memᴰ·not-nil m))
     (shows-none semaphores (c .few-semaphores))
     ∙ lowest-out p))
@@ -265,16 +264,14 @@ pub none-many : (semaphores : ℕ) → first-semaphores < semaphores →
 unfolding none-yet
 none-many semaphores many = rw (lt-leb semaphores first-semaphores many)
 
--- what is found: none where only owners signal, else by the walk from those places
-pub owners-is : (queue rows ssem sop owner : List ℕ) (n semaphores signals : ℕ) {t : Bool} →
-    t ≡ by-owners owner queue ssem sop signals → t ≡ true →
-    n ≡ first-unturned queue rows ssem sop owner n semaphores signals
-unfolding first-unturned
-owners-is queue rows ssem sop owner n semaphores signals e h = rw (← e, h) refl
+-- what is found: none where only owners are said to signal, else by the walk from those places
+module _ (queue rows ssem sop : List ℕ) (n semaphores signals : ℕ) {owned : Bool} where
+  pub owners-is : owned ≡ true → n ≡ first-unturned queue rows ssem sop owned n semaphores signals
+  unfolding first-unturned
+  owners-is h = rw h refl
 
-pub walk-is : (queue rows ssem sop owner : List ℕ) (n semaphores signals : ℕ) {t : Bool} {last : List ℕ} {r : ℕ} →
-    t ≡ by-owners owner queue ssem sop signals → t ≡ false →
-    last ≡ none-yet semaphores → r ≡ turns-found queue rows ssem sop n signals last →
-    r ≡ first-unturned queue rows ssem sop owner n semaphores signals
-unfolding first-unturned
-walk-is queue rows ssem sop owner n semaphores signals b f e h = rw (← b, f) (h ∙ rw e)
+  pub walk-is : {last : List ℕ} {r : ℕ} → owned ≡ false → last ≡ none-yet semaphores →
+      r ≡ turns-found queue rows ssem sop n signals last →
+      r ≡ first-unturned queue rows ssem sop owned n semaphores signals
+  unfolding first-unturned
+  walk-is f e h = rw f (h ∙ rw e)

@@ -1,9 +1,9 @@
 -- R93, R94: the first signal out of turn as a walk over the columns, with a table by semaphore of the operation that
 -- signalled it last. Assumes nothing: these are definitions.
-use mathlib.Core.Bool.{Bool, true, _&&_, not, cond}
+use mathlib.Core.Bool.{Bool, _&&_, not, cond}
 use mathlib.Core.List.{List}
 use Prim.Native.Nat.{ℕ, zero, suc, _%_, min}
-use lib.Dec.{ltb, leb, eqb}
+use lib.Dec.{ltb, leb}
 use lib.ListN.{length, getD, set, replicate}
 use Rattle.plan_format.specs.Sizes.{most-semaphores, first-semaphores, most-operations, no-operation}
 use Rattle.check_columns.specs.Shown.{ordered}
@@ -16,19 +16,6 @@ none-yet semaphores = replicate (cond (leb semaphores first-semaphores) first-se
 -- how many of the signals both columns hold
 abbrev pub held : (signals : ℕ) → (ssem sop : List ℕ) → ℕ
 held signals ssem sop = min signals (min (length ssem) (length sop))
-
--- each of `left` signals from k on is by the queue that owns its semaphore, so that the order of that queue has them in
--- turn
-module _ (owner queue ssem sop : List ℕ) where
-  unfoldable pub owned : (k : ℕ) → Bool
-  owned k = eqb (getD owner (getD ssem k 0) 0) (getD queue (getD sop k 0) 0)
-
-  unfoldable pub owned-from : (left k : ℕ) → Bool
-  owned-from zero k = true
-  owned-from (suc left) k = owned k && owned-from left (suc k)
-
-  unfoldable pub by-owners : (signals : ℕ) → Bool
-  by-owners signals = owned-from (held signals ssem sop) 0
 
 module _ (queue rows : List ℕ) where
   -- operation i is neither g nor after g
@@ -48,7 +35,6 @@ module _ (queue rows : List ℕ) where
     unfoldable pub turns-found : (n signals : ℕ) → (last : List ℕ) → ℕ
     turns-found n signals last = turn-walk n (held signals ssem sop) 0 last
 
-    -- none where only owners signal, without a look at the rows
-    unfoldable pub first-unturned : (owner : List ℕ) → (n semaphores signals : ℕ) → ℕ
-    first-unturned owner n semaphores signals =
-        cond (by-owners owner queue ssem sop signals) n (turns-found n signals (none-yet semaphores))
+    -- none where each signal is said to be by the queue that owns its semaphore, without a look at the rows
+    unfoldable pub first-unturned : (owned : Bool) → (n semaphores signals : ℕ) → ℕ
+    first-unturned owned n semaphores signals = cond owned n (turns-found n signals (none-yet semaphores))

@@ -1,6 +1,6 @@
-// R93 and R94, refusal 17: signals out of turn. There is none where only owners signal. Else one loop goes over the
-// signals in plan order, with the last signaller of each semaphore; its row and that of the signal's operation tell
-// whether it is the same or before.
+// R93 and R94, refusal 17: signals out of turn. There is none where only owners signal, as the pass for 7 tells. Else
+// one loop goes over the signals in plan order, with the last signaller of each semaphore; its row and that of the
+// signal's operation tell whether it is the same or before.
 use check_columns::QueueColumn;
 use check_columns::Rows;
 use plan_format::limits::FIRST_SEMAPHORES;
@@ -10,38 +10,36 @@ use plan_format::limits::NO_OPERATION;
 use plan_format::limits::NO_OPERATION_STORED;
 use plan_format::limits::ROW_WIDTH;
 ghost use mathlib.Core.Path.{_≡_};
-ghost use mathlib.Core.Bool.{_&&_};
 ghost use Prim.Native.Nat.{_<_};
 ghost use Rattle.base_lists.specs.Lists.{place-or};
 ghost use Rattle.plan_format.specs.Sizes.{most-operations};
 ghost use Rattle.plan_format.specs.Plan.{Plan};
 ghost use Rattle.plan_order.specs.Handovers.{disordered as out-of-turn};
 ghost use Rattle.check_handover.specs.Given.{Handovers-given};
-ghost use Rattle.check_handover.specs.Walk.{unturned as is-unturned, turns-found, first-unturned};
-ghost use Rattle.check_handover.specs.Walk.{held as held-in, by-owners, owned as is-owned};
+ghost use Rattle.check_handover.specs.Walk.{held as held-in, unturned as is-unturned, turns-found};
+ghost use Rattle.check_handover.specs.Walk.{first-unturned};
 
-// The operation of the first signal that is neither in nor after the operation of the signal before it on its
-// semaphore; n where there is none. Of the signals only those count that both columns hold. By the columns of a plan it
-// is the lowest operation with a signal out of turn. Where only owners signal there is none, and no row is looked at.
-// The last signallers have places for 64 semaphores, or for all that a plan can have where it has more; past them
-// operation 0 counts as the last one.
+// n where only owners are said to signal, and no row is looked at. Else the operation of the first signal that is
+// neither in nor after the operation of the signal before it on its semaphore; n where there is none. Of the signals
+// only those count that both columns hold. By the columns of a plan, where what is said of owners is so, it is the
+// lowest operation with a signal out of turn. The last signallers have places for 64 semaphores, or for all that a plan
+// can have where it has more; past them operation 0 counts as the last one.
 pub fn disordered(
     n: u16,
     semaphores: usize,
     signals: usize,
-    owner: &[u64],
+    owned: bool,
     queue: &QueueColumn,
     ssem: &[u16],
     sop: &[u16],
     rows: &Rows,
 ) -> usize
     ensures found { λ r. ⌜ r ≡ first-unturned (now (queue .entry)) (now (rows .entry)) (now (ssem .entry))
-        (now (sop .entry)) (now (owner .entry)) n semaphores signals ⌝ }
-    ensures of_plans { λ r. ⌜ ((p : Plan) → Handovers-given p n semaphores signals (now (owner .entry))
-        (now (queue .entry)) (now (ssem .entry)) (now (sop .entry)) (now (rows .entry)) →
-        r ≡ place-or n (out-of-turn p)) ⌝ }
+        (now (sop .entry)) owned n semaphores signals ⌝ }
+    ensures of_plans { λ r. ⌜ ((p : Plan) → Handovers-given p n semaphores signals owned (now (queue .entry))
+        (now (ssem .entry)) (now (sop .entry)) (now (rows .entry)) → r ≡ place-or n (out-of-turn p)) ⌝ }
 {
-    if only_owners(signals, owner, queue, ssem, sop) {
+    if owned {
         return n as usize;
     }
     if semaphores <= FIRST_SEMAPHORES {
@@ -85,46 +83,6 @@ fn held(signals: usize, ssem: &[u16], sop: &[u16]) -> usize
     ensures { λ r. ⌜ r ≡ held-in signals (now (ssem .entry)) (now (sop .entry)) ⌝ }
 {
     base_numbers::min_usize(signals, base_numbers::min_usize(ssem.len(), sop.len()))
-}
-
-// Whether each signal is by the queue that owns its semaphore. No branch depends on what is found, so that a turn costs
-// little.
-fn only_owners(
-    signals: usize,
-    owner: &[u64],
-    queue: &QueueColumn,
-    ssem: &[u16],
-    sop: &[u16],
-) -> bool
-    ensures { λ r. ⌜ r ≡ by-owners (now (owner .entry)) (now (queue .entry)) (now (ssem .entry)) (now (sop .entry))
-        signals ⌝ }
-{
-    let many = held(signals, ssem, sop);
-    let mut all = true;
-    let mut at: usize = 0;
-    while at < many {
-        let own = owned(owner, queue, ssem, sop, at);
-        all = both(all, own);
-        at += 1;
-    }
-    all
-}
-
-// Whether a signal is by the queue that owns its semaphore.
-fn owned(owner: &[u64], queue: &QueueColumn, ssem: &[u16], sop: &[u16], k: usize) -> bool
-    ensures { λ r. ⌜ r ≡ is-owned (now (owner .entry)) (now (queue .entry)) (now (ssem .entry)) (now (sop .entry))
-        k ⌝ }
-{
-    let s = base_slices::get16(ssem, k);
-    let i = base_slices::get16(sop, k);
-    let by = base_slices::get16(queue, i);
-    base_slices::get64(owner, s) == by as u64
-}
-
-fn both(a: bool, b: bool) -> bool
-    ensures { λ r. ⌜ r ≡ (a && b) ⌝ }
-{
-    if a { b } else { false }
 }
 
 // Whether g is neither i nor before i, by their rows in the column of g's queue; 1,024 stands for none.

@@ -18,6 +18,7 @@ use Rattle.plan_format.specs.declared.Told.{Told}
 use Rattle.plan_format.proofs.Telling.{told, tells}
 use Rattle.plan_format.proofs.Judged.{zero-not-given, other-given, not-given-zero, or-else-first, or-else-second}
 use Rattle.check_signals.specs.Walks.{signals-found, lasts-found}
+use Rattle.check_signals.proofs.Told.{refused-alike, passed-with, answer-told}
 use Rattle.check_waits.specs.Waits.{waits-found, Sources}
 use Rattle.check_run.specs.Run.{Bounded}
 use Rattle.check_run.proofs.Bounds.{run-past}
@@ -29,19 +30,21 @@ use Rattle.check_passes.specs.Answering.{broken-by, order-by, Run-judged
 use Rattle.check_passes.specs.Leaving.{Results-room, Results-left}
 use Rattle.check_passes.proofs.Inside.{order-inside}
 
--- ---- the first of two that is given
-pub first-only : {a : Refusal} (b : Refusal) {r : Told} → Tells a 0 r → (r .number ≡ 0 → ⊥) → Tells (or-else a b) 0 r
-first-only {a} b {r} h z =
-    subst (λ (f : Refusal). Tells f 0 r) (sym (or-else-first a b (other-given a (λ e. z (h .number ∙ e))))) h
+-- ---- the first of two that is given, whatever would be answered without it
+pub first-only : {a : Refusal} (b : Refusal) {x y : ℕ} {r : Told} → Tells a x r → (r .number ≡ 0 → ⊥) →
+    Tells (or-else a b) y r
+first-only {a} b {x} {y} {r} h z =
+    subst (λ (f : Refusal). Tells f y r) (sym (or-else-first a b (other-given a (λ e. z (h .number ∙ e)))))
+    (refused-alike h z)
 
 -- ---- 7 and 8
-module _ (n semaphores signals : ℕ) (wsem wval ssem sval sop : List ℕ) {r : Told}
-    (first : Tells (signals-found semaphores signals ssem sval sop (zeros semaphores)) 0 r) where
+module _ (n semaphores signals : ℕ) (wsem wval ssem sval sop : List ℕ) {answer : ℕ} {r : Told}
+    (first : Tells (signals-found semaphores signals ssem sval sop (zeros semaphores)) answer r) where
   module _ (z : r .number ≡ 0 → ⊥) where
     stops : given (signals-found semaphores signals ssem sval sop (zeros semaphores)) ≡ true
     stops = other-given _ (λ e. z (first .number ∙ e))
 
-    pub rules-first : Tells (rules-by n semaphores signals wsem wval ssem sval sop) 0 r
+    pub rules-first : Tells (rules-by n semaphores signals wsem wval ssem sval sop) answer r
     unfolding rules-by
     rules-first = first-only _ first z
 
@@ -58,12 +61,19 @@ module _ (n semaphores signals : ℕ) (wsem wval ssem sval sop : List ℕ) {r : 
     none : signals-found semaphores signals ssem sval sop (zeros semaphores) .number ≡ 0
     none = sym (first .number) ∙ z
 
-    pub rules-second : Tells (rules-by n semaphores signals wsem wval ssem sval sop) 0 t
+    second : Tells (rules-by n semaphores signals wsem wval ssem sval sop) 0 t
     unfolding rules-by
-    rules-second =
+    second =
         subst (λ (f : Refusal). Tells f 0 t)
         (sym (or-else-second _ _ none
         ∙ ap (λ (x : List ℕ). waits-found n semaphores signals ssem sval sop wsem wval x) (sym l))) h
+
+    pub rules-second : (t .number ≡ 0 → ⊥) → Tells (rules-by n semaphores signals wsem wval ssem sval sop) answer t
+    rules-second refused = refused-alike second refused
+
+    pub rules-neither : t .number ≡ 0 → Tells (rules-by n semaphores signals wsem wval ssem sval sop) answer
+        (record { number = t .number; place = t .place; answer = r .answer })
+    rules-neither passed = passed-with second passed (answer-told first z)
 
     pub sources-resolved : {source : List ℕ} → Sources n semaphores signals (t .number) ssem sval sop wsem wval source →
         Sources-by n semaphores signals wsem wval ssem sval sop source
@@ -82,7 +92,7 @@ module _ (n ran : ℕ) (cs : Order-columns) (rows : List ℕ) where
   order-stuck l e = tells (rw (lt-ltb ran n l) (ap (λ (k : ℕ). refusal 10 k) (sym e)))
 
   module _ {u : ℕ} (all : n ≤ ran)
-      (out : u ≡ first-unturned (cs .queue) rows (cs .signal-semaphore) (cs .signal-operation) (cs .owner) n
+      (out : u ≡ first-unturned (cs .queue) rows (cs .signal-semaphore) (cs .signal-operation) (cs .owned) n
       (cs .semaphores) (cs .signals)) where
     pub order-disordered : u < n → Tells (order-by n cs ran rows) 0 (told 17 u)
     unfolding order-by disordered-by
@@ -165,9 +175,9 @@ module _ {first : Refusal} {n : ℕ} {cs : Order-columns} {t l : List ℕ} {r : 
   }
 
 -- the first of two that is given
-pub first-then : {a : Refusal} (b : Refusal) {n : ℕ} {cs : Order-columns} {t t′ l l′ : List ℕ} {s r : Told} →
-    Tells a 0 s → s .number ≡ 0 → Answers-by b n cs r t t′ l l′ →
+pub first-then : {a : Refusal} (b : Refusal) {n answer : ℕ} {cs : Order-columns} {t t′ l l′ : List ℕ} {s r : Told} →
+    Tells a answer s → s .number ≡ 0 → Answers-by b n cs r t t′ l l′ →
     Answers-by (or-else a b) n cs r t t′ l l′
-first-then {a} b {n} {cs} {t} {t′} {l} {l′} {s} {r} h z x =
+first-then {a} b {n} {cs = cs} {t} {t′} {l} {l′} {s} {r} h z x =
     subst (λ (f : Refusal). Answers-by f n cs r t t′ l l′)
     (sym (or-else-second a b (sym (h .number) ∙ z))) x

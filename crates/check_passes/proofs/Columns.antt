@@ -1,13 +1,16 @@
 -- What the passes are given: the columns of a plan within the limits, then ruled and resolved. Assumes nothing.
-use mathlib.Core.Path.{_≡_, sym, _∙_, subst}
+use mathlib.Core.Path.{_≡_, refl, sym, ap, _∙_, subst}
+use mathlib.Core.Bool.{Bool, true, false, cond}
 use mathlib.Core.List.{List}
 use Prim.Native.Nat.{ℕ, _≤_, _<_}
 use native.Mathlib.Omega.{arith}
-use lib.Dec.{leb}
+use lib.Dec.{leb, eqb}
 use lib.ListN.{length, replicate, length-replicate}
 use borrow.Author.Tests.{le-leb, leb-true, lt-leb}
 use Rattle.base_lists.proofs.Tests.{by-cases}
 use Rattle.plan_format.specs.Sizes.{most-operations, most-semaphores, first-semaphores}
+use Rattle.plan_format.specs.Refusal.{Refusal}
+use Rattle.plan_format.specs.Stored.{Tells}
 use Rattle.plan_format.specs.Plan.{Plan}
 use Rattle.plan_format.specs.Sound.{Sound}
 use Rattle.plan_format.specs.declared.Told.{Told}
@@ -17,6 +20,7 @@ use Rattle.plan_order.specs.Runs.{standard}
 use Rattle.check_columns.specs.Columns.{Columns}
 use Rattle.check_columns.proofs.Limits.{few-operations}
 use Rattle.check_signals.specs.Walks.{Signals-given, Judged}
+use Rattle.check_signals.proofs.Told.{answer-told}
 use Rattle.check_waits.specs.Waits.{Waits-given}
 use Rattle.check_run.specs.Run.{Run-given, Rows-of}
 use Rattle.check_passes.specs.Answering.{zeros, Order-columns, order-columns}
@@ -39,13 +43,15 @@ zeros-long semaphores e few = by-cases (leb semaphores first-semaphores)
     (λ t. rw t (omega (arith, leb-true semaphores first-semaphores t, length-replicate {A = ℕ} first-semaphores 0)))
     (λ f. rw f (omega (arith, length-replicate {A = ℕ} most-semaphores 0)))
 
-module _ {p : Plan} {n semaphores signals : ℕ} {wsem wval ssem sval sop : List ℕ}
-    (g : Rules-given p n semaphores signals wsem wval ssem sval sop) where
-  pub signals-given : Signals-given p semaphores signals ssem sval sop (zeros semaphores)
+module _ {p : Plan} {n semaphores signals : ℕ} {owner queue wsem wval ssem sval sop : List ℕ}
+    (g : Rules-given p n semaphores signals owner queue wsem wval ssem sval sop) where
+  pub signals-given : Signals-given p semaphores signals owner queue ssem sval sop (zeros semaphores)
   signals-given = record {
     own-semaphores = g .own-semaphores;
     room = zeros-long semaphores (g .own-semaphores) (g .limits .few-semaphores);
     in-range = in-range (g .limits);
+    owners-shown = g .owners-shown;
+    queues-shown = g .queues-shown;
     signals-shown = g .signals-shown;
   }
 
@@ -65,29 +71,39 @@ module _ {p : Plan} {n semaphores signals : ℕ} {wsem wval ssem sval sop : List
   }
 
 -- ---- the whole check
+-- an answer of 1 or 0 as yes or no
+is-one : (b : Bool) → eqb (cond b 1 0) 1 ≡ b
+is-one true = refl
+is-one false = refl
+
+pub owned-told : {f : Refusal} {b : Bool} {r : Told} → Tells f (cond b 1 0) r → r .number ≡ 0 → eqb (r .answer) 1 ≡ b
+owned-told {b = b} h z = ap (λ (k : ℕ). eqb k 1) (answer-told h z) ∙ is-one b
+
 module _ {p : Plan} {n semaphores signals marks : ℕ} {owner : List ℕ} {cs : Columns}
     (g : Check-given p n semaphores signals marks owner cs) where
-  pub rules-given : Rules-given p n semaphores signals (cs .wait-semaphore) (cs .wait-value)
+  pub rules-given : Rules-given p n semaphores signals owner (cs .queue) (cs .wait-semaphore) (cs .wait-value)
       (cs .signal-semaphore) (cs .signal-value) (cs .signal-operation)
   rules-given = record {
     limits = g .limits;
     many = g .many;
     own-semaphores = g .own-semaphores;
+    owners-shown = g .owners-shown;
+    queues-shown = g .shown .queues-shown;
     waits-shown = g .shown .waits-shown;
     signals-shown = g .shown .signals-shown;
   }
 
   pub order-given : {t : Told} {source : List ℕ} → Ruled p t source → t .number ≡ 0 →
-      Order-given p n source (order-columns semaphores signals marks owner (cs .queue) (cs .signal-semaphore)
-      (cs .signal-operation) (cs .mark) (cs .mark-operation))
-  order-given ruled z = record {
+      Order-given p n source (order-columns semaphores signals marks (eqb (t .answer) 1) (cs .queue)
+      (cs .signal-semaphore) (cs .signal-operation) (cs .mark) (cs .mark-operation))
+  order-given {t} ruled z = record {
     limits = g .limits;
     rules = sym (ruled .told .number) ∙ z;
     many = g .many;
     sources-shown = ruled .sources-shown z;
     shown = record {
       own-semaphores = g .own-semaphores;
-      owners-shown = g .owners-shown;
+      only-owners = λ e. ruled .owned-means .0 (sym (owned-told (ruled .told) z) ∙ e);
       queues-shown = g .shown .queues-shown;
       values = cs .signal-value;
       signals-shown = g .shown .signals-shown;

@@ -84,14 +84,14 @@ module _ {p : Plan} {n ran : ℕ} {cs : Order-columns} {rows-now : List ℕ}
     none-missed : _≡_ {A = Option ℕ} (missing p) none
     none-missed = none-missing p (shown .sound) whole
 
-    pub handovers-given : Handovers-given p n (cs .semaphores) (cs .signals) (cs .owner) (cs .queue)
+    pub handovers-given : Handovers-given p n (cs .semaphores) (cs .signals) (cs .owned) (cs .queue)
         (cs .signal-semaphore) (cs .signal-operation) rows-now
     handovers-given = record {
       sound = shown .sound;
       many = shown .many;
       own-semaphores = shown .shown .own-semaphores;
       few-semaphores = subst (λ (k : ℕ). k ≤ most-semaphores) (shown .shown .own-semaphores) (shown .few-semaphores);
-      owners-shown = shown .shown .owners-shown;
+      only-owners = shown .shown .only-owners;
       queues-shown = shown .shown .queues-shown;
       values = shown .shown .values;
       signals-shown = shown .shown .signals-shown;

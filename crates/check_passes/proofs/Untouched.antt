@@ -1,5 +1,6 @@
 -- Refusals 7 to 9 as answers of the check: table and list untouched. Assumes nothing.
 use mathlib.Core.Path.{_≡_, refl, sym, ap, _∙_, subst}
+use mathlib.Core.Bool.{cond}
 use mathlib.Core.List.{List}
 use Prim.Native.Nat.{ℕ, _*_, _≤_, _<_}
 use lib.ListN.{length}
@@ -16,6 +17,7 @@ use Rattle.plan_format.proofs.RoomMeaning.{room-for-none}
 use Rattle.plan_order.specs.Check.{room-refusal, Outcome, untouched, outcome, or-then, plan-outcome, table-left}
 use Rattle.plan_order.specs.Check.{list-left, left-in, Says, Plan-check-says}
 use Rattle.check_signals.specs.Walks.{Judged}
+use Rattle.check_signals.proofs.Told.{refused-alike, passed-with, answer-told}
 use Rattle.check_waits.specs.Waits.{Resolved}
 use Rattle.check_waits.proofs.Rules.{seven-first, then-eight}
 use Rattle.check_passes.specs.Given.{Ruled}
@@ -24,17 +26,35 @@ use Rattle.check_passes.specs.Given.{Ruled}
 module _ {p : Plan} {r : Told} {last : List ℕ} (judged : Judged p r last) {source : List ℕ} where
   pub seven : (r .number ≡ 0 → ⊥) → Ruled p r source
   seven z = record {
-    told = subst (λ (f : Refusal). Tells f 0 r) (sym (seven-first p (λ e. z (judged .told .number ∙ e))))
-        (judged .told);
+    owned = judged .owned;
+    owned-means = judged .owned-means;
+    told = subst (λ (f : Refusal). Tells f (cond (judged .owned) 1 0) r)
+        (sym (seven-first p (λ e. z (judged .told .number ∙ e)))) (judged .told);
     sources-shown = λ e. absurd (z e);
   }
 
-  pub eight : {w : Told} → r .number ≡ 0 → w .answer ≡ 0 → Resolved p w source → Ruled p w source
-  eight {w} z none resolved = record {
-    told = subst (λ (f : Refusal). Tells f 0 w) (sym (then-eight p (sym (judged .told .number) ∙ z)))
-        (tells-answerless none (resolved .number) (resolved .place));
-    sources-shown = resolved .sources-shown;
-  }
+  module _ {w : Told} (z : r .number ≡ 0) (none : w .answer ≡ 0) (resolved : Resolved p w source) where
+    then-told : Tells (rules-refusal p) 0 w
+    then-told =
+        subst (λ (f : Refusal). Tells f 0 w) (sym (then-eight p (sym (judged .told .number) ∙ z)))
+        (tells-answerless none (resolved .number) (resolved .place))
+
+    pub eight : (w .number ≡ 0 → ⊥) → Ruled p w source
+    eight refused = record {
+      owned = judged .owned;
+      owned-means = judged .owned-means;
+      told = refused-alike then-told refused;
+      sources-shown = resolved .sources-shown;
+    }
+
+    pub neither : w .number ≡ 0 →
+        Ruled p (record { number = w .number; place = w .place; answer = r .answer }) source
+    neither passed = record {
+      owned = judged .owned;
+      owned-means = judged .owned-means;
+      told = passed-with then-told passed (answer-told (judged .told) z);
+      sources-shown = resolved .sources-shown;
+    }
 
 -- ---- table and list untouched
 module _ (p : Plan) (r : Told) (t l : List ℕ) where

@@ -1,7 +1,7 @@
 -- R54 to R56: what the check answers and leaves by its columns alone, whether they show a plan or not; only the order
 -- of the run and its rows are unspecified. Assumes nothing: these are definitions.
 use mathlib.Core.Path.{_≡_}
-use mathlib.Core.Bool.{true, false, _||_, cond}
+use mathlib.Core.Bool.{Bool, true, false, _||_, cond}
 use mathlib.Core.List.{List}
 use Prim.Native.Nat.{ℕ, _*_, _<_}
 use lib.Dec.{ltb, leb}
@@ -39,26 +39,27 @@ pub record Sources-by (n semaphores signals : ℕ) (wsem wval ssem sval sop sour
       (waits-found n semaphores signals ssem sval sop wsem wval
       (lasts-found semaphores signals ssem sval sop (zeros semaphores)) .number) ssem sval sop wsem wval source
 
--- what the passes over the order read beside the rows: how many semaphores, signals and marks there are, the owner of
--- each semaphore, the queue of each operation, the semaphore and the operation of each signal, the code and the
--- operation of each mark
+-- what the passes over the order read beside the rows: how many semaphores, signals and marks there are, whether each
+-- signal is by the queue that owns its semaphore, the queue of each operation, the semaphore and the operation of each
+-- signal, the code and the operation of each mark
 pub record Order-columns : Type 0 where
   pub semaphores : ℕ
   pub signals : ℕ
   pub marks : ℕ
-  pub owner : List ℕ
+  pub owned : Bool
   pub queue : List ℕ
   pub signal-semaphore : List ℕ
   pub signal-operation : List ℕ
   pub mark : List ℕ
   pub mark-operation : List ℕ
 
-abbrev pub order-columns : (semaphores signals marks : ℕ) → (owner queue ssem sop mark mop : List ℕ) → Order-columns
-order-columns semaphores signals marks owner queue ssem sop mark mop = record {
+abbrev pub order-columns : (semaphores signals marks : ℕ) → (owned : Bool) → (queue ssem sop mark mop : List ℕ) →
+    Order-columns
+order-columns semaphores signals marks owned queue ssem sop mark mop = record {
   semaphores = semaphores;
   signals = signals;
   marks = marks;
-  owner = owner;
+  owned = owned;
   queue = queue;
   signal-semaphore = ssem;
   signal-operation = sop;
@@ -70,7 +71,7 @@ module _ (n : ℕ) (cs : Order-columns) where
   -- the operation that 17 names, and the one that 11 names, by the rows; not below n where there is none
   unfoldable pub disordered-by : (rows : List ℕ) → ℕ
   disordered-by rows =
-      first-unturned (cs .queue) rows (cs .signal-semaphore) (cs .signal-operation) (cs .owner) n (cs .semaphores)
+      first-unturned (cs .queue) rows (cs .signal-semaphore) (cs .signal-operation) (cs .owned) n (cs .semaphores)
       (cs .signals)
 
   unfoldable pub broken-by : (rows : List ℕ) → ℕ

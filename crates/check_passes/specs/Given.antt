@@ -1,5 +1,7 @@
 -- What the parts of the check are given of a plan, and what they hand on. Assumes nothing: these are definitions.
 use mathlib.Core.Path.{_≡_}
+use mathlib.Core.Bool.{Bool, true, cond}
+use mathlib.Core.Logic.{_↔_}
 use mathlib.Core.List.{List}
 use Prim.Native.Nat.{ℕ, _≤_}
 use lib.ListN.{length}
@@ -9,6 +11,7 @@ use Rattle.plan_format.specs.Plan.{Plan, count}
 use Rattle.plan_format.specs.Sound.{Sound, rules-refusal}
 use Rattle.plan_format.specs.Stored.{Tells}
 use Rattle.plan_format.specs.declared.Told.{Told}
+use Rattle.plan_order.specs.OnlyOwners.{Only-owners}
 use Rattle.plan_order.specs.Runs.{standard}
 use Rattle.check_columns.specs.Columns.{Columns, Owner-column, Queue-column, Wait-columns, Signal-columns, Mark-columns}
 use Rattle.check_columns.specs.Columns.{Source-column}
@@ -16,10 +19,10 @@ use Rattle.check_columns.specs.Shown.{Columns-of}
 use Rattle.check_run.specs.Run.{Rows-of}
 use Rattle.check_passes.specs.Answering.{Order-columns}
 
--- a plan's owners, queues, signals and marks as the passes over its order read them
+-- a plan's queues, signals and marks as the passes over its order read them; and only owners signal where that is said
 pub record Order-shown (p : Plan) (cs : Order-columns) : Type 0 where
   pub own-semaphores : length (p .owners) ≡ cs .semaphores
-  pub owners-shown : Owner-column p (cs .owner)
+  pub only-owners : cs .owned ≡ true → Only-owners p
   pub queues-shown : Queue-column p (cs .queue)
   pub values : List ℕ
   pub signals-shown : Signal-columns p (cs .signals) (cs .signal-semaphore) values (cs .signal-operation)
@@ -33,17 +36,23 @@ pub record Check-given (p : Plan) (n semaphores signals marks : ℕ) (owner : Li
   pub owners-shown : Owner-column p owner
   pub shown : Columns-of p signals marks cs
 
--- the same for its waits and signals alone
-pub record Rules-given (p : Plan) (n semaphores signals : ℕ) (wsem wval ssem sval sop : List ℕ) : Type 0 where
+-- the same for its owners, queues, waits and signals alone
+pub record Rules-given (p : Plan) (n semaphores signals : ℕ)
+    (owner queue wsem wval ssem sval sop : List ℕ) : Type 0 where
   pub limits : Limits p
   pub many : count p ≡ n
   pub own-semaphores : length (p .owners) ≡ semaphores
+  pub owners-shown : Owner-column p owner
+  pub queues-shown : Queue-column p queue
   pub waits-shown : Wait-columns p wsem wval
   pub signals-shown : Signal-columns p signals ssem sval sop
 
--- 7 and 8 as the rules give them; where none is given the column shows what the waits rest on
+-- 7 and 8 as the rules give them, or the answer: 1 exactly if only owners signal, else 0; where none is given the
+-- column shows what the waits rest on
 pub record Ruled (p : Plan) (r : Told) (source : List ℕ) : Type 0 where
-  pub told : Tells (rules-refusal p) 0 r
+  pub owned : Bool
+  pub owned-means : (owned ≡ true) ↔ Only-owners p
+  pub told : Tells (rules-refusal p) (cond owned 1 0) r
   pub sources-shown : r .number ≡ 0 → Source-column p source
 
 -- columns of a plan within the limits with neither 7 nor 8, its waits resolved

@@ -21,7 +21,7 @@ pub fn check_order(
     semaphores: usize,
     signals: usize,
     marks: usize,
-    owner: &[u64],
+    owned: bool,
     queue: &QueueColumn,
     source: &WaitColumn,
     ssem: &[u16],
@@ -33,12 +33,12 @@ pub fn check_order(
 ) -> Told
     ensures answers { λ r. ⌜ Answers-by
         (room-refusal n (length (now (table .entry))) (length (now (list .entry)))) n
-        (order-columns semaphores signals marks (now (owner .entry)) (now (queue .entry)) (now (ssem .entry))
-        (now (sop .entry)) (now (mark .entry)) (now (mop .entry))) r (now (table .entry)) (now (table .exit))
+        (order-columns semaphores signals marks owned (now (queue .entry)) (now (ssem .entry)) (now (sop .entry))
+        (now (mark .entry)) (now (mop .entry))) r (now (table .entry)) (now (table .exit))
         (now (list .entry)) (now (list .exit)) ⌝ }
     ensures of_plans { λ r. ⌜ ((p : Plan) → Order-given p n (now (source .entry))
-        (order-columns semaphores signals marks (now (owner .entry)) (now (queue .entry)) (now (ssem .entry))
-        (now (sop .entry)) (now (mark .entry)) (now (mop .entry))) →
+        (order-columns semaphores signals marks owned (now (queue .entry)) (now (ssem .entry)) (now (sop .entry))
+        (now (mark .entry)) (now (mop .entry))) →
         Plan-check-says p r (now (table .entry)) (now (table .exit)) (now (list .entry)) (now (list .exit))) ⌝ }
 {
     let lent = room(n, table.len(), list.len());
@@ -57,7 +57,7 @@ pub fn check_order(
         semaphores,
         signals,
         marks,
-        owner,
+        owned,
         queue,
         ssem,
         sop,
@@ -91,7 +91,7 @@ fn judge(
     semaphores: usize,
     signals: usize,
     marks: usize,
-    owner: &[u64],
+    owned: bool,
     queue: &QueueColumn,
     ssem: &[u16],
     sop: &[u16],
@@ -100,11 +100,11 @@ fn judge(
     rows: &Rows,
 ) -> Told
     ensures told { λ r. ⌜ Tells (order-by n
-        (order-columns semaphores signals marks (now (owner .entry)) (now (queue .entry)) (now (ssem .entry))
-        (now (sop .entry)) (now (mark .entry)) (now (mop .entry))) ran (now (rows .entry))) 0 r ⌝ }
+        (order-columns semaphores signals marks owned (now (queue .entry)) (now (ssem .entry)) (now (sop .entry))
+        (now (mark .entry)) (now (mop .entry))) ran (now (rows .entry))) 0 r ⌝ }
     ensures of_plans { λ r. ⌜ ((p : Plan) → Judge-given p n ran
-        (order-columns semaphores signals marks (now (owner .entry)) (now (queue .entry)) (now (ssem .entry))
-        (now (sop .entry)) (now (mark .entry)) (now (mop .entry))) (now (rows .entry)) →
+        (order-columns semaphores signals marks owned (now (queue .entry)) (now (ssem .entry)) (now (sop .entry))
+        (now (mark .entry)) (now (mop .entry))) (now (rows .entry)) →
         Tells (order-refusal p) 0 r) ⌝ }
 {
     let many = n as usize;
@@ -116,7 +116,7 @@ fn judge(
         n,
         semaphores,
         signals,
-        owner,
+        owned,
         queue,
         ssem,
         sop,

@@ -1,7 +1,8 @@
 -- R44: refusal 7 as a walk over the columns of a plan, with a table of last values. Assumes nothing: these are
 -- definitions.
 use mathlib.Core.Path.{_≡_}
-use mathlib.Core.Bool.{cond}
+use mathlib.Core.Bool.{Bool, true, cond}
+use mathlib.Core.Logic.{_↔_}
 use mathlib.Core.List.{List, []}
 use Prim.Native.Nat.{ℕ, zero, suc, _≤_, _<_, min}
 use lib.Dec.{leb}
@@ -11,22 +12,28 @@ use Rattle.plan_format.specs.Stored.{Tells}
 use Rattle.plan_format.specs.declared.Told.{Told}
 use Rattle.plan_format.specs.Plan.{Plan, count, op}
 use Rattle.plan_format.specs.Sound.{highest, signals-refusal, In-range}
-use Rattle.check_columns.specs.Columns.{Signal-columns}
+use Rattle.plan_order.specs.OnlyOwners.{Only-owners}
+use Rattle.check_columns.specs.Columns.{Owner-column, Queue-column, Signal-columns}
 
 -- the columns show a plan whose operations name only what it has, and a place is lent for each of its semaphores
-pub record Signals-given (p : Plan) (semaphores signals : ℕ) (ssem sval sop last : List ℕ) : Type 0 where
+pub record Signals-given (p : Plan) (semaphores signals : ℕ) (owner queue ssem sval sop last : List ℕ) : Type 0 where
   pub own-semaphores : length (p .owners) ≡ semaphores
   pub room : length (p .owners) ≤ length last
   pub in-range : (i : ℕ) → i < count p → In-range p (op p i)
+  pub owners-shown : Owner-column p owner
+  pub queues-shown : Queue-column p queue
   pub signals-shown : Signal-columns p signals ssem sval sop
 
 -- the highest value signalled on each semaphore
 unfoldable pub Highest-column : Plan → (last : List ℕ) → Type 0
 Highest-column p last = (s : ℕ) → s < length (p .owners) → getD last s 0 ≡ highest s (p .operations)
 
--- 7 as the rules give it; where it is not given, the last value of a semaphore is its highest
+-- 7 as the rules give it, or the answer: 1 exactly if only owners signal, else 0; where 7 is not given, the last value
+-- of a semaphore is its highest
 pub record Judged (p : Plan) (r : Told) (last : List ℕ) : Type 0 where
-  pub told : Tells (signals-refusal 0 [] (p .operations)) 0 r
+  pub owned : Bool
+  pub owned-means : (owned ≡ true) ↔ Only-owners p
+  pub told : Tells (signals-refusal 0 [] (p .operations)) (cond owned 1 0) r
   pub highest-shown : r .number ≡ 0 → Highest-column p last
 
 -- nothing is signalled on the first semaphores; the places past them stay, and so does the length

@@ -6,12 +6,9 @@ use Rattle.check_handover.proofs.Found.{unturned-found, none-few, none-
 use Rattle.check_handover.proofs.disordered.Statement.{statement}
 use Rattle.check_handover.proofs.disordered.Tie as tie
 
-only-owners-requires : tie.Need-only-owners-requires
-only-owners-requires c κs = search needs
-
 returns : tie.Need-returns
 returns c =
-    let e = owners-is _ _ _ _ _ _ _ _ (c .before .only-owners .ensures) (c .if1 .taken) in
+    let e = owners-is _ _ _ _ _ _ _ (c .if1 .taken) in
     (e, λ p given. e ∙ unturned-found p _ _ _ _ _ _ _ _ given)
 
 slice-aggregate-walk : tie.Need-slice-aggregate-walk
@@ -24,9 +21,7 @@ returns-2 : tie.Need-returns-2
 returns-2 c =
     let walk = c .before in
     let few = walk .before .before in
-    let test = few .before in
-    let e = walk-is _ _ _ _ _ _ _ _ (test .before .only-owners .ensures) (test .if1 .left)
-    (none-few _ (few .if2 .taken)) (walk .walk .ensures) in
+    let e = walk-is _ _ _ _ _ _ _ (few .before .if1 .left) (none-few _ (few .if2 .taken)) (walk .walk .ensures) in
     (e, λ p given. e ∙ unturned-found p _ _ _ _ _ _ _ _ given)
 
 slice-aggregate-walk-2 : tie.Need-slice-aggregate-walk-2
@@ -39,13 +34,10 @@ returns-3 : tie.Need-returns-3
 returns-3 c =
     let walk = c .before in
     let few = walk .before .before in
-    let test = few .before in
-    let e = walk-is _ _ _ _ _ _ _ _ (test .before .only-owners .ensures) (test .if1 .left)
-    (none-many _ (few .if2 .left)) (walk .walk2 .ensures) in
+    let e = walk-is _ _ _ _ _ _ _ (few .before .if1 .left) (none-many _ (few .if2 .left)) (walk .walk2 .ensures) in
     (e, λ p given. e ∙ unturned-found p _ _ _ _ _ _ _ _ given)
 
 pub disordered-spec : {M : Type 1} → statement M
 disordered-spec =
     tie.close
-    (tie.spec only-owners-requires returns slice-aggregate-walk walk-requires returns-2 slice-aggregate-walk-2
-    walk-requires-2 returns-3)
+    (tie.spec returns slice-aggregate-walk walk-requires returns-2 slice-aggregate-walk-2 walk-requires-2 returns-3)

@@ -1,9 +1,11 @@
 -- `judge_columns` meets its contract: refusals 7 and 8, or what the order gives. Assumes nothing.
 use borrow.Author.Needs.{needs}
 use mathlib.Core.Path.{_∙_}
+use Rattle.check_signals.specs.Owners.{by-owners}
+use Rattle.check_signals.proofs.Told.{refused-alike}
 use Rattle.check_passes.proofs.Untouched.{not-ruled}
 use Rattle.check_passes.proofs.AnyColumns.{answers-first, first-then, first-only}
-use Rattle.check_passes.proofs.Columns.{rules-given, order-given}
+use Rattle.check_passes.proofs.Columns.{rules-given, owned-told, order-given}
 use Rattle.check_passes.proofs.judge_columns.Statement.{statement}
 use Rattle.check_passes.proofs.judge_columns.Tie as tie
 
@@ -19,7 +21,7 @@ returns c =
         ruled .1 .0,
         λ p given.
             let told = ruled .1 .1 p (rules-given given) .told in
-            (not-ruled p _ _ _ told taken, λ none. absurd (taken (told .number ∙ none))),
+            (not-ruled p _ _ _ (refused-alike told taken) taken, λ none. absurd (taken (told .number ∙ none))),
       ),
     )
 
@@ -35,10 +37,11 @@ same-length-2 c = c .before .list .given
 returns-2 : tie.Need-returns-2
 returns-2 c =
     let order = c .before .before .before .before in
-    let left = order .before .before .before .before in
+    let left = order .before .before .before .before .before in
     let none = left .if1 .left in
-    let ruled = left .before .before .rules .ensures in (
-      first-then _ (ruled .0) none (order .check-order .ensures .0),
+    let ruled = left .before .before .rules .ensures in
+    let owned = owned-told {b = by-owners _ _ _ _ _ _} (ruled .0) none in (
+      rw owned at (first-then _ (ruled .0) none (order .check-order .ensures .0)),
       (
         ruled .1 .0,
         λ p given.

@@ -18,6 +18,11 @@ const SIZES: [usize; 5] = [64, 128, 256, 512, 1024];
 /// Plans of a family and size that a call takes in turn: one plan checked over
 /// and over would be learnt by heart by the processor's branch predictor.
 const PLANS: u64 = 32;
+/// Operations of all plans of a family and size that two libraries check in
+/// turn, as many as 32 of the largest plans have. Of 32 plans with 64 operations
+/// the predictor learns a part, now more and now less: a library with random
+/// lists was up to 1.12 of its own copy.
+const COMPARED: usize = 32 * 1024;
 /// What a trace may take of the time of its plan's check.
 const TRACE_LIMIT: f64 = 1.15;
 
@@ -89,14 +94,14 @@ fn measure_families(sides: &Sides) -> Vec<Series> {
         .into()
 }
 
-/// Plans of a family and size, in bytes.
-fn plans_of(family: Family, size: usize) -> Vec<Vec<u8>> {
-    let plans = (0..PLANS).map(|seed| family.plan(&mut Rng::new(seed), size).bytes());
+/// So many plans of a family and size, in bytes.
+fn plans_of(family: Family, size: usize, many: u64) -> Vec<Vec<u8>> {
+    let plans = (0..many).map(|seed| family.plan(&mut Rng::new(seed), size).bytes());
     plans.collect()
 }
 
 fn measure_check(sides: &Sides, family: Family, size: usize) -> Measured {
-    let plans = plans_of(family, size);
+    let plans = plans_of(family, size, PLANS);
     let bytes = plans.iter().map(Vec::len).sum::<usize>() / plans.len();
     let (mut rooms, mut told) = (OwnRooms::new(size), Told::default());
     let rooms = &mut rooms.lend();
@@ -543,9 +548,10 @@ fn compare(after: &dyn Side, before: &dyn Side) {
         .filter(|&family| takes(before, family))
     {
         for size in SIZES {
-            let plans = plans_of(family, size);
+            let many = (COMPARED / size) as u64;
+            let plans = plans_of(family, size, many);
             let name = format!("check, {}, {size}", family.name());
-            measure(&name, PLANS, &mut |side| {
+            measure(&name, many, &mut |side| {
                 for plan in &plans {
                     side.check(black_box(plan), rooms, &mut told);
                 }

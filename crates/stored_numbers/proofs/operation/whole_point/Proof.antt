@@ -15,7 +15,8 @@ same-length c = search needs
 returns : tie.Need-returns
 unfolding point-below
 returns c =
-    reads-refused _ _ (c .if1 .taken) (omega arith) (c .before .before .before .before .whole-position .ensures .0 .reads)
+    reads-refused _ _ (c .if1 .taken) (omega arith)
+    (c .before .before .before .before .whole-position .ensures .0 .reads)
 
 whole-value-requires : tie.Need-whole-value-requires
 whole-value-requires c κs = search needs
