@@ -126,6 +126,23 @@ writes-within n l p =
       past = p .past;
     }
 
+-- where a thing is refused, nothing is written of what comes after it
+pub writes-refused : {g : Grammar} (h : Grammar) {xs : List ℕ} {c r : Cursor} {bytes bytes-now : List ℕ} {m : ℕ}
+    (n : ℕ) → (r .number ≡ 0 → ⊥) → m ≤ n → Writes g m xs c bytes r bytes-now →
+    Writes (seq g h) n xs c bytes r bytes-now
+unfolding read-by
+writes-refused h {xs} {c} {r} n z l p =
+    record {
+      read = ap (λ (s : Scan). read-by numbers h s) (p .read) ∙ read-stays numbers h (here xs r) (here-given xs r z);
+      spell = λ e. absurd (z e);
+      inside = p .inside;
+      more = p .more;
+      few = omega (arith, p .few);
+      by-eight = p .by-eight;
+      as-long = p .as-long;
+      past = p .past;
+    }
+
 -- a loop that met a refusal has written all that can be written
 pub writes-stopped : {xs : List ℕ} {start r : Cursor} {bytes bytes-now : List ℕ} (g : Grammar) (m : ℕ) (i n : ℕ) →
     (r .number ≡ 0 → ⊥) → i ≤ n → Writes (repeat i g) (m * i) xs start bytes r bytes-now →

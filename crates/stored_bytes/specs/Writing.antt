@@ -32,6 +32,11 @@ pub record Write-room (many : ℕ) (xs : List ℕ) (c : Cursor) (bytes : List �
   pub inside : c .at ≤ length xs
   pub room : c .put + many ≤ length bytes
 
+-- a cursor without a refusal, with so many numbers before the end
+pub record Whole (many : ℕ) (xs : List ℕ) (c : Cursor) : Type 0 where
+  pub clean : c .number ≡ 0
+  pub whole : c .at + many ≤ length xs
+
 -- from the cursor `c` to the cursor `r` a thing is read from the list and, where there is no refusal, spelled, at most
 -- so many bytes long and eight for each number; past the bytes put the array stays
 pub record Writes (g : Grammar) (many : ℕ) (xs : List ℕ) (c : Cursor) (bytes : List ℕ) (r : Cursor)

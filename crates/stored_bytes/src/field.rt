@@ -2,11 +2,11 @@
 // it and its place.
 use crate::cursor::Cursor;
 use crate::digits;
-ghost use Prim.Native.Nat.{_≤_};
+ghost use Prim.Native.Nat.{_+_, _≤_};
 ghost use Rattle.plan_format.specs.Form.{list-by, at-least};
 ghost use Rattle.plan_format.specs.Grammar.{field};
 ghost use Rattle.plan_format.specs.Sections.{axis-field, size-field};
-ghost use Rattle.stored_bytes.specs.Writing.{Write-room, Writes, Write-limited};
+ghost use Rattle.stored_bytes.specs.Writing.{Write-room, Whole, Writes, Write-limited};
 
 // A number below `limit`, in one byte; any other is refused by `over`, and by 4 one below `limit` that the byte cannot
 // hold.
@@ -15,13 +15,24 @@ pub fn byte(numbers: &[u64], c: Cursor, limit: u64, over: u32, bytes: &mut [u8])
     requires { ⌜ 1 ≤ over ⌝ }
     ensures { λ r. ⌜ Write-limited 1 limit over (now (numbers .entry)) c (now (bytes .entry)) r (now (bytes .exit)) ⌝ }
 {
-    let at = c.at;
     if c.number != 0 {
         return c.refused(c.number);
     }
-    if numbers.len() <= at {
+    if numbers.len() <= c.at {
         return c.refused(1);
     }
+    whole_byte(numbers, c, limit, over, bytes)
+}
+
+// The same where it is known that the number is there.
+pub fn whole_byte(numbers: &[u64], c: Cursor, limit: u64, over: u32, bytes: &mut [u8]) -> Cursor
+    requires { ⌜ Write-room 1 (now numbers) c (now bytes) × Whole 1 (now numbers) c ⌝ }
+    requires { ⌜ 1 ≤ over ⌝ }
+    ensures written { λ r. ⌜ Write-limited 1 limit over (now (numbers .entry)) c (now (bytes .entry)) r
+        (now (bytes .exit)) ⌝ }
+    ensures near { λ r. ⌜ r .at ≤ c .at + 1 ⌝ }
+{
+    let at = c.at;
     let value = numbers[at];
     if limit <= value {
         return c.refused(over);
@@ -40,13 +51,24 @@ pub fn pair(numbers: &[u64], c: Cursor, limit: u64, over: u32, bytes: &mut [u8])
     requires { ⌜ 1 ≤ over ⌝ }
     ensures { λ r. ⌜ Write-limited 2 limit over (now (numbers .entry)) c (now (bytes .entry)) r (now (bytes .exit)) ⌝ }
 {
-    let at = c.at;
     if c.number != 0 {
         return c.refused(c.number);
     }
-    if numbers.len() <= at {
+    if numbers.len() <= c.at {
         return c.refused(1);
     }
+    whole_pair(numbers, c, limit, over, bytes)
+}
+
+// The same where it is known that the number is there.
+pub fn whole_pair(numbers: &[u64], c: Cursor, limit: u64, over: u32, bytes: &mut [u8]) -> Cursor
+    requires { ⌜ Write-room 2 (now numbers) c (now bytes) × Whole 1 (now numbers) c ⌝ }
+    requires { ⌜ 1 ≤ over ⌝ }
+    ensures written { λ r. ⌜ Write-limited 2 limit over (now (numbers .entry)) c (now (bytes .entry)) r
+        (now (bytes .exit)) ⌝ }
+    ensures near { λ r. ⌜ r .at ≤ c .at + 1 ⌝ }
+{
+    let at = c.at;
     let value = numbers[at];
     if limit <= value {
         return c.refused(over);
@@ -105,13 +127,22 @@ pub fn point_value(numbers: &[u64], c: Cursor, least: u64, bytes: &mut [u8]) -> 
     ensures { λ r. ⌜ Writes (field 8 (at-least least)) 8 (now (numbers .entry)) c (now (bytes .entry)) r
         (now (bytes .exit)) ⌝ }
 {
-    let at = c.at;
     if c.number != 0 {
         return c;
     }
-    if numbers.len() <= at {
+    if numbers.len() <= c.at {
         return c.refused(1);
     }
+    whole_value(numbers, c, least, bytes)
+}
+
+// The same where it is known that the number is there.
+pub fn whole_value(numbers: &[u64], c: Cursor, least: u64, bytes: &mut [u8]) -> Cursor
+    requires { ⌜ Write-room 8 (now numbers) c (now bytes) × Whole 1 (now numbers) c ⌝ }
+    ensures { λ r. ⌜ Writes (field 8 (at-least least)) 8 (now (numbers .entry)) c (now (bytes .entry)) r
+        (now (bytes .exit)) ⌝ }
+{
+    let at = c.at;
     let value = numbers[at];
     if value < least {
         return c.refused(16);

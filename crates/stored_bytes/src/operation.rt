@@ -24,12 +24,22 @@ const TOO_MANY_MARKS: u64 = MOST_MARKS as u64 + 1;
 
 const TOO_MANY_OPERATIONS: u64 = MOST_OPERATIONS as u64 + 1;
 
-// A wait or a signal of the first form: a semaphore, in one byte, and a value, at least `least`.
+// A wait or a signal of the first form: a semaphore, in one byte, and a value, at least `least`. Where both numbers are
+// there, one test tells so.
 fn narrow_point(numbers: &[u64], c: Cursor, least: u64, semaphores: u64, bytes: &mut [u8]) -> Cursor
     requires { ⌜ Write-room (first-width + 8) (now numbers) c (now bytes) ⌝ }
     ensures { λ r. ⌜ Writes (point-below first-width semaphores least) (first-width + 8) (now (numbers .entry)) c
         (now (bytes .entry)) r (now (bytes .exit)) ⌝ }
 {
+    if c.number == 0 {
+        if 2 <= numbers.len() - c.at {
+            let semaphore = field::whole_byte(numbers, c, semaphores, 4, bytes);
+            if semaphore.number != 0 {
+                return semaphore;
+            }
+            return field::whole_value(numbers, semaphore, least, bytes);
+        }
+    }
     let semaphore = field::byte(numbers, c, semaphores, 4, bytes);
     field::point_value(numbers, semaphore, least, bytes)
 }
@@ -67,6 +77,15 @@ fn wide_point(numbers: &[u64], c: Cursor, least: u64, semaphores: u64, bytes: &m
     ensures { λ r. ⌜ Writes (point-below second-width semaphores least) (second-width + 8) (now (numbers .entry)) c
         (now (bytes .entry)) r (now (bytes .exit)) ⌝ }
 {
+    if c.number == 0 {
+        if 2 <= numbers.len() - c.at {
+            let semaphore = field::whole_pair(numbers, c, semaphores, 4, bytes);
+            if semaphore.number != 0 {
+                return semaphore;
+            }
+            return field::whole_value(numbers, semaphore, least, bytes);
+        }
+    }
     let semaphore = field::pair(numbers, c, semaphores, 4, bytes);
     field::point_value(numbers, semaphore, least, bytes)
 }
@@ -145,12 +164,21 @@ fn waits_and_signals(
     p
 }
 
-// A mark: a buffer and a kind.
+// A mark: a buffer and a kind. Where both numbers are there, one test tells so.
 fn mark(numbers: &[u64], c: Cursor, buffers: u64, bytes: &mut [u8]) -> Cursor
     requires { ⌜ Write-room 3 (now numbers) c (now bytes) ⌝ }
     ensures { λ r. ⌜ Writes (mark-below buffers) 3 (now (numbers .entry)) c (now (bytes .entry)) r
         (now (bytes .exit)) ⌝ }
 {
+    if c.number == 0 {
+        if 2 <= numbers.len() - c.at {
+            let buffer = field::whole_pair(numbers, c, buffers, 4, bytes);
+            if buffer.number != 0 {
+                return buffer;
+            }
+            return field::whole_byte(numbers, buffer, 2, 4, bytes);
+        }
+    }
     let buffer = field::pair(numbers, c, buffers, 4, bytes);
     field::byte(numbers, buffer, 2, 4, bytes)
 }

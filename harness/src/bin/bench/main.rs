@@ -19,9 +19,9 @@ const SIZES: [usize; 5] = [64, 128, 256, 512, 1024];
 /// and over would be learnt by heart by the processor's branch predictor.
 const PLANS: u64 = 32;
 /// Operations of all plans of a family and size that two libraries check in
-/// turn, as many as 32 of the largest plans have. Of 32 plans with 64 operations
-/// the predictor learns a part, now more and now less: a library with random
-/// lists was up to 1.12 of its own copy.
+/// turn: as many as 32 of the largest plans have. Of 32 plans with 64 operations
+/// the predictor learns a part, now more and now less, and on random lists a
+/// library took up to 1.12 of the time of its own copy.
 const COMPARED: usize = 32 * 1024;
 /// What a trace may take of the time of its plan's check.
 const TRACE_LIMIT: f64 = 1.15;
