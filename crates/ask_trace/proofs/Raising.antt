@@ -8,7 +8,7 @@ use native.Mathlib.Numerals.{add-one}
 use native.Mathlib.Omega.{arith}
 use lib.Dec.{ltb, eqb}
 use lib.ListN.{length, getD, set, take, drop, length-set, List·getD-eq-default}
-use lib.Seq.{ext-getD, getD-set-same, getD-set-other, drop-cons, drop-length, length-take-le}
+use lib.Seq.{ext-getD, getD-set-same, getD-set-other, drop-cons, drop-length}
 use borrow.Author.Tests.{eqb-true, eqb-false, eq-eqb, ne-eqb, ltb-true, ltb-false}
 use Rattle.base_lists.specs.Lists.{member, in-front}
 use Rattle.base_lists.proofs.Tests.{by-cases}
@@ -59,12 +59,6 @@ module _ (counts old : List ℕ) (room : state-size ≤ length old) where
     stored = f ∙ rw (b .stored, e, ← begun-at i l)
         (front-more (begun counts) old i 0 (omega (arith, begun-size)) (omega arith));
   }
-
-  pub beginning-long : (i : ℕ) (st : List ℕ) → Beginning counts old i st → length st ≡ length old
-  beginning-long i st b =
-      ap length (b .stored)
-      ∙ front-length (take i (begun counts)) old
-      (omega (arith, length-take-le i (begun counts) (omega (arith, begun-size, b .inside)), b .inside))
 
   pub beginning-end : (i : ℕ) (st : List ℕ) → Beginning counts old i st → state-size ≤ i →
       st ≡ in-front (begun counts) old

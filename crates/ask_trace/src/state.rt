@@ -5,10 +5,11 @@ use plan_format::limits::MOST_SEMAPHORES;
 use plan_format::limits::STATE_SIZE;
 use plan_trace::QueueCounts;
 ghost use mathlib.Core.Path.{_≡_};
-ghost use Prim.Native.Nat.{_≤_};
-ghost use lib.ListN.{length};
+ghost use mathlib.Core.List.{List};
+ghost use Prim.Native.Nat.{ℕ, _≤_};
+ghost use lib.ListN.{length, take};
 ghost use Rattle.base_lists.specs.Lists.{in-front};
-ghost use Rattle.plan_format.specs.Sizes.{state-size};
+ghost use Rattle.plan_format.specs.Sizes.{most-queues, state-size};
 ghost use Rattle.ask_trace.specs.Raising.{begun, higher as higher-to, raised-by, raised-from};
 
 // The counts, then the highest value signalled on each semaphore, over the front of a list.
@@ -38,12 +39,27 @@ pub(crate) fn tell(
 
 // The counts of the queues, then zeros.
 fn begin(counts: &[u64], state: &mut [u64])
-    requires { ⌜ state-size ≤ length (now state) ⌝ }
+    requires { ⌜ (length (now counts) ≡ most-queues) × (state-size ≤ length (now state)) ⌝ }
     ensures { λ _. ⌜ now (state .exit) ≡ in-front (begun (now (counts .entry))) (now (state .entry)) ⌝ }
 {
     let mut i: usize = 0;
+    while i < MOST_QUEUES {
+        state[i] = counts[i];
+        i += 1;
+    }
+    clear(state);
+}
+
+// Zeros after the counts.
+fn clear(state: &mut [u64])
+    requires { ⌜ state-size ≤ length (now state) ⌝ }
+    ensures { λ _. ⌜ ((counts old : List ℕ) → length counts ≡ most-queues → state-size ≤ length old →
+        now (state .entry) ≡ in-front (take most-queues (begun counts)) old →
+        now (state .exit) ≡ in-front (begun counts) old) ⌝ }
+{
+    let mut i: usize = MOST_QUEUES;
     while i < STATE_SIZE {
-        base_slices::put64(state, i, base_slices::get64(counts, i));
+        state[i] = 0;
         i += 1;
     }
 }
