@@ -15,4 +15,6 @@ def then(number, place):
     """What that means, after `with this change, `."""
     if number == 0:
         return 'the plan passes'
-    return f'it is refused by {number}' if number in READING else f'the next refusal is {number} {place}: {WORDS[number]}'
+    if number in READING:
+        return f'it is refused by {number}'
+    return f'the next refusal is {number} {place}: {WORDS[number]}'

@@ -235,7 +235,7 @@ pub record Checked (bytes : List ℕ) (r : Told) (table table-now list list-now 
   pub demand-2 : r .number ≡ 0 → Demand-2 (plan-in bytes) table-now
   pub left : Left-means (plan-in bytes) (check-outcome-in bytes table list .leaves) table table-now list list-now
   pub owners : Only-owners (plan-in bytes) → By-owners bytes r table table-now list list-now
-  -- R25, ready after a run of a plan whose waits are all reached: what is directly before it has run
+  -- R25, ready after a run of a plan that is read and whose waits are all reached: what is directly before it has run
   pub readies : scanned bytes .fault .number ≡ 0 →
       waits-refusal 0 (plan-in bytes) (plan-in bytes .operations) .number ≡ 0 → (run : List ℕ) (j : ℕ) →
       is-run (plan-in bytes) run ≡ true → (ready (plan-in bytes) run j ≡ true) ↔ Ready-means (plan-in bytes) run j

@@ -24,6 +24,9 @@ const TOO_MANY_MARKS: u64 = MOST_MARKS as u64 + 1;
 
 const TOO_MANY_OPERATIONS: u64 = MOST_OPERATIONS as u64 + 1;
 
+// The numbers of a wait, a signal or a mark.
+const PART_NUMBERS: usize = 2;
+
 // A wait or a signal of the first form: a semaphore, in one byte, and a value, at least `least`. Where both numbers are
 // there, one test tells so.
 fn narrow_point(numbers: &[u64], c: Cursor, least: u64, semaphores: u64, bytes: &mut [u8]) -> Cursor
@@ -32,7 +35,7 @@ fn narrow_point(numbers: &[u64], c: Cursor, least: u64, semaphores: u64, bytes: 
         (now (bytes .entry)) r (now (bytes .exit)) ⌝ }
 {
     if c.number == 0 {
-        if 2 <= numbers.len() - c.at {
+        if PART_NUMBERS <= numbers.len() - c.at {
             let semaphore = field::whole_byte(numbers, c, semaphores, 4, bytes);
             if semaphore.number != 0 {
                 return semaphore;
@@ -78,7 +81,7 @@ fn wide_point(numbers: &[u64], c: Cursor, least: u64, semaphores: u64, bytes: &m
         (now (bytes .entry)) r (now (bytes .exit)) ⌝ }
 {
     if c.number == 0 {
-        if 2 <= numbers.len() - c.at {
+        if PART_NUMBERS <= numbers.len() - c.at {
             let semaphore = field::whole_pair(numbers, c, semaphores, 4, bytes);
             if semaphore.number != 0 {
                 return semaphore;
@@ -171,7 +174,7 @@ fn mark(numbers: &[u64], c: Cursor, buffers: u64, bytes: &mut [u8]) -> Cursor
         (now (bytes .exit)) ⌝ }
 {
     if c.number == 0 {
-        if 2 <= numbers.len() - c.at {
+        if PART_NUMBERS <= numbers.len() - c.at {
             let buffer = field::whole_pair(numbers, c, buffers, 4, bytes);
             if buffer.number != 0 {
                 return buffer;

@@ -105,13 +105,13 @@ module _ {F : Form} {bs : List ℕ} {c : Cursor} {nums : List ℕ} (p : Plan-rea
   form-array {nums₀} past =
       ends-array bs c nums fits past ∙ ap (λ (s : Scan). in-front (s .got) nums₀) (sym by-form)
 
-  pub form-few : (r : Told) → Told-by r → r .answer ≤ plan-numbers
+  pub form-few : (most : ℕ) → c .got ≤ most → (r : Told) → Told-by r → r .answer ≤ most
   unfolding Ends
-  form-few r t =
+  form-few most l r t =
       let many : length (ended (here bs c nums) .got) ≡ c .got = ap length (ends-front bs c nums)
       ∙ length-take-le (c .got) nums fits in
-      answer-few (ended (here bs c nums) .fault) (length (ended (here bs c nums) .got)) plan-numbers (t nums fits)
-      (omega (arith, many, p .few))
+      answer-few (ended (here bs c nums) .fault) (length (ended (here bs c nums) .got)) most (t nums fits)
+      (omega (arith, many, l))
 
 -- ---- the form in which some bytes are read
 abbrev pub Read-in : Form → (bs : List ℕ) → Type 0

@@ -87,11 +87,12 @@ unfoldable pub front-numbers : Form → ℕ
 front-numbers F = 3 + most-queues + F .semaphores-most + most-buffers
 
 -- and of the whole plan
-abbrev pub first-numbers : ℕ
-first-numbers = 4 + most-queues + first-semaphores + most-buffers + most-operations * block-numbers
-
 unfoldable pub form-numbers : Form → ℕ
 form-numbers F = front-numbers F + 1 + most-operations * block-numbers
+
+-- which is this for the first form
+abbrev pub first-numbers : ℕ
+first-numbers = 4 + most-queues + first-semaphores + most-buffers + most-operations * block-numbers
 
 -- the whole plan was read, but for its end
 pub record Plan-read (F : Form) (bs : List ℕ) (r : Cursor) (nums-now : List ℕ) : Type 0 where

@@ -43,9 +43,9 @@ pub const FIRST_HEAD_NUMBERS: usize = 4 + MOST_QUEUES + FIRST_SEMAPHORES + MOST_
 pub type FirstHeadNumbers = [u64; FIRST_HEAD_NUMBERS];
 
 // And of the whole plan.
-pub const FIRST_NUMBERS: usize = FIRST_HEAD_NUMBERS + MOST_OPERATIONS * BLOCK_NUMBERS;
+pub const FIRST_PLAN_NUMBERS: usize = FIRST_HEAD_NUMBERS + MOST_OPERATIONS * BLOCK_NUMBERS;
 
-pub type FirstNumbers = [u64; FIRST_NUMBERS];
+pub type FirstPlanNumbers = [u64; FIRST_PLAN_NUMBERS];
 
 // What comes before the operations: the refusal met there, or 0; the place where the reading stopped and how many
 // numbers are stored; the four counts, 0 beside a refusal; and whether the plan is in the second form, in which a
@@ -203,11 +203,11 @@ pub fn read_numbers(plan: &[u8], numbers: &mut [u64; PLAN_NUMBERS]) -> Told
 }
 
 // The same of bytes taken as a plan in the first form, whatever the first byte is: fewer numbers have to be cleared.
-pub fn read_first_numbers(plan: &[u8], numbers: &mut FirstNumbers) -> Told
+pub fn read_first_numbers(plan: &[u8], numbers: &mut FirstPlanNumbers) -> Told
     ensures told { λ r. ⌜ Ends (scanned-by bytes first-form (now (plan .entry))) r ⌝ }
     ensures array { λ _. ⌜ now (numbers .exit) ≡
         in-front (scanned-by bytes first-form (now (plan .entry)) .got) (now (numbers .entry)) ⌝ }
-    ensures few { λ r. ⌜ r .answer ≤ plan-numbers ⌝ }
+    ensures few { λ r. ⌜ r .answer ≤ first-numbers ⌝ }
     ensures long { λ _. ⌜ length (now (numbers .exit)) ≡ first-numbers ⌝ }
 {
     let c = section::sections(plan, false, numbers);

@@ -30,7 +30,8 @@ const POINT_BYTES: usize = SECOND_WIDTH + 8;
 
 const MARK_BYTES: usize = 3;
 
-// A wait or a signal: a semaphore and a value, at least `least`. Where there are bytes for both, one test tells so.
+// A wait or a signal: a semaphore and a value, at least `least`. Where there are bytes for the longest one, one test
+// tells so.
 fn point(
     plan: &[u8],
     c: Cursor,

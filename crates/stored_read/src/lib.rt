@@ -4,7 +4,7 @@ use plan_format::answered;
 use plan_format::limits::HEAD_NUMBERS;
 use plan_format::limits::PLAN_NUMBERS;
 use plan_format::refused;
-use stored_numbers::FIRST_NUMBERS;
+use stored_numbers::FIRST_PLAN_NUMBERS;
 use stored_numbers::Head;
 ghost use mathlib.Core.Path.{_≡_};
 ghost use mathlib.Core.Bool.{false};
@@ -64,7 +64,7 @@ fn read_first(plan: &[u8], room: &mut [u64]) -> Told
     requires { ⌜ is-second (now plan) ≡ false ⌝ }
     ensures { λ r. ⌜ Read-says (now (plan .entry)) r (now (room .entry)) (now (room .exit)) ⌝ }
 {
-    let mut numbers = [0u64; FIRST_NUMBERS];
+    let mut numbers = [0u64; FIRST_PLAN_NUMBERS];
     let told = stored_numbers::read_first_numbers(plan, &mut numbers);
     into_room(told, &numbers, room)
 }

@@ -23,7 +23,7 @@ returns c =
       form-ends (s .0) (omega (arith, s .1 .1)) r t,
       (
         form-array (s .0) (omega (arith, s .1 .1)) (s .1 .0),
-        (form-few (s .0) (omega (arith, s .1 .1)) r t, omega arith),
+        (form-few (s .0) (omega (arith, s .1 .1)) _ (omega (arith, s .1 .1)) r t, omega arith),
       ),
     )
 

@@ -1,4 +1,5 @@
 -- `read_first` meets its contract: what was read in the first form goes into the room.
+use native.Mathlib.Omega.{arith}
 use borrow.Author.Needs.{needs}
 use Rattle.plan_format.specs.Form.{first-form, scanned-by}
 use Rattle.plan_format.specs.Grammar.{bytes}
@@ -18,7 +19,7 @@ into-room-requires c κs =
     let read = c .before .before in
     let s = read .before .before .before .before in
     let told = read .read-first-numbers .ensures in (
-      told .1 .1 .0,
+      omega (arith, told .1 .1 .0),
       rest-fits (scanned-by bytes first-form (s .args .plan .now)) (read .read-first-numbers .result) _ (told .0)
           (told .1 .0),
     )
