@@ -80,7 +80,7 @@ pub fn whole_pair(numbers: &[u64], c: Cursor, limit: u64, over: u32, bytes: &mut
     c.past(2, value)
 }
 
-// The count of the semaphores, in two bytes if `wide`, else in one: below `limit`, or refused by `over`.
+// A semaphore's position or their count, in two bytes if `wide`, else in one: below `limit`, or refused by `over`.
 pub fn sized(
     numbers: &[u64],
     c: Cursor,
@@ -98,6 +98,28 @@ pub fn sized(
         pair(numbers, c, limit, over, bytes)
     } else {
         byte(numbers, c, limit, over, bytes)
+    }
+}
+
+// The same where it is known that the number is there.
+pub fn whole_sized(
+    numbers: &[u64],
+    c: Cursor,
+    wide: bool,
+    limit: u64,
+    over: u32,
+    bytes: &mut [u8],
+) -> Cursor
+    requires { ⌜ Write-room 2 (now numbers) c (now bytes) × Whole 1 (now numbers) c ⌝ }
+    requires { ⌜ 1 ≤ over ⌝ }
+    ensures written { λ r. ⌜ Write-limited (list-by wide .semaphore-width) limit over (now (numbers .entry)) c
+        (now (bytes .entry)) r (now (bytes .exit)) ⌝ }
+    ensures near { λ r. ⌜ r .at ≤ c .at + 1 ⌝ }
+{
+    if wide {
+        whole_pair(numbers, c, limit, over, bytes)
+    } else {
+        whole_byte(numbers, c, limit, over, bytes)
     }
 }
 

@@ -8,8 +8,7 @@ use plan_format::limits::MOST_OPERATIONS;
 use plan_format::limits::MOST_SIGNALS;
 use plan_format::limits::MOST_WAITS;
 ghost use Prim.Native.Nat.{_+_, _*_};
-ghost use Rattle.plan_format.specs.Sizes.{most-operations, most-waits, most-signals, most-marks, first-width};
-ghost use Rattle.plan_format.specs.Sizes.{second-width, block-bytes};
+ghost use Rattle.plan_format.specs.Sizes.{most-operations, most-waits, most-signals, most-marks, block-bytes};
 ghost use Rattle.plan_format.specs.Form.{list-by};
 ghost use Rattle.plan_format.specs.Grammar.{counted};
 ghost use Rattle.plan_format.specs.Sections.{point-below, lists-below, mark-below, operation-below};
@@ -27,100 +26,33 @@ const TOO_MANY_OPERATIONS: u64 = MOST_OPERATIONS as u64 + 1;
 // The numbers of a wait, a signal or a mark.
 const PART_NUMBERS: usize = 2;
 
-// A wait or a signal of the first form: a semaphore, in one byte, and a value, at least `least`. Where both numbers are
-// there, one test tells so.
-fn narrow_point(numbers: &[u64], c: Cursor, least: u64, semaphores: u64, bytes: &mut [u8]) -> Cursor
-    requires { ⌜ Write-room (first-width + 8) (now numbers) c (now bytes) ⌝ }
-    ensures { λ r. ⌜ Writes (point-below first-width semaphores least) (first-width + 8) (now (numbers .entry)) c
-        (now (bytes .entry)) r (now (bytes .exit)) ⌝ }
+// A wait or a signal: a semaphore and a value, at least `least`. Where both numbers are there, one test tells so.
+fn point(
+    numbers: &[u64],
+    c: Cursor,
+    least: u64,
+    wide: bool,
+    semaphores: u64,
+    bytes: &mut [u8],
+) -> Cursor
+    requires { ⌜ Write-room point-most (now numbers) c (now bytes) ⌝ }
+    ensures { λ r. ⌜ Writes (point-below (list-by wide .semaphore-width) semaphores least) point-most
+        (now (numbers .entry)) c (now (bytes .entry)) r (now (bytes .exit)) ⌝ }
 {
     if c.number == 0 {
         if PART_NUMBERS <= numbers.len() - c.at {
-            let semaphore = field::whole_byte(numbers, c, semaphores, 4, bytes);
+            let semaphore = field::whole_sized(numbers, c, wide, semaphores, 4, bytes);
             if semaphore.number != 0 {
                 return semaphore;
             }
             return field::whole_value(numbers, semaphore, least, bytes);
         }
     }
-    let semaphore = field::byte(numbers, c, semaphores, 4, bytes);
+    let semaphore = field::sized(numbers, c, wide, semaphores, 4, bytes);
     field::point_value(numbers, semaphore, least, bytes)
 }
 
-// The waits or the signals of the first form: a count, at most `most`, and the points, with values of at least `least`.
-fn narrow_points(
-    numbers: &[u64],
-    c: Cursor,
-    most: u64,
-    least: u64,
-    semaphores: u64,
-    bytes: &mut [u8],
-) -> Cursor
-    requires { ⌜ Write-room (1 + (first-width + 8) * most) (now numbers) c (now bytes) ⌝ }
-    ensures { λ r. ⌜ Writes (counted 0 most 1 (point-below first-width semaphores least))
-        (1 + (first-width + 8) * most) (now (numbers .entry)) c (now (bytes .entry)) r (now (bytes .exit)) ⌝ }
-{
-    let start = field::byte(numbers, c, most + 1, 2, bytes);
-    let count = start.value;
-    let mut p = start;
-    let mut i: u64 = 0;
-    while i < count {
-        p = narrow_point(numbers, p, least, semaphores, bytes);
-        if p.number != 0 {
-            return p;
-        }
-        i += 1;
-    }
-    p
-}
-
-// A wait or a signal of the second form: a semaphore, in two bytes, and a value, at least `least`.
-fn wide_point(numbers: &[u64], c: Cursor, least: u64, semaphores: u64, bytes: &mut [u8]) -> Cursor
-    requires { ⌜ Write-room (second-width + 8) (now numbers) c (now bytes) ⌝ }
-    ensures { λ r. ⌜ Writes (point-below second-width semaphores least) (second-width + 8) (now (numbers .entry)) c
-        (now (bytes .entry)) r (now (bytes .exit)) ⌝ }
-{
-    if c.number == 0 {
-        if PART_NUMBERS <= numbers.len() - c.at {
-            let semaphore = field::whole_pair(numbers, c, semaphores, 4, bytes);
-            if semaphore.number != 0 {
-                return semaphore;
-            }
-            return field::whole_value(numbers, semaphore, least, bytes);
-        }
-    }
-    let semaphore = field::pair(numbers, c, semaphores, 4, bytes);
-    field::point_value(numbers, semaphore, least, bytes)
-}
-
-// The waits or the signals of the second form.
-fn wide_points(
-    numbers: &[u64],
-    c: Cursor,
-    most: u64,
-    least: u64,
-    semaphores: u64,
-    bytes: &mut [u8],
-) -> Cursor
-    requires { ⌜ Write-room (1 + (second-width + 8) * most) (now numbers) c (now bytes) ⌝ }
-    ensures { λ r. ⌜ Writes (counted 0 most 1 (point-below second-width semaphores least))
-        (1 + (second-width + 8) * most) (now (numbers .entry)) c (now (bytes .entry)) r (now (bytes .exit)) ⌝ }
-{
-    let start = field::byte(numbers, c, most + 1, 2, bytes);
-    let count = start.value;
-    let mut p = start;
-    let mut i: u64 = 0;
-    while i < count {
-        p = wide_point(numbers, p, least, semaphores, bytes);
-        if p.number != 0 {
-            return p;
-        }
-        i += 1;
-    }
-    p
-}
-
-// The waits or the signals, in the form that is told: it is asked for once, and not at each point.
+// The waits or the signals: a count, at most `most`, and the points, with values of at least `least`.
 fn points(
     numbers: &[u64],
     c: Cursor,
@@ -134,11 +66,18 @@ fn points(
     ensures { λ r. ⌜ Writes (counted 0 most 1 (point-below (list-by wide .semaphore-width) semaphores least))
         (1 + point-most * most) (now (numbers .entry)) c (now (bytes .entry)) r (now (bytes .exit)) ⌝ }
 {
-    if wide {
-        wide_points(numbers, c, most, least, semaphores, bytes)
-    } else {
-        narrow_points(numbers, c, most, least, semaphores, bytes)
+    let start = field::byte(numbers, c, most + 1, 2, bytes);
+    let count = start.value;
+    let mut p = start;
+    let mut i: u64 = 0;
+    while i < count {
+        p = point(numbers, p, least, wide, semaphores, bytes);
+        if p.number != 0 {
+            return p;
+        }
+        i += 1;
     }
+    p
 }
 
 // The waits and the signals: two lists of points, which one call writes.
