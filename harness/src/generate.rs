@@ -1192,7 +1192,7 @@ pub fn other_byte(rng: &mut Rng, byte: u8) -> u8 {
 /// taken out, or appended, an axis written over another.
 pub fn damaged(rng: &mut Rng, bytes: &[u8]) -> Vec<u8> {
     let mut bytes = bytes.to_vec();
-    let first = usize::from(bytes.starts_with(Form::Second.lead()));
+    let first = Form::of(&bytes).lead().len();
     let queues = usize::from(bytes[first]);
     if queues >= 2 && rng.percent(10) {
         let axis = |queue| first + 1 + 8 * queue;

@@ -13,6 +13,14 @@ pub enum Form {
 }
 
 impl Form {
+    /// The form that the first byte of a stored plan tells.
+    pub fn of(bytes: &[u8]) -> Form {
+        match bytes.starts_with(Form::Second.lead()) {
+            true => Form::Second,
+            false => Form::First,
+        }
+    }
+
     pub fn other(self) -> Form {
         match self {
             Form::First => Form::Second,
@@ -29,7 +37,7 @@ impl Form {
     }
 
     /// Bytes of a semaphore's position, and of their count.
-    fn width(self) -> usize {
+    pub fn width(self) -> usize {
         match self {
             Form::First => 1,
             Form::Second => 2,

@@ -1328,7 +1328,7 @@ fn only(plan: &Plan, kept: &[bool]) -> Plan {
 }
 
 fn in_second_form(bytes: &[u8]) -> bool {
-    bytes.starts_with(Form::Second.lead())
+    Form::of(bytes) == Form::Second
 }
 
 /// Is a plan in the second form refused for a number of semaphores that the first

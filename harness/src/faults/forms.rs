@@ -8,7 +8,7 @@ use crate::side::Told;
 
 /// Spoils what the reference has told of a stored plan.
 pub(super) fn spoil(fault: Fault, plan: &[u8], told: &mut Told) {
-    if !plan.starts_with(Form::Second.lead()) {
+    if Form::of(plan) != Form::Second {
         return;
     }
     match (fault, told.number) {

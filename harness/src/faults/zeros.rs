@@ -54,14 +54,6 @@ fn first_of(plan: &Plan, value: u64, signals: bool) -> Option<u64> {
     None
 }
 
-/// Bytes of a semaphore's position in a stored plan.
-fn width(bytes: &[u8]) -> usize {
-    match bytes.starts_with(Form::Second.lead()) {
-        true => 2,
-        false => 1,
-    }
-}
-
 /// What is refused under the fault while a stored plan is read, where the
 /// reference tells something else.
 pub(super) fn refused(fault: Fault, bytes: &[u8]) -> Option<Told> {
@@ -70,7 +62,7 @@ pub(super) fn refused(fault: Fault, bytes: &[u8]) -> Option<Told> {
     match (fault, told.number) {
         (Fault::FourForSixteen, 16) => Some(Told::refused(4, told.place)),
         (Fault::ZeroAtSemaphore, 16) => {
-            let place = place - width(bytes);
+            let place = place - Form::of(bytes).width();
             Some(Told::refused(16, place as u64))
         }
         (Fault::ZeroAfterReading, 16) => {
@@ -85,9 +77,9 @@ pub(super) fn refused(fault: Fault, bytes: &[u8]) -> Option<Told> {
         }
         (Fault::ZeroBeforeUnknown, 4) => {
             let mut known = bytes.to_vec();
-            known[place..place + width(bytes)].fill(0);
+            known[place..place + Form::of(bytes).width()].fill(0);
             let told = reference::read(&known, &mut []);
-            (told == Told::refused(16, (place + width(bytes)) as u64)).then_some(told)
+            (told == Told::refused(16, (place + Form::of(bytes).width()) as u64)).then_some(told)
         }
         (Fault::SignalsAboveZero, 0 | 9) => {
             let place = first_of(&parse(bytes)?, 0, true)?;
