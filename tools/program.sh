@@ -26,11 +26,11 @@ build() {
         done
     )
     printf "made='crates.txt\n%s'\n" "$made" >"$built.new" || fail "cannot write below $home/target"
-    # rt goes by its stamp of what is proved, and not by the program that it linked
-    [ -x "$program" ] || rm -f "$home/target/stamp/cundvrest"
     "$home/tools/prove" cundvrest || exit 2
-    [ -x "$program" ] || fail "'rt check cundvrest' passed and left no program"
-    mv "$built.new" "$built" || fail "cannot write below $home/target"
+    [ -x "$home/crates/cundvrest/out/cundvrest" ] || fail "'rt run' in crates/cundvrest passed and left no program"
+    # a copy, since `rt ci` sets aside what is in out/ while it runs
+    mkdir -p "$home/target/bin" && cp "$home/crates/cundvrest/out/cundvrest" "$program.new" &&
+        mv -f "$program.new" "$program" && mv "$built.new" "$built" || fail "cannot write below $home/target"
 }
 
 # renew WORDS..: proves and builds the program, for a question of these words.

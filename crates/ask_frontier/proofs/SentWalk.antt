@@ -31,7 +31,8 @@ module _ (head table : List ℕ) (first : ℕ) where
   row_long : (many q : ℕ) → length (row_in head table first many q) ≡ many
   unfolding row_in
   row_long many q =
-      tabulate_length {A = Entry} (λ k. record { axis = get_or head (1 + k) 0; epoch = get_or table (first + k) 0 }) many q
+      tabulate_length {A = Entry} (λ k. record { axis = get_or head (1 + k) 0; epoch = get_or table (first + k) 0 })
+      many q
 
   -- none is raised yet
   pub raised_none : (many : ℕ) (f : Frontier) → f ≡ pack [] false →

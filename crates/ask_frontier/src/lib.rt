@@ -1,4 +1,6 @@
 // R69 and R70: the frontier sent out for an operation.
+#![tactic(auto)]
+
 ghost use Rattle.std.specs.Prelude.{◌≡◌, false, [], ◌+◌, ◌*◌, ◌≤◌, length};
 ghost use Rattle.frontier_slots.specs.Entries.{most_entries};
 ghost use Rattle.frontier.specs.Frontiers.{pack, gathered};
@@ -15,7 +17,7 @@ use plan_format::limits::{
 };
 
 // A frontier; or a refusal and its place, beside the empty untainted frontier.
-#[derive(Drop)]
+#[derive(Clone, Copy)]
 pub struct Sent {
     pub number: u32,
     pub place: u64,

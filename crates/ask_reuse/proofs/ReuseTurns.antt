@@ -58,7 +58,8 @@ module _ (queue rows : List ℕ) where
   unfolding seen
   seen_none last i l = rw (le-ltb last no_operation l)
 
-  pub seen_some : (last i x a b : ℕ) → last < no_operation → x ≡ get_or queue i 0 → a ≡ get_or rows (16 * i + x % 16) 0 →
+  pub seen_some : (last i x a b : ℕ) → last < no_operation → x ≡ get_or queue i 0 →
+      a ≡ get_or rows (16 * i + x % 16) 0 →
       b ≡ get_or rows (16 * last + x % 16) 0 →
       leb a b ≡ seen queue rows last i
   unfolding seen

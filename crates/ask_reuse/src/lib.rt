@@ -1,5 +1,7 @@
 // R57 and R58, the reuse question: the verdict by the columns of a plan and the rows that its check leaves in the
 // table.
+#![tactic(auto)]
+
 ghost use Rattle.std.specs.Prelude.{◌≡◌, ◌<◌, length};
 ghost use Rattle.plan_format.specs.Sizes.{most_operations};
 ghost use Rattle.plan_format.specs.Plan.{Plan};
@@ -18,7 +20,7 @@ use plan_format::limits::{
 use plan_order::Verdict;
 
 // The verdict on a buffer, and the operation of its last mark; 1,024 where it has none.
-#[derive(Drop)]
+#[derive(Clone, Copy)]
 pub struct Judged {
     pub verdict: Verdict,
     pub operation: usize,

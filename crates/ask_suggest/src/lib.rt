@@ -1,5 +1,7 @@
 // R87 to R90, the question for a wait that would free a buffer: by the columns of a plan and the rows that its check
 // leaves in the table.
+#![tactic(auto)]
+
 ghost use Rattle.std.specs.Prelude.{◌≡◌};
 ghost use Rattle.plan_format.specs.Plan.{Plan};
 ghost use Rattle.plan_suggest.specs.Promise.{SuggestRight};
@@ -17,7 +19,7 @@ use plan_order::Verdict;
 use plan_suggest::Advice;
 
 // An advice; or a refusal and its place, and no advice.
-#[derive(Drop)]
+#[derive(Clone, Copy)]
 pub struct Suggested {
     pub number: u32,
     pub place: u64,

@@ -47,12 +47,14 @@ module _ (counts old : List ℕ) (room : state_size ≤ length old) where
 
   begun_at : (i : ℕ) → i < state_size → get_or (begun counts) i 0 ≡ get_or counts i 0
   unfolding begun
-  begun_at i l = tabulate_at (λ i. get_or counts i 0) state_size 0 i 0 l ∙ ap (λ (z : ℕ). get_or counts z 0) (zero-add i)
+  begun_at i l = tabulate_at (λ i. get_or counts i 0) state_size 0 i 0 l ∙
+      ap (λ (z : ℕ). get_or counts z 0) (zero-add i)
 
   pub beginning_none : Beginning counts old 0 old
   beginning_none = record { inside = omega arith; stored = sym (front_none (begun counts) old) }
 
-  pub beginning_more : (i x : ℕ) (st now : List ℕ) → Beginning counts old i st → i < state_size → x ≡ get_or counts i 0 →
+  pub beginning_more : (i x : ℕ) (st now : List ℕ) → Beginning counts old i st → i < state_size →
+      x ≡ get_or counts i 0 →
       now ≡ set st i x → Beginning counts old (i + 1) now
   beginning_more i x st now b l e f = record {
     inside = omega arith;
@@ -158,7 +160,10 @@ module _ (queue rows counts ssem sval sop : List ℕ) where
   unfolding shown_top
   none_there at zero k h = refl
   none_there at (suc left) k h =
-      rw (ne_eqb (most_queues + get_or ssem k 0 % most_semaphores) at (h (get_or ssem k 0)), none_there at left (suc k) h)
+      rw (
+        ne_eqb (most_queues + get_or ssem k 0 % most_semaphores) at (h (get_or ssem k 0)),
+        none_there at left (suc k) h,
+      )
       (omega arith)
 
 -- ---- the plan's signals

@@ -1,4 +1,6 @@
 // The question on a recorded trace: what of it follows the plan, and how far the plan had come.
+#![tactic(auto)]
+
 mod state;
 mod steps;
 
@@ -18,7 +20,7 @@ use plan_format::limits::{
 use plan_trace::{Followed, Traced};
 
 // What was traced, beside the counts of the plan; or a refusal and its place, and nothing traced.
-#[derive(Drop)]
+#[derive(Clone, Copy)]
 pub struct TraceTold {
     pub counted: Counted,
     pub traced: Traced,

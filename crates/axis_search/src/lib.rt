@@ -1,4 +1,6 @@
 // R60, where an axis is among rising axes: a search by halving, and how many slots it reads.
+#![tactic(auto)]
+
 ghost use Rattle.std.specs.Prelude.{◌≡◌, cond, ◌≤◌, length};
 ghost use Rattle.axis_search.specs.Halving.{most_slots, searched, Halving};
 
@@ -9,7 +11,7 @@ pub const SLOTS: usize = 16;
 pub const NO_SLOT: usize = SLOTS;
 
 // The slot of an axis, or none; and how many slots were read.
-#[derive(Drop)]
+#[derive(Clone, Copy)]
 pub struct Slot {
     pub at: usize,
     pub read: usize,

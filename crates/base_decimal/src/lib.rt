@@ -1,16 +1,18 @@
 // Numbers in decimal, as arguments and in the text that `write` reads.
+#![tactic(auto)]
+
 ghost use Rattle.std.specs.Prelude.{◌≡◌};
 ghost use Rattle.base_decimal.specs.Decimal.{digit_value, more_of, word_of};
 
 // A number as its digits come: its value, or that it is of 2^64 or more.
-#[derive(Drop)]
+#[derive(Clone, Copy)]
 pub struct Digits {
     pub value: u64,
     pub large: bool,
 }
 
 // What a word is: a number, one over its limit, or no number.
-#[derive(Drop)]
+#[derive(Clone, Copy)]
 pub enum Word {
     Number(u64),
     Large,

@@ -1,4 +1,6 @@
 // Numbers of one width in another, and the lower or the larger of two.
+#![tactic(auto)]
+
 ghost use Rattle.std.specs.Prelude.{◌≡◌, ◌<◌, max, min};
 
 pub fn u8_to_u64(byte: u8) -> u64

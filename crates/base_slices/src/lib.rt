@@ -1,4 +1,6 @@
 // Total reads and writes: 0 is read past the end of a slice, and nothing is written there.
+#![tactic(auto)]
+
 ghost use Rattle.std.specs.Prelude.{◌≡◌, ◌%◌, get_or, set};
 
 // The number at i.

@@ -1,5 +1,6 @@
 -- Text as a list of bytes in lent room, and numbers in decimal. Assumes nothing: these are definitions.
-use Rattle.std.specs.Prelude.{◌≡◌, cond, List, [], ◌∷◌, ◌++◌, ℕ, zero, suc, ◌+◌, ◌/◌, ◌%◌, min, max, ltb, eqb, length, set}
+use Rattle.std.specs.Prelude.{◌≡◌, cond, List, [], ◌∷◌, ◌++◌, ℕ, zero, suc, ◌+◌, ◌/◌, ◌%◌, min, max, ltb, eqb, length}
+use Rattle.std.specs.Prelude.{set}
 use Rattle.io.specs.Digits.{hex_digit_ascii}
 use Rattle.base_text.specs.Ascii.{ascii}
 
@@ -16,7 +17,8 @@ pub record Puts (text room : List ℕ) (at : ℕ) (room_now : List ℕ) (end : �
 -- the fewest decimal digits that hold a number, the most significant first; as many as the fuel at most
 unfoldable pub decimal_by : (fuel n : ℕ) → List ℕ
 decimal_by zero n = []
-decimal_by (suc f) n = cond (ltb n 10) (hex_digit_ascii n ∷ []) (decimal_by f (n / 10) ++ (hex_digit_ascii (n % 10) ∷ []))
+decimal_by (suc f) n =
+    cond (ltb n 10) (hex_digit_ascii n ∷ []) (decimal_by f (n / 10) ++ (hex_digit_ascii (n % 10) ∷ []))
 
 unfoldable pub decimal : ℕ → List ℕ
 decimal n = decimal_by (suc n) n

@@ -1,5 +1,7 @@
 // Text made in lent room, of which the first `at` bytes are taken. What goes past the end of the room is left out. Each
 // function hands back where its text ends.
+#![tactic(auto)]
+
 ghost use Rattle.std.specs.Prelude.{[], ◌∷◌, take};
 ghost use Rattle.base_text.specs.Text.{Puts, decimal, after_blank, blanked, spaced, refused_text};
 

@@ -20,7 +20,8 @@ module _ (l : List ℕ) (at : ℕ) (row : List ℕ) where
       set now (at + i) (get_or row i 0) ≡ sets l at (take (i + 1) row)
   store_more i now b e =
       ap (λ (xs : List ℕ). set xs (at + i) (get_or row i 0)) e
-      ∙ ap (λ (k : ℕ). set (sets l at (take i row)) (at + k) (get_or row i 0)) (sym (length-take-le i row (omega arith)))
+      ∙ ap (λ (k : ℕ). set (sets l at (take i row)) (at + k) (get_or row i 0))
+      (sym (length-take-le i row (omega arith)))
       ∙ sets_append (take i row) l (get_or row i 0 ∷ []) at
       ∙ ap (λ (xs : List ℕ). sets l at xs) (sym (take-suc row i 0 b) ∙ ap (λ (k : ℕ). take k row) (sym (add-one i)))
 

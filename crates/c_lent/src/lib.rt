@@ -1,4 +1,6 @@
 // R78, the functions of the C interface on frontiers: the numbers of a frontier that a caller lends, read and stored.
+#![tactic(auto)]
+
 ghost use Rattle.std.specs.Prelude.{◌≡◌, true, cond, ◌||◌, ◌+◌, ◌≤◌, ltb, length, get_or};
 ghost use Rattle.std.proofs.lemmas.List.Edits.{sets};
 ghost use Rattle.frontier_slots.specs.Entries.{most_entries};
@@ -127,8 +129,7 @@ fn merge_numbers<'a>(left: &'a [u64], right: &'a [u64], capacity: u32, merged: &
 }
 
 // The larger epoch of each axis, cut to the capacity.
-#[unsafe(no_mangle)]
-pub extern "C" fn cundvrest_merge<'a>(
+pub fn cundvrest_merge<'a>(
     left: &'a [u64; NUMBERS],
     right: &'a [u64; NUMBERS],
     capacity: u32,
@@ -178,8 +179,7 @@ fn raise_numbers(old: &[u64], axis: u64, epoch: u64, capacity: u32, raised: &mut
 }
 
 // One axis raised to an epoch.
-#[unsafe(no_mangle)]
-pub extern "C" fn cundvrest_raise(
+pub fn cundvrest_raise(
     old: &[u64; NUMBERS],
     axis: u64,
     epoch: u64,
@@ -218,8 +218,7 @@ fn dominates_numbers<'a>(left: &'a [u64], right: &'a [u64]) -> Dominance
 }
 
 // Whether the left frontier dominates the right one; the answer is the value of no, yes or unknown.
-#[unsafe(no_mangle)]
-pub extern "C" fn cundvrest_dominates<'a>(
+pub fn cundvrest_dominates<'a>(
     left: &'a [u64; NUMBERS],
     right: &'a [u64; NUMBERS],
     told: &mut [u64; 3],
@@ -246,8 +245,7 @@ fn lookup_numbers(numbers: &[u64], axis: u64) -> Lookup
 
 // What a frontier says of an axis: the answer is 1 if it is listed, with its epoch in a number of its own, and 0 if it
 // is absent.
-#[unsafe(no_mangle)]
-pub extern "C" fn cundvrest_lookup(
+pub fn cundvrest_lookup(
     frontier: &[u64; NUMBERS],
     axis: u64,
     epoch: &mut [u64; 1],

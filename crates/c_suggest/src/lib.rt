@@ -1,5 +1,7 @@
 // The C interface of the question for a wait, declared in include/cundvrest.h: it lends what it is lent to the proved
 // function and stores what comes back.
+#![tactic(auto)]
+
 ghost use Rattle.c_suggest.specs.Handed.{SuggestHanded};
 
 use plan_format::Told;

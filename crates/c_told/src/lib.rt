@@ -1,4 +1,6 @@
 // R77, the three numbers that a C caller lends for what it is told.
+#![tactic(auto)]
+
 ghost use Rattle.std.specs.Prelude.{◌≡◌};
 ghost use Rattle.c_told.specs.Told.{told_of};
 

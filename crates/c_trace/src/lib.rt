@@ -1,5 +1,7 @@
 // The C interface of the question on a recorded trace, declared in include/cundvrest.h: it lends what it is lent to the
 // proved function and stores what comes back.
+#![tactic(auto)]
+
 ghost use Rattle.std.specs.Prelude.{◌≡◌};
 ghost use Rattle.plan_trace.specs.Numbers.{found_numbers};
 ghost use Rattle.c_trace.specs.Handed.{TraceHanded};

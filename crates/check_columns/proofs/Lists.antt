@@ -73,7 +73,8 @@ module _ {A : Type 0} (of : ℕ → Operation → List A) where
         (let e : width * suc j + c ≡ length (of i o) + (width * j + c) = omega (arith, even i o, mul-suc width j) in e)
         ∙ get_or-append-add (of i o) (joined of (suc i) os) (width * j + c) d
         ∙ joined_at (suc i) os j c d (le_of_suc-le-suc l) b
-        ∙ ap (λ (z : ℕ). get_or (of z (get_or os j empty_operation)) c d) (let e : suc i + j ≡ i + suc j = omega arith in e)
+        ∙ ap (λ (z : ℕ). get_or (of z (get_or os j empty_operation)) c d) (let e : suc i + j ≡ i + suc j =
+        omega arith in e)
 
 -- ---- parts of operations that fit are what the operations say
 module _ (X : List ℕ) {A : Type 0} (f : Part) (h : A → ℕ) (of : ℕ → Operation → List A)

@@ -116,7 +116,8 @@ marks_shown p many mark operation sound few c =
     let b : k < many = omega (arith, long) in
     let m = each_at (Known p) (plan_marks p) (marks_known p sound) k (omega (arith, c.all)) in
     tabulate_at f many 0 k no_mark b ∙ ap f (zero-add k)
-    ∙ same_mark (get_or (plan_marks p) k no_mark) (get_or mark k 0) (get_or operation k 0) (c.marks k b) (c.operations k b)
+    ∙ same_mark (get_or (plan_marks p) k no_mark) (get_or mark k 0) (get_or operation k 0) (c.marks k b)
+    (c.operations k b)
     (omega (arith, m.buffer)) m.kind (omega (arith, m.by, sound.few_operations)))
 
 -- one mark after the other

@@ -56,7 +56,8 @@ mark_buffer zero xs j l = absurd (not-suc-le-zero l)
 mark_buffer (suc k) xs zero l = refl
 mark_buffer (suc k) xs (suc j) l = mark_buffer k (drop 2 xs) j (le_of_suc-le-suc l) ∙ past xs j 0
 
-pub mark_kind : (k : ℕ) (xs : List ℕ) (j : ℕ) → j < k → (get_or (marks_in k xs) j plain_mark).kind ≡ get_or xs (2 * j + 1) 0
+pub mark_kind : (k : ℕ) (xs : List ℕ) (j : ℕ) → j < k → (get_or (marks_in k xs) j plain_mark).kind ≡ get_or xs
+    (2 * j + 1) 0
 unfolding marks_in
 mark_kind zero xs j l = absurd (not-suc-le-zero l)
 mark_kind (suc k) xs zero l = refl
@@ -109,7 +110,8 @@ module _ (X : List ℕ) (at : ℕ) where
 
   -- a number past a part's start
   number_at : (c k place : ℕ) → place ≡ at + (c + k) → get_or (drop c (drop at X)) k 0 ≡ get_or X place 0
-  number_at c k place e = get_or-drop c (drop at X) k 0 ∙ get_or-drop at X (c + k) 0 ∙ ap (λ (z : ℕ). get_or X z 0) (sym e)
+  number_at c k place e = get_or-drop c (drop at X) k 0 ∙ get_or-drop at X (c + k) 0 ∙
+      ap (λ (z : ℕ). get_or X z 0) (sym e)
 
   module _ (fits : Fits here) where
     w_few : w ≤ 3
@@ -149,7 +151,12 @@ module _ (X : List ℕ) (at : ℕ) where
 
     mark_count_is : mark_count X at ≡ m
     unfolding mark_count
-    mark_count_is = omega (arith, m_few, get_or-drop at X (3 + 2 * w + 2 * s) 0, ap (λ (z : ℕ). get_or X z 0) marks_at_is)
+    mark_count_is = omega (
+      arith,
+      m_few,
+      get_or-drop at X (3 + 2 * w + 2 * s) 0,
+      ap (λ (z : ℕ). get_or X z 0) marks_at_is,
+    )
 
     pub next_is : next_at X at ≡ at + operation_long (drop at X)
     unfolding next_at

@@ -91,7 +91,8 @@ module _ (F : Form) where
         let c = h + 3 + 2 * get_or xs h 0 + 2 * get_or xs (h + 1 + 2 * get_or xs h 0) 0 in
         let d = h + 3 + 2 * get_or ys h 0 + 2 * get_or ys (h + 1 + 2 * get_or ys h 0) 0 in
         ap (λ (k : ℕ). marks_in k (drop c xs)) m_same
-        ∙ marks_alike (get_or ys (h + 2 + 2 * get_or ys h 0 + 2 * get_or ys (h + 1 + 2 * get_or ys h 0) 0) 0) (drop c xs)
+        ∙ marks_alike (get_or ys (h + 2 + 2 * get_or ys h 0 + 2 * get_or ys (h + 1 + 2 * get_or ys h 0) 0) 0)
+        (drop c xs)
         (drop d ys) (drop_alike xs ys same c d (omega (arith, w_same, s_same)))
 
     operation_alike : operation_in xs ≡ operation_in ys

@@ -1,11 +1,11 @@
 -- What one operation adds to the columns, and a loop that adds operation after operation. Assumes nothing.
-use mathlib.Core.Path.{◌≡◌, sym, ap, ap₂, ◌∙◌}
+use mathlib.Core.Path.{◌≡◌, ap, ap₂, ◌∙◌}
 use mathlib.Core.List.{List, ◌++◌}
 use Prim.Native.Nat.{ℕ, suc, ◌+◌, ◌-◌, ◌*◌, ◌%◌, ◌≤◌, ◌<◌}
 use native.Mathlib.Numerals.{add-one}
 use native.Mathlib.Omega.{arith}
 use lib.ListN.{length, get_or, length-append}
-use lib.Seq.{sets, length-sets}
+use lib.Seq.{sets}
 use Rattle.base_lists.specs.Lists.{tabulate_from}
 use Rattle.base_lists.proofs.Stores.{sets_append}
 use Rattle.base_lists.proofs.Tables.{tabulate_length}
@@ -17,7 +17,8 @@ use Rattle.check_columns.specs.Filling.{wait_value_part, signal_semaphore_part, 
 use Rattle.check_columns.specs.Filling.{signal_operation_part, mark_part, mark_operation_part, parts, Put, Added}
 
 -- ---- one operation
-module _ (X : List ℕ) (at : ℕ) {w s m : ℕ} (w_is : w ≡ get_or X (at + 1) 0 % 4) (s_is : s ≡ get_or X (at + 2 + 2 * w) 0 % 4)
+module _ (X : List ℕ) (at : ℕ) {w s m : ℕ} (w_is : w ≡ get_or X (at + 1) 0 % 4)
+    (s_is : s ≡ get_or X (at + 2 + 2 * w) 0 % 4)
     (m_is : m ≡ get_or X (at + 2 + 2 * w + 1 + 2 * s) 0 % 8) where
   w_right : w ≡ wait_count X at
   unfolding wait_count

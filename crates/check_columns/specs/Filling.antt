@@ -1,7 +1,8 @@
 -- Columns filled from the numbers of a plan: what is where among the numbers, and what each operation adds to each
 -- column. Counts and positions are cut to a few bits, which changes none in range. Assumes nothing: these are
 -- definitions.
-use Rattle.std.specs.Prelude.{◌≡◌, cond, List, [], ◌∷◌, ◌++◌, ℕ, zero, suc, ◌+◌, ◌*◌, ◌%◌, ◌≤◌, ◌<◌, ltb, length, get_or}
+use Rattle.std.specs.Prelude.{◌≡◌, cond, List, [], ◌∷◌, ◌++◌, ℕ, zero, suc, ◌+◌, ◌*◌, ◌%◌, ◌≤◌, ◌<◌, ltb, length}
+use Rattle.std.specs.Prelude.{get_or}
 use Rattle.std.proofs.lemmas.List.Edits.{sets}
 use Rattle.base_lists.specs.Lists.{tabulate_from}
 use Rattle.plan_format.specs.Sizes.{most_buffers, most_operations, most_waits, no_wait}

@@ -33,7 +33,8 @@ abbrev pub mark_of : (mark operation : ℕ) → Marked
 mark_of m i = record { by = i; buffer = m / 2; kind = m % 2 }
 
 abbrev pub shown_from : (mark operation : List ℕ) → (many k : ℕ) → List Marked
-shown_from ms is many k = tabulate_from many k (λ k. mark_of (get_or ms k 0 % mark_codes) (get_or is k 0 % most_operations))
+shown_from ms is many k = tabulate_from many k (λ k. mark_of (get_or ms k 0 % mark_codes)
+    (get_or is k 0 % most_operations))
 
 -- i is j or before j, by their rows in the column of i's queue
 unfoldable pub ordered : (queue rows : List ℕ) → (i j : ℕ) → Bool

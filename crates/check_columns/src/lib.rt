@@ -1,10 +1,12 @@
 // Columns of a plan: flat arrays that the passes of the check read, filled from the numbers of each operation.
+#![tactic(auto)]
+
 ghost use Rattle.std.specs.Prelude.{◌≡◌, cond, ◌+◌, ◌*◌, ◌%◌, ◌<◌, ◌≤◌, ltb, length, get_or};
 ghost use Rattle.std.proofs.lemmas.List.Edits.{sets};
 ghost use Rattle.plan_format.specs.Sizes.{most_operations, most_waits, wait_places, no_wait};
 ghost use Rattle.check_columns.specs.Columns.{columns};
 ghost use Rattle.check_columns.specs.Filling.{wait_semaphores, wait_values, signal_semaphores};
-ghost use Rattle.check_columns.specs.Filling.{signal_values, codes_of_marks, repeated, next-at, WaitPlaced};
+ghost use Rattle.check_columns.specs.Filling.{signal_values, codes_of_marks, repeated, next_at, WaitPlaced};
 ghost use Rattle.check_columns.specs.Filling.{Added};
 
 use plan_format::limits::{
@@ -34,7 +36,7 @@ pub type Rows = [u16; ROW_PLACES];
 pub const MARK_CODES: usize = 2 * MOST_BUFFERS;
 
 // How many signals and marks a plan has.
-#[derive(Drop)]
+#[derive(Clone, Copy)]
 pub struct Filled {
     pub signals: usize,
     pub marks: usize,
@@ -63,7 +65,7 @@ pub fn add(
         sop.old mark.old mop.old)
         (columns queue.new wsem.new wval.new ssem.new sval.new
         sop.new mark.new mop.new)
-        (next-at window.now 0) result.signals result.marks }
+        (next_at window.now 0) result.signals result.marks }
     ensures full { (WaitPlaced i wval.old → ⊥) → (result.signals ≡ signals) × (result.marks ≡ marks)
         × (columns queue.new wsem.new wval.new ssem.new sval.new
         sop.new mark.new mop.new

@@ -1,6 +1,7 @@
 -- R93, R94: the first signal out of turn as a walk over the columns, with a table by semaphore of the operation that
 -- signalled it last. Assumes nothing: these are definitions.
-use Rattle.std.specs.Prelude.{Bool, ◌&&◌, not, cond, List, ℕ, zero, suc, ◌%◌, min, ltb, leb, length, get_or, set, replicate}
+use Rattle.std.specs.Prelude.{Bool, ◌&&◌, not, cond, List, ℕ, zero, suc, ◌%◌, min, ltb, leb, length, get_or, set}
+use Rattle.std.specs.Prelude.{replicate}
 use Rattle.plan_format.specs.Sizes.{most_semaphores, first_semaphores, most_operations, no_operation}
 use Rattle.check_columns.specs.Shown.{ordered}
 

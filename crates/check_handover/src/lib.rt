@@ -1,14 +1,16 @@
 // R93 and R94, refusal 17: signals out of turn. There is none where only owners signal, as the pass for 7 tells. Else
 // one loop goes over the signals in plan order, with the last signaller of each semaphore; its row and that of the
 // signal's operation tell whether it is the same or before.
+#![tactic(auto)]
+
 ghost use Rattle.std.specs.Prelude.{◌≡◌, ◌<◌};
 ghost use Rattle.base_lists.specs.Lists.{place_or};
 ghost use Rattle.plan_format.specs.Sizes.{most_operations};
 ghost use Rattle.plan_format.specs.Plan.{Plan};
 ghost use Rattle.plan_order.specs.Handovers.{disordered as out_of_turn};
 ghost use Rattle.check_handover.specs.Given.{HandoversGiven};
-ghost use Rattle.check_handover.specs.Walk.{held as held_in, unturned as is-unturned, turns-found};
-ghost use Rattle.check_handover.specs.Walk.{first-unturned};
+ghost use Rattle.check_handover.specs.Walk.{held as held_in, unturned as is-unturned, turns_found};
+ghost use Rattle.check_handover.specs.Walk.{first_unturned};
 
 use check_columns::{QueueColumn, Rows};
 use plan_format::limits::{
@@ -31,7 +33,7 @@ pub fn disordered(
     sop: &[u16],
     rows: &Rows,
 ) -> usize
-    ensures found { result ≡ first-unturned queue.now rows.now ssem.now
+    ensures found { result ≡ first_unturned queue.now rows.now ssem.now
         sop.now owned n semaphores signals }
     ensures of_plans { (p : Plan) → HandoversGiven p n semaphores signals owned queue.now
         ssem.now sop.now rows.now → result ≡ place_or n (out_of_turn p) }
@@ -57,7 +59,7 @@ fn walk(
     rows: &Rows,
     last: &mut [u16],
 ) -> usize
-    ensures { result ≡ turns-found queue.now rows.now ssem.now sop.now n
+    ensures { result ≡ turns_found queue.now rows.now ssem.now sop.now n
         signals last.old }
 {
     let many = held(signals, ssem, sop);

@@ -4,7 +4,7 @@ use mathlib.Core.Bool.{true, cond}
 use mathlib.Core.List.{List, [], ◌∷◌, ◌++◌, append_assoc, append-nil}
 use Prim.Native.Nat.{ℕ, suc, ◌+◌, ◌-◌, ◌*◌, ◌≤◌, ◌<◌}
 use native.Mathlib.Omega.{arith}
-use lib.ListN.{length, get_or, take, drop, replicate, length-append, length-take, length-drop, length-replicate}
+use lib.ListN.{length, get_or, take, drop, replicate, length-append, length-take, length-replicate}
 use lib.ListN.{take-append-drop, get_or-append}
 use lib.Seq.{take-append_seam, drop-append_seam, take_at, get_or_at, get_or-append-add}
 use Rattle.plan_format.specs.Sizes.{head_numbers, block_numbers, plan_numbers}

@@ -1,9 +1,10 @@
 // What a stored plan comes to when it is read straight into its columns: definitions and laws of the loading, which
 // `check_plan` does.
+#![tactic(auto)]
 
 // How many queues, semaphores, buffers, operations, signals and marks a plan has; or the reader's refusal and its
 // place.
-#[derive(Drop)]
+#[derive(Clone, Copy)]
 pub struct Loaded {
     pub number: u32,
     pub place: usize,

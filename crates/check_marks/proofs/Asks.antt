@@ -77,7 +77,8 @@ asks_split (m ∷ ms) last b a e =
     let here = rw (asks_here last m ms)
     at (subst (λ (z : ℕ). Memᴰ a (asks_from (last z) (of_buffer z (m ∷ ms)))) (sym same) e) in
     either (mathlib.Core.List.Memᴰ.append_cases (u ++ l) here)
-    (λ h. either (mathlib.Core.List.Memᴰ.append_cases u h) (λ v. inl (mathlib.Core.List.Memᴰ.append_left (of_uses ms) v))
+    (λ h. either (mathlib.Core.List.Memᴰ.append_cases u h) (λ v.
+    inl (mathlib.Core.List.Memᴰ.append_left (of_uses ms) v))
     (λ v. inr (mathlib.Core.List.Memᴰ.append_left (of_reuses (after last m) ms) v)))
     (λ h. rest (subst (λ (z : ℕ). Memᴰ a (asks_from (after last m z) (of_buffer z ms))) same h)))
     (λ f. rest (rw (asks_there last m ms b f) at e))
@@ -98,7 +99,8 @@ module _ (p : Plan) where
         m.buffer,
         k.0.buffer,
         rw (asks_here last m ms)
-            (mathlib.Core.List.Memᴰ.append_left (asks_from (after last m m.buffer) (of_buffer m.buffer ms)) (mathlib.Core.List.Memᴰ.append_left l t)),
+            (mathlib.Core.List.Memᴰ.append_left (asks_from (after last m m.buffer) (of_buffer m.buffer ms))
+            (mathlib.Core.List.Memᴰ.append_left l t)),
       ))
       (λ t. let w = uses_asked ms (after last m) a k.1 t in (w.0, w.1, asks_rest last m ms w.0 a w.2))
 

@@ -1,7 +1,8 @@
 -- R32, R33: two passes over the marks of a plan, with a table by buffer: uses against the free of their own holding,
 -- from the last mark to the first, and marks against the free before their holding. Assumes nothing: these are
 -- definitions.
-use Rattle.std.specs.Prelude.{◌≡◌, Bool, ◌&&◌, ◌||◌, not, cond, List, [], ◌∷◌, ℕ, ◌/◌, ◌%◌, ◌<◌, min, ltb, eqb, length, get_or, set, replicate}
+use Rattle.std.specs.Prelude.{◌≡◌, Bool, ◌&&◌, ◌||◌, not, cond, List, [], ◌∷◌, ℕ, ◌/◌, ◌%◌, ◌<◌, min, ltb, eqb}
+use Rattle.std.specs.Prelude.{length, get_or, set, replicate}
 use Rattle.plan_format.specs.Sizes.{most_buffers, row_width, no_operation}
 use Rattle.check_columns.specs.Columns.{Marked}
 use Rattle.check_columns.specs.Shown.{shown_from, ordered}

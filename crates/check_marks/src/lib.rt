@@ -2,6 +2,8 @@
 // against the next free of its buffer, a mark against the last free before it. Each has a table by buffer: where the
 // row of its free begins, or the free's own place in that row; and the zero row, after the last, for none. What is done
 // for a mark does not branch on it.
+#![tactic(auto)]
+
 ghost use Rattle.std.specs.Prelude.{◌≡◌, cond, List, ℕ, ◌+◌, ◌*◌, ◌%◌, ◌<◌, ◌≤◌, eqb, length};
 ghost use Rattle.plan_format.specs.Sizes.{most_operations, row_width, no_operation};
 ghost use Rattle.plan_format.specs.Plan.{Plan};
@@ -10,7 +12,7 @@ ghost use Rattle.base_lists.specs.Lists.{place_or};
 ghost use Rattle.check_marks.specs.Given.{MarksGiven};
 ghost use Rattle.check_columns.specs.Shown.{shown_from};
 ghost use Rattle.check_marks.specs.Passes.{none_noted, OwnPlace, late as is-late, early as is-early};
-ghost use Rattle.check_marks.specs.Passes.{first-late, first-early, first-broken};
+ghost use Rattle.check_marks.specs.Passes.{first_late, first_early, first_broken};
 
 use check_columns::{MARK_CODES, QueueColumn, Rows};
 use plan_format::limits::{MOST_BUFFERS, MOST_OPERATIONS, NO_OPERATION, ROW_WIDTH};
@@ -30,7 +32,7 @@ pub fn broken(
     mop: &[u16],
     rows: &Rows,
 ) -> usize
-    ensures found { result ≡ first-broken queue.now rows.now n marks mark.now
+    ensures found { result ≡ first_broken queue.now rows.now n marks mark.now
         mop.now }
     ensures of_plans { (p : Plan) →
         MarksGiven p n marks queue.now mark.now mop.now rows.now →
@@ -55,7 +57,7 @@ fn uses(
     rows: &Rows,
 ) -> usize
     requires { (marks ≤ length mark.now) × (marks ≤ length mop.now) }
-    ensures { result ≡ first-late queue.now rows.now n
+    ensures { result ≡ first_late queue.now rows.now n
         (shown_from mark.now mop.now marks 0) }
 {
     let mut frees = [NO_ROW_STORED; MOST_BUFFERS];
@@ -82,7 +84,7 @@ fn reuses(
     rows: &Rows,
 ) -> usize
     requires { (marks ≤ length mark.now) × (marks ≤ length mop.now) }
-    ensures { result ≡ first-early queue.now rows.now n none_noted
+    ensures { result ≡ first_early queue.now rows.now n none_noted
         (shown_from mark.now mop.now marks 0) }
 {
     let mut frees = [NO_ROW_STORED; MOST_BUFFERS];

@@ -63,7 +63,8 @@ module _ {n ran : ℕ} {rows list list_now : List ℕ}
       )))
       (λ j e. rw e (lowest_some n (own_zero queue rows) j e).inside)
 
-  pub order_inside : (cs : OrderColumns) → ((order_by n cs ran rows).number ≡ 0 → ⊥) → (order_by n cs ran rows).place < n
+  pub order_inside : (cs : OrderColumns) → ((order_by n cs ran rows).number ≡ 0 → ⊥) →
+      (order_by n cs ran rows).place < n
   unfolding order_by refusal none_given
   order_inside cs z =
       by_cases (ltb ran n)

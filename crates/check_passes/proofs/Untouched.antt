@@ -71,7 +71,8 @@ module _ (p : Plan) (r : Told) (t l : List ℕ) where
   not_ruled h z = says_untouched (rules_refusal p) (rw (other_given (rules_refusal p) (λ e. z (h.number ∙ e)))) h
 
   -- 9
-  pub no_room : (n : ℕ) → count p ≡ n → (rules_refusal p).number ≡ 0 → Tells (room_refusal n (length t) (length l)) 0 r →
+  pub no_room : (n : ℕ) → count p ≡ n → (rules_refusal p).number ≡ 0 →
+      Tells (room_refusal n (length t) (length l)) 0 r →
       (r.number ≡ 0 → ⊥) → PlanCheckSays p r t t l l
   unfolding plan_outcome or_then outcome
   no_room n many good h z =

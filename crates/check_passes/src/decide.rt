@@ -3,7 +3,7 @@ ghost use Rattle.std.specs.Prelude.{length};
 ghost use Rattle.plan_format.specs.Plan.{Plan};
 ghost use Rattle.plan_format.specs.Stored.{Tells};
 ghost use Rattle.plan_order.specs.Check.{room_refusal, order_refusal, PlanCheckSays};
-ghost use Rattle.check_passes.specs.Answering.{order_columns, order-by, AnswersBy};
+ghost use Rattle.check_passes.specs.Answering.{order_columns, order_by, AnswersBy};
 ghost use Rattle.check_passes.specs.Given.{OrderGiven, JudgeGiven};
 
 use check_columns::{QueueColumn, Rows, WaitColumn};
@@ -85,7 +85,7 @@ fn judge(
     mop: &[u16],
     rows: &Rows,
 ) -> Told
-    ensures told { Tells (order-by n
+    ensures told { Tells (order_by n
         (order_columns semaphores signals marks owned queue.now ssem.now sop.now
         mark.now mop.now) ran rows.now) 0 result }
     ensures of_plans { (p : Plan) → JudgeGiven p n ran

@@ -1,5 +1,7 @@
 // R54 to R56, the check of a plan that is shown by columns: judged by signals, waits and room, run, and judged by its
 // order.
+#![tactic(auto)]
+
 mod decide;
 mod leave;
 

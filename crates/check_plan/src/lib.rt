@@ -1,6 +1,8 @@
 // R53 to R56, the check of a stored plan: shown as columns, and judged by them; its counts, and its columns for those
 // who ask on. The columns are made once the head is read, for 64, 256 or 1,024 operations, so that a small plan costs
 // no clearing of large ones.
+#![tactic(auto)]
+
 mod load;
 
 ghost use Rattle.std.specs.Prelude.{◌≡◌, false, ◌/◌, ◌≤◌, min, length};
@@ -31,7 +33,7 @@ const MIDDLE_ROOM: usize = 256;
 
 // How many queues, semaphores, buffers and operations a plan has; or a refusal and its place beside them. Each is 0
 // where the reader refuses the plan.
-#[derive(Drop)]
+#[derive(Clone, Copy)]
 pub struct Counted {
     pub number: u32,
     pub place: u64,
@@ -42,7 +44,7 @@ pub struct Counted {
 }
 
 // The same, and how many signals and marks the plan has.
-#[derive(Drop)]
+#[derive(Clone, Copy)]
 pub struct Opened {
     pub counted: Counted,
     pub signals: usize,

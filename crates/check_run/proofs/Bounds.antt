@@ -14,7 +14,7 @@ use Rattle.base_lists.proofs.Fronts.{past_later}
 use borrow.Author.Tests.{eqb-true, eqb-false}
 use Rattle.base_lists.proofs.Tests.{by_cases, clash, and_left, and_right, or_cases, either}
 use Rattle.base_lists.proofs.Ranks.{rank_under}
-use Rattle.plan_format.specs.Sizes.{most_queues, most_operations, no_operation, row_width}
+use Rattle.plan_format.specs.Sizes.{most_queues, most_operations, no_operation}
 use Rattle.check_run.specs.Words.{has, LowestBit, all_queues}
 use Rattle.check_run.specs.Queues.{FirstFrom, found, absent, can_go, HeadsLooked}
 use Rattle.check_run.specs.Merge.{cell}
@@ -114,7 +114,8 @@ module _ (queue : List ℕ) (n : ℕ) (next unit : List ℕ) (tables : Tables qu
   head_same : get_or head' q 0 ≡ get_or next j 0
   head_same =
       ap (λ (x : List ℕ). get_or x q 0) stepped.head_is
-      ∙ get_or-set_same head q (get_or next j 0 % 65536) 0 (let h : q < length head = omega (arith, bounds.head_long) in h)
+      ∙ get_or-set_same head q (get_or next j 0 % 65536) 0 (let h : q < length head =
+      omega (arith, bounds.head_long) in h)
       ∙ mod-eq_of_lt (let h : get_or next j 0 < 65536 = omega
       (arith, first_small queue q (suc j) n (get_or next j 0) fits next_first) in h)
 

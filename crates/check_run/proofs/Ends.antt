@@ -5,7 +5,8 @@ use Prim.Native.Nat.{ℕ, zero, suc, ◌+◌, ◌-◌, ◌*◌, ◌≤◌, ◌<�
 use native.Mathlib.Nat.{not-suc-le-zero, le_of_suc-le-suc}
 use native.Mathlib.Omega.{arith}
 use lib.Dec.{ltb}
-use lib.ListN.{length, get_or, set, take, drop, replicate, length-append, length-set, length-replicate, take-append-drop}
+use lib.ListN.{length, get_or, set, take, drop, replicate, length-append, length-set, length-replicate}
+use lib.ListN.{take-append-drop}
 use lib.ListN.{get_or-replicate, get_or-append}
 use lib.Seq.{length-take-le, get_or-take, get_or-set_same, get_or-set_other, get_or-append-add, ext_get_or}
 use borrow.Author.Tests.{ltb-true, ltb-false}
@@ -46,7 +47,8 @@ pub tables_are : (queue : List ℕ) (n : ℕ) (head next unit : List ℕ) → Ch
 tables_are queue n head next unit chained e = record {
   nexts = λ i l b. chained.nexts i zero-le l b;
   one = ap (λ (x : List ℕ). get_or x 16 0) e;
-  zeros = λ k ne. ap (λ (x : List ℕ). get_or x k 0) e ∙ get_or-set_other (replicate 32 0) 16 k 1 0 ne ∙ replicate_at 32 0 k;
+  zeros = λ k ne. ap (λ (x : List ℕ). get_or x k 0) e ∙ get_or-set_other (replicate 32 0) 16 k 1 0 ne ∙
+      replicate_at 32 0 k;
 }
 
 -- ---- the beginning
@@ -154,7 +156,8 @@ module _ (p : Plan) where
         let b : k - n < length (standard p) = omega (arith, ltb-false k n f) in
         let there : k ≡ n + (k - n) = omega (arith, ltb-false k n f) in
         let here : k ≡ length (standard p) + (k - n) = omega (arith, ltb-false k n f) in
-        ap (λ (x : ℕ). get_or list_now x 0) there ∙ listed.readies (k - n) b ∙ sym (numbers_at [] (standard p) (k - n) b)
+        ap (λ (x : ℕ). get_or list_now x 0) there ∙ listed.readies (k - n) b ∙
+        sym (numbers_at [] (standard p) (k - n) b)
         ∙ sym (get_or-append-add (standard p) (ready_numbers p [] (standard p)) (k - n) 0)
         ∙ ap (λ (x : ℕ). get_or (standard p ++ ready_numbers p [] (standard p)) x 0) (sym here))
 

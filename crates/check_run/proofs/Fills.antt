@@ -155,7 +155,8 @@ module _ (p : Plan) (n : ℕ) (queue source next unit : List ℕ) (shown : RunGi
       by_cases (ltb x no_operation)
       (λ t. rw t (ap₂ (λ (y z : ℕ). max y z) (part_cell x k l h ∙ ap (λ (b : Bool). cond b (get_or (row p x) k 0) 0) t)
       (parts_most k l xs hs)))
-      (λ f. rw f (let z : cell rows x k ≡ 0 = part_cell x k l h ∙ ap (λ (b : Bool). cond b (get_or (row p x) k 0) 0) f in
+      (λ f. rw f (let z : cell rows x k ≡ 0 = part_cell x k l h ∙
+      ap (λ (b : Bool). cond b (get_or (row p x) k 0) 0) f in
       omega (arith, parts_most k l xs hs)))
 
   part_known : (x : ℕ) → Part x → x < no_operation → (member x r ≡ true) × (direct p x j ≡ true)
@@ -245,7 +246,8 @@ module _ (p : Plan) (n : ℕ) (queue source next unit : List ℕ) (shown : RunGi
   -- ---- the row
   largest_most :
       (k : ℕ) → k < 16 →
-      largest rows (slot_of (get_or prev q 0)) (slot_of (get_or source (3 * j) 0)) (slot_of (get_or source (3 * j + 1) 0))
+      largest rows (slot_of (get_or prev q 0)) (slot_of (get_or source (3 * j) 0))
+      (slot_of (get_or source (3 * j + 1) 0))
       (slot_of (get_or source (3 * j + 2) 0)) k
       ≡ most_of p k ks
   unfolding ks four
@@ -307,7 +309,8 @@ module _ (p : Plan) (n : ℕ) (queue source next unit : List ℕ) (shown : RunGi
 
   row_value :
       (k : ℕ) → k < 16 →
-      (largest rows (slot_of (get_or prev q 0)) (slot_of (get_or source (3 * j) 0)) (slot_of (get_or source (3 * j + 1) 0))
+      (largest rows (slot_of (get_or prev q 0)) (slot_of (get_or source (3 * j) 0))
+      (slot_of (get_or source (3 * j + 1) 0))
       (slot_of (get_or source (3 * j + 2) 0)) k
       + get_or unit (16 - q + k) 0) % 65536 ≡ get_or (row p j) k 0
   row_value k l =

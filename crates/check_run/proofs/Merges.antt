@@ -14,7 +14,8 @@ use Rattle.check_run.specs.Merge.{cell, largest, Laid, Merged}
 
 -- ---- a row merged
 pub merged_is :
-    (rows : List ℕ) (a b c d k u ab cd most v : ℕ) → ab ≡ max (get_or rows (16 * a + k) 0) (get_or rows (16 * b + k) 0) →
+    (rows : List ℕ) (a b c d k u ab cd most v : ℕ) → ab ≡ max (get_or rows (16 * a + k) 0)
+    (get_or rows (16 * b + k) 0) →
     cd ≡ max (get_or rows (16 * c + k) 0) (get_or rows (16 * d + k) 0) → most ≡ max ab cd → v ≡ (most + u) % 65536 →
     v ≡ (largest rows a b c d k + u) % 65536
 unfolding largest cell
@@ -29,7 +30,8 @@ merged_more f row k v row_now long b h e now_is m l =
     ap (λ (x : List ℕ). get_or x m 0) now_is
     ∙ by_cases (eqb m k)
     (λ t. let q = eqb-true m k t in
-    ap (λ (x : ℕ). get_or (set row k v) x 0) q ∙ get_or-set_same row k v 0 (let u : k < length row = omega arith in u) ∙ e
+    ap (λ (x : ℕ). get_or (set row k v) x 0) q ∙ get_or-set_same row k v 0 (let u : k < length row = omega arith in
+    u) ∙ e
     ∙ ap f (sym q))
     (λ n. let ne = eqb-false m k n in get_or-set_other row k m v 0 ne ∙ h m (omega arith))
 

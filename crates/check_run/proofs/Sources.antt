@@ -107,7 +107,8 @@ module _ (source ran : List ℕ) (j : ℕ) where
       ∙ held_no ran (get_or source (3 * j + 1) 0) _ (h 1 (omega arith))
       ∙ held_no ran (get_or source (3 * j + 2) 0) no_operation (h 2 (omega arith)))
 
-  pub no_blocker_gives : (get_or ran no_operation 0 ≡ 0 → ⊥) → blocker_of source ran j ≡ no_operation → (k : ℕ) → k < 3 →
+  pub no_blocker_gives : (get_or ran no_operation 0 ≡ 0 → ⊥) → blocker_of source ran j ≡ no_operation → (k : ℕ) →
+      k < 3 →
       get_or ran (get_or source (3 * j + k) 0) 0 ≡ 0 → ⊥
   unfolding blocker_of
   no_blocker_gives stays e =

@@ -87,7 +87,8 @@ module _ (p : Plan) (n : ℕ) (queue source next unit : List ℕ) (shown : RunGi
       let small : get_or next j 0 < 65536 = omega (arith, first_small queue q (suc j) n (get_or next j 0) few f) in
       subst (λ (x : ℕ). Head p (r ++ (j ∷ [])) q x)
       (sym (ap (λ (x : List ℕ). get_or x q 0) head_is
-      ∙ get_or-set_same head q (get_or next j 0 % 65536) 0 (let h : q < length head = omega (arith, places.head_long) in h)
+      ∙ get_or-set_same head q (get_or next j 0 % 65536) 0 (let h : q < length head =
+      omega (arith, places.head_long) in h)
       ∙ mod-eq_of_lt small))
       (next_head (get_or next j 0) f)
 

@@ -43,7 +43,8 @@ module _ (head source ran : List ℕ) (q : ℕ) where
 pub noted_by :
     (mask ready : ℕ) (head source ran waiter : List ℕ) (ready' : ℕ) (waiter' : List ℕ) →
     HeadsLooked mask ready head source ran waiter ready' waiter' →
-    (k : ℕ) → k < 16 → has mask k ≡ true → ((m : ℕ) → m < 3 → get_or source (3 * get_or head k 0 + m) 0 ≤ no_operation) →
+    (k : ℕ) → k < 16 → has mask k ≡ true →
+    ((m : ℕ) → m < 3 → get_or source (3 * get_or head k 0 + m) 0 ≤ no_operation) →
     get_or head k 0 < no_operation → can_go head source ran k ≡ false → Noted head source ran waiter' k
 noted_by mask ready head source ran waiter ready' waiter' looked k l m small h f =
     let b = blocker_of source ran (get_or head k 0) in
@@ -118,7 +119,8 @@ module _ (source head ran waiter : List ℕ) (ready : ℕ) (watch : Watch source
   still_held k ne N far =
       is_false (can_go head' source ran' k) (λ t.
       no_blocker_gives source ran' (get_or head' k 0) sentinel' (go_gives head' source ran' k t).1 N.place N.few
-      (ap (λ (x : ℕ). get_or ran' x 0) (ap (λ (x : ℕ). get_or source (3 * x + N.place) 0) (head_other k ne) ∙ N.source_is)
+      (ap (λ (x : ℕ). get_or ran' x 0) (ap (λ (x : ℕ). get_or source (3 * x + N.place) 0) (head_other k ne) ∙
+      N.source_is)
       ∙ ran_other N.at far ∙ N.held))
 
   -- a held queue that can go now was noted at j

@@ -1,6 +1,7 @@
 -- R25, the queues during a run: the next operation of each, what holds it, and which queues are ready. 1,024 means no
 -- operation. Assumes nothing: these are definitions.
-use Rattle.std.specs.Prelude.{◌≡◌, Bool, true, ◌&&◌, ◌||◌, cond, List, ℕ, suc, ◌+◌, ◌*◌, ◌≤◌, ◌<◌, ltb, eqb, length, get_or}
+use Rattle.std.specs.Prelude.{◌≡◌, Bool, true, ◌&&◌, ◌||◌, cond, List, ℕ, suc, ◌+◌, ◌*◌, ◌≤◌, ◌<◌, ltb, eqb, length}
+use Rattle.std.specs.Prelude.{get_or}
 use Rattle.plan_format.specs.Sizes.{most_queues, most_operations, most_waits, no_operation}
 use Rattle.check_run.specs.Words.{has}
 
@@ -32,7 +33,8 @@ blocker_of source ran j =
 
 -- queue q has a next operation, and nothing holds it
 unfoldable pub can_go : (head source ran : List ℕ) → (q : ℕ) → Bool
-can_go head source ran q = ltb (get_or head q 0) no_operation && eqb (blocker_of source ran (get_or head q 0)) no_operation
+can_go head source ran q = ltb (get_or head q 0) no_operation && eqb (blocker_of source ran (get_or head q 0))
+    no_operation
 
 -- the queues of a mask looked at: those that can go are ready afterwards, each other is noted at what holds it
 pub record HeadsLooked (mask ready : ℕ) (head source ran waiter : List ℕ) (ready_now : ℕ)

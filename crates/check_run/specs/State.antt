@@ -1,5 +1,6 @@
 -- The state of the pass after a run r of a plan. Assumes nothing: these are definitions.
-use Rattle.std.specs.Prelude.{◌≡◌, true, false, cond, List, ℕ, suc, ◌+◌, ◌-◌, ◌*◌, ◌%◌, ◌≤◌, ◌<◌, min, length, get_or, set, replicate}
+use Rattle.std.specs.Prelude.{◌≡◌, true, false, cond, List, ℕ, suc, ◌+◌, ◌-◌, ◌*◌, ◌%◌, ◌≤◌, ◌<◌, min, length, get_or}
+use Rattle.std.specs.Prelude.{set, replicate}
 use Rattle.base_lists.specs.Lists.{member}
 use Rattle.order.specs.Greedy.{greedy}
 use Rattle.plan_format.specs.Sizes.{most_queues, most_operations, most_waits, row_width, row_places, no_operation}

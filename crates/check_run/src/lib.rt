@@ -1,4 +1,6 @@
 // R27 to R29 and R20: the standard run and the frontier rows, in one pass.
+#![tactic(auto)]
+
 mod merge;
 mod queues;
 mod steps;

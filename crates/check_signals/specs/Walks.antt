@@ -1,6 +1,7 @@
 -- R44: refusal 7 as a walk over the columns of a plan, with a table of last values. Assumes nothing: these are
 -- definitions.
-use Rattle.std.specs.Prelude.{◌≡◌, Bool, true, cond, ◌↔◌, List, [], ℕ, zero, suc, ◌≤◌, ◌<◌, min, leb, length, get_or, set}
+use Rattle.std.specs.Prelude.{◌≡◌, Bool, true, cond, ◌↔◌, List, [], ℕ, zero, suc, ◌≤◌, ◌<◌, min, leb, length, get_or}
+use Rattle.std.specs.Prelude.{set}
 use Rattle.plan_format.specs.Refusal.{Refusal, refusal, none_given}
 use Rattle.plan_format.specs.Stored.{Tells}
 use Rattle.plan_format.specs.declared.Told.{Told}

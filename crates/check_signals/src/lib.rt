@@ -1,5 +1,7 @@
 // R44, refusal 7: each signal is above the last of its semaphore, whichever queue signals. In the same loop: whether
 // only owners signal, which spares the pass for 17 its look at the rows.
+#![tactic(auto)]
+
 ghost use Rattle.std.specs.Prelude.{◌≡◌, ◌&&◌, cond, eqb, get_or};
 ghost use Rattle.plan_format.specs.Plan.{Plan};
 ghost use Rattle.plan_format.specs.Stored.{Tells};

@@ -1,4 +1,6 @@
 // R47, refusal 10: the operation at which a run is stuck, by the rows that the run leaves.
+#![tactic(auto)]
+
 ghost use Rattle.std.specs.Prelude.{◌≡◌};
 ghost use Rattle.base_lists.specs.Lists.{place_or};
 ghost use Rattle.plan_format.specs.Plan.{Plan, count};

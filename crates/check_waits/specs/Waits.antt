@@ -1,6 +1,7 @@
 -- R45: what the pass over the waits is given and what it answers, and refusal 8 as a walk over the wait places. Assumes
 -- nothing: these are definitions.
-use Rattle.std.specs.Prelude.{◌≡◌, Bool, true, false, ◌&&◌, cond, ◌⊎◌, List, [], ℕ, zero, suc, ◌*◌, ◌/◌, ◌%◌, ◌≤◌, ◌<◌, ltb, leb, length, get_or}
+use Rattle.std.specs.Prelude.{◌≡◌, Bool, true, false, ◌&&◌, cond, ◌⊎◌, List, [], ℕ, zero, suc, ◌*◌, ◌/◌, ◌%◌, ◌≤◌}
+use Rattle.std.specs.Prelude.{◌<◌, ltb, leb, length, get_or}
 use Rattle.plan_format.specs.Sizes.{most_semaphores, most_operations, most_waits, signal_places, no_operation}
 use Rattle.plan_format.specs.Sizes.{no_wait}
 use Rattle.plan_format.specs.Refusal.{Refusal, refusal, none_given}

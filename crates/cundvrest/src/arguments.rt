@@ -1,10 +1,11 @@
 // The arguments: what is asked, or a line on standard error that says what is wrong and what would be right.
 use crate::usage;
 use base_decimal::Word;
-use check::same;
 use print_input::Question;
+use std::env::FillError;
+use std::rt::Env;
 
-#[derive(Drop)]
+#[derive(Clone, Copy)]
 pub enum Asked {
     Plan(Question),
     Trace,
@@ -14,137 +15,148 @@ pub enum Asked {
 }
 
 // An argument that is to be a number.
-#[derive(Drop)]
+#[derive(Clone, Copy)]
 enum Given {
     Number(u32),
     Wrong,
 }
 
 // Two of them.
-#[derive(Drop)]
+#[derive(Clone, Copy)]
 enum Pair {
     Numbers(u32, u32),
     Wrong,
 }
 
-pub fn read_words() -> Asked {
-    if os::arg_count() < 2 {
-        return Asked::Plan(Question::Check);
+pub fn read_words(rt: &(impl Env + Eprint)) -> Asked {
+    let mut word = [0; 4096];
+    match rt.arg(1, &mut word) {
+        Ok(n) => command(rt, &word[..n]),
+        Err(FillError::NotPresent) => Asked::Plan(Question::Check),
+        Err(FillError::TooLong) => {
+            usage::say(rt, "the command is too long; right: see cundvrest help");
+            Asked::Nothing
+        }
     }
-    let mut word = io::buffer();
-    let n = os::arg(1, &mut word);
-    if os::errno() != 0 {
-        usage::say(b"cundvrest: the command is too long; right: see cundvrest help\n");
-        return Asked::Nothing;
-    }
-    command(&word[..n])
 }
 
-fn command(word: &[u8]) -> Asked {
-    if same(word, b"reuse") {
-        return reuse();
+// Whether there is an argument at i.
+fn is_given(rt: &impl Env, i: usize) -> bool {
+    !matches!(rt.arg(i, &mut [0; 1]), Err(FillError::NotPresent))
+}
+
+fn command(rt: &(impl Env + Eprint), word: &[u8]) -> Asked {
+    if word == b"reuse".as_slice() {
+        return reuse(rt);
     }
-    if same(word, b"suggest") {
-        return suggest();
+    if word == b"suggest".as_slice() {
+        return suggest(rt);
     }
-    if same(word, b"frontier") {
-        return frontier();
+    if word == b"frontier".as_slice() {
+        return frontier(rt);
     }
-    if same(word, b"trace") {
-        return trace();
+    if word == b"trace".as_slice() {
+        return trace(rt);
     }
-    plain(word)
+    plain(rt, word)
 }
 
 // A command that takes no number.
-fn plain(word: &[u8]) -> Asked {
-    if same(word, b"read") {
-        return alone(Asked::Plan(Question::Read), word);
+fn plain(rt: &(impl Env + Eprint), word: &[u8]) -> Asked {
+    if word == b"read".as_slice() {
+        return alone(rt, Asked::Plan(Question::Read), word);
     }
-    if same(word, b"write") {
-        return alone(Asked::Write, word);
+    if word == b"write".as_slice() {
+        return alone(rt, Asked::Write, word);
     }
-    if same(word, b"help") {
-        return alone(Asked::Help, word);
+    if word == b"help".as_slice() {
+        return alone(rt, Asked::Help, word);
     }
     usage::complain(
-        b"no command ",
+        rt,
+        "no command ",
         word,
-        b"; right: none, reuse or suggest QUEUE BUFFER, frontier OPERATION CAPACITY, trace FILE, read, write or help",
+        "; right: none, reuse or suggest QUEUE BUFFER, frontier OPERATION CAPACITY, trace FILE, read, write or help",
     );
     Asked::Nothing
 }
 
 // A command that takes no further word.
-fn alone(asked: Asked, word: &[u8]) -> Asked {
-    if os::arg_count() > 2 {
-        usage::complain(b"too many words; right: ", word, b" alone");
+fn alone(rt: &(impl Env + Eprint), asked: Asked, word: &[u8]) -> Asked {
+    if is_given(rt, 2) {
+        usage::complain(rt, "too many words; right: ", word, " alone");
         return Asked::Nothing;
     }
     asked
 }
 
 // The two numbers of a command, each under its name.
-fn two(right: &[u8], first: &[u8], second: &[u8]) -> Pair {
-    let many = os::arg_count();
-    if many < 4 {
-        usage::complain(b"too few words; right: ", right, b", two decimal numbers");
+fn two(rt: &(impl Env + Eprint), right: &[u8], first: &str, second: &str) -> Pair {
+    if !is_given(rt, 3) {
+        usage::complain(rt, "too few words; right: ", right, ", two decimal numbers");
         return Pair::Wrong;
     }
-    if many > 4 {
-        usage::complain(b"too many words; right: ", right, b", two decimal numbers");
+    if is_given(rt, 4) {
+        usage::complain(
+            rt,
+            "too many words; right: ",
+            right,
+            ", two decimal numbers",
+        );
         return Pair::Wrong;
     }
-    let Given::Number(a) = number(2, first) else {
+    let Given::Number(a) = number(rt, 2, first) else {
         return Pair::Wrong;
     };
-    let Given::Number(b) = number(3, second) else {
+    let Given::Number(b) = number(rt, 3, second) else {
         return Pair::Wrong;
     };
     Pair::Numbers(a, b)
 }
 
 // The file's name is read where the file is opened.
-fn trace() -> Asked {
-    let many = os::arg_count();
-    if many < 3 {
+fn trace(rt: &(impl Env + Eprint)) -> Asked {
+    if !is_given(rt, 2) {
         usage::complain(
-            b"too few words; right: ",
+            rt,
+            "too few words; right: ",
             b"trace FILE",
-            b", the file of a recorded trace",
+            ", the file of a recorded trace",
         );
         return Asked::Nothing;
     }
-    if many > 3 {
+    if is_given(rt, 3) {
         usage::complain(
-            b"too many words; right: ",
+            rt,
+            "too many words; right: ",
             b"trace FILE",
-            b", the file of a recorded trace",
+            ", the file of a recorded trace",
         );
         return Asked::Nothing;
     }
     Asked::Trace
 }
 
-fn reuse() -> Asked {
-    let Pair::Numbers(queue, buffer) = two(b"reuse QUEUE BUFFER", b"QUEUE ", b"BUFFER ") else {
+fn reuse(rt: &(impl Env + Eprint)) -> Asked {
+    let Pair::Numbers(queue, buffer) = two(rt, b"reuse QUEUE BUFFER", "QUEUE ", "BUFFER ") else {
         return Asked::Nothing;
     };
     Asked::Plan(Question::Reuse(queue, buffer))
 }
 
-fn suggest() -> Asked {
-    let Pair::Numbers(queue, buffer) = two(b"suggest QUEUE BUFFER", b"QUEUE ", b"BUFFER ") else {
+fn suggest(rt: &(impl Env + Eprint)) -> Asked {
+    let Pair::Numbers(queue, buffer) = two(rt, b"suggest QUEUE BUFFER", "QUEUE ", "BUFFER ") else {
         return Asked::Nothing;
     };
     Asked::Plan(Question::Suggest(queue, buffer))
 }
 
-fn frontier() -> Asked {
+fn frontier(rt: &(impl Env + Eprint)) -> Asked {
     let Pair::Numbers(operation, capacity) = two(
+        rt,
         b"frontier OPERATION CAPACITY",
-        b"OPERATION ",
-        b"CAPACITY ",
+        "OPERATION ",
+        "CAPACITY ",
     ) else {
         return Asked::Nothing;
     };
@@ -152,32 +164,36 @@ fn frontier() -> Asked {
 }
 
 // The argument at i as a number of 32 bits.
-fn number(i: usize, name: &[u8]) -> Given {
-    let mut word = io::buffer();
-    let n = os::arg(i, &mut word);
-    if os::errno() != 0 {
-        usage::say(b"cundvrest: a number is too long; right: decimal digits, at most 4294967295\n");
+fn number(rt: &(impl Env + Eprint), i: usize, name: &str) -> Given {
+    let mut word = [0; 4096];
+    let Ok(n) = rt.arg(i, &mut word) else {
+        usage::say(
+            rt,
+            "a number is too long; right: decimal digits, at most 4294967295",
+        );
         return Given::Wrong;
-    }
-    read_number(&word[..n], name)
+    };
+    read_number(rt, &word[..n], name)
 }
 
-fn read_number(word: &[u8], name: &[u8]) -> Given {
+fn read_number(rt: &impl Eprint, word: &[u8], name: &str) -> Given {
     match base_decimal::of_word(word, 4294967295) {
         Word::Number(v) => Given::Number(v as u32),
         Word::Large => {
             usage::complain(
+                rt,
                 name,
                 word,
-                b" is too large; right: decimal digits, at most 4294967295",
+                " is too large; right: decimal digits, at most 4294967295",
             );
             Given::Wrong
         }
         Word::Other => {
             usage::complain(
+                rt,
                 name,
                 word,
-                b" is no number; right: decimal digits, at most 4294967295",
+                " is no number; right: decimal digits, at most 4294967295",
             );
             Given::Wrong
         }

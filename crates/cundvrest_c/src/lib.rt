@@ -1,5 +1,7 @@
 // The C interface on plans, declared in include/cundvrest.h: each function lends what it is lent to a proved function
 // and stores what comes back.
+#![tactic(auto)]
+
 ghost use Rattle.plan_format.specs.Meaning.{ReadMeans, WriteMeans};
 ghost use Rattle.plan_format.specs.Stored.{ReadSays, WriteSays};
 ghost use Rattle.plan_order.specs.Promise.{Checked};

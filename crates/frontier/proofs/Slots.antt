@@ -2,7 +2,7 @@
 use mathlib.Core.Path.{◌≡◌, refl, sym, ap, ap₂, ◌∙◌}
 use mathlib.Core.Bool.{true}
 use mathlib.Core.List.{List, [], ◌∷◌, ◌++◌}
-use Prim.Native.Nat.{ℕ, zero, suc, ◌+◌, ◌-◌, ◌≤◌, ◌<◌}
+use Prim.Native.Nat.{ℕ, zero, suc, ◌+◌, ◌≤◌, ◌<◌}
 use native.Mathlib.Nat.{le_refl}
 use native.Mathlib.Numerals.{add-one}
 use native.Mathlib.Omega.{arith}
@@ -55,7 +55,8 @@ slots_put xs es n a e p q =
     rw (add-one n) (tabulate_last (slot (set xs n a) (set es n e)) n 0 ∙
     ap₂ {C = List Entry} (λ zs z. zs ++ (z ∷ []))
     (tabulate_same n 0 (slot (set xs n a) (set es n e)) (slot xs es)
-    (λ k l m. same_entry (get_or-set_other xs n k a 0 (λ q. omega arith)) (get_or-set_other es n k e 0 (λ q. omega arith))))
+    (λ k l m. same_entry (get_or-set_other xs n k a 0 (λ q. omega arith)) (get_or-set_other es n k e 0 (λ q.
+    omega arith))))
     (same_entry (ap (λ k. get_or (set xs n a) k 0) (zero_plus n) ∙ get_or-set_same xs n a 0 p)
     (ap (λ k. get_or (set es n e) k 0) (zero_plus n) ∙ get_or-set_same es n e 0 q)))
   where
@@ -67,14 +68,16 @@ pub slots_before : (xs es : List ℕ) (n a e : ℕ) → slots (set xs n a) (set 
 unfolding slots slot
 slots_before xs es n a e =
     tabulate_same n 0 (slot (set xs n a) (set es n e)) (slot xs es)
-    (λ k l m. same_entry (get_or-set_other xs n k a 0 (λ q. omega arith)) (get_or-set_other es n k e 0 (λ q. omega arith)))
+    (λ k l m. same_entry (get_or-set_other xs n k a 0 (λ q. omega arith)) (get_or-set_other es n k e 0 (λ q.
+    omega arith)))
 
 pub rest_past : (xs es : List ℕ) (len n i a e : ℕ) → n < i →
     rest (set xs n a) (set es n e) len i ≡ rest xs es len i
 unfolding slots slot
 rest_past xs es len n i a e h =
     tabulate_same _ i (slot (set xs n a) (set es n e)) (slot xs es)
-    (λ k l m. same_entry (get_or-set_other xs n k a 0 (λ q. omega arith)) (get_or-set_other es n k e 0 (λ q. omega arith)))
+    (λ k l m. same_entry (get_or-set_other xs n k a 0 (λ q. omega arith)) (get_or-set_other es n k e 0 (λ q.
+    omega arith)))
 
 -- THE FIRST SLOTS
 zero_take : (m : ℕ) (row : List ℕ) → all_zero row ≡ true → all_zero (take m row) ≡ true

@@ -1,6 +1,7 @@
 -- Frontiers as the code has them: their entries and form, merge, raise and dominance with their numbers. Assumes
 -- nothing: these are definitions.
-use Rattle.std.specs.Prelude.{Bool, true, false, ◌&&◌, ◌||◌, cond, List, [], ◌∷◌, ◌++◌, map, ℕ, ◌-◌, ltb, leb, eqb, length, replicate}
+use Rattle.std.specs.Prelude.{Bool, true, false, ◌&&◌, ◌||◌, cond, List, [], ◌∷◌, ◌++◌, map, ℕ, ◌-◌, ltb, leb, eqb}
+use Rattle.std.specs.Prelude.{length, replicate}
 use Rattle.axis_search.specs.Halving.{searched}
 use Rattle.frontier.specs.declared.Frontier.{Frontier}
 use Rattle.frontier.specs.declared.Merged.{Merged}

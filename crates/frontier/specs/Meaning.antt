@@ -1,6 +1,7 @@
 -- What the answers mean: completions of a frontier, and what lookup, merge, raise and dominance promise of their
 -- answers. Assumes nothing: these are definitions.
-use Rattle.std.specs.Prelude.{◌≡◌, Bool, true, false, ◌||◌, cond, List, ℕ, ◌+◌, ◌≤◌, ◌<◌, max, min, ltb, leb, eqb, length}
+use Rattle.std.specs.Prelude.{◌≡◌, Bool, true, false, ◌||◌, cond, List, ℕ, ◌+◌, ◌≤◌, ◌<◌, max, min, ltb, leb, eqb}
+use Rattle.std.specs.Prelude.{length}
 use Rattle.axis_search.specs.Halving.{most_reads, Range, searched, Halves}
 use Rattle.frontier.specs.declared.Frontier.{Frontier}
 use Rattle.frontier.specs.declared.Merged.{Merged}

@@ -1,5 +1,6 @@
 -- What the walks over lent slots answer. Assumes nothing: these are definitions.
-use Rattle.std.specs.Prelude.{◌≡◌, Bool, true, false, ◌&&◌, cond, List, [], ◌∷◌, ◌++◌, ℕ, zero, ◌-◌, ◌≤◌, ◌<◌, ltb, leb, length, get_or, take, replicate}
+use Rattle.std.specs.Prelude.{◌≡◌, Bool, true, false, cond, List, [], ◌∷◌, ◌++◌, ℕ, ◌≤◌, ◌<◌, ltb, leb, length}
+use Rattle.std.specs.Prelude.{get_or, take, replicate}
 use Rattle.frontier.specs.declared.Frontier.{Frontier}
 use Rattle.frontier_slots.specs.declared.Lookup.TheVariants.{Listed}
 use Rattle.frontier.specs.declared.Merged.{Merged}

@@ -15,7 +15,7 @@ use frontier_slots::{Lookup, lookup_by_halving};
 pub type Room = [u64; Frontier::BOTH];
 
 // A merge's number, and the length and taint of the frontier that it leaves in front of the room.
-#[derive(Drop)]
+#[derive(Clone, Copy)]
 pub struct Filled {
     pub number: u32,
     pub len: usize,

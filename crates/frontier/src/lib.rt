@@ -1,4 +1,6 @@
 // R59 to R68, sparse frontiers: vector clocks of at most sixteen entries, with lookup, merge, raise and dominance.
+#![tactic(auto)]
+
 mod cuts;
 mod form;
 pub mod lent;
@@ -17,7 +19,7 @@ use unions::join_one;
 
 // Slot i holds the entry (axes[i], epochs[i]) for i below len; the slots past len are zero. A tainted frontier may have
 // lost entries.
-#[derive(Drop)]
+#[derive(Clone, Copy)]
 pub struct Frontier {
     pub axes: [u64; Frontier::SLOTS],
     pub epochs: [u64; Frontier::SLOTS],
@@ -27,14 +29,14 @@ pub struct Frontier {
 
 // A merge's number and frontier: empty and untainted where the number is a refusal's. The frontier comes first, so
 // that it is copied in whole words.
-#[derive(Drop)]
+#[derive(Clone, Copy)]
 pub struct Merged {
     pub frontier: Frontier,
     pub number: u32,
 }
 
 // Whether one frontier dominates another, or the refusal's number.
-#[derive(Drop)]
+#[derive(Clone, Copy)]
 pub enum Dominance {
     Yes,
     No,

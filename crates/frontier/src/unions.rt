@@ -14,7 +14,7 @@ use crate::search::lookup_from;
 use frontier_slots::{Lookup, formed, lookup_by_halving};
 
 // The next entry of a union, and where each side goes on.
-#[derive(Drop)]
+#[derive(Clone, Copy)]
 pub struct Step {
     pub axis: u64,
     pub epoch: u64,
@@ -49,7 +49,8 @@ fn leading<'a>(
     yn: usize,
     j: usize,
 ) -> Step
-    requires xn_le_most_entries { (xn ≤ most_entries) × (yn ≤ most_entries) × (i < xn) × (j ≤ yn) × AllSlots xa.now xe.now ×
+    requires xn_le_most_entries { (xn ≤ most_entries) × (yn ≤ most_entries) × (i < xn) × (j ≤ yn) ×
+        AllSlots xa.now xe.now ×
         AllSlots ya.now ye.now }
     requires xn_value { (rising_from 0 (slots xa.now xe.now xn 0) ≡ true) ×
         (rising_from 0 (slots ya.now ye.now yn 0) ≡ true) }

@@ -1,5 +1,7 @@
 // R65, frontiers changed in place: the raise and the merge of a stored frontier that is lent. The work is done by
 // value, and what comes of it is stored.
+#![tactic(auto)]
+
 ghost use Rattle.std.specs.Prelude.{◌≡◌};
 ghost use Rattle.frontier.specs.Frontiers.{merge, raise};
 ghost use Rattle.frontier_in_place.specs.InPlace.{kept, Changed};

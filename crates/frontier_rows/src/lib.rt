@@ -1,4 +1,6 @@
 // Two lent rows of a table of frontiers: the one that reaches the other.
+#![tactic(auto)]
+
 ghost use Rattle.std.specs.Prelude.{◌≡◌};
 ghost use Rattle.frontier_rows.specs.Rows.{row_reaches, reaching_row, AsItLies};
 

@@ -1,6 +1,7 @@
 -- Lent slots: the entries that they hold, their form, and the lookup of an axis. Assumes nothing: these are
 -- definitions.
-use Rattle.std.specs.Prelude.{◌≡◌, Bool, true, ◌&&◌, cond, List, [], ◌∷◌, ℕ, zero, suc, ◌-◌, ltb, leb, eqb, length, get_or, drop}
+use Rattle.std.specs.Prelude.{◌≡◌, Bool, true, ◌&&◌, cond, List, [], ◌∷◌, ℕ, zero, suc, ◌-◌, ltb, leb, eqb, length}
+use Rattle.std.specs.Prelude.{get_or, drop}
 use Rattle.base_lists.specs.Lists.{tabulate_from}
 use Rattle.axis_search.specs.Halving.{searched}
 use Rattle.frontier_slots.specs.declared.Lookup.{Lookup}

@@ -1,5 +1,7 @@
 // R59, R60 and R62, the slots of a frontier where they are lent: their form, the lookup of an axis, and which of two
 // entries is kept.
+#![tactic(auto)]
+
 ghost use Rattle.std.specs.Prelude.{◌≡◌, ◌≤◌, ◌<◌, length, drop};
 ghost use Rattle.frontier_slots.specs.Entries.{most_entries, rising_from, exceeds};
 ghost use Rattle.frontier_slots.specs.Slots.{slots, AllSlots, placed, all_zero, slots_formed, found_by_halving};
@@ -7,21 +9,21 @@ ghost use Rattle.frontier_slots.specs.Slots.{slots, AllSlots, placed, all_zero, 
 use axis_search::SLOTS;
 
 // An axis and its epoch.
-#[derive(Drop)]
+#[derive(Clone, Copy)]
 pub struct Entry {
     pub axis: u64,
     pub epoch: u64,
 }
 
 // What a frontier says of an axis: its epoch, or nothing.
-#[derive(Drop)]
+#[derive(Clone, Copy)]
 pub enum Lookup {
     Listed(u64),
     Absent,
 }
 
 // What a lookup says of an axis, and the slot at which the search for it ended.
-#[derive(Drop)]
+#[derive(Clone, Copy)]
 pub struct Found {
     pub answer: Lookup,
     pub at: usize,

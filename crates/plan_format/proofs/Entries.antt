@@ -45,7 +45,8 @@ pairs_cons P Q k a b vs p q r = record { long = omega (arith, r.long); firsts = 
   where
     firsts : (i : ℕ) → i < suc k → P (get_or (a ∷ b ∷ vs) (2 * i) 0)
     firsts zero l = p
-    firsts (suc i) l = subst (λ z. P (get_or (a ∷ b ∷ vs) z 0)) (let e : suc (suc (2 * i)) ≡ 2 * suc i = omega arith in e)
+    firsts (suc i) l = subst (λ z. P (get_or (a ∷ b ∷ vs) z 0)) (let e : suc (suc (2 * i)) ≡ 2 * suc i =
+        omega arith in e)
         (r.firsts i (le_of_suc-le-suc l))
 
     seconds : (i : ℕ) → i < suc k → Q (get_or (a ∷ b ∷ vs) (2 * i + 1) 0)

@@ -51,7 +51,8 @@ points_pairs (suc k) xs =
 marks_pairs : (k : ℕ) (xs : List ℕ) → marks_in k xs ≡ pairs_in a_mark k xs
 unfolding marks_in pairs_in a_mark
 marks_pairs zero xs = refl
-marks_pairs (suc k) xs = ap (λ z. record { buffer = get_or xs 0 0; kind = get_or xs 1 0 } ∷ z) (marks_pairs k (drop 2 xs))
+marks_pairs (suc k) xs = ap (λ z. record { buffer = get_or xs 0 0; kind = get_or xs 1 0 } ∷ z)
+    (marks_pairs k (drop 2 xs))
 
 pub points_long : (k : ℕ) (xs : List ℕ) → length (points_in k xs) ≡ k
 points_long k xs = ap length (points_pairs k xs) ∙ pairs_long a_point k xs

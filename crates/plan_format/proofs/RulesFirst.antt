@@ -182,7 +182,8 @@ module _ (p : Plan) where
       either (or_cases (too_high p w) (any_too_high p ws) h) (λ t. (0, omega arith, t))
       (λ t. let r = any_gives ws t in (suc r.0, omega (arith, r.1), r.2))
 
-  any_by : (ws : List Point) (k : ℕ) → k < length ws → too_high p (get_or ws k no_point) ≡ true → any_too_high p ws ≡ true
+  any_by : (ws : List Point) (k : ℕ) → k < length ws → too_high p (get_or ws k no_point) ≡ true →
+      any_too_high p ws ≡ true
   unfolding any_too_high
   any_by [] k a h = absurd (not-suc-le-zero a)
   any_by (w ∷ ws) zero a h = or_left (too_high p w) (any_too_high p ws) h

@@ -54,7 +54,8 @@ module _ (p : Plan) where
   either_say : (a b : Refusal) → SignalsSay p a → WaitsSay p b → RulesSay (or_refusal a b)
   unfolding none_given
   either_say a b (signals_seven i k e w) s =
-      say_seven i k (refuses (or_refusal a b) 7 i (or_else_first a b (rw e (refusal_given 7 i (λ z. omega arith))) ∙ e)) w
+      say_seven i k (refuses (or_refusal a b) 7 i (or_else_first a b (rw e (refusal_given 7 i (λ z. omega arith))) ∙
+      e)) w
   either_say a b (signals_good e g) (waits_eight i k d t low) =
       say_eight i (refuses (or_refusal a b) 8 i (or_else_second a b (ap (λ (z : Refusal). z.number) e) ∙ d))
       (record { signals_good = g; too_high = (k, t); lowest = low })

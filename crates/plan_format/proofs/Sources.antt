@@ -59,6 +59,9 @@ exact_numbers = record {
   fits_is = λ w v ds d. lt-ltb v (256 ^ w) d.fits;
   Clean = λ xs. Unit {0};
   clean_drop = λ n xs c. tt;
-  taken = λ w xs c l f.
-      (digits w (get_or xs 0 0), record { fits = ltb-true (get_or xs 0 0) (256 ^ w) f; bytes_are = refl }, first_of xs l);
+  taken = λ w xs c l f. (
+    digits w (get_or xs 0 0),
+    record { fits = ltb-true (get_or xs 0 0) (256 ^ w) f; bytes_are = refl },
+    first_of xs l,
+  );
 }

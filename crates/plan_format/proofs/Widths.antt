@@ -31,7 +31,8 @@ module _ (n : ℕ) where
   small_none got vs ds p =
       rw p.numbers_are (λ i. omega (arith, pow-le-pow_right {n = 256} (lit< tt) {i = 0} {j = n} zero-le))
 
-  small_append : (vs vs' : List ℕ) → ((i : ℕ) → get_or vs i 0 < 256 ^ n) → ((i : ℕ) → get_or vs' i 0 < 256 ^ n) → (i : ℕ) →
+  small_append : (vs vs' : List ℕ) → ((i : ℕ) → get_or vs i 0 < 256 ^ n) → ((i : ℕ) → get_or vs' i 0 < 256 ^ n) →
+      (i : ℕ) →
       get_or (vs ++ vs') i 0 < 256 ^ n
   small_append [] vs' a b i = b i
   small_append (v ∷ vs) vs' a b zero = a 0

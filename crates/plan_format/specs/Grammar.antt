@@ -1,6 +1,7 @@
 -- Grammars of stored numbers: what a field is, how a list of fields is read and judged, and how it is spelled in bytes.
 -- One grammar serves the reader, over bytes, and the writer, over numbers. Assumes nothing: these are definitions.
-use Rattle.std.specs.Prelude.{Bool, true, ◌||◌, cond, List, [], ◌∷◌, ◌++◌, ℕ, zero, suc, ◌+◌, ◌*◌, ◌-◌, ◌/◌, ◌%◌, ◌^◌, ltb, eqb, length, get_or, take, drop}
+use Rattle.std.specs.Prelude.{Bool, true, ◌||◌, cond, List, [], ◌∷◌, ◌++◌, ℕ, zero, suc, ◌+◌, ◌*◌, ◌-◌, ◌/◌, ◌%◌, ◌^◌}
+use Rattle.std.specs.Prelude.{ltb, eqb, length, get_or, take, drop}
 use Rattle.plan_format.specs.Refusal.{Refusal, refusal, given}
 
 -- what is asked of a field's number, given the numbers read before it: 0, or the number of the refusal

@@ -1,6 +1,7 @@
 -- What the refusals of stored plans say, by quantifiers. The laws *-means of proofs/ show each the same as its
 -- definition. Assumes nothing: these are definitions.
-use Rattle.std.specs.Prelude.{◌≡◌, true, false, ◌⊎◌, ◌↔◌, List, [], ◌∷◌, ◌++◌, ℕ, zero, suc, ◌+◌, ◌*◌, ◌≤◌, ◌<◌, length, get_or, take, drop}
+use Rattle.std.specs.Prelude.{◌≡◌, true, false, ◌⊎◌, ◌↔◌, List, [], ◌∷◌, ◌++◌, ℕ, zero, suc, ◌+◌, ◌*◌, ◌≤◌, ◌<◌}
+use Rattle.std.specs.Prelude.{length, get_or, take, drop}
 use Rattle.plan_format.specs.Refusal.{Refusal, refusal, none_given}
 use Rattle.plan_format.specs.RefusalNumbers.{NoneOr, reading_numbers, rule_numbers, plan_gives, reader_gives}
 use Rattle.plan_format.specs.RefusalNumbers.{writer_gives}

@@ -1,6 +1,7 @@
 -- Refusals 7 and 8, and sound plans: those with neither, every position in range and every wait above 0. Assumes
 -- nothing: these are definitions.
-use Rattle.std.specs.Prelude.{◌≡◌, Bool, false, ◌||◌, cond, List, [], ◌∷◌, ◌++◌, ℕ, suc, ◌≤◌, ◌<◌, max, ltb, leb, eqb, length, get_or}
+use Rattle.std.specs.Prelude.{◌≡◌, Bool, false, ◌||◌, cond, List, [], ◌∷◌, ◌++◌, ℕ, suc, ◌≤◌, ◌<◌, max, ltb, leb, eqb}
+use Rattle.std.specs.Prelude.{length, get_or}
 use Rattle.plan_format.specs.Sizes.{most_queues, most_operations}
 use Rattle.plan_format.specs.Refusal.{Refusal, refusal, none_given, or_refusal}
 use Rattle.plan_format.specs.Plan.{Point, Operation, Plan, count, op, queues}

@@ -1,12 +1,14 @@
 // What every call on a stored plan hands back, a refusal among it, and the search that judges an axis; the format
 // itself is in specs/.
+#![tactic(auto)]
+
 pub mod limits;
 
 ghost use Rattle.std.specs.Prelude.{◌≡◌, drop};
 ghost use Rattle.base_lists.specs.Lists.{member};
 
 // The number of a refusal and its place, or 0 and 0 with the answer.
-#[derive(Drop)]
+#[derive(Clone, Copy)]
 pub struct Told {
     pub number: u32,
     pub place: u64,

@@ -92,13 +92,15 @@ module _ (g : Option ℕ) (m : Placed) (ms : List Placed) where
   unfolding use_asks asks_from
   own_asked f u e =
       let t : Memᴰ (ask m.by f true) (use_asks m (freed_by (m ∷ ms))) = rw (e, u) (mathlib.Core.List.Memᴰ.head refl) in
-      mathlib.Core.List.Memᴰ.append_left (asks_from (free_after g m) ms) (mathlib.Core.List.Memᴰ.append_left (later_asks m g) t)
+      mathlib.Core.List.Memᴰ.append_left (asks_from (free_after g m) ms) (mathlib.Core.List.Memᴰ.append_left
+      (later_asks m g) t)
 
   before_asked : (f : ℕ) → g ≡ some f → Memᴰ (ask f m.by false) (asks_from g (m ∷ ms))
   unfolding later_asks asks_from
   before_asked f e =
       let t : Memᴰ (ask f m.by false) (later_asks m g) = rw e (mathlib.Core.List.Memᴰ.head refl) in
-      mathlib.Core.List.Memᴰ.append_left (asks_from (free_after g m) ms) (mathlib.Core.List.Memᴰ.append_right (use_asks m (freed_by (m ∷ ms))) t)
+      mathlib.Core.List.Memᴰ.append_left (asks_from (free_after g m) ms) (mathlib.Core.List.Memᴰ.append_right
+      (use_asks m (freed_by (m ∷ ms))) t)
 
   rest_asked : (a : Ask) → Memᴰ a (asks_from (free_after g m) ms) → Memᴰ a (asks_from g (m ∷ ms))
   unfolding asks_from
@@ -127,7 +129,8 @@ unfolding use_asks
 origin_use g m ms a t =
     by_option (freed_by (m ∷ ms)) (λ e. absurd (mathlib.Core.List.Memᴰ.not-nil (rw e at t)))
     (λ f e. by_cases (is_free m) (λ u. absurd (mathlib.Core.List.Memᴰ.not-nil (rw (e, u) at t)))
-    (λ u. let w = freed_gives (m ∷ ms) f e in of_free f w.0 u w.1 (mathlib.Core.List.Memᴰ.eq_of_singleton (rw (e, u) at t))))
+    (λ u. let w = freed_gives (m ∷ ms) f e in
+    of_free f w.0 u w.1 (mathlib.Core.List.Memᴰ.eq_of_singleton (rw (e, u) at t))))
   where
     of_free : (f l : ℕ) → is_free m ≡ false → Freed (m ∷ ms) f l → a ≡ ask m.by f true → Origin g (m ∷ ms) a
     of_free f zero u x q = absurd (use_kind m u x.frees)

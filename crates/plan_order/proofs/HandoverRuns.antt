@@ -70,7 +70,8 @@ module _ (p : Plan) where
       (λ t. (
         x.operation,
         rw t refl,
-        either (mathlib.Core.List.Memᴰ.cases_cons m) (λ q. inl (ap (λ (y : Signal). y.operation) q)) (λ u. let g = led z u in
+        either (mathlib.Core.List.Memᴰ.cases_cons m) (λ q. inl (ap (λ (y : Signal). y.operation) q)) (λ u. let g =
+            led z u in
             at_join p z.operation g.0 x.operation g.2 (link g.0
             (subst (λ (s : ℕ). last_signaller s bs ≡ some g.0)
             (sym (eqb-true x.semaphore z.semaphore t)) g.1))),
@@ -89,7 +90,8 @@ module _ (p : Plan) where
       at_join p z.operation g.0 y.operation g.2
       (subst (λ (k : Signal). At p g.0 k.operation) (sym q) (link g.0
       (subst (λ (s : ℕ). last_signaller s bs ≡ some g.0) (e ∙ ap (λ (k : Signal). k.semaphore) q) g.1))))
-      (λ t. linked-all (x ∷ bs) xs (led_cons bs x led link) (link_tail bs x xs h) z y (mathlib.Core.List.Memᴰ.tail m) t e)
+      (λ t. linked-all (x ∷ bs) xs (led_cons bs x led link) (link_tail bs x xs h) z y
+      (mathlib.Core.List.Memᴰ.tail m) t e)
 
   linked-pair : (bs xs : List Signal) → Led bs → Linked bs xs → Pairwise Sooner no_signal xs → (z y : Signal) →
       Memᴰ z xs → Memᴰ y xs → z.semaphore ≡ y.semaphore →

@@ -207,7 +207,8 @@ module _ (p : Plan) (b : ℕ) where
       (let e : w.0 ≡ (mark_at (buffer_marks p b) k).by = omega (arith, w.1, same_by k) in e) w.2
 
   found : (i n : ℕ) → n < length (op p i).marks → (own_mark p i n).buffer ≡ b →
-      (k : ℕ) × (k < length (buffer_marks p b)) × ((mark_at (buffer_marks p b) k).by ≡ i) × ((at all_located k).place ≡ n)
+      (k : ℕ) × (k < length (buffer_marks p b)) × ((mark_at (buffer_marks p b) k).by ≡ i) ×
+      ((at all_located k).place ≡ n)
   unfolding op located
   found i n l e =
       let x = located (0 + i) n (own_mark p i n).kind in

@@ -37,7 +37,8 @@ module _ (p : Plan) where
 
   reached_highest : (s : ℕ) (r : List ℕ) → HighestSignalled p s r (reached p s r)
   reached_highest s r = record {
-    highest = λ k u l w. le_trans (value_under s u (op p (get_or r k 0)).signals ((signals_means p (get_or r k 0) s u).1 w))
+    highest = λ k u l w.
+        le_trans (value_under s u (op p (get_or r k 0)).signals ((signals_means p (get_or r k 0) s u).1 w))
         (reached_has p s r (get_or r k 0) (member_at r k l));
     signalled = λ pos. let g = reached_gives p s (reached p s r) r pos (le_refl (reached p s r)) in
         let under : g.1 ≤ reached p s r =

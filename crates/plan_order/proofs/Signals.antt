@@ -127,7 +127,8 @@ too_high_none p w ws e =
     (λ t. absurd (let z : true ≡ false = rw t at e in true≢false z))
     (λ f. (ltb-false (highest w.semaphore p.operations) w.value f, rw f at e))
 
-pub waits_none : (i : ℕ) (p : Plan) (os : List Operation) → (waits_refusal i p os).number ≡ 0 → (k : ℕ) → k < length os →
+pub waits_none : (i : ℕ) (p : Plan) (os : List Operation) → (waits_refusal i p os).number ≡ 0 → (k : ℕ) →
+    k < length os →
     any_too_high p (get_or os k empty_operation).waits ≡ false
 unfolding waits_refusal refusal none_given
 waits_none i p [] e k l = absurd (not-suc-le-zero l)

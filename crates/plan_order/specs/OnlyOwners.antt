@@ -1,7 +1,8 @@
 -- Plans where only owners signal: what is answered there by the rules that tie a semaphore to the queue that owns it,
 -- with refusal 6 and with waits met by value. Kept only to show that for such plans nothing else is answered. Assumes
 -- nothing: these are definitions.
-use Rattle.std.specs.Prelude.{◌≡◌, Bool, true, false, ◌&&◌, not, cond, List, [], ◌∷◌, ◌++◌, ℕ, suc, ◌*◌, ◌<◌, max, leb, eqb, length, get_or}
+use Rattle.std.specs.Prelude.{◌≡◌, Bool, true, false, ◌&&◌, not, cond, List, [], ◌∷◌, ◌++◌, ℕ, suc, ◌*◌, ◌<◌, max}
+use Rattle.std.specs.Prelude.{leb, eqb, length, get_or}
 use Rattle.std.proofs.Math.Option.{Option, none, some}
 use Rattle.std.proofs.Math.ListN.{get_elem?}
 use Rattle.base_lists.specs.Lists.{member, all, tally, first_below, lowest_below, is_some}

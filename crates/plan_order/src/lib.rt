@@ -1,7 +1,8 @@
 // The verdicts of the reuse question; what is before what, runs and holdings are in specs/, their theorems in proofs/.
+#![tactic(auto)]
 
 // R58: the verdicts.
-#[derive(Drop)]
+#[derive(Clone, Copy)]
 pub enum Verdict {
     Fresh,
     Reusable,

@@ -41,7 +41,8 @@ pub judged : map (λ c. judge c.question) handover_cases ≡ map (λ c. c.answer
 unfolding flatten or_else checked asked section at use_of free_of operation plan wide judge case pipeline t14 t15
     there_and_back t16 t17 t18 t19_stored t19 handover_cases member filter all tally all_below first_from when_true
     is_some tabulate_from join_from can with_next greedy any_of fresh round rounds predecessors refusal none_given given
-    or_refusal value digits bytes scan refused field_number read_field last_got times count_check read_by ended first_form
+    or_refusal value digits bytes scan refused field_number read_field last_got times count_check read_by ended
+    first_form
     queue_count semaphore_count buffer_count any_number below at_least new_axis a_queue a_semaphore a_buffer a_kind
     point mark FormOperation plan_grammar scanned_by second_form form_by is_second count op queues points_in marks_in
     heading operation_in operation_long operations_in plan_of highest_in highest signals_number signals_refusal too_high

@@ -53,7 +53,8 @@ pub judged : map (λ c. judge c.question) cases ≡ map (λ c. c.answer) cases
 unfolding flatten or_else checked asked entry t12 t13 section at use_of free_of operation plan wide judge case t1 t2
     first_17 t3_stored t3 t4 t5 t6 signals_to t7 t8_stored t8 t9 t10 t11 greatest_signal cases member filter all tally
     all_below first_from when_true is_some tabulate_from join_from can with_next greedy any_of fresh round rounds
-    predecessors refusal none_given given or_refusal value digits bytes scan refused field_number read_field last_got times
+    predecessors refusal none_given given or_refusal value digits bytes scan refused field_number read_field last_got
+    times
     count_check read_by ended first_form queue_count semaphore_count buffer_count any_number below at_least new_axis
     a_queue a_semaphore a_buffer a_kind point mark FormOperation plan_grammar scanned_by count op queues points_in
     marks_in heading operation_in operation_long operations_in plan_of highest_in highest signals_number signals_refusal

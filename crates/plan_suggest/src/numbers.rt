@@ -5,6 +5,7 @@ ghost use Rattle.plan_suggest.specs.Numbers.{number_of, semaphore_of, value_of};
 use crate::Advice;
 
 // Which case it is.
+#[tactic(auto, unfolding(crate::specs::Numbers::number_of))]
 pub fn number_of(a: Advice) -> u64
     ensures { result ≡ number_of a }
 {
@@ -16,6 +17,7 @@ pub fn number_of(a: Advice) -> u64
 }
 
 // The semaphore to wait for; 0 where there is none.
+#[tactic(auto, unfolding(crate::specs::Numbers::semaphore_of))]
 pub fn semaphore_of(a: Advice) -> usize
     ensures { result ≡ semaphore_of a }
 {
@@ -27,6 +29,7 @@ pub fn semaphore_of(a: Advice) -> usize
 }
 
 // The value to wait for; 0 where there is none.
+#[tactic(auto, unfolding(crate::specs::Numbers::value_of))]
 pub fn value_of(a: Advice) -> u64
     ensures { result ≡ value_of a }
 {

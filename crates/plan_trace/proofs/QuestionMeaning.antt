@@ -19,7 +19,7 @@ use Rattle.plan_format.specs.RefusalNumbers.{NoneOr, trace_numbers}
 use Rattle.plan_format.specs.Stored.{scanned, plan_in, plan_refusal, room_for}
 use Rattle.plan_format.specs.Meaning.{Refuses}
 use Rattle.plan_format.proofs.RefusalNumbers.{one_is}
-use Rattle.plan_order.specs.Check.{untouched, zeros, rows_and_run, Outcome, outcome, or_then, check_outcome}
+use Rattle.plan_order.specs.Check.{untouched, rows_and_run, Outcome, outcome, or_then, check_outcome}
 use Rattle.plan_order.specs.Meaning.{Gives}
 use Rattle.plan_order.specs.Promise.{Safe, unrefused}
 use Rattle.plan_order.proofs.CheckMeaning.{check_means}
@@ -35,7 +35,8 @@ room_before_form = refl
 
 -- no bytes of a plan and none of a trace: the plan is refused, and nothing is touched
 plan_before_question : trace_outcome [] [] 0 0 0 ≡ outcome (refusal 1 0) untouched
-unfolding trace_outcome own_refusal check_outcome or_then outcome plan_refusal or_refusal given none_given refusal plan_in
+unfolding trace_outcome own_refusal check_outcome or_then outcome plan_refusal or_refusal given none_given refusal
+    plan_in
     plan_of scanned scanned_by bytes scan refused read_by read_field field_number ended form_by is_second first_form
     plan_grammar room_for
     trace_refusal trace_formed step_count value

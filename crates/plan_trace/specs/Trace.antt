@@ -1,6 +1,7 @@
 -- A recorded trace, why a step of it departs from a plan, and what was followed (R80 to R82). Assumes nothing: these
 -- are definitions.
-use Rattle.std.specs.Prelude.{Bool, true, false, ◌&&◌, not, cond, List, [], ◌∷◌, ◌++◌, ℕ, ◌+◌, ◌*◌, leb, eqb, length, take, drop}
+use Rattle.std.specs.Prelude.{Bool, true, false, ◌&&◌, not, cond, List, [], ◌∷◌, ◌++◌, ℕ, ◌+◌, ◌*◌, leb, eqb, length}
+use Rattle.std.specs.Prelude.{take, drop}
 use Rattle.std.proofs.Math.Option.{Option, none, some}
 use Rattle.base_lists.specs.Lists.{member, lowest_below, tabulate_from}
 use Rattle.plan_format.specs.Sizes.{step_bytes}

@@ -1,4 +1,6 @@
 // What a recorded trace is found to be, held against a plan. The definitions are in specs/, their theorems in proofs/.
+#![tactic(auto)]
+
 pub mod numbers;
 
 use plan_format::limits::MOST_QUEUES;
@@ -7,14 +9,14 @@ use plan_format::limits::MOST_QUEUES;
 pub type QueueCounts = [u64; MOST_QUEUES];
 
 // A wait that is not met: its operation, and its position in that operation's list.
-#[derive(Drop)]
+#[derive(Clone, Copy)]
 pub struct Unmet {
     pub operation: usize,
     pub wait: usize,
 }
 
 // A full run, an unfinished one, or the rule that a step breaks, with the operation of the step.
-#[derive(Drop)]
+#[derive(Clone, Copy)]
 pub enum Followed {
     Full,
     Unfinished,
@@ -26,7 +28,7 @@ pub enum Followed {
 
 // The first step that departs, or the number of steps; the state before it, by the counts of the queues, which fix how
 // far each semaphore had come; and what was followed.
-#[derive(Drop)]
+#[derive(Clone, Copy)]
 pub struct Traced {
     pub step: usize,
     pub state: QueueCounts,

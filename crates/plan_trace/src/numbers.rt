@@ -5,6 +5,7 @@ ghost use Rattle.plan_trace.specs.Numbers.{number_of, operation_of, wait_of};
 use crate::Followed;
 
 // Which case it is.
+#[tactic(auto, unfolding(crate::specs::Numbers::number_of))]
 pub fn number_of(f: Followed) -> u64
     ensures { result ≡ number_of f }
 {
@@ -19,6 +20,7 @@ pub fn number_of(f: Followed) -> u64
 }
 
 // The operation of the step that departs; 0 where none does.
+#[tactic(auto, unfolding(crate::specs::Numbers::operation_of))]
 pub fn operation_of(f: Followed) -> usize
     ensures { result ≡ operation_of f }
 {
@@ -33,6 +35,7 @@ pub fn operation_of(f: Followed) -> usize
 }
 
 // The wait that is not met, by its position in the operation's list; 0 where there is none.
+#[tactic(auto, unfolding(crate::specs::Numbers::wait_of))]
 pub fn wait_of(f: Followed) -> usize
     ensures { result ≡ wait_of f }
 {

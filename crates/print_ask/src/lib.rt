@@ -1,4 +1,6 @@
 // R74, what is printed for a question on a plan, as text in lent room; the text's length is handed back.
+#![tactic(auto)]
+
 ghost use Rattle.base_lists.specs.Lists.{join_from};
 ghost use Rattle.base_text.specs.Text.{Puts, or_refused};
 ghost use Rattle.print_ask.specs.Questions.{verdict_name, verdict_text, whole_words, entry_of, entry_text};

@@ -1,4 +1,6 @@
 // R72, what is printed for a check, as text in lent room; the text's length is handed back.
+#![tactic(auto)]
+
 ghost use Rattle.std.specs.Prelude.{◌+◌, ◌*◌, ◌<◌, ◌≤◌, ◌++◌, length, take, drop};
 ghost use Rattle.base_lists.specs.Lists.{join_from};
 ghost use Rattle.plan_format.specs.Sizes.{most_queues, most_operations, table_numbers, list_numbers};

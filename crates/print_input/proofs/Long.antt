@@ -2,12 +2,12 @@
 use mathlib.Core.Path.{◌≡◌, refl, sym, ap, ◌∙◌}
 use mathlib.Core.Bool.{Bool, true, false, ◌&&◌}
 use mathlib.Core.List.{List}
-use Prim.Native.Nat.{ℕ, ◌+◌, ◌≤◌, ◌<◌, min}
+use Prim.Native.Nat.{ℕ, ◌+◌, ◌≤◌, ◌<◌}
 use native.Mathlib.Omega.{arith}
 use lib.Dec.{ltb, eqb}
 use lib.ListN.{length, get_or, take, length-take}
 use lib.Seq.{length-take-le, get_or-take}
-use borrow.Author.Tests.{ltb-true, ltb-false, lt-ltb, le-ltb}
+use borrow.Author.Tests.{ltb-true, lt-ltb, le-ltb}
 use Rattle.base_lists.proofs.Tests.{by_cases, clash}
 use Rattle.plan_format.specs.Sizes.{most_input, second_lead}
 use Rattle.plan_format.specs.Form.{is_second}
@@ -44,7 +44,8 @@ unfolding too_long is_second
 long_alike xs ys same =
     let m = most_input + 1 in
     let h : get_or xs 0 0 ≡ get_or ys 0 0 =
-    sym (get_or-take m xs 0 0 (omega arith)) ∙ ap (λ (z : List ℕ). get_or z 0 0) same ∙ get_or-take m ys 0 0 (omega arith) in
+    sym (get_or-take m xs 0 0 (omega arith)) ∙ ap (λ (z : List ℕ). get_or z 0 0) same
+    ∙ get_or-take m ys 0 0 (omega arith) in
     rw (h, longer_alike most_input xs ys same)
 
 -- the first n bytes, by the length and the first byte

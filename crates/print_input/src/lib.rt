@@ -1,4 +1,6 @@
 // R75, what is printed for an input of any length, which is known by its first bytes or its first numbers.
+#![tactic(auto)]
+
 ghost use Rattle.std.specs.Prelude.{◌≡◌, take};
 ghost use Rattle.base_text.specs.Text.{Puts};
 ghost use Rattle.plan_format.specs.Stored.{too_long};
@@ -8,7 +10,7 @@ ghost use Rattle.print_input.specs.Inputs.{Answered, AnsweredWhole, WrittenWhole
 use plan_format::limits::{MOST_INPUT, SECOND_LEAD};
 
 // What is asked of a plan.
-#[derive(Drop)]
+#[derive(Clone, Copy)]
 pub enum Question {
     Check,
     Reuse(u32, u32),

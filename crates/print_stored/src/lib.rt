@@ -1,4 +1,6 @@
 // R74, what is printed for a read and a write, as text in lent room; the text's length is handed back.
+#![tactic(auto)]
+
 ghost use Rattle.std.specs.Prelude.{length, take};
 ghost use Rattle.base_text.specs.Text.{Puts};
 ghost use Rattle.print_stored.specs.Texts.{read_text, write_text};

@@ -1,4 +1,6 @@
 // R91, what is printed for the question for a wait, as text in lent room; the text's length is handed back.
+#![tactic(auto)]
+
 ghost use Rattle.base_text.specs.Text.{Puts, or_refused};
 ghost use Rattle.print_suggest.specs.Printed.{advice_words, advice_text, SuggestPrinted};
 

@@ -1,4 +1,6 @@
 // What is printed for a recorded trace held against a plan, as text in lent room; the text's length is handed back.
+#![tactic(auto)]
+
 ghost use Rattle.std.specs.Prelude.{◌≡◌, length};
 ghost use Rattle.plan_format.specs.Sizes.{state_size};
 ghost use Rattle.base_text.specs.Text.{Puts, or_refused};

@@ -74,7 +74,8 @@ pub record LeadPut (lead bytes : List ℕ) (k : ℕ) (bytes_now : List ℕ) : Ty
 pub record PlanWritten (wide : Bool) (xs bytes : List ℕ) (r : Cursor) (bytes_now : List ℕ) : Type 0 where
   pub read : read_by numbers (plan_grammar (list_by wide)) (scan xs 0 [] none_given) ≡ here xs r
   pub spell : r.number ≡ 0 →
-      spell_by (plan_grammar (list_by wide)) (record { left = xs; made = (form_by wide).lead }) ≡ spelling xs r bytes_now
+      spell_by (plan_grammar (list_by wide)) (record { left = xs; made = (form_by wide).lead }) ≡ spelling xs r
+      bytes_now
   pub inside : r.at ≤ length xs
   pub few : r.put ≤ plan_bytes
   pub by_eight : r.put ≤ length (form_by wide).lead + 8 * r.at

@@ -1,5 +1,7 @@
 // R10 and R53, the bytes of stored plans: one pass over a list of numbers, a cursor by value, each number judged and
 // its bytes put as it is read.
+#![tactic(auto)]
+
 mod cursor;
 mod digits;
 mod field;

@@ -27,7 +27,7 @@ use Rattle.plan_format.proofs.Sections.{sections_kept}
 use Rattle.stored_numbers.specs.declared.End.{End}
 use Rattle.stored_numbers.specs.declared.Head.{Head}
 use Rattle.stored_numbers.specs.declared.cursor.Cursor.{Cursor}
-use Rattle.stored_numbers.specs.Reading.{fault_of, here, Past, ReadsOn, ReadLimited, begun, front_numbers}
+use Rattle.stored_numbers.specs.Reading.{fault_of, here, Past, ReadsOn, ReadLimited, front_numbers}
 use Rattle.stored_numbers.specs.Reading.{Stopped, unless_refused, Heading, FrontRead, head_grammar}
 use Rattle.stored_numbers.specs.Reading.{head_scan_by, head_scan}
 use Rattle.stored_numbers.specs.Reading.{HeadTold, HeadRead, head_cursor, operation_scan}

@@ -2,7 +2,7 @@
 use mathlib.Core.Path.{◌≡◌, sym, ◌∙◌}
 use mathlib.Core.List.{List, [], ◌∷◌}
 use Prim.Native.Nat.{ℕ, zero, suc, ◌+◌, ◌*◌, ◌≤◌, ◌<◌, ◌^◌}
-use native.Mathlib.Nat.{zero-add, suc-add, pow-suc, mul_assoc, mul-le-mul_right}
+use native.Mathlib.Nat.{zero-add, suc-add, pow-suc, mul_assoc, mul-le-mul_right, suc-mul}
 use native.Mathlib.Omega.{arith}
 use lib.ListN.{length, get_or, take, drop, length-drop}
 use lib.Seq.{drop-drop}
@@ -26,7 +26,7 @@ value_split (suc m) n (x ∷ xs) h =
     (omega arith)
 
 below_square : (lo hi p : ℕ) → lo < p → hi < p → lo + hi * p < p * p
-below_square lo hi p a b = omega (arith, mul-le-mul_right p b, native.Mathlib.Nat.suc-mul hi p)
+below_square lo hi p a b = omega (arith, mul-le-mul_right p b, suc-mul hi p)
 
 -- a word is its lower half and its upper half
 pub joined : (w : ℕ) (bs : List ℕ) (at lo hi : ℕ) → at + w ≤ length bs → Word w bs at lo → Word w bs (at + w) hi →

@@ -3,7 +3,7 @@ ghost use Rattle.std.specs.Prelude.{◌≡◌, ◌+◌, ◌<◌, ◌^◌};
 
 // Where a reading is: the refusal met, or 0; the place in the bytes; how many numbers are stored; the number read
 // last.
-#[derive(Drop)]
+#[derive(Clone, Copy)]
 pub struct Cursor {
     pub number: u32,
     pub at: usize,

@@ -1,5 +1,7 @@
 // R9 and R53, the numbers of stored plans: one pass over the bytes, a cursor by value, each field judged and stored as
 // it is read.
+#![tactic(auto)]
+
 mod cursor;
 mod field;
 mod operation;
@@ -41,7 +43,7 @@ pub type FirstPlanNumbers = [u64; FIRST_PLAN_NUMBERS];
 // What comes before the operations: the refusal met there, or 0; the place where the reading stopped and how many
 // numbers are stored; the four counts, 0 beside a refusal; and whether the plan is in the second form, in which a
 // semaphore's position takes two bytes.
-#[derive(Drop)]
+#[derive(Clone, Copy)]
 pub struct Head {
     pub number: u32,
     pub at: usize,
@@ -54,7 +56,7 @@ pub struct Head {
 }
 
 // Where the reading of an operation stopped: the refusal met there, or 0; the place; how many numbers are stored.
-#[derive(Drop)]
+#[derive(Clone, Copy)]
 pub struct End {
     pub number: u32,
     pub at: usize,

@@ -103,7 +103,7 @@ fn entry(numbers: &[u64], i: usize) -> u64
 }
 
 // What comes before the operations: the three sections read, and their counts.
-#[derive(Drop)]
+#[derive(Clone, Copy)]
 pub struct Front {
     pub cursor: Cursor,
     pub queues: u64,

@@ -1,4 +1,6 @@
 // R10, R12 and R13, the reader: the numbers of the bytes, stored in the room that the caller lends.
+#![tactic(auto)]
+
 ghost use Rattle.std.specs.Prelude.{◌≡◌, false, List, ℕ, ◌≤◌, length, take};
 ghost use Rattle.base_lists.specs.Lists.{in_front};
 ghost use Rattle.plan_format.specs.Form.{is_second};
@@ -75,7 +77,7 @@ pub fn read_plan(plan: &[u8], room: &mut [u64]) -> Told
 }
 
 // The head of a plan, and the numbers before its operations.
-#[derive(Drop)]
+#[derive(Clone, Copy)]
 pub struct Heading {
     pub head: Head,
     pub numbers: [u64; HEAD_NUMBERS],

@@ -1,5 +1,7 @@
 // A reader that holds the bytes of a stored plan and its place in them, and is handed on from the head to the
 // operations: thin functions over it, and one above them with plain parameters.
+#![tactic(auto)]
+
 ghost use Rattle.std.specs.Prelude.{◌≡◌};
 ghost use Rattle.plan_format.specs.Meaning.{ReadMeans};
 ghost use Rattle.plan_format.specs.Stored.{ReadSays};
@@ -9,7 +11,7 @@ use plan_format::Told;
 use stored_read::Heading;
 
 // The bytes of a plan, lent, and a place in them.
-#[derive(Drop)]
+#[derive(Clone, Copy)]
 pub struct Reader<'a> {
     pub src: &'a [u8],
     pub at: usize,

@@ -1,5 +1,5 @@
 -- What the bytes that were written, in the first form that takes the list, are to the room. Assumes nothing.
-use mathlib.Core.Path.{◌≡◌, refl, sym, ap, ◌∙◌, subst}
+use mathlib.Core.Path.{◌≡◌, refl, sym, ap, ◌∙◌}
 use mathlib.Core.Bool.{Bool, true, false, cond}
 use mathlib.Core.List.{List, []}
 use Prim.Native.Nat.{ℕ, ◌≤◌}
@@ -9,8 +9,7 @@ use lib.Seq.{take-append_seam}
 use Rattle.base_lists.specs.Lists.{in_front}
 use Rattle.base_lists.proofs.Tests.{by_cases}
 use Rattle.plan_format.specs.Refusal.{given}
-use Rattle.plan_format.specs.Grammar.{numbers}
-use Rattle.plan_format.specs.Form.{first_form, list_by, form_by, scanned_by}
+use Rattle.plan_format.specs.Form.{list_by, form_by}
 use Rattle.plan_format.specs.Meaning.{WriteMeans}
 use Rattle.plan_format.specs.Stored.{listed, spelled, Tells, WriteSays}
 use Rattle.plan_format.specs.declared.Told.{Told}

@@ -1,4 +1,6 @@
 // R10, R12 and R13, the writer: the bytes of the numbers, stored in the room that the caller lends.
+#![tactic(auto)]
+
 ghost use Rattle.std.specs.Prelude.{◌≡◌, ◌≤◌, length, take};
 ghost use Rattle.base_lists.specs.Lists.{in_front};
 ghost use Rattle.plan_format.specs.Meaning.{WriteMeans};

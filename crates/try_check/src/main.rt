@@ -1,8 +1,9 @@
 // The small plans of R79, others and bad input through the check: what is handed back, and the lent table and list,
 // which hold 7s before.
+#![tactic(auto)]
+
 ghost use Rattle.std.specs.Prelude.{◌≡◌, ◌+◌, ◌<◌, ◌≤◌, length};
 
-use libc::STDOUT_FILENO;
 use plan_format::Told;
 
 // The plan T3: three queues, two semaphores, one buffer, three operations.
@@ -12,81 +13,84 @@ fn t3() -> [u8; 96]
     *b"\x03\x01\x00\x00\x00\x00\x00\x00\x00\x02\x00\x00\x00\x00\x00\x00\x00\x03\x00\x00\x00\x00\x00\x00\x00\x02\x00\x01\x01\x00\x00\x10\x00\x00\x03\x00\x00\x00\x01\x00\x01\x00\x00\x00\x00\x00\x00\x00\x01\x00\x00\x00\x01\x01\x00\x01\x00\x00\x00\x00\x00\x00\x00\x01\x01\x01\x00\x00\x00\x00\x00\x00\x00\x02\x00\x00\x00\x00\x00\x01\x02\x01\x01\x01\x00\x00\x00\x00\x00\x00\x00\x00\x01\x00\x00\x00"
 }
 
-fn text(words: &[u8]) {
-    io::write_all(STDOUT_FILENO, words);
+fn text(rt: &impl Print, words: &[u8]) {
+    let _ = rt.write_all(words);
 }
 
-fn line_end() {
-    text(b"\n");
+fn line_end(rt: &impl Print) {
+    text(rt, b"\n");
 }
 
-fn number(n: u64) {
-    text(b" ");
-    io::print_decimal(STDOUT_FILENO, n);
+fn number(rt: &impl Print, n: u64) {
+    text(rt, b" ");
+    let _ = rt.print(n);
 }
 
 // A new line before every sixteenth number.
-fn turn(i: usize) {
+fn turn(rt: &impl Print, i: usize) {
     if i % 16 == 0 {
-        text(b"\n   ");
+        text(rt, b"\n   ");
     }
 }
 
 // The first numbers of a table or a list.
-fn numbers(a: &[u32; 128], many: usize)
+fn numbers(rt: &impl Print, a: &[u32; 128], many: usize)
     requires { many ≤ 128 }
 {
     let mut i = 0;
     while i < many {
-        turn(i);
-        number(base_numbers::u32_to_u64(a[i]));
+        turn(rt, i);
+        number(rt, base_numbers::u32_to_u64(a[i]));
         i += 1;
     }
-    line_end();
+    line_end(rt);
 }
 
 // The counts of a plan.
-fn sizes(plan: &[u8]) {
+fn sizes(rt: &impl Print, plan: &[u8]) {
     let c = check_plan::counts(plan);
-    text(b"  counts");
-    number(base_numbers::u32_to_u64(c.number));
-    number(c.place);
-    number(c.queues as u64);
-    number(c.semaphores as u64);
-    number(c.buffers as u64);
-    number(c.operations as u64);
-    line_end();
+    text(rt, b"  counts");
+    number(rt, base_numbers::u32_to_u64(c.number));
+    number(rt, c.place);
+    number(rt, c.queues as u64);
+    number(rt, c.semaphores as u64);
+    number(rt, c.buffers as u64);
+    number(rt, c.operations as u64);
+    line_end(rt);
 }
 
-fn show(told: Told) {
-    text(b"  check");
-    number(base_numbers::u32_to_u64(told.number));
-    number(told.place);
-    number(told.answer);
+fn show(rt: &impl Print, told: Told) {
+    text(rt, b"  check");
+    number(rt, base_numbers::u32_to_u64(told.number));
+    number(rt, told.place);
+    number(rt, told.answer);
 }
 
 // A plan through the check, with a table and a list of these lengths.
-fn check(name: &[u8], plan: &[u8], table: usize, list: usize)
+fn check(rt: &impl Print, name: &[u8], plan: &[u8], table: usize, list: usize)
     requires { (table ≤ 128) × (list ≤ 128) }
 {
-    text(name);
-    line_end();
-    sizes(plan);
+    text(rt, name);
+    line_end(rt);
+    sizes(rt, plan);
     let mut rows = [7u32; 128];
     let mut run = [7u32; 128];
-    show(check_plan::check_plan(plan, &mut rows[..table], &mut run[..list]));
-    text(b"\n  table");
-    numbers(&rows, table);
-    text(b"  list");
-    numbers(&run, list);
+    show(
+        rt,
+        check_plan::check_plan(plan, &mut rows[..table], &mut run[..list]),
+    );
+    text(rt, b"\n  table");
+    numbers(rt, &rows, table);
+    text(rt, b"  list");
+    numbers(rt, &run, list);
 }
 
 // T3 with a table and a list of these lengths.
-fn room(table: usize, list: usize)
+fn room(rt: &impl Print, table: usize, list: usize)
     requires { (table ≤ 128) × (list ≤ 128) }
 {
     let plan = t3();
-    check(b"T3 in other room", &plan, table, list);
+    check(rt, b"T3 in other room", &plan, table, list);
 }
 
 // Whether each number is still 7.
@@ -100,66 +104,66 @@ fn kept(a: &[u32; 128]) -> bool {
     same
 }
 
-fn show_kept(same: bool) {
+fn show_kept(rt: &impl Print, same: bool) {
     if same {
-        text(b" kept");
+        text(rt, b" kept");
     } else {
-        text(b" changed");
+        text(rt, b" changed");
     }
 }
 
 // A plan through the check with room enough: on a line what is handed back, then for table and list whether each number
 // is kept.
-fn check_kept(plan: &[u8]) {
+fn check_kept(rt: &impl Print, plan: &[u8]) {
     let mut rows = [7u32; 128];
     let mut run = [7u32; 128];
-    show(check_plan::check_plan(plan, &mut rows, &mut run));
-    show_kept(kept(&rows));
-    show_kept(kept(&run));
-    line_end();
+    show(rt, check_plan::check_plan(plan, &mut rows, &mut run));
+    show_kept(rt, kept(&rows));
+    show_kept(rt, kept(&run));
+    line_end(rt);
 }
 
 // T3, cut after `n` bytes.
-fn cut(n: usize)
+fn cut(rt: &impl Print, n: usize)
     requires { n ≤ 96 }
 {
     let plan = t3();
-    check_kept(&plan[..n]);
+    check_kept(rt, &plan[..n]);
 }
 
 // Every cut of T3, and T3.
-fn cuts() {
+fn cuts(rt: &impl Print) {
     for n in 0..97usize {
-        cut(n);
+        cut(rt, n);
     }
 }
 
 // T3 with one byte changed, cut after `n` bytes.
-fn changed_cut(at: usize, byte: u8, n: usize)
+fn changed_cut(rt: &impl Print, at: usize, byte: u8, n: usize)
     requires { (at < 96) × (n ≤ 96) }
 {
     let mut plan = t3();
     plan[at] = byte;
-    check_kept(&plan[..n]);
+    check_kept(rt, &plan[..n]);
 }
 
 // T3 with one byte changed.
-fn changed(at: usize, byte: u8)
+fn changed(rt: &impl Print, at: usize, byte: u8)
     requires { at < 96 }
 {
     let mut plan = t3();
     plan[at] = byte;
-    check_kept(&plan);
+    check_kept(rt, &plan);
 }
 
 // T3 with the two bytes of a number changed.
-fn changed_pair(at: usize, low: u8, high: u8)
+fn changed_pair(rt: &impl Print, at: usize, low: u8, high: u8)
     requires { at + 1 < 96 }
 {
     let mut plan = t3();
     plan[at] = low;
     plan[at + 1] = high;
-    check_kept(&plan);
+    check_kept(rt, &plan);
 }
 
 // 96 zeros and a megabyte of them.
@@ -170,7 +174,7 @@ fn zeros() -> [u8; 1048672]
 }
 
 // T3 with zeros after it.
-fn longer(more: usize)
+fn longer(rt: &impl Print, more: usize)
     requires { more ≤ 1048576 }
 {
     let plan = t3();
@@ -180,58 +184,71 @@ fn longer(more: usize)
         long[i] = plan[i];
         i += 1;
     }
-    check_kept(&long[..96 + more]);
+    check_kept(rt, &long[..96 + more]);
 }
 
 // T1 to T3, and faults of length and count beside them.
-fn first_plans() {
+fn first_plans(rt: &impl Print) {
     let plan = t3();
-    check(b"T1", b"\x00\x00\x00\x00\x00\x00", 1, 1);
-    check(b"T1, one byte less", b"\x00\x00\x00\x00\x00", 1, 1);
-    check(b"T1, one byte more", b"\x00\x00\x00\x00\x00\x00\x00", 1, 1);
+    check(rt, b"T1", b"\x00\x00\x00\x00\x00\x00", 1, 1);
+    check(rt, b"T1, one byte less", b"\x00\x00\x00\x00\x00", 1, 1);
     check(
+        rt,
+        b"T1, one byte more",
+        b"\x00\x00\x00\x00\x00\x00\x00",
+        1,
+        1,
+    );
+    check(
+        rt,
         b"T2",
         b"\x01\x07\x00\x00\x00\x00\x00\x00\x00\x00\x00\x00\x01\x00\x00\x00\x00\x00",
         17,
         3,
     );
-    check(b"seventeen queues", b"\x11\x00\x00\x00\x00\x00", 1, 1);
-    check(b"T3", &plan, 49, 7);
+    check(rt, b"seventeen queues", b"\x11\x00\x00\x00\x00\x00", 1, 1);
+    check(rt, b"T3", &plan, 49, 7);
 }
 
 // T4 to T8.
-fn waiting_plans() {
+fn waiting_plans(rt: &impl Print) {
     check(
+        rt,
         b"T4",
         b"\x02\x01\x00\x00\x00\x00\x00\x00\x00\x02\x00\x00\x00\x00\x00\x00\x00\x02\x00\x01\x00\x00\x02\x00\x00\x01\x01\x01\x00\x00\x00\x00\x00\x00\x00\x01\x00\x01\x00\x00\x00\x00\x00\x00\x00\x00\x01\x01\x00\x01\x00\x00\x00\x00\x00\x00\x00\x01\x01\x01\x00\x00\x00\x00\x00\x00\x00\x00",
         33,
         5,
     );
     check(
+        rt,
         b"T5",
         b"\x01\x01\x00\x00\x00\x00\x00\x00\x00\x01\x00\x00\x00\x01\x00\x00\x01\x00\x01\x00\x00\x00\x00\x00\x00\x00\x01\x00\x01\x00\x00\x00\x00\x00\x00\x00\x00",
         17,
         3,
     );
     check(
+        rt,
         b"T6",
         b"\x02\x01\x00\x00\x00\x00\x00\x00\x00\x02\x00\x00\x00\x00\x00\x00\x00\x01\x00\x00\x00\x02\x00\x01\x01\x00\x01\x00\x00\x00\x00\x00\x00\x00\x00\x00\x00\x00\x01\x00\x01\x00\x00\x00\x00\x00\x00\x00\x00",
         33,
         5,
     );
     check(
+        rt,
         b"T7",
         b"\x02\x01\x00\x00\x00\x00\x00\x00\x00\x02\x00\x00\x00\x00\x00\x00\x00\x01\x00\x00\x00\x06\x00\x00\x00\x01\x00\x01\x00\x00\x00\x00\x00\x00\x00\x00\x00\x00\x01\x00\x02\x00\x00\x00\x00\x00\x00\x00\x00\x00\x00\x01\x00\x03\x00\x00\x00\x00\x00\x00\x00\x00\x00\x00\x01\x00\x04\x00\x00\x00\x00\x00\x00\x00\x00\x00\x00\x01\x00\x05\x00\x00\x00\x00\x00\x00\x00\x00\x01\x01\x00\x02\x00\x00\x00\x00\x00\x00\x00\x00\x00",
         97,
         13,
     );
     check(
+        rt,
         b"T8",
         b"\x02\x01\x00\x00\x00\x00\x00\x00\x00\x02\x00\x00\x00\x00\x00\x00\x00\x01\x00\x00\x00\x03\x00\x00\x00\x01\x00\x03\x00\x00\x00\x00\x00\x00\x00\x00\x00\x00\x01\x00\x07\x00\x00\x00\x00\x00\x00\x00\x00\x01\x01\x00\x04\x00\x00\x00\x00\x00\x00\x00\x00\x00",
         49,
         7,
     );
     check(
+        rt,
         b"T8, a wait for 8",
         b"\x02\x01\x00\x00\x00\x00\x00\x00\x00\x02\x00\x00\x00\x00\x00\x00\x00\x01\x00\x00\x00\x03\x00\x00\x00\x01\x00\x03\x00\x00\x00\x00\x00\x00\x00\x00\x00\x00\x01\x00\x07\x00\x00\x00\x00\x00\x00\x00\x00\x01\x01\x00\x08\x00\x00\x00\x00\x00\x00\x00\x00\x00",
         49,
@@ -240,20 +257,23 @@ fn waiting_plans() {
 }
 
 // T9 to T11.
-fn marked_plans() {
+fn marked_plans(rt: &impl Print) {
     check(
+        rt,
         b"T9",
         b"\x02\x01\x00\x00\x00\x00\x00\x00\x00\x02\x00\x00\x00\x00\x00\x00\x00\x00\x01\x00\x40\x00\x00\x00\x02\x00\x00\x00\x00\x02\x00\x00\x00\x00\x00\x01\x01\x00\x00\x01\x00\x00\x00",
         33,
         5,
     );
     check(
+        rt,
         b"T10",
         b"\x01\x01\x00\x00\x00\x00\x00\x00\x00\x00\x01\x00\x40\x00\x00\x00\x01\x00\x00\x00\x00\x02\x00\x00\x01\x00\x00\x00",
         17,
         3,
     );
     check(
+        rt,
         b"T11",
         b"\x02\x01\x00\x00\x00\x00\x00\x00\x00\x02\x00\x00\x00\x00\x00\x00\x00\x00\x01\x00\x40\x00\x00\x00\x02\x00\x00\x00\x00\x01\x00\x00\x00\x01\x00\x00\x01\x00\x00\x01",
         33,
@@ -262,26 +282,30 @@ fn marked_plans() {
 }
 
 // Signals at the edges of what is allowed.
-fn signals() {
+fn signals(rt: &impl Print) {
     check(
+        rt,
         b"a signal by another queue",
         b"\x02\x01\x00\x00\x00\x00\x00\x00\x00\x02\x00\x00\x00\x00\x00\x00\x00\x01\x00\x00\x00\x01\x00\x01\x00\x01\x00\x01\x00\x00\x00\x00\x00\x00\x00\x00",
         17,
         3,
     );
     check(
+        rt,
         b"a signal of 0",
         b"\x01\x01\x00\x00\x00\x00\x00\x00\x00\x01\x00\x00\x00\x01\x00\x00\x00\x01\x00\x00\x00\x00\x00\x00\x00\x00\x00\x00",
         17,
         3,
     );
     check(
+        rt,
         b"a signal of the greatest number",
         b"\x01\x01\x00\x00\x00\x00\x00\x00\x00\x01\x00\x00\x00\x01\x00\x00\x00\x01\x00\xff\xff\xff\xff\xff\xff\xff\xff\x00",
         17,
         3,
     );
     check(
+        rt,
         b"the greatest number twice",
         b"\x01\x01\x00\x00\x00\x00\x00\x00\x00\x01\x00\x00\x00\x02\x00\x00\x00\x01\x00\xff\xff\xff\xff\xff\xff\xff\xff\x00\x00\x00\x01\x00\xff\xff\xff\xff\xff\xff\xff\xff\x00",
         33,
@@ -290,44 +314,51 @@ fn signals() {
 }
 
 // T14 to T17: a semaphore that several queues signal.
-fn handed_plans() {
+fn handed_plans(rt: &impl Print) {
     check(
+        rt,
         b"T14",
         b"\x03\x01\x00\x00\x00\x00\x00\x00\x00\x02\x00\x00\x00\x00\x00\x00\x00\x03\x00\x00\x00\x00\x00\x00\x00\x01\x00\x00\x00\x03\x00\x00\x00\x01\x00\x01\x00\x00\x00\x00\x00\x00\x00\x00\x01\x01\x00\x01\x00\x00\x00\x00\x00\x00\x00\x01\x00\x02\x00\x00\x00\x00\x00\x00\x00\x00\x02\x01\x00\x02\x00\x00\x00\x00\x00\x00\x00\x00\x00",
         49,
         7,
     );
     check(
+        rt,
         b"T14, owned by queue 2",
         b"\x03\x01\x00\x00\x00\x00\x00\x00\x00\x02\x00\x00\x00\x00\x00\x00\x00\x03\x00\x00\x00\x00\x00\x00\x00\x01\x02\x00\x00\x03\x00\x00\x00\x01\x00\x01\x00\x00\x00\x00\x00\x00\x00\x00\x01\x01\x00\x01\x00\x00\x00\x00\x00\x00\x00\x01\x00\x02\x00\x00\x00\x00\x00\x00\x00\x00\x02\x01\x00\x02\x00\x00\x00\x00\x00\x00\x00\x00\x00",
         49,
         7,
     );
     check(
+        rt,
         b"T15",
         b"\x02\x01\x00\x00\x00\x00\x00\x00\x00\x02\x00\x00\x00\x00\x00\x00\x00\x01\x00\x00\x00\x02\x00\x00\x00\x01\x00\x01\x00\x00\x00\x00\x00\x00\x00\x00\x01\x00\x01\x00\x02\x00\x00\x00\x00\x00\x00\x00\x00",
         33,
         5,
     );
     check(
+        rt,
         b"T15, in one operation",
         b"\x01\x01\x00\x00\x00\x00\x00\x00\x00\x01\x00\x00\x00\x01\x00\x00\x00\x02\x00\x01\x00\x00\x00\x00\x00\x00\x00\x00\x02\x00\x00\x00\x00\x00\x00\x00\x00",
         17,
         3,
     );
     check(
+        rt,
         b"T16",
         b"\x02\x01\x00\x00\x00\x00\x00\x00\x00\x02\x00\x00\x00\x00\x00\x00\x00\x01\x00\x00\x00\x03\x00\x00\x00\x01\x00\x01\x00\x00\x00\x00\x00\x00\x00\x00\x01\x01\x00\x01\x00\x00\x00\x00\x00\x00\x00\x01\x00\x02\x00\x00\x00\x00\x00\x00\x00\x00\x00\x00\x01\x00\x03\x00\x00\x00\x00\x00\x00\x00\x00",
         49,
         7,
     );
     check(
+        rt,
         b"T16, a wait for 2",
         b"\x02\x01\x00\x00\x00\x00\x00\x00\x00\x02\x00\x00\x00\x00\x00\x00\x00\x01\x00\x00\x00\x03\x00\x00\x00\x01\x00\x01\x00\x00\x00\x00\x00\x00\x00\x00\x01\x01\x00\x01\x00\x00\x00\x00\x00\x00\x00\x01\x00\x02\x00\x00\x00\x00\x00\x00\x00\x00\x00\x01\x00\x02\x00\x00\x00\x00\x00\x00\x00\x01\x00\x03\x00\x00\x00\x00\x00\x00\x00\x00",
         49,
         7,
     );
     check(
+        rt,
         b"T17",
         b"\x02\x01\x00\x00\x00\x00\x00\x00\x00\x02\x00\x00\x00\x00\x00\x00\x00\x02\x01\x00\x00\x00\x02\x00\x01\x01\x01\x01\x00\x00\x00\x00\x00\x00\x00\x01\x00\x01\x00\x00\x00\x00\x00\x00\x00\x00\x00\x00\x02\x01\x01\x00\x00\x00\x00\x00\x00\x00\x00\x02\x00\x00\x00\x00\x00\x00\x00\x00",
         33,
@@ -336,26 +367,30 @@ fn handed_plans() {
 }
 
 // T18 and T19: which refusal comes first, and a wait that a higher signal does not meet.
-fn which_first() {
+fn which_first(rt: &impl Print) {
     check(
+        rt,
         b"T18, a broken mark",
         b"\x02\x01\x00\x00\x00\x00\x00\x00\x00\x02\x00\x00\x00\x00\x00\x00\x00\x01\x00\x01\x00\x40\x00\x00\x00\x03\x00\x00\x00\x01\x00\x01\x00\x00\x00\x00\x00\x00\x00\x02\x00\x00\x00\x00\x00\x01\x01\x00\x00\x01\x00\x00\x00\x01\x00\x01\x00\x02\x00\x00\x00\x00\x00\x00\x00\x00",
         49,
         7,
     );
     check(
+        rt,
         b"T18, an operation stuck",
         b"\x03\x01\x00\x00\x00\x00\x00\x00\x00\x02\x00\x00\x00\x00\x00\x00\x00\x03\x00\x00\x00\x00\x00\x00\x00\x02\x00\x02\x00\x00\x03\x00\x00\x00\x01\x00\x01\x00\x00\x00\x00\x00\x00\x00\x00\x01\x00\x01\x00\x02\x00\x00\x00\x00\x00\x00\x00\x00\x02\x01\x01\x01\x00\x00\x00\x00\x00\x00\x00\x01\x01\x01\x00\x00\x00\x00\x00\x00\x00\x00",
         49,
         7,
     );
     check(
+        rt,
         b"a lower signal by another queue",
         b"\x02\x01\x00\x00\x00\x00\x00\x00\x00\x02\x00\x00\x00\x00\x00\x00\x00\x01\x00\x00\x00\x02\x00\x00\x00\x01\x00\x02\x00\x00\x00\x00\x00\x00\x00\x00\x01\x00\x01\x00\x01\x00\x00\x00\x00\x00\x00\x00\x00",
         33,
         5,
     );
     check(
+        rt,
         b"T19",
         b"\x03\x01\x00\x00\x00\x00\x00\x00\x00\x02\x00\x00\x00\x00\x00\x00\x00\x03\x00\x00\x00\x00\x00\x00\x00\x02\x00\x00\x00\x00\x03\x00\x02\x01\x00\x01\x00\x00\x00\x00\x00\x00\x00\x00\x00\x00\x01\x01\x01\x00\x00\x00\x00\x00\x00\x00\x02\x00\x01\x00\x00\x00\x00\x00\x00\x00\x01\x01\x00\x00\x00\x00\x00\x00\x00\x00\x01\x00\x01\x00\x02\x00\x00\x00\x00\x00\x00\x00\x00",
         49,
@@ -364,68 +399,69 @@ fn which_first() {
 }
 
 // T3 in room of just its lengths, and in less.
-fn rooms() {
-    room(48, 6);
-    room(47, 7);
-    room(49, 5);
-    room(47, 5);
-    room(0, 0);
+fn rooms(rt: &impl Print) {
+    room(rt, 48, 6);
+    room(rt, 47, 7);
+    room(rt, 49, 5);
+    room(rt, 47, 5);
+    room(rt, 0, 0);
 }
 
 // One field of T3 out of its range, or an axis repeated.
-fn faults() {
-    text(b"counts one over their limits\n");
-    changed(0, 17);
-    changed(25, 65);
-    changed_pair(28, 1, 1);
-    changed_pair(34, 1, 4);
-    changed(37, 4);
-    changed(38, 3);
-    changed(48, 5);
-    text(b"no such owner, queue, semaphore, buffer, kind\n");
-    changed(27, 3);
-    changed(36, 3);
-    changed(39, 2);
-    changed(82, 2);
-    changed_pair(93, 1, 0);
-    changed_pair(93, 0, 1);
-    changed(95, 2);
-    text(b"an axis twice\n");
-    changed(9, 1);
-    changed(17, 1);
-    changed(17, 2);
+fn faults(rt: &impl Print) {
+    text(rt, b"counts one over their limits\n");
+    changed(rt, 0, 17);
+    changed(rt, 25, 65);
+    changed_pair(rt, 28, 1, 1);
+    changed_pair(rt, 34, 1, 4);
+    changed(rt, 37, 4);
+    changed(rt, 38, 3);
+    changed(rt, 48, 5);
+    text(rt, b"no such owner, queue, semaphore, buffer, kind\n");
+    changed(rt, 27, 3);
+    changed(rt, 36, 3);
+    changed(rt, 39, 2);
+    changed(rt, 82, 2);
+    changed_pair(rt, 93, 1, 0);
+    changed_pair(rt, 93, 0, 1);
+    changed(rt, 95, 2);
+    text(rt, b"an axis twice\n");
+    changed(rt, 9, 1);
+    changed(rt, 17, 1);
+    changed(rt, 17, 2);
     text(
+        rt,
         b"waits for 0, one after the other; one of no semaphore; after four waits; a signal of 0\n",
     );
-    changed(55, 0);
-    changed(83, 0);
-    changed_pair(54, 2, 0);
-    changed(53, 4);
-    changed(40, 0);
+    changed(rt, 55, 0);
+    changed(rt, 83, 0);
+    changed_pair(rt, 54, 2, 0);
+    changed(rt, 53, 4);
+    changed(rt, 40, 0);
 }
 
 // What the reader refuses, refused by the check.
-fn bad_input() {
-    text(b"cut short\n");
-    cuts();
-    text(b"cut inside a field whose part would be 5, 5, 4, 16\n");
-    changed_cut(9, 1, 10);
-    changed_cut(17, 2, 24);
-    changed_cut(93, 1, 94);
-    changed_cut(55, 0, 62);
-    faults();
-    text(b"bytes after the last section\n");
-    longer(1);
-    longer(1048576);
+fn bad_input(rt: &impl Print) {
+    text(rt, b"cut short\n");
+    cuts(rt);
+    text(rt, b"cut inside a field whose part would be 5, 5, 4, 16\n");
+    changed_cut(rt, 9, 1, 10);
+    changed_cut(rt, 17, 2, 24);
+    changed_cut(rt, 93, 1, 94);
+    changed_cut(rt, 55, 0, 62);
+    faults(rt);
+    text(rt, b"bytes after the last section\n");
+    longer(rt, 1);
+    longer(rt, 1048576);
 }
 
-fn main() {
-    first_plans();
-    waiting_plans();
-    marked_plans();
-    signals();
-    handed_plans();
-    which_first();
-    rooms();
-    bad_input();
+fn main(rt: HostRuntime) {
+    first_plans(&rt);
+    waiting_plans(&rt);
+    marked_plans(&rt);
+    signals(&rt);
+    handed_plans(&rt);
+    which_first(&rt);
+    rooms(&rt);
+    bad_input(&rt);
 }

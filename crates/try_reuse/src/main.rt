@@ -1,79 +1,92 @@
 // The reuse question on the small plans of R79 and others: what is handed back, and the lent table and list, which hold
 // 7s before.
+#![tactic(auto)]
+
 ghost use Rattle.std.specs.Prelude.{◌≤◌};
 
-use libc::STDOUT_FILENO;
 use plan_format::Told;
 
-fn text(words: &[u8]) {
-    io::write_all(STDOUT_FILENO, words);
+fn text(rt: &impl Print, words: &[u8]) {
+    let _ = rt.write_all(words);
 }
 
-fn line_end() {
-    text(b"\n");
+fn line_end(rt: &impl Print) {
+    text(rt, b"\n");
 }
 
-fn number(n: u64) {
-    text(b" ");
-    io::print_decimal(STDOUT_FILENO, n);
+fn number(rt: &impl Print, n: u64) {
+    text(rt, b" ");
+    let _ = rt.print(n);
 }
 
 // A new line before every sixteenth number.
-fn turn(i: usize) {
+fn turn(rt: &impl Print, i: usize) {
     if i % 16 == 0 {
-        text(b"\n   ");
+        text(rt, b"\n   ");
     }
 }
 
 // The first numbers of a table or a list.
-fn numbers(a: &[u32; 128], many: usize)
+fn numbers(rt: &impl Print, a: &[u32; 128], many: usize)
     requires { many ≤ 128 }
 {
     let mut i = 0;
     while i < many {
-        turn(i);
-        number(base_numbers::u32_to_u64(a[i]));
+        turn(rt, i);
+        number(rt, base_numbers::u32_to_u64(a[i]));
         i += 1;
     }
-    line_end();
+    line_end(rt);
 }
 
-fn show(told: Told) {
-    text(b"  reuse");
-    number(base_numbers::u32_to_u64(told.number));
-    number(told.place);
-    number(told.answer);
-    line_end();
+fn show(rt: &impl Print, told: Told) {
+    text(rt, b"  reuse");
+    number(rt, base_numbers::u32_to_u64(told.number));
+    number(rt, told.place);
+    number(rt, told.answer);
+    line_end(rt);
 }
 
 // A question on a plan, by its queue and its buffer.
-fn head(name: &[u8], queue: u32, buffer: u32) {
-    text(name);
-    text(b", asked for");
-    number(base_numbers::u32_to_u64(queue));
-    number(base_numbers::u32_to_u64(buffer));
-    line_end();
+fn head(rt: &impl Print, name: &[u8], queue: u32, buffer: u32) {
+    text(rt, name);
+    text(rt, b", asked for");
+    number(rt, base_numbers::u32_to_u64(queue));
+    number(rt, base_numbers::u32_to_u64(buffer));
+    line_end(rt);
 }
 
 // A question, with a table and a list of these lengths.
-fn ask(name: &[u8], plan: &[u8], queue: u32, buffer: u32, table: usize, list: usize)
+fn ask(
+    rt: &impl Print,
+    name: &[u8],
+    plan: &[u8],
+    queue: u32,
+    buffer: u32,
+    table: usize,
+    list: usize,
+)
     requires { (table ≤ 128) × (list ≤ 128) }
 {
-    head(name, queue, buffer);
+    head(rt, name, queue, buffer);
     let mut rows = [7u32; 128];
     let mut run = [7u32; 128];
-    show(ask_reuse::reuse_question(plan, queue, buffer, &mut rows[..table], &mut run[..list]));
-    text(b"  table");
-    numbers(&rows, table);
-    text(b"  list");
-    numbers(&run, list);
+    show(
+        rt,
+        ask_reuse::reuse_question(plan, queue, buffer, &mut rows[..table], &mut run[..list]),
+    );
+    text(rt, b"  table");
+    numbers(rt, &rows, table);
+    text(rt, b"  list");
+    numbers(rt, &run, list);
 }
 
 // T3: the buffer's last mark is a use.
-fn room(queue: u32, buffer: u32, table: usize, list: usize)
+fn room(rt: &impl Print, queue: u32, buffer: u32, table: usize, list: usize)
     requires { (table ≤ 128) × (list ≤ 128) }
 {
     ask(
+        rt,
         b"T3",
         b"\x03\x01\x00\x00\x00\x00\x00\x00\x00\x02\x00\x00\x00\x00\x00\x00\x00\x03\x00\x00\x00\x00\x00\x00\x00\x02\x00\x01\x01\x00\x00\x10\x00\x00\x03\x00\x00\x00\x01\x00\x01\x00\x00\x00\x00\x00\x00\x00\x01\x00\x00\x00\x01\x01\x00\x01\x00\x00\x00\x00\x00\x00\x00\x01\x01\x01\x00\x00\x00\x00\x00\x00\x00\x02\x00\x00\x00\x00\x00\x01\x02\x01\x01\x01\x00\x00\x00\x00\x00\x00\x00\x00\x01\x00\x00\x00",
         queue,
@@ -83,12 +96,13 @@ fn room(queue: u32, buffer: u32, table: usize, list: usize)
     );
 }
 
-fn t3(queue: u32, buffer: u32) {
-    room(queue, buffer, 49, 7);
+fn t3(rt: &impl Print, queue: u32, buffer: u32) {
+    room(rt, queue, buffer, 49, 7);
 }
 
-fn t4(queue: u32, buffer: u32) {
+fn t4(rt: &impl Print, queue: u32, buffer: u32) {
     ask(
+        rt,
         b"T4",
         b"\x02\x01\x00\x00\x00\x00\x00\x00\x00\x02\x00\x00\x00\x00\x00\x00\x00\x02\x00\x01\x00\x00\x02\x00\x00\x01\x01\x01\x00\x00\x00\x00\x00\x00\x00\x01\x00\x01\x00\x00\x00\x00\x00\x00\x00\x00\x01\x01\x00\x01\x00\x00\x00\x00\x00\x00\x00\x01\x01\x01\x00\x00\x00\x00\x00\x00\x00\x00",
         queue,
@@ -98,8 +112,9 @@ fn t4(queue: u32, buffer: u32) {
     );
 }
 
-fn t5(queue: u32, buffer: u32) {
+fn t5(rt: &impl Print, queue: u32, buffer: u32) {
     ask(
+        rt,
         b"T5",
         b"\x01\x01\x00\x00\x00\x00\x00\x00\x00\x01\x00\x00\x00\x01\x00\x00\x01\x00\x01\x00\x00\x00\x00\x00\x00\x00\x01\x00\x01\x00\x00\x00\x00\x00\x00\x00\x00",
         queue,
@@ -109,8 +124,9 @@ fn t5(queue: u32, buffer: u32) {
     );
 }
 
-fn t6(queue: u32, buffer: u32) {
+fn t6(rt: &impl Print, queue: u32, buffer: u32) {
     ask(
+        rt,
         b"T6",
         b"\x02\x01\x00\x00\x00\x00\x00\x00\x00\x02\x00\x00\x00\x00\x00\x00\x00\x01\x00\x00\x00\x02\x00\x01\x01\x00\x01\x00\x00\x00\x00\x00\x00\x00\x00\x00\x00\x00\x01\x00\x01\x00\x00\x00\x00\x00\x00\x00\x00",
         queue,
@@ -120,8 +136,9 @@ fn t6(queue: u32, buffer: u32) {
     );
 }
 
-fn t7(queue: u32, buffer: u32) {
+fn t7(rt: &impl Print, queue: u32, buffer: u32) {
     ask(
+        rt,
         b"T7",
         b"\x02\x01\x00\x00\x00\x00\x00\x00\x00\x02\x00\x00\x00\x00\x00\x00\x00\x01\x00\x00\x00\x06\x00\x00\x00\x01\x00\x01\x00\x00\x00\x00\x00\x00\x00\x00\x00\x00\x01\x00\x02\x00\x00\x00\x00\x00\x00\x00\x00\x00\x00\x01\x00\x03\x00\x00\x00\x00\x00\x00\x00\x00\x00\x00\x01\x00\x04\x00\x00\x00\x00\x00\x00\x00\x00\x00\x00\x01\x00\x05\x00\x00\x00\x00\x00\x00\x00\x00\x01\x01\x00\x02\x00\x00\x00\x00\x00\x00\x00\x00\x00",
         queue,
@@ -131,8 +148,9 @@ fn t7(queue: u32, buffer: u32) {
     );
 }
 
-fn t8(queue: u32, buffer: u32) {
+fn t8(rt: &impl Print, queue: u32, buffer: u32) {
     ask(
+        rt,
         b"T8",
         b"\x02\x01\x00\x00\x00\x00\x00\x00\x00\x02\x00\x00\x00\x00\x00\x00\x00\x01\x00\x00\x00\x03\x00\x00\x00\x01\x00\x03\x00\x00\x00\x00\x00\x00\x00\x00\x00\x00\x01\x00\x07\x00\x00\x00\x00\x00\x00\x00\x00\x01\x01\x00\x04\x00\x00\x00\x00\x00\x00\x00\x00\x00",
         queue,
@@ -142,8 +160,9 @@ fn t8(queue: u32, buffer: u32) {
     );
 }
 
-fn t9(queue: u32, buffer: u32) {
+fn t9(rt: &impl Print, queue: u32, buffer: u32) {
     ask(
+        rt,
         b"T9",
         b"\x02\x01\x00\x00\x00\x00\x00\x00\x00\x02\x00\x00\x00\x00\x00\x00\x00\x00\x01\x00\x40\x00\x00\x00\x02\x00\x00\x00\x00\x02\x00\x00\x00\x00\x00\x01\x01\x00\x00\x01\x00\x00\x00",
         queue,
@@ -153,8 +172,9 @@ fn t9(queue: u32, buffer: u32) {
     );
 }
 
-fn t10(queue: u32, buffer: u32) {
+fn t10(rt: &impl Print, queue: u32, buffer: u32) {
     ask(
+        rt,
         b"T10",
         b"\x01\x01\x00\x00\x00\x00\x00\x00\x00\x00\x01\x00\x40\x00\x00\x00\x01\x00\x00\x00\x00\x02\x00\x00\x01\x00\x00\x00",
         queue,
@@ -164,8 +184,9 @@ fn t10(queue: u32, buffer: u32) {
     );
 }
 
-fn t11(queue: u32, buffer: u32) {
+fn t11(rt: &impl Print, queue: u32, buffer: u32) {
     ask(
+        rt,
         b"T11",
         b"\x02\x01\x00\x00\x00\x00\x00\x00\x00\x02\x00\x00\x00\x00\x00\x00\x00\x00\x01\x00\x40\x00\x00\x00\x02\x00\x00\x00\x00\x01\x00\x00\x00\x01\x00\x00\x01\x00\x00\x01",
         queue,
@@ -175,8 +196,9 @@ fn t11(queue: u32, buffer: u32) {
     );
 }
 
-fn t8_above(queue: u32, buffer: u32) {
+fn t8_above(rt: &impl Print, queue: u32, buffer: u32) {
     ask(
+        rt,
         b"T8, a wait for 8",
         b"\x02\x01\x00\x00\x00\x00\x00\x00\x00\x02\x00\x00\x00\x00\x00\x00\x00\x01\x00\x00\x00\x03\x00\x00\x00\x01\x00\x03\x00\x00\x00\x00\x00\x00\x00\x00\x00\x00\x01\x00\x07\x00\x00\x00\x00\x00\x00\x00\x00\x01\x01\x00\x08\x00\x00\x00\x00\x00\x00\x00\x00\x00",
         queue,
@@ -187,8 +209,9 @@ fn t8_above(queue: u32, buffer: u32) {
 }
 
 // T6 with a buffer that its second operation, the first in the run, uses and frees.
-fn against(queue: u32, buffer: u32) {
+fn against(rt: &impl Print, queue: u32, buffer: u32) {
     ask(
+        rt,
         b"T6, freed by the first that runs",
         b"\x02\x01\x00\x00\x00\x00\x00\x00\x00\x02\x00\x00\x00\x00\x00\x00\x00\x01\x00\x01\x00\x40\x00\x00\x00\x02\x00\x01\x01\x00\x01\x00\x00\x00\x00\x00\x00\x00\x00\x00\x00\x00\x01\x00\x01\x00\x00\x00\x00\x00\x00\x00\x02\x00\x00\x00\x00\x00\x01",
         queue,
@@ -199,8 +222,9 @@ fn against(queue: u32, buffer: u32) {
 }
 
 // T3 without the last use: four queues, one with no operations, and a buffer with no mark.
-fn seen(queue: u32, buffer: u32) {
+fn seen(rt: &impl Print, queue: u32, buffer: u32) {
     ask(
+        rt,
         b"T3, freed by the second",
         b"\x04\x01\x00\x00\x00\x00\x00\x00\x00\x02\x00\x00\x00\x00\x00\x00\x00\x03\x00\x00\x00\x00\x00\x00\x00\x04\x00\x00\x00\x00\x00\x00\x00\x02\x00\x01\x02\x00\x00\x10\x00\x00\x00\x00\x00\x00\x03\x00\x00\x00\x01\x00\x01\x00\x00\x00\x00\x00\x00\x00\x01\x00\x00\x00\x01\x01\x00\x01\x00\x00\x00\x00\x00\x00\x00\x01\x01\x01\x00\x00\x00\x00\x00\x00\x00\x02\x00\x00\x00\x00\x00\x01\x02\x01\x01\x01\x00\x00\x00\x00\x00\x00\x00\x00\x00",
         queue,
@@ -211,8 +235,9 @@ fn seen(queue: u32, buffer: u32) {
 }
 
 // A buffer that is freed, and used again after that.
-fn held(queue: u32, buffer: u32) {
+fn held(rt: &impl Print, queue: u32, buffer: u32) {
     ask(
+        rt,
         b"two holdings",
         b"\x02\x01\x00\x00\x00\x00\x00\x00\x00\x02\x00\x00\x00\x00\x00\x00\x00\x01\x00\x01\x00\x08\x00\x00\x00\x02\x00\x00\x00\x01\x00\x01\x00\x00\x00\x00\x00\x00\x00\x02\x00\x00\x00\x00\x00\x01\x01\x01\x00\x01\x00\x00\x00\x00\x00\x00\x00\x00\x01\x00\x00\x00",
         queue,
@@ -223,8 +248,9 @@ fn held(queue: u32, buffer: u32) {
 }
 
 // Queue 0 sees the free by its second operation, not by its first.
-fn later(queue: u32, buffer: u32) {
+fn later(rt: &impl Print, queue: u32, buffer: u32) {
     ask(
+        rt,
         b"seen by the last operation only",
         b"\x02\x01\x00\x00\x00\x00\x00\x00\x00\x02\x00\x00\x00\x00\x00\x00\x00\x01\x01\x01\x00\x08\x00\x00\x00\x03\x00\x00\x00\x00\x00\x01\x00\x01\x00\x01\x00\x00\x00\x00\x00\x00\x00\x01\x00\x00\x01\x00\x01\x00\x01\x00\x00\x00\x00\x00\x00\x00\x00\x00",
         queue,
@@ -235,8 +261,9 @@ fn later(queue: u32, buffer: u32) {
 }
 
 // Queue 1 waits for an operation before the free, not for the free.
-fn past(queue: u32, buffer: u32) {
+fn past(rt: &impl Print, queue: u32, buffer: u32) {
     ask(
+        rt,
         b"freed after the signal",
         b"\x02\x01\x00\x00\x00\x00\x00\x00\x00\x02\x00\x00\x00\x00\x00\x00\x00\x01\x00\x01\x00\x08\x00\x00\x00\x03\x00\x00\x00\x01\x00\x01\x00\x00\x00\x00\x00\x00\x00\x01\x00\x00\x00\x00\x00\x00\x01\x00\x00\x01\x01\x01\x00\x01\x00\x00\x00\x00\x00\x00\x00\x00\x00",
         queue,
@@ -247,8 +274,9 @@ fn past(queue: u32, buffer: u32) {
 }
 
 // Marks on two buffers: one is freed, the other held.
-fn another(queue: u32, buffer: u32) {
+fn another(rt: &impl Print, queue: u32, buffer: u32) {
     ask(
+        rt,
         b"a use elsewhere",
         b"\x01\x01\x00\x00\x00\x00\x00\x00\x00\x00\x02\x00\x08\x00\x00\x00\x08\x00\x00\x00\x02\x00\x00\x00\x00\x02\x01\x00\x00\x00\x00\x01\x00\x00\x00\x01\x01\x00\x00",
         queue,
@@ -259,10 +287,19 @@ fn another(queue: u32, buffer: u32) {
 }
 
 // T1, and plans that are refused: the plan comes before the queue and the buffer.
-fn bad_plans() {
-    ask(b"T1", b"\x00\x00\x00\x00\x00\x00", 9, 9, 1, 1);
-    ask(b"T1, one byte less", b"\x00\x00\x00\x00\x00", 9, 9, 1, 1);
+fn bad_plans(rt: &impl Print) {
+    ask(rt, b"T1", b"\x00\x00\x00\x00\x00\x00", 9, 9, 1, 1);
     ask(
+        rt,
+        b"T1, one byte less",
+        b"\x00\x00\x00\x00\x00",
+        9,
+        9,
+        1,
+        1,
+    );
+    ask(
+        rt,
         b"T1, one byte more",
         b"\x00\x00\x00\x00\x00\x00\x00",
         9,
@@ -270,8 +307,17 @@ fn bad_plans() {
         1,
         1,
     );
-    ask(b"seventeen queues", b"\x11\x00\x00\x00\x00\x00", 9, 9, 1, 1);
     ask(
+        rt,
+        b"seventeen queues",
+        b"\x11\x00\x00\x00\x00\x00",
+        9,
+        9,
+        1,
+        1,
+    );
+    ask(
+        rt,
         b"an owner that is no queue",
         b"\x01\x01\x00\x00\x00\x00\x00\x00\x00\x01\x01\x00\x00\x00\x00",
         9,
@@ -280,6 +326,7 @@ fn bad_plans() {
         1,
     );
     ask(
+        rt,
         b"an axis twice",
         b"\x02\x01\x00\x00\x00\x00\x00\x00\x00\x01\x00\x00\x00\x00\x00\x00\x00\x00\x00\x00\x00\x00",
         9,
@@ -288,6 +335,7 @@ fn bad_plans() {
         1,
     );
     ask(
+        rt,
         b"T15",
         b"\x02\x01\x00\x00\x00\x00\x00\x00\x00\x02\x00\x00\x00\x00\x00\x00\x00\x01\x00\x00\x00\x02\x00\x00\x00\x01\x00\x01\x00\x00\x00\x00\x00\x00\x00\x00\x01\x00\x01\x00\x02\x00\x00\x00\x00\x00\x00\x00\x00",
         9,
@@ -296,6 +344,7 @@ fn bad_plans() {
         5,
     );
     ask(
+        rt,
         b"a signal of 0",
         b"\x01\x01\x00\x00\x00\x00\x00\x00\x00\x01\x00\x00\x00\x01\x00\x00\x00\x01\x00\x00\x00\x00\x00\x00\x00\x00\x00\x00",
         9,
@@ -303,73 +352,73 @@ fn bad_plans() {
         17,
         3,
     );
-    ask(b"no bytes", b"", 9, 9, 1, 1);
+    ask(rt, b"no bytes", b"", 9, 9, 1, 1);
 }
 
 // The small plans of R79 with operations in order.
-fn small_plans() {
-    t3(0, 0);
-    t3(1, 0);
-    t3(2, 0);
-    t4(0, 0);
-    t5(0, 0);
-    t6(0, 0);
-    t7(1, 0);
-    t8(1, 0);
-    t8_above(1, 0);
-    t9(1, 0);
-    t10(0, 0);
-    t11(1, 0);
+fn small_plans(rt: &impl Print) {
+    t3(rt, 0, 0);
+    t3(rt, 1, 0);
+    t3(rt, 2, 0);
+    t4(rt, 0, 0);
+    t5(rt, 0, 0);
+    t6(rt, 0, 0);
+    t7(rt, 1, 0);
+    t8(rt, 1, 0);
+    t8_above(rt, 1, 0);
+    t9(rt, 1, 0);
+    t10(rt, 0, 0);
+    t11(rt, 1, 0);
 }
 
 // Each verdict that a passed plan can get: fresh, reusable, held, not ordered.
-fn verdicts() {
-    seen(0, 0);
-    seen(1, 0);
-    seen(2, 0);
-    seen(3, 0);
-    seen(0, 1);
-    seen(3, 1);
-    against(0, 0);
-    against(1, 0);
-    held(0, 0);
-    held(1, 0);
-    later(0, 0);
-    later(1, 0);
-    past(0, 0);
-    past(1, 0);
-    another(0, 0);
-    another(0, 1);
+fn verdicts(rt: &impl Print) {
+    seen(rt, 0, 0);
+    seen(rt, 1, 0);
+    seen(rt, 2, 0);
+    seen(rt, 3, 0);
+    seen(rt, 0, 1);
+    seen(rt, 3, 1);
+    against(rt, 0, 0);
+    against(rt, 1, 0);
+    held(rt, 0, 0);
+    held(rt, 1, 0);
+    later(rt, 0, 0);
+    later(rt, 1, 0);
+    past(rt, 0, 0);
+    past(rt, 1, 0);
+    another(rt, 0, 0);
+    another(rt, 0, 1);
 }
 
 // No such queue, no such buffer, neither; and a refused plan before both.
-fn no_such() {
-    t3(3, 0);
-    t3(4294967295, 0);
-    t3(0, 1);
-    t3(0, 4294967295);
-    t3(3, 1);
-    t3(4294967295, 4294967295);
-    t4(4294967295, 4294967295);
-    t9(4294967295, 4294967295);
-    t8_above(4294967295, 4294967295);
+fn no_such(rt: &impl Print) {
+    t3(rt, 3, 0);
+    t3(rt, 4294967295, 0);
+    t3(rt, 0, 1);
+    t3(rt, 0, 4294967295);
+    t3(rt, 3, 1);
+    t3(rt, 4294967295, 4294967295);
+    t4(rt, 4294967295, 4294967295);
+    t9(rt, 4294967295, 4294967295);
+    t8_above(rt, 4294967295, 4294967295);
 }
 
 // Exactly the room, one number short in the table, in the list and in both, and none; too little room before a queue
 // that is not there.
-fn rooms() {
-    room(2, 0, 48, 6);
-    room(2, 0, 47, 7);
-    room(2, 0, 49, 5);
-    room(2, 0, 47, 5);
-    room(2, 0, 0, 0);
-    room(9, 9, 47, 5);
+fn rooms(rt: &impl Print) {
+    room(rt, 2, 0, 48, 6);
+    room(rt, 2, 0, 47, 7);
+    room(rt, 2, 0, 49, 5);
+    room(rt, 2, 0, 47, 5);
+    room(rt, 2, 0, 0, 0);
+    room(rt, 9, 9, 47, 5);
 }
 
-fn main() {
-    small_plans();
-    verdicts();
-    no_such();
-    bad_plans();
-    rooms();
+fn main(rt: HostRuntime) {
+    small_plans(&rt);
+    verdicts(&rt);
+    no_such(&rt);
+    bad_plans(&rt);
+    rooms(&rt);
 }

@@ -1,144 +1,145 @@
 // Plans through the question for a frontier: for an operation at a capacity, the number, the place, whether the
 // frontier is whole or cut, its length and its entries; what dominance says of two; and what is left in the lent table
 // and list, which hold 7s before.
+#![tactic(auto)]
+
 ghost use Rattle.std.specs.Prelude.{◌≤◌};
 
 use ask_frontier::Sent;
 use frontier::{Dominance, Frontier};
-use libc::STDOUT_FILENO;
 
-fn text(words: &[u8]) {
-    io::write_all(STDOUT_FILENO, words);
+fn text(rt: &impl Print, words: &[u8]) {
+    let _ = rt.write_all(words);
 }
 
-fn line_end() {
-    text(b"\n");
+fn line_end(rt: &impl Print) {
+    text(rt, b"\n");
 }
 
-fn digits(n: u64) {
-    io::print_decimal(STDOUT_FILENO, n);
+fn digits(rt: &impl Print, n: u64) {
+    let _ = rt.print(n);
 }
 
-fn number(n: u64) {
-    text(b" ");
-    digits(n);
+fn number(rt: &impl Print, n: u64) {
+    text(rt, b" ");
+    digits(rt, n);
 }
 
 // The slots with an epoch, each as axis:epoch.
-fn entries<'a>(axes: &'a [u64; 16], epochs: &'a [u64; 16]) {
+fn entries<'a>(rt: &impl Print, axes: &'a [u64; 16], epochs: &'a [u64; 16]) {
     let mut i: usize = 0;
     while i < 16 {
         if epochs[i] != 0 {
-            number(axes[i]);
-            text(b":");
-            digits(epochs[i]);
+            number(rt, axes[i]);
+            text(rt, b":");
+            digits(rt, epochs[i]);
         }
         i += 1;
     }
 }
 
-fn taint(tainted: bool) {
+fn taint(rt: &impl Print, tainted: bool) {
     if tainted {
-        text(b" cut");
+        text(rt, b" cut");
     } else {
-        text(b" whole");
+        text(rt, b" whole");
     }
 }
 
-fn show(operation: u32, capacity: u32, sent: Sent) {
-    text(b"  ");
-    digits(base_numbers::u32_to_u64(operation));
-    text(b" at");
-    number(base_numbers::u32_to_u64(capacity));
-    text(b":");
-    number(base_numbers::u32_to_u64(sent.number));
-    number(sent.place);
+fn show(rt: &impl Print, operation: u32, capacity: u32, sent: Sent) {
+    text(rt, b"  ");
+    digits(rt, base_numbers::u32_to_u64(operation));
+    text(rt, b" at");
+    number(rt, base_numbers::u32_to_u64(capacity));
+    text(rt, b":");
+    number(rt, base_numbers::u32_to_u64(sent.number));
+    number(rt, sent.place);
     let f = sent.frontier;
-    taint(f.tainted);
-    number(f.len as u64);
-    entries(&f.axes, &f.epochs);
-    line_end();
+    taint(rt, f.tainted);
+    number(rt, f.len as u64);
+    entries(rt, &f.axes, &f.epochs);
+    line_end(rt);
 }
 
 // One question, in room for sixteen operations.
-fn ask(plan: &[u8], operation: u32, capacity: u32) -> Frontier {
+fn ask(rt: &impl Print, plan: &[u8], operation: u32, capacity: u32) -> Frontier {
     let mut table = [7u32; 256];
     let mut list = [7u32; 32];
     let sent = ask_frontier::frontier_of(plan, operation, capacity, &mut table, &mut list);
-    show(operation, capacity, sent);
+    show(rt, operation, capacity, sent);
     sent.frontier
 }
 
 // One operation at each capacity.
-fn capacities(plan: &[u8], operation: u32) {
-    ask(plan, operation, 0);
-    ask(plan, operation, 1);
-    ask(plan, operation, 2);
-    ask(plan, operation, 16);
-    ask(plan, operation, 17);
+fn capacities(rt: &impl Print, plan: &[u8], operation: u32) {
+    ask(rt, plan, operation, 0);
+    ask(rt, plan, operation, 1);
+    ask(rt, plan, operation, 2);
+    ask(rt, plan, operation, 16);
+    ask(rt, plan, operation, 17);
 }
 
 // Every operation at each capacity; then operations that are not there, also at no capacity.
-fn every(name: &[u8], plan: &[u8], operations: u32) {
-    text(name);
-    line_end();
+fn every(rt: &impl Print, name: &[u8], plan: &[u8], operations: u32) {
+    text(rt, name);
+    line_end(rt);
     let mut i: u32 = 0;
     while i < operations {
-        capacities(plan, i);
+        capacities(rt, plan, i);
         i += 1;
     }
-    ask(plan, operations, 16);
-    ask(plan, operations, 0);
-    ask(plan, 4294967295, 16);
-    ask(plan, 4294967295, 17);
+    ask(rt, plan, operations, 16);
+    ask(rt, plan, operations, 0);
+    ask(rt, plan, 4294967295, 16);
+    ask(rt, plan, 4294967295, 17);
 }
 
 // A plan that is refused, before any operation or capacity is.
-fn refused(name: &[u8], plan: &[u8]) {
-    text(name);
-    line_end();
-    ask(plan, 0, 16);
-    ask(plan, 4294967295, 0);
+fn refused(rt: &impl Print, name: &[u8], plan: &[u8]) {
+    text(rt, name);
+    line_end(rt);
+    ask(rt, plan, 0, 16);
+    ask(rt, plan, 4294967295, 0);
 }
 
-fn answer(d: Dominance) {
+fn answer(rt: &impl Print, d: Dominance) {
     match d {
-        Dominance::Yes => text(b"  yes\n"),
-        Dominance::No => text(b"  no\n"),
-        Dominance::Unknown => text(b"  unknown\n"),
-        Dominance::Refused(n) => number(base_numbers::u32_to_u64(n)),
+        Dominance::Yes => text(rt, b"  yes\n"),
+        Dominance::No => text(rt, b"  no\n"),
+        Dominance::Unknown => text(rt, b"  unknown\n"),
+        Dominance::Refused(n) => number(rt, base_numbers::u32_to_u64(n)),
     }
 }
 
 // Whether the frontier of one operation dominates that of another.
-fn over(plan: &[u8], first: u32, second: u32, capacity: u32) {
-    let f = ask(plan, first, capacity);
-    let g = ask(plan, second, capacity);
-    answer(f.dominates(g));
+fn over(rt: &impl Print, plan: &[u8], first: u32, second: u32, capacity: u32) {
+    let f = ask(rt, plan, first, capacity);
+    let g = ask(rt, plan, second, capacity);
+    answer(rt, f.dominates(g));
 }
 
 // A new line before every sixteenth number.
-fn turn(i: usize) {
+fn turn(rt: &impl Print, i: usize) {
     if i % 16 == 0 {
-        text(b"\n   ");
+        text(rt, b"\n   ");
     }
 }
 
 // The first numbers of a table or a list.
-fn numbers(a: &[u32; 64], many: usize)
+fn numbers(rt: &impl Print, a: &[u32; 64], many: usize)
     requires { many ≤ 64 }
 {
     let mut i = 0;
     while i < many {
-        turn(i);
-        number(base_numbers::u32_to_u64(a[i]));
+        turn(rt, i);
+        number(rt, base_numbers::u32_to_u64(a[i]));
         i += 1;
     }
-    line_end();
+    line_end(rt);
 }
 
 // One question, in room of these lengths, and what is left there.
-fn left(plan: &[u8], operation: u32, capacity: u32, table: usize, list: usize)
+fn left(rt: &impl Print, plan: &[u8], operation: u32, capacity: u32, table: usize, list: usize)
     requires { (table ≤ 64) × (list ≤ 64) }
 {
     let mut rows = [7u32; 64];
@@ -150,16 +151,17 @@ fn left(plan: &[u8], operation: u32, capacity: u32, table: usize, list: usize)
         &mut rows[..table],
         &mut run[..list],
     );
-    show(operation, capacity, sent);
-    text(b"  table");
-    numbers(&rows, table);
-    text(b"  list");
-    numbers(&run, list);
+    show(rt, operation, capacity, sent);
+    text(rt, b"  table");
+    numbers(rt, &rows, table);
+    text(rt, b"  list");
+    numbers(rt, &run, list);
 }
 
 // T3: three operations on three queues, each after the one before.
-fn three() {
+fn three(rt: &impl Print) {
     every(
+        rt,
         b"T3",
         b"\x03\x01\x00\x00\x00\x00\x00\x00\x00\x02\x00\x00\x00\x00\x00\x00\x00\x03\x00\x00\x00\x00\x00\x00\x00\x02\x00\x01\x01\x00\x00\x10\x00\x00\x03\x00\x00\x00\x01\x00\x01\x00\x00\x00\x00\x00\x00\x00\x01\x00\x00\x00\x01\x01\x00\x01\x00\x00\x00\x00\x00\x00\x00\x01\x01\x01\x00\x00\x00\x00\x00\x00\x00\x02\x00\x00\x00\x00\x00\x01\x02\x01\x01\x01\x00\x00\x00\x00\x00\x00\x00\x00\x01\x00\x00\x00",
         3,
@@ -167,8 +169,9 @@ fn three() {
 }
 
 // T7: an operation that waits for the second of five signals.
-fn five_signals() {
+fn five_signals(rt: &impl Print) {
     every(
+        rt,
         b"T7",
         b"\x02\x01\x00\x00\x00\x00\x00\x00\x00\x02\x00\x00\x00\x00\x00\x00\x00\x01\x00\x00\x00\x06\x00\x00\x00\x01\x00\x01\x00\x00\x00\x00\x00\x00\x00\x00\x00\x00\x01\x00\x02\x00\x00\x00\x00\x00\x00\x00\x00\x00\x00\x01\x00\x03\x00\x00\x00\x00\x00\x00\x00\x00\x00\x00\x01\x00\x04\x00\x00\x00\x00\x00\x00\x00\x00\x00\x00\x01\x00\x05\x00\x00\x00\x00\x00\x00\x00\x00\x01\x01\x00\x02\x00\x00\x00\x00\x00\x00\x00\x00\x00",
         6,
@@ -176,8 +179,9 @@ fn five_signals() {
 }
 
 // Axes that do not rise, the greatest and 0 among them.
-fn axes_not_rising() {
+fn axes_not_rising(rt: &impl Print) {
     every(
+        rt,
         b"axes 9, 2^64-1, 0, 5",
         b"\x04\x09\x00\x00\x00\x00\x00\x00\x00\xff\xff\xff\xff\xff\xff\xff\xff\x00\x00\x00\x00\x00\x00\x00\x00\x05\x00\x00\x00\x00\x00\x00\x00\x03\x00\x01\x02\x00\x00\x07\x00\x00\x00\x00\x00\x00\x00\x01\x00\x01\x00\x00\x00\x00\x00\x00\x00\x00\x01\x01\x00\x01\x00\x00\x00\x00\x00\x00\x00\x01\x01\x01\x00\x00\x00\x00\x00\x00\x00\x00\x02\x01\x01\x01\x00\x00\x00\x00\x00\x00\x00\x01\x02\x03\x00\x00\x00\x00\x00\x00\x00\x00\x03\x01\x02\x02\x00\x00\x00\x00\x00\x00\x00\x00\x00\x03\x00\x00\x00\x03\x00\x00\x00",
         7,
@@ -185,78 +189,86 @@ fn axes_not_rising() {
 }
 
 // Sixteen queues with falling axes: what is cut is of equal epochs.
-fn sixteen_queues() {
-    text(b"sixteen queues\n");
+fn sixteen_queues(rt: &impl Print) {
+    text(rt, b"sixteen queues\n");
     let plan =
         b"\x10\xa0\x00\x00\x00\x00\x00\x00\x00\x96\x00\x00\x00\x00\x00\x00\x00\x8c\x00\x00\x00\x00\x00\x00\x00\x82\x00\x00\x00\x00\x00\x00\x00\x78\x00\x00\x00\x00\x00\x00\x00\x6e\x00\x00\x00\x00\x00\x00\x00\x64\x00\x00\x00\x00\x00\x00\x00\x5a\x00\x00\x00\x00\x00\x00\x00\x50\x00\x00\x00\x00\x00\x00\x00\x46\x00\x00\x00\x00\x00\x00\x00\x3c\x00\x00\x00\x00\x00\x00\x00\x32\x00\x00\x00\x00\x00\x00\x00\x28\x00\x00\x00\x00\x00\x00\x00\x1e\x00\x00\x00\x00\x00\x00\x00\x14\x00\x00\x00\x00\x00\x00\x00\x0a\x00\x00\x00\x00\x00\x00\x00\x0f\x00\x01\x02\x03\x04\x05\x06\x07\x08\x09\x0a\x0b\x0c\x0d\x0e\x00\x00\x10\x00\x00\x00\x01\x00\x01\x00\x00\x00\x00\x00\x00\x00\x00\x01\x01\x00\x01\x00\x00\x00\x00\x00\x00\x00\x01\x01\x01\x00\x00\x00\x00\x00\x00\x00\x00\x02\x01\x01\x01\x00\x00\x00\x00\x00\x00\x00\x01\x02\x01\x00\x00\x00\x00\x00\x00\x00\x00\x03\x01\x02\x01\x00\x00\x00\x00\x00\x00\x00\x01\x03\x01\x00\x00\x00\x00\x00\x00\x00\x00\x04\x01\x03\x01\x00\x00\x00\x00\x00\x00\x00\x01\x04\x01\x00\x00\x00\x00\x00\x00\x00\x00\x05\x01\x04\x01\x00\x00\x00\x00\x00\x00\x00\x01\x05\x01\x00\x00\x00\x00\x00\x00\x00\x00\x06\x01\x05\x01\x00\x00\x00\x00\x00\x00\x00\x01\x06\x01\x00\x00\x00\x00\x00\x00\x00\x00\x07\x01\x06\x01\x00\x00\x00\x00\x00\x00\x00\x01\x07\x01\x00\x00\x00\x00\x00\x00\x00\x00\x08\x01\x07\x01\x00\x00\x00\x00\x00\x00\x00\x01\x08\x01\x00\x00\x00\x00\x00\x00\x00\x00\x09\x01\x08\x01\x00\x00\x00\x00\x00\x00\x00\x01\x09\x01\x00\x00\x00\x00\x00\x00\x00\x00\x0a\x01\x09\x01\x00\x00\x00\x00\x00\x00\x00\x01\x0a\x01\x00\x00\x00\x00\x00\x00\x00\x00\x0b\x01\x0a\x01\x00\x00\x00\x00\x00\x00\x00\x01\x0b\x01\x00\x00\x00\x00\x00\x00\x00\x00\x0c\x01\x0b\x01\x00\x00\x00\x00\x00\x00\x00\x01\x0c\x01\x00\x00\x00\x00\x00\x00\x00\x00\x0d\x01\x0c\x01\x00\x00\x00\x00\x00\x00\x00\x01\x0d\x01\x00\x00\x00\x00\x00\x00\x00\x00\x0e\x01\x0d\x01\x00\x00\x00\x00\x00\x00\x00\x01\x0e\x01\x00\x00\x00\x00\x00\x00\x00\x00\x0f\x01\x0e\x01\x00\x00\x00\x00\x00\x00\x00\x00\x00";
-    capacities(plan, 15);
-    ask(plan, 15, 15);
-    ask(plan, 7, 8);
-    ask(plan, 7, 7);
+    capacities(rt, plan, 15);
+    ask(rt, plan, 15, 15);
+    ask(rt, plan, 7, 8);
+    ask(rt, plan, 7, 7);
 }
 
-fn refusals() {
-    refused(b"1: five zero bytes", b"\x00\x00\x00\x00\x00");
-    refused(b"2: seventeen queues", b"\x11\x00\x00\x00\x00\x00");
-    refused(b"3: seven zero bytes", b"\x00\x00\x00\x00\x00\x00\x00");
+fn refusals(rt: &impl Print) {
+    refused(rt, b"1: five zero bytes", b"\x00\x00\x00\x00\x00");
+    refused(rt, b"2: seventeen queues", b"\x11\x00\x00\x00\x00\x00");
+    refused(rt, b"3: seven zero bytes", b"\x00\x00\x00\x00\x00\x00\x00");
     refused(
+        rt,
         b"4: an owner that is no queue",
         b"\x01\x01\x00\x00\x00\x00\x00\x00\x00\x01\x01\x00\x00\x00\x00",
     );
     refused(
+        rt,
         b"5: an axis twice",
         b"\x02\x01\x00\x00\x00\x00\x00\x00\x00\x01\x00\x00\x00\x00\x00\x00\x00\x00\x00\x00\x01\x00\x00\x00\x00\x00",
     );
     refused(
+        rt,
         b"7: a signal of 0",
         b"\x01\x01\x00\x00\x00\x00\x00\x00\x00\x01\x00\x00\x00\x01\x00\x00\x00\x01\x00\x00\x00\x00\x00\x00\x00\x00\x00\x00",
     );
     refused(
+        rt,
         b"8: a wait above the highest signal",
         b"\x01\x01\x00\x00\x00\x00\x00\x00\x00\x01\x00\x00\x00\x01\x00\x00\x01\x00\x01\x00\x00\x00\x00\x00\x00\x00\x00\x00",
     );
     refused(
+        rt,
         b"10: T4",
         b"\x02\x01\x00\x00\x00\x00\x00\x00\x00\x02\x00\x00\x00\x00\x00\x00\x00\x02\x00\x01\x00\x00\x02\x00\x00\x01\x01\x01\x00\x00\x00\x00\x00\x00\x00\x01\x00\x01\x00\x00\x00\x00\x00\x00\x00\x00\x01\x01\x00\x01\x00\x00\x00\x00\x00\x00\x00\x01\x01\x01\x00\x00\x00\x00\x00\x00\x00\x00",
     );
     refused(
+        rt,
         b"17: T15",
         b"\x02\x01\x00\x00\x00\x00\x00\x00\x00\x02\x00\x00\x00\x00\x00\x00\x00\x01\x00\x00\x00\x02\x00\x00\x00\x01\x00\x01\x00\x00\x00\x00\x00\x00\x00\x00\x01\x00\x01\x00\x02\x00\x00\x00\x00\x00\x00\x00\x00",
     );
     refused(
+        rt,
         b"11: T9",
         b"\x02\x01\x00\x00\x00\x00\x00\x00\x00\x02\x00\x00\x00\x00\x00\x00\x00\x00\x01\x00\x40\x00\x00\x00\x02\x00\x00\x00\x00\x02\x00\x00\x00\x00\x00\x01\x01\x00\x00\x01\x00\x00\x00",
     );
 }
 
 // Of T7: operation 5 is after 1 and not after 2.
-fn pairs() {
-    text(b"dominance\n");
+fn pairs(rt: &impl Print) {
+    text(rt, b"dominance\n");
     let plan =
         b"\x02\x01\x00\x00\x00\x00\x00\x00\x00\x02\x00\x00\x00\x00\x00\x00\x00\x01\x00\x00\x00\x06\x00\x00\x00\x01\x00\x01\x00\x00\x00\x00\x00\x00\x00\x00\x00\x00\x01\x00\x02\x00\x00\x00\x00\x00\x00\x00\x00\x00\x00\x01\x00\x03\x00\x00\x00\x00\x00\x00\x00\x00\x00\x00\x01\x00\x04\x00\x00\x00\x00\x00\x00\x00\x00\x00\x00\x01\x00\x05\x00\x00\x00\x00\x00\x00\x00\x00\x01\x01\x00\x02\x00\x00\x00\x00\x00\x00\x00\x00\x00";
-    over(plan, 5, 1, 16);
-    over(plan, 5, 2, 16);
-    over(plan, 1, 5, 16);
-    over(plan, 5, 5, 16);
-    over(plan, 5, 1, 1);
-    over(plan, 5, 2, 1);
-    over(plan, 1, 5, 1);
+    over(rt, plan, 5, 1, 16);
+    over(rt, plan, 5, 2, 16);
+    over(rt, plan, 1, 5, 16);
+    over(rt, plan, 5, 5, 16);
+    over(rt, plan, 5, 1, 1);
+    over(rt, plan, 5, 2, 1);
+    over(rt, plan, 1, 5, 1);
 }
 
 // T3 in room of other lengths.
-fn rooms() {
-    text(b"what is left of T3\n");
+fn rooms(rt: &impl Print) {
+    text(rt, b"what is left of T3\n");
     let plan =
         b"\x03\x01\x00\x00\x00\x00\x00\x00\x00\x02\x00\x00\x00\x00\x00\x00\x00\x03\x00\x00\x00\x00\x00\x00\x00\x02\x00\x01\x01\x00\x00\x10\x00\x00\x03\x00\x00\x00\x01\x00\x01\x00\x00\x00\x00\x00\x00\x00\x01\x00\x00\x00\x01\x01\x00\x01\x00\x00\x00\x00\x00\x00\x00\x01\x01\x01\x00\x00\x00\x00\x00\x00\x00\x02\x00\x00\x00\x00\x00\x01\x02\x01\x01\x01\x00\x00\x00\x00\x00\x00\x00\x00\x01\x00\x00\x00";
-    left(plan, 1, 2, 49, 7);
-    left(plan, 3, 2, 49, 7);
-    left(plan, 1, 0, 49, 7);
-    left(plan, 1, 2, 48, 6);
-    left(plan, 1, 2, 47, 6);
-    left(plan, 1, 2, 48, 5);
-    left(plan, 3, 0, 47, 5);
-    text(b"what is left of T4\n");
+    left(rt, plan, 1, 2, 49, 7);
+    left(rt, plan, 3, 2, 49, 7);
+    left(rt, plan, 1, 0, 49, 7);
+    left(rt, plan, 1, 2, 48, 6);
+    left(rt, plan, 1, 2, 47, 6);
+    left(rt, plan, 1, 2, 48, 5);
+    left(rt, plan, 3, 0, 47, 5);
+    text(rt, b"what is left of T4\n");
     left(
+        rt,
         b"\x02\x01\x00\x00\x00\x00\x00\x00\x00\x02\x00\x00\x00\x00\x00\x00\x00\x02\x00\x01\x00\x00\x02\x00\x00\x01\x01\x01\x00\x00\x00\x00\x00\x00\x00\x01\x00\x01\x00\x00\x00\x00\x00\x00\x00\x00\x01\x01\x00\x01\x00\x00\x00\x00\x00\x00\x00\x01\x01\x01\x00\x00\x00\x00\x00\x00\x00\x00",
         2,
         17,
@@ -265,12 +277,12 @@ fn rooms() {
     );
 }
 
-fn main() {
-    three();
-    five_signals();
-    axes_not_rising();
-    sixteen_queues();
-    refusals();
-    pairs();
-    rooms();
+fn main(rt: HostRuntime) {
+    three(&rt);
+    five_signals(&rt);
+    axes_not_rising(&rt);
+    sixteen_queues(&rt);
+    refusals(&rt);
+    pairs(&rt);
+    rooms(&rt);
 }

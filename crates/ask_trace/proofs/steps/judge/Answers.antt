@@ -1,0 +1,33 @@
+-- `judge` tests the four rules in order. Assumes nothing.
+use mathlib.Core.Path.{◌∙◌}
+use Rattle.ask_trace.proofs.Turns.{judge_unknown, judge_repeated, judge_late, judge_waits, wait_found, none_found}
+use Rattle.ask_trace.proofs.steps.judge.Goals as goal
+
+pub returns-then-n-j : goal.returns-then-n-j
+returns-then-n-j c = judge_unknown _ _ _ _ _ _ c.if-n-j.true
+
+pub returns-then-entry-count : goal.returns-then-entry-count
+returns-then-entry-count c =
+    judge_repeated _ _ _ _ _ _ _ _ c.if-n-j.false
+    c.place.ensures.0
+    c.own-entry.ensures c.if-entry-count.true
+
+pub returns-then-entry-count-gt1 : goal.returns-then-entry-count-gt1
+returns-then-entry-count-gt1 c =
+    judge_late _ _ _ _ _ _ _ _ c.if-n-j.false
+    c.place.ensures.0
+    c.own-entry.ensures c.if-entry-count.false c.if-entry-count-gt1.true
+
+pub returns-then-k-lt-MOST_WAITS : goal.returns-then-k-lt-MOST_WAITS
+returns-then-k-lt-MOST_WAITS c =
+    wait_found _ _ _ c.unmet-k.ensures c.if-k-lt-MOST_WAITS.true
+    ∙ judge_waits _ _ _ _ _ _ _ _ c.if-n-j.false
+    c.place.ensures.0 c.own-entry.ensures c.if-entry-count.false
+    c.if-entry-count-gt1.false
+
+pub returns : goal.returns
+returns c =
+    none_found _ _ _ _ _ _ c.unmet-k.ensures c.if-k-lt-MOST_WAITS.false
+    ∙ judge_waits _ _ _ _ _ _ _ _ c.if-n-j.false
+    c.place.ensures.0 c.own-entry.ensures c.if-entry-count.false
+    c.if-entry-count-gt1.false

@@ -1,0 +1,13 @@
+-- `position` meets its contract: two bytes or one, as the form says.
+use Rattle.plan_format.specs.Form.{form_by, first_form, second_form}
+use Rattle.stored_numbers.proofs.field.position.Goals as goal
+
+pub returns-then-wide : goal.returns-then-wide
+unfolding form_by first_form second_form
+returns-then-wide c =
+    rw c.if-wide.true c.pair.ensures
+
+pub returns-else-wide : goal.returns-else-wide
+unfolding form_by first_form second_form
+returns-else-wide c =
+    rw c.if-wide.false c.byte.ensures

@@ -1,0 +1,24 @@
+-- `axes` meets its contract: after i turns, i axes are read.
+use Rattle.std.proofs.Common.{refl, ◌+◌, arith}
+use Rattle.plan_format.specs.Sections.{axis_field}
+use Rattle.stored_numbers.proofs.Cursors.{reads_none, reads_more, reads_counted, limited_count, reads_stopped}
+use Rattle.stored_numbers.proofs.section.axes.Goals as goal
+
+pub loop-i-init : goal.loop-i-init
+loop-i-init c =
+    (omega arith, reads_none axis_field 1 _ _ _ c.byte-start.ensures.reads.inside)
+
+pub returns-then-a-ne0 : goal.returns-then-a-ne0
+returns-then-a-ne0 c =
+    reads_counted 0 1 (limited_count c.byte-start.ensures) c.byte-start.result.value refl
+    (reads_stopped axis_field 1 (c.loop-i.i + 1) c.byte-start.result.value c.if-a-ne0.true (omega arith)
+    (reads_more c.loop-i.i c.loop-i.invariant.1 c.axis-a.ensures))
+
+pub loop-i-preserved : goal.loop-i-preserved
+loop-i-preserved c =
+    (omega arith, reads_more c.loop-i.i c.loop-i.invariant.1 c.axis-a.ensures)
+
+pub returns : goal.returns
+returns c =
+    reads_counted 0 1 (limited_count c.byte-start.ensures) c.loop-i.i (omega arith)
+    c.loop-i.invariant.1

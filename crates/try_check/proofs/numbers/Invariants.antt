@@ -1,0 +1,6 @@
+-- How many numbers are left. Assumes nothing.
+use Rattle.std.proofs.Common.{◌-◌}
+use Rattle.try_check.proofs.numbers.Given as goal
+
+abbrev pub decreases-loop-i : goal.decreases-loop-i
+decreases-loop-i g l = l.many - l.i
