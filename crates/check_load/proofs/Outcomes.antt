@@ -29,7 +29,7 @@ use Rattle.stored_numbers.specs.declared.End.{End}
 use Rattle.stored_numbers.specs.declared.cursor.Cursor.{Cursor}
 use Rattle.stored_numbers.specs.Reading.{fault_of, here, head_cursor, operations_after, PlanRead, NumbersRead}
 use Rattle.stored_numbers.specs.Reading.{Heading, HeadRead, end_cursor, OperationRead}
-use Rattle.stored_numbers.proofs.ReadingEnds.{Read_in, read_refused, read_more, read_whole}
+use Rattle.stored_numbers.proofs.ReadingEnds.{ReadIn, read_refused, read_more, read_whole}
 use Rattle.stored_numbers.proofs.Fields.{here_given}
 use Rattle.check_load.specs.declared.Loaded.{Loaded}
 use Rattle.check_load.specs.Loading.{Loads}
@@ -78,7 +78,7 @@ operations_stop width h s i n g l =
     ∙ repeat_stops bytes op s i n (ap (λ (z : Scan). given z.fault) (read_repeat bytes i op s) ∙ g) l
     ∙ read_repeat bytes i op s
 
-module _ {F : Form} (bs : List ℕ) (form : Read_in F bs) (h : Head) (nums : List ℕ) (cs₀ : Columns)
+module _ {F : Form} (bs : List ℕ) (form : ReadIn F bs) (h : Head) (nums : List ℕ) (cs₀ : Columns)
     (head : HeadRead F bs h nums) where
   abbrev width : ℕ
   width = F.semaphore_width
@@ -386,7 +386,7 @@ refused_loads {bs} (n, p) z =
 
 -- ---- the head
 module _ {F : Form} {bs : List ℕ} {h : Head} {nums : List ℕ} (head : HeadRead F bs h nums) where
-  pub head_refused : Read_in F bs → (h.number ≡ 0 → ⊥) →
+  pub head_refused : ReadIn F bs → (h.number ≡ 0 → ⊥) →
       (h.number ≡ (scanned bs).fault.number) × (h.at ≡ (scanned bs).fault.place)
   unfolding head_cursor here times scan
   head_refused form z =

@@ -32,7 +32,7 @@ use Rattle.plan_order.proofs.Rows.{own}
 use Rattle.plan_order.proofs.Standard.{standard_runs, standard_lacks, goes_on, standard_full, missing_some}
 use Rattle.plan_order.proofs.Standard.{missing_none, full_run, full_has}
 
--- ---- order-refusal, taken apart
+-- ---- `order_refusal`, taken apart
 pub data Ordered (p : Plan) : Refusal → Type 0 where
   stuck_there : (i : ℕ) → missing p ≡ some i → Ordered p (refusal 10 i)
   disordered_there : (i : ℕ) → missing p ≡ none → disordered p ≡ some i → Ordered p (refusal 17 i)

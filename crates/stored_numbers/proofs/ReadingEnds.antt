@@ -114,19 +114,19 @@ module _ {F : Form} {bs : List ℕ} {c : Cursor} {nums : List ℕ} (p : PlanRead
       (omega (arith, many, l))
 
 -- ---- the form in which some bytes are read
-abbrev pub Read_in : Form → (bs : List ℕ) → Type 0
-Read_in F bs = scanned bs ≡ ended (read_by bytes (plan_grammar F) (begun F bs))
+abbrev pub ReadIn : Form → (bs : List ℕ) → Type 0
+ReadIn F bs = scanned bs ≡ ended (read_by bytes (plan_grammar F) (begun F bs))
 
 -- the first byte tells it
-pub read_in : (bs : List ℕ) → Read_in (form_in bs) bs
+pub read_in : (bs : List ℕ) → ReadIn (form_in bs) bs
 unfolding scanned
 read_in bs = scanned_in (form_in bs) bs
 
-pub read_in_told : {wide : Bool} (bs : List ℕ) → wide ≡ is_second bs → Read_in (form_by wide) bs
-read_in_told bs e = subst (λ (b : Bool). Read_in (form_by b) bs) (sym e) (read_in bs)
+pub read_in_told : {wide : Bool} (bs : List ℕ) → wide ≡ is_second bs → ReadIn (form_by wide) bs
+read_in_told bs e = subst (λ (b : Bool). ReadIn (form_by b) bs) (sym e) (read_in bs)
 
 -- ---- what is told of a whole plan
-module _ {F : Form} {bs : List ℕ} (form : Read_in F bs) {c : Cursor} {nums : List ℕ} (p : PlanRead F bs c nums) where
+module _ {F : Form} {bs : List ℕ} (form : ReadIn F bs) {c : Cursor} {nums : List ℕ} (p : PlanRead F bs c nums) where
   scanned_is : scanned bs ≡ ended (here bs c nums)
   scanned_is = form ∙ ap ended p.read
 

@@ -18,7 +18,7 @@ use Rattle.stored_numbers.specs.declared.cursor.Cursor.{Cursor}
 use Rattle.stored_numbers.specs.Reading.{fault_of, here, Past, ReadsOn, head_cursor, operations_after, HeadRead}
 use Rattle.stored_numbers.specs.Reading.{Ends, rest_cursor, rest_scan}
 use Rattle.stored_numbers.proofs.Cursors.{past_then, reads_past}
-use Rattle.stored_numbers.proofs.ReadingEnds.{Read_in, answer_few, ends_front, ends_array}
+use Rattle.stored_numbers.proofs.ReadingEnds.{ReadIn, answer_few, ends_front, ends_array}
 
 -- ---- the head's numbers in front of an array
 module _ (k : ℕ) (head nums : List ℕ) (l : k ≤ length head) where
@@ -89,7 +89,7 @@ module _ (width : ℕ) (bs head nums₀ : List ℕ) (at : ℕ) (h : Head) {a k n
   rest_told = (λ t e. subst (λ (s : Scan). Ends s t) (sym rest_is) (e nums_now fits), rest_array)
 
 -- ---- from the head's own place on it is the plan
-pub rest_plan : {F : Form} {bs nums : List ℕ} {h : Head} → Read_in F bs → HeadRead F bs h nums →
+pub rest_plan : {F : Form} {bs nums : List ℕ} {h : Head} → ReadIn F bs → HeadRead F bs h nums →
     rest_scan F.semaphore_width bs h.at h nums ≡ scanned bs
 unfolding rest_scan rest_cursor here head_cursor fault_of
 rest_plan {F} {bs} {nums} {h} form head =
