@@ -55,9 +55,9 @@
  *
  * THREADS AND STACK. There is no state between calls, so calls on separate
  * memory may run at the same time on any threads. A call uses less than
- * CUNDVREST_STACK bytes of its thread's stack, whatever the input. Measured:
- * read 191 kB, frontier 157 kB, check, reuse, suggest and trace 155 kB, write
- * 70 kB, the others 3 kB.
+ * CUNDVREST_STACK bytes of its thread's stack, whatever the input. Measured
+ * with an older kit, rattle-kit-5b-plain: read 191 kB, frontier 157 kB, check,
+ * reuse, suggest and trace 155 kB, write 70 kB, the others 3 kB.
  */
 #ifndef CUNDVREST_H
 #define CUNDVREST_H
