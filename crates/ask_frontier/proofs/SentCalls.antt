@@ -37,8 +37,8 @@ module _ {bs t x l y : List ℕ} (k : Counted) (j c : ℕ)
       frontier_right bs j c r t x l y (subst (λ (a : Sent). FrontierSays bs j c a t x l y) (sym e)
       (plan_said bs j c t x l y k.number k.place checked.says h))
 
-  pub then-answered : (r : Sent) → k.number ≡ 0 → SentTells (plan_in bs) j c r → FrontierRight bs j c r t x l y
-  then-answered r z a =
+  pub then_answered : (r : Sent) → k.number ≡ 0 → SentTells (plan_in bs) j c r → FrontierRight bs j c r t x l y
+  then_answered r z a =
       frontier_right bs j c r t x l y (asked_said bs j c t x l y k.number k.place checked.says z a)
 
 -- a plan that passes, opened

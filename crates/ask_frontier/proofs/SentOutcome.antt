@@ -84,9 +84,9 @@ module _ (bs : List ℕ) (j c t l : ℕ) where
   unfolding sent_outcome
   plan_first h = asking.plan_first bs t l own h
 
-  pub then-asked : (check_outcome bs t l).refusal.number ≡ 0 → sent_outcome bs j c t l ≡ outcome own rows_and_run
+  pub then_asked : (check_outcome bs t l).refusal.number ≡ 0 → sent_outcome bs j c t l ≡ outcome own rows_and_run
   unfolding sent_outcome
-  then-asked z = asking.then-asked bs t l own z
+  then_asked z = asking.then_asked bs t l own z
 
   pub gives_asked : (n i : ℕ) → (check_outcome bs t l).refusal.number ≡ 0 → Refuses own n i →
       Gives (sent_outcome bs j c t l) n i rows_and_run

@@ -25,7 +25,7 @@ use Rattle.ask_frontier.specs.SentMeaning.{SentMeans, SentNumber, FrontierRight}
 use Rattle.ask_frontier.specs.SentWalk.{SentTells}
 use Rattle.check_plan.proofs.Passed.{passes}
 use Rattle.ask_frontier.proofs.SentMeaning.{sent_means}
-use Rattle.ask_frontier.proofs.SentOutcome.{no_operation, no_capacity, none_refused, plan_first, then-asked}
+use Rattle.ask_frontier.proofs.SentOutcome.{no_operation, no_capacity, none_refused, plan_first, then_asked}
 use Rattle.ask_frontier.proofs.SentOutcome.{gives_asked, operation_if, capacity_if, answer_if, sent_only}
 use Rattle.ask_frontier.proofs.SentOutcome.{sent_leaves_by, sent_passed}
 
@@ -52,7 +52,7 @@ module _ (bs : List ℕ) (j c : ℕ) (t x l y : List ℕ) (n i : ℕ)
   unfolding CheckSays outcome
   asked_said z {r} a =
       let passed : (check_outcome bs (length t) (length l)).refusal.number ≡ 0 = sym s.tells.number ∙ z in
-      let o = then-asked bs j c (length t) (length l) passed in
+      let o = then_asked bs j c (length t) (length l) passed in
       let leaves = passed_leaves bs (length t) (length l) passed in
       record {
         says = subst (λ (z : Outcome). Says z 0 (plan_in bs) (told r) t x l y) (sym o) (record {

@@ -94,10 +94,10 @@ module _ {bs : List ℕ} (q b : ℕ) {n i : ℕ} {t x l y : List ℕ}
       })
 
   -- the plan passes
-  pub then-asked : n ≡ 0 → {r : Told} →
+  pub then_asked : n ≡ 0 → {r : Told} →
       Tells (question_refusal (plan_in bs) q b) (number_of (verdict (plan_in bs) q b)) r → ReuseSays bs q b r t x l y
   unfolding ReuseSays CheckSays reuse_outcome or_then outcome
-  then-asked z {r} h =
+  then_asked z {r} h =
       let s = checked.says in
       let o = check_outcome bs (length t) (length l) in
       let passed : o.refusal.number ≡ 0 = sym s.tells.number ∙ z in

@@ -23,7 +23,7 @@ use Rattle.plan_order.specs.Reuse.{verdict}
 use Rattle.plan_order.specs.Promise.{Checked}
 use Rattle.plan_order.specs.declared.Verdict.{Verdict}
 use Rattle.plan_order.specs.declared.Verdict.TheVariants.{Fresh, Reusable, Held, NotOrdered}
-use Rattle.plan_order.proofs.Asking.{then-asked as question_asked}
+use Rattle.plan_order.proofs.Asking.{then_asked as question_asked}
 use Rattle.plan_order.proofs.OutcomeMeaning.{passed_leaves}
 use Rattle.plan_suggest.specs.declared.Advice.{Advice}
 use Rattle.plan_suggest.specs.declared.Advice.TheVariants.{NoneNeeded, Wait, NoneWouldHelp}
@@ -33,7 +33,7 @@ use Rattle.plan_suggest.specs.Suggest.{suggest_outcome, advised_by, SuggestSays}
 use Rattle.plan_suggest.specs.Promise.{SuggestRight}
 use Rattle.plan_suggest.proofs.SignalPlaces.{at, place_signal}
 use Rattle.plan_suggest.proofs.FirstFreeing.{LastDecides, last_decides}
-use Rattle.plan_suggest.proofs.QuestionMeaning.{twelve_is, thirteen_is, then-signals, question_means}
+use Rattle.plan_suggest.proofs.QuestionMeaning.{twelve_is, thirteen_is, then_signals, question_means}
 use Rattle.plan_suggest.proofs.Promises.{suggest_right}
 use Rattle.check_columns.specs.Shown.{ordered}
 use Rattle.check_columns.proofs.Ordered.{ordered_right}
@@ -91,7 +91,7 @@ module _ {p : Plan} {o : Opened} {queue ssem sval sop mark mop rows : List ℕ}
       by_verdict : (v : Verdict) → j.verdict ≡ v → suggested_of p q b ≡
           suggested_by (nineteen v (first_freeing p q b) b) (advice_by p v (first_freeing p q b))
       unfolding suggested_of advice
-      by_verdict v e = rw (then-signals p q b known_queue known_buffer, verdict_is e)
+      by_verdict v e = rw (then_signals p q b known_queue known_buffer, verdict_is e)
 
       module _ {r : Suggested} where
         pub fresh : j.verdict ≡ Fresh → r ≡ suggested 0 0 NoneNeeded → r ≡ suggested_of p q b
@@ -116,9 +116,9 @@ module _ {p : Plan} {o : Opened} {queue ssem sval sop mark mop rows : List ℕ}
             last_decides p shown.sound q b (λ k l. shown.forced b k known_buffer l) (verdict_is not_ordered)
 
         -- one comparison of two rows tells whether a signal frees
-        one-test : (k : ℕ) → k < length (plan_signals p) → frees p q b (wait_for p k) ≡
+        one_test : (k : ℕ) → k < length (plan_signals p) → frees p q b (wait_for p k) ≡
             ordered queue rows (j.operation % most_operations) (get_or sop k 0 % most_operations)
-        one-test k l =
+        one_test k l =
             let few = shown.sound.few_operations in
             let w = place_signal p k l in
             let after = (at p k).operation in
@@ -139,7 +139,7 @@ module _ {p : Plan} {o : Opened} {queue ssem sval sop mark mop rows : List ℕ}
         unfolding first_freeing first_after
         first_is =
             lowest_same (length (plan_signals p)) (λ k. frees p q b (wait_for p k))
-            (λ k. ordered queue rows (j.operation % most_operations) (get_or sop k 0 % most_operations)) one-test
+            (λ k. ordered queue rows (j.operation % most_operations) (get_or sop k 0 % most_operations)) one_test
             ∙ ap (λ (n : ℕ). lowest_below n
             (λ k. ordered queue rows (j.operation % most_operations) (get_or sop k 0 % most_operations)))
             (sym given_plan.signals_shown.all)
@@ -230,6 +230,6 @@ module _ {bs : List ℕ} (q b : ℕ) {n i : ℕ} {t x l y : List ℕ}
             ap (λ (o : Outcome). advised_by o.refusal (advice plan q b)) (sym asked);
       }
 
-  pub then-asked : n ≡ 0 → {r : Suggested} → r ≡ suggested_of plan q b →
+  pub then_asked : n ≡ 0 → {r : Suggested} → r ≡ suggested_of plan q b →
       SuggestRight bs q b (told r) r.advice t x l y
-  then-asked z {r} e = suggest_right bs q b (told r) r.advice t x l y (passed_says z e)
+  then_asked z {r} e = suggest_right bs q b (told r) r.advice t x l y (passed_says z e)

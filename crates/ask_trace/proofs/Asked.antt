@@ -28,7 +28,7 @@ use Rattle.plan_trace.specs.Numbers.{number_of}
 use Rattle.plan_trace.specs.Question.{trace_outcome_in, traced_by, state_left, TraceSays}
 use Rattle.plan_trace.specs.Promise.{TraceRight}
 use Rattle.plan_trace.proofs.FollowedMeaning.{followed_run}
-use Rattle.plan_trace.proofs.QuestionMeaning.{own_none, plan_first, then-asked, leaves_are}
+use Rattle.plan_trace.proofs.QuestionMeaning.{own_none, plan_first, then_asked, leaves_are}
 use Rattle.plan_trace.proofs.Promises.{trace_right}
 use Rattle.check_plan.specs.declared.Counted.{Counted}
 use Rattle.check_plan.specs.declared.Opened.{Opened}
@@ -39,7 +39,7 @@ use Rattle.ask_trace.specs.Raising.{begun, raised_from}
 use Rattle.ask_trace.specs.Answer.{told, first_refusal, counted_as, walked, answer_by, state_by}
 use Rattle.ask_trace.proofs.Columns.{TraceGiven, walked_right}
 use Rattle.ask_trace.proofs.Raising.{TraceSignalsGiven, state_right}
-use Rattle.ask_trace.proofs.Refusals.{check_first, then-own}
+use Rattle.ask_trace.proofs.Refusals.{check_first, then_own}
 
 -- ---- a plan that passes, opened
 module _ {p : Plan} {o : Opened} {c : Lent} {table : List ℕ} (opened : OpenedPlan p o c table) where
@@ -114,7 +114,7 @@ module _ (o : Opened) (queue source ssem sval sop rows ts old : List ℕ) (f : T
     enough_room =
         by_cases (eqb o.counted.number 0)
         (λ a. (own_none ts (length old)
-        (sym (ap (λ (z : Refusal). z.number) (then-own o.counted ts (length old)
+        (sym (ap (λ (z : Refusal). z.number) (then_own o.counted ts (length old)
         (eqb-true o.counted.number 0 a)))
         ∙ sym tells.number ∙ none)).0)
         (λ a. let bad = eqb-false o.counted.number 0 a in
@@ -143,9 +143,9 @@ module _ (bs ts t x l y s : List ℕ) (o : Opened) (c : Lent)
   refusal_is =
       by_cases (eqb o.counted.number 0)
       (λ a. let z = eqb-true o.counted.number 0 a in
-      then-own o.counted ts (length s) z
+      then_own o.counted ts (length s) z
       ∙ sym (ap (λ (w : Outcome). w.refusal)
-      (then-asked bs ts (length t) (length l) (length s) (sym checked.number ∙ z))))
+      (then_asked bs ts (length t) (length l) (length s) (sym checked.number ∙ z))))
       (λ a. let bad = eqb-false o.counted.number 0 a in
       check_first o.counted ts (length s) bad
       ∙ (λ i. record { number = checked.number i; place = checked.place i })
@@ -163,7 +163,7 @@ module _ (bs ts t x l y s : List ℕ) (o : Opened) (c : Lent)
   room : given here ≡ false → state_size ≤ length s
   room f =
       (own_none ts (length s)
-      (sym (ap (λ (z : Refusal). z.number) (then-own o.counted ts (length s) (passes f))) ∙
+      (sym (ap (λ (z : Refusal). z.number) (then_own o.counted ts (length s) (passes f))) ∙
       not_given_zero here f)).0
 
   -- what was walked

@@ -30,9 +30,9 @@ module _ (c : Counted) (ts : List ℕ) (s : ℕ) where
   unfolding first_refusal or_refusal refusal
   check_first h = rw (other_given (refusal c.number c.place) h)
 
-  pub then-own : c.number ≡ 0 → first_refusal c ts s ≡ own_refusal ts s
+  pub then_own : c.number ≡ 0 → first_refusal c ts s ≡ own_refusal ts s
   unfolding first_refusal or_refusal refusal
-  then-own z = rw (zero_not_given (refusal c.number c.place) z)
+  then_own z = rw (zero_not_given (refusal c.number c.place) z)
 
   pub check_tells : (c.number ≡ 0 → ⊥) → Tells (first_refusal c ts s) 0
       (record { number = c.number; place = c.place; answer = 0 })
@@ -43,14 +43,14 @@ module _ (c : Counted) (ts : List ℕ) (s : ℕ) where
   module _ (z : c.number ≡ 0) where
     pub short_tells : (r : Told) → s < state_size → r ≡ record { number = 9; place = state_size; answer = 0 } →
         Tells (first_refusal c ts s) 0 r
-    short_tells r l e = rw (then-own z) (tells_of (own_refusal ts s) 9 state_size r (short_is ts s l) e)
+    short_tells r l e = rw (then_own z) (tells_of (own_refusal ts s) 9 state_size r (short_is ts s l) e)
 
     module _ (room : state_size ≤ s) where
       pub ill_tells : (r : Told) → trace_formed ts ≡ false → r ≡ record { number = 22; place = 0; answer = 0 } →
           Tells (first_refusal c ts s) 0 r
       ill_tells r f e =
-          rw (then-own z) (tells_of (own_refusal ts s) 22 0 r (ill_is ts s room (not_formed ts f)) e)
+          rw (then_own z) (tells_of (own_refusal ts s) 22 0 r (ill_is ts s room (not_formed ts f)) e)
 
       pub none_tells : (r : Told) → trace_formed ts ≡ true → r ≡ record { number = 0; place = 0; answer = 0 } →
           Tells (first_refusal c ts s) 0 r
-      none_tells r t e = rw (then-own z) (tells_of (own_refusal ts s) 0 0 r (none_is ts s room (formed_gives ts t)) e)
+      none_tells r t e = rw (then_own z) (tells_of (own_refusal ts s) 0 0 r (none_is ts s room (formed_gives ts t)) e)

@@ -2,7 +2,7 @@
 ghost use Rattle.std.specs.Prelude.{◌≡◌, List, ℕ, ◌≤◌, length, take};
 ghost use Rattle.base_lists.specs.Lists.{in_front};
 ghost use Rattle.plan_format.specs.Sizes.{most_queues, state_size};
-ghost use Rattle.ask_trace.specs.Raising.{begun, higher as higher-to, raised_by, raised_from};
+ghost use Rattle.ask_trace.specs.Raising.{begun, higher as higher_to, raised_by, raised_from};
 
 use crate::steps;
 use plan_format::limits::{MOST_QUEUES, MOST_SEMAPHORES, STATE_SIZE};
@@ -85,7 +85,7 @@ fn raise(
 
 // Raises a number to another.
 fn higher(state: &mut [u64], at: usize, v: u64)
-    ensures { state.new ≡ higher-to state.old at v }
+    ensures { state.new ≡ higher_to state.old at v }
 {
     let old = base_slices::get64(state, at);
     if old < v {

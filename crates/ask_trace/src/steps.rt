@@ -5,7 +5,7 @@ ghost use Rattle.std.specs.Prelude.{◌≡◌, cond, ◌<◌, ◌≤◌, get_or,
 ghost use Rattle.base_lists.specs.Lists.{lowest_below, place_or};
 ghost use Rattle.plan_format.specs.Sizes.{most_queues, most_waits, step_bytes, most_steps, trace_bytes};
 ghost use Rattle.plan_format.specs.Grammar.{value};
-ghost use Rattle.plan_trace.specs.Trace.{trace_formed, trace_steps, departs as is-departure, at_end};
+ghost use Rattle.plan_trace.specs.Trace.{trace_formed, trace_steps, departs as is_departure, at_end};
 ghost use Rattle.plan_trace.specs.State.{no_counts};
 ghost use Rattle.ask_trace.specs.Walk.{place_of, own_entry, ran_at, wait_unmet_at, wait_unmet, judged_shown};
 ghost use Rattle.ask_trace.specs.Walk.{walk_from};
@@ -137,7 +137,7 @@ fn own(queue: &[u16], table: &[u32], j: usize) -> u64
 
 // Whether the case names a broken rule.
 fn departs(f: Followed) -> bool
-    ensures { result ≡ is-departure f }
+    ensures { result ≡ is_departure f }
 {
     match f {
         Followed::Full => false,

@@ -23,7 +23,7 @@ use Rattle.plan_order.specs.Holdings.{Ask, met}
 use Rattle.plan_order.specs.Handovers.{last_signaller, handover, handovers_from, handovers, disordered}
 use Rattle.plan_order.proofs.SignalPlaces.{signal, Sooner, sooner_low, signal_there, plan_rising}
 use Rattle.plan_order.proofs.Handovers.{disordered_some, disordered_none, handover_inside}
-use Rattle.plan_order.proofs.OnlyOwners.{in-turn}
+use Rattle.plan_order.proofs.OnlyOwners.{in_turn}
 use Rattle.check_columns.proofs.Ordered.{ordered_right}
 use Rattle.check_handover.specs.Walk.{none_yet, held, unturned, turn_walk, turns_found, first_unturned}
 use Rattle.check_handover.specs.Given.{HandoversGiven}
@@ -117,8 +117,8 @@ module _ (p : Plan) (n semaphores signals : ℕ) (owned : Bool) (queue ssem sop 
   walked k table bs [] e sub below w = refl
   walked k table bs (x ∷ xs) e sub below w =
       let d = begins no_signal (plan_signals p) k x xs e in
-      let in-plan = sub x (Memᴰ.head refl) in
-      let kn = known x in-plan in
+      let in_plan = sub x (Memᴰ.head refl) in
+      let kn = known x in_plan in
       let inside : k < signals = omega (arith, d.inside, c.signals_shown.all) in
       let sem : get_or ssem k 0 ≡ x.semaphore =
       c.signals_shown.semaphores k inside ∙ ap (λ (z : Signal). z.semaphore) d.here in
@@ -181,14 +181,14 @@ module _ (p : Plan) where
   head_then (some g) x a m =
       either (Memᴰ.cases_cons m) (λ q. ap (λ (z : Ask). z.then) q) (λ u. absurd (Memᴰ.not-nil u))
 
-  then-among : (bs xs : List Signal) (a : Ask) → Memᴰ a (handovers_from bs xs) →
+  then_among : (bs xs : List Signal) (a : Ask) → Memᴰ a (handovers_from bs xs) →
       (y : Signal) × Memᴰ y xs × (a.then ≡ y.operation)
   unfolding handovers_from
-  then-among bs [] a m = absurd (Memᴰ.not-nil m)
-  then-among bs (x ∷ xs) a m =
+  then_among bs [] a m = absurd (Memᴰ.not-nil m)
+  then_among bs (x ∷ xs) a m =
       either (Memᴰ.append_cases (handover (last_signaller x.semaphore bs) x) m)
       (λ t. (x, Memᴰ.head refl, head_then (last_signaller x.semaphore bs) x a t))
-      (λ t. let w = then-among (x ∷ bs) xs a t in (w.0, Memᴰ.tail w.1, w.2))
+      (λ t. let w = then_among (x ∷ bs) xs a t in (w.0, Memᴰ.tail w.1, w.2))
 
   out_found : (n : ℕ) (bs xs : List Signal) → (first_out apart n bs xs ≡ n) ⊎
       ((a : Ask) × Memᴰ a (handovers_from bs xs) × (met forced a ≡ false) × (a.then ≡ first_out apart n bs xs))
@@ -211,7 +211,7 @@ module _ (p : Plan) where
       by_cases (out_after apart o x.operation)
       (λ t. rw t (either (Memᴰ.append_cases (handover o x) m)
       (λ u. omega (arith, head_then o x a u))
-      (λ u. let w = then-among (x ∷ bs) xs a u in
+      (λ u. let w = then_among (x ∷ bs) xs a u in
       omega (arith, w.2, sooner_low x w.0 (pairwise_head Sooner no_signal x xs rise w.0 w.1)))))
       (λ f. rw f (either (Memᴰ.append_cases (handover o x) m)
       (λ u. clash (met forced a) (head_met o x f a u) e)
@@ -232,7 +232,7 @@ module _ (p : Plan) where
         u.own,
         out_least (count p) [] (plan_signals p) (plan_rising p) a u.among u.unforced,
       ) in
-      let in-it : i < count p = omega (arith, u.own, handover_inside p a u.among) in
+      let in_it : i < count p = omega (arith, u.own, handover_inside p a u.among) in
       rw e (either found (λ q. absurd (omega (arith, q)))
       (λ w. by_cases (leb i r) (λ t. omega (arith, leb-true i r t))
       (λ f. clash (met forced w.0) (s.1 w.0 w.1 (omega (arith, w.3, leb-false i r f))) w.2))))
@@ -245,7 +245,7 @@ unturned_found p n semaphores signals owned queue ssem sop rows c =
     let all : held signals ssem sop ≡ length (plan_signals p) =
     omega (arith, c.signals_shown.semaphore_room, c.signals_shown.operation_room, c.signals_shown.all) in
     by_cases owned
-    (λ t. rw (t, in-turn p (c.only_owners t)) refl)
+    (λ t. rw (t, in_turn p (c.only_owners t)) refl)
     (λ f. rw (all, f, ← c.many)
     (walked p (count p) semaphores signals owned queue ssem sop rows
     (subst (λ (z : ℕ). HandoversGiven p z semaphores signals owned queue ssem sop rows) (sym c.many) c) 0

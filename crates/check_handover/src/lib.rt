@@ -9,7 +9,7 @@ ghost use Rattle.plan_format.specs.Sizes.{most_operations};
 ghost use Rattle.plan_format.specs.Plan.{Plan};
 ghost use Rattle.plan_order.specs.Handovers.{disordered as out_of_turn};
 ghost use Rattle.check_handover.specs.Given.{HandoversGiven};
-ghost use Rattle.check_handover.specs.Walk.{held as held_in, unturned as is-unturned, turns_found};
+ghost use Rattle.check_handover.specs.Walk.{held as held_in, unturned as is_unturned, turns_found};
 ghost use Rattle.check_handover.specs.Walk.{first_unturned};
 
 use check_columns::{QueueColumn, Rows};
@@ -87,7 +87,7 @@ fn held(signals: usize, ssem: &[u16], sop: &[u16]) -> usize
 // Whether g is neither i nor before i, by their rows in the column of g's queue; 1,024 stands for none.
 fn unturned(queue: &QueueColumn, rows: &Rows, g: usize, i: usize) -> bool
     requires { i < most_operations }
-    ensures { result ≡ is-unturned queue.now rows.now g i }
+    ensures { result ≡ is_unturned queue.now rows.now g i }
 {
     if g < NO_OPERATION {
         let q = base_slices::get16(queue, g) % ROW_WIDTH;

@@ -7,11 +7,11 @@
 ghost use Rattle.std.specs.Prelude.{◌≡◌, cond, List, ℕ, ◌+◌, ◌*◌, ◌%◌, ◌<◌, ◌≤◌, eqb, length};
 ghost use Rattle.plan_format.specs.Sizes.{most_operations, row_width, no_operation};
 ghost use Rattle.plan_format.specs.Plan.{Plan};
-ghost use Rattle.plan_order.specs.Holdings.{broken as broken-mark};
+ghost use Rattle.plan_order.specs.Holdings.{broken as broken_mark};
 ghost use Rattle.base_lists.specs.Lists.{place_or};
 ghost use Rattle.check_marks.specs.Given.{MarksGiven};
 ghost use Rattle.check_columns.specs.Shown.{shown_from};
-ghost use Rattle.check_marks.specs.Passes.{none_noted, OwnPlace, late as is-late, early as is-early};
+ghost use Rattle.check_marks.specs.Passes.{none_noted, OwnPlace, late as is_late, early as is_early};
 ghost use Rattle.check_marks.specs.Passes.{first_late, first_early, first_broken};
 
 use check_columns::{MARK_CODES, QueueColumn, Rows};
@@ -36,7 +36,7 @@ pub fn broken(
         mop.now }
     ensures of_plans { (p : Plan) →
         MarksGiven p n marks queue.now mark.now mop.now rows.now →
-        result ≡ place_or n (broken-mark p) }
+        result ≡ place_or n (broken_mark p) }
 {
     let none = n as usize;
     let held = base_numbers::min_usize(mark.len(), mop.len());
@@ -106,7 +106,7 @@ fn reuses(
 // Whether a use by i isn't forced to come no later than a free, whose row begins at `free`.
 fn late(queue: &QueueColumn, rows: &Rows, i: usize, free: usize) -> bool
     requires { (i < most_operations) × (free ≤ row_width * no_operation) }
-    ensures { (g : ℕ) → free ≡ row_width * g → result ≡ is-late queue.now rows.now i g }
+    ensures { (g : ℕ) → free ≡ row_width * g → result ≡ is_late queue.now rows.now i g }
 {
     let q = base_numbers::u16_to_usize(queue[i]) % ROW_WIDTH;
     let own = base_numbers::u16_to_usize(rows[ROW_WIDTH * i + q]);
@@ -119,7 +119,7 @@ fn late(queue: &QueueColumn, rows: &Rows, i: usize, free: usize) -> bool
 fn early(rows: &Rows, free: usize, i: usize, own: usize) -> bool
     requires { (free < row_width * (no_operation + 1)) × (i < most_operations) }
     ensures { (queue : List ℕ) (g : ℕ) → OwnPlace queue g free → OwnPlace queue i own →
-        result ≡ is-early queue rows.now g i }
+        result ≡ is_early queue rows.now g i }
 {
     let freed = base_numbers::u16_to_usize(rows[free]);
     let marked = base_numbers::u16_to_usize(rows[ROW_WIDTH * i + free % ROW_WIDTH]);

@@ -127,17 +127,17 @@ module _ {p : Plan} {n ran : ℕ} {cs : OrderColumns} {rows_now : List ℕ}
       disordered_told b = tells (rw (none_missed, found n u (disordered p) out b))
 
       module _ (turned : n ≤ u) where
-        in-turn : ◌≡◌ {A = Option ℕ} (disordered p) none
-        in-turn = nothing_found n u (disordered p) disordered_small out turned
+        in_turn : ◌≡◌ {A = Option ℕ} (disordered p) none
+        in_turn = nothing_found n u (disordered p) disordered_small out turned
 
         pub broken_told : {i : ℕ} → i < n → i ≡ place_or n (broken p) → Tells (order_refusal p) 0 (told 11 i)
         unfolding order_refusal refused_at
-        broken_told {i} b e = tells (rw (none_missed, in-turn, found n i (broken p) e b))
+        broken_told {i} b e = tells (rw (none_missed, in_turn, found n i (broken p) e b))
 
         pub passed_told : {i : ℕ} → n ≤ i → i ≡ place_or n (broken p) → Tells (order_refusal p) 0 (told 0 0)
         unfolding order_refusal refused_at none_given refusal
         passed_told {i} b e =
-            tells (rw (none_missed, in-turn, nothing_found n i (broken p) broken_small e b))
+            tells (rw (none_missed, in_turn, nothing_found n i (broken p) broken_small e b))
 
 passed_means : (p : Plan) → (order_refusal p).number ≡ 0 →
     (◌≡◌ {A = Option ℕ} (missing p) none) × (order_refusal p ≡ none_given)

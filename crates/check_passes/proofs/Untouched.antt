@@ -19,7 +19,7 @@ use Rattle.plan_order.specs.Check.{list_left, left_in, Says, PlanCheckSays}
 use Rattle.check_signals.specs.Walks.{Judged}
 use Rattle.check_signals.proofs.Told.{refused_alike, passed_with, answer_told}
 use Rattle.check_waits.specs.Waits.{Resolved}
-use Rattle.check_waits.proofs.Rules.{seven_first, then-eight}
+use Rattle.check_waits.proofs.Rules.{seven_first, then_eight}
 use Rattle.check_passes.specs.Given.{Ruled}
 
 -- ---- 7 and 8
@@ -34,16 +34,16 @@ module _ {p : Plan} {r : Told} {last : List ℕ} (judged : Judged p r last) {sou
   }
 
   module _ {w : Told} (z : r.number ≡ 0) (none : w.answer ≡ 0) (resolved : Resolved p w source) where
-    then-told : Tells (rules_refusal p) 0 w
-    then-told =
-        subst (λ (f : Refusal). Tells f 0 w) (sym (then-eight p (sym judged.told.number ∙ z)))
+    then_told : Tells (rules_refusal p) 0 w
+    then_told =
+        subst (λ (f : Refusal). Tells f 0 w) (sym (then_eight p (sym judged.told.number ∙ z)))
         (tells_answerless none resolved.number resolved.place)
 
     pub eight : (w.number ≡ 0 → ⊥) → Ruled p w source
     eight refused = record {
       owned = judged.owned;
       owned_means = judged.owned_means;
-      told = refused_alike then-told refused;
+      told = refused_alike then_told refused;
       sources_shown = resolved.sources_shown;
     }
 
@@ -52,7 +52,7 @@ module _ {p : Plan} {r : Told} {last : List ℕ} (judged : Judged p r last) {sou
     neither passed = record {
       owned = judged.owned;
       owned_means = judged.owned_means;
-      told = passed_with then-told passed (answer_told judged.told z);
+      told = passed_with then_told passed (answer_told judged.told z);
       sources_shown = resolved.sources_shown;
     }
 

@@ -230,8 +230,8 @@ module _ (queue : List ℕ) (n : ℕ) (next unit : List ℕ) (tables : Tables qu
         over = λ l. absurd (omega arith);
       }
 
-  pub bounds-more : Bounds queue n (i + 1) head' ready' rows₀ rows' first list₂
-  bounds-more = record {
+  pub bounds_more : Bounds queue n (i + 1) head' ready' rows₀ rows' first list₂
+  bounds_more = record {
     ahead = λ k l. by_cases (eqb k q) (λ t. subst (λ (x : ℕ). Ahead queue n x (i + 1) list₂ (get_or head' x 0))
         (sym (eqb-true k q t)) ahead_same)
         (λ f. ahead_other k l (eqb-false k q f));

@@ -50,12 +50,12 @@ module _ (n : ℕ) (list list₁ list₂ : List ℕ) (i j ready : ℕ) (inside :
       ∙ get_or-set_same list₁ i (j % 4294967296) 0 (let h : i < length list₁ = omega (arith, first_long) in h)
       ∙ mod-eq_of_lt (let h : j < 4294967296 = omega arith in h)
 
-  then-other : (k : ℕ) → (k ≡ i → ⊥) → get_or list₂ k 0 ≡ get_or list₁ k 0
-  then-other k ne = ap (λ (x : List ℕ). get_or x k 0) then_is ∙ get_or-set_other list₁ i k (j % 4294967296) 0 ne
+  then_other : (k : ℕ) → (k ≡ i → ⊥) → get_or list₂ k 0 ≡ get_or list₁ k 0
+  then_other k ne = ap (λ (x : List ℕ). get_or x k 0) then_is ∙ get_or-set_other list₁ i k (j % 4294967296) 0 ne
 
   pub number_at : n + i < length list → get_or list₂ (n + i) 0 ≡ ready
   number_at l =
-      then-other (n + i) (λ z. absurd (omega arith))
+      then_other (n + i) (λ z. absurd (omega arith))
       ∙ ap (λ (x : List ℕ). get_or x (n + i) 0) first_is
       ∙ ap (λ (x : ℕ). get_or (set list (i + n) (ready % 4294967296)) x 0) (let e : n + i ≡ i + n = omega arith in e)
       ∙ get_or-set_same list (i + n) (ready % 4294967296) 0 (let h : i + n < length list = omega arith in h)
@@ -63,7 +63,7 @@ module _ (n : ℕ) (list list₁ list₂ : List ℕ) (i j ready : ℕ) (inside :
 
   pub step_other : (k : ℕ) → (k ≡ i → ⊥) → (k ≡ n + i → ⊥) → get_or list₂ k 0 ≡ get_or list k 0
   step_other k ne far =
-      then-other k ne
+      then_other k ne
       ∙ ap (λ (x : List ℕ). get_or x k 0) first_is
       ∙ get_or-set_other list (i + n) k (ready % 4294967296) 0 (λ z. far (let e : k ≡ n + i = omega arith in e))
 

@@ -13,7 +13,7 @@ module _ (p : Plan) where
       let f = signals_refusal 0 [] p.operations in
       or_else_first f (waits_refusal 0 p p.operations) (other_given f h)
 
-  pub then-eight : (signals_refusal 0 [] p.operations).number ≡ 0 →
+  pub then_eight : (signals_refusal 0 [] p.operations).number ≡ 0 →
       rules_refusal p ≡ waits_refusal 0 p p.operations
   unfolding rules_refusal
-  then-eight z = or_else_second (signals_refusal 0 [] p.operations) (waits_refusal 0 p p.operations) z
+  then_eight z = or_else_second (signals_refusal 0 [] p.operations) (waits_refusal 0 p p.operations) z

@@ -8,9 +8,10 @@ use native.Mathlib.Omega.{arith}
 use lib.Dec.{leb}
 use lib.ListN.{length, get_or, drop}
 use lib.Seq.{drop-cons}
+use denote.Ref.{Bor}
 use borrow.Author.Tests.{le-leb, lt-leb}
-use Rattle.base_lists.proofs.Tests.{by_cases}
-use Rattle.frontier_rows.specs.Rows.{row_reaches}
+use Rattle.base_lists.proofs.Tests.{by_cases, clash}
+use Rattle.frontier_rows.specs.Rows.{row_reaches, reaching_row, AsItLies}
 
 pub lengths_differ : (xs ys : List ℕ) → (length xs ≡ length ys → ⊥) → false ≡ row_reaches xs ys
 unfolding row_reaches
@@ -37,3 +38,42 @@ module _ (xs ys : List ℕ) (same : length xs ≡ length ys) (i : ℕ) where
     where
       shorter : length xs ≤ i → length ys ≤ i
       shorter h = omega arith
+
+-- THE THREE ANSWERS
+module _ (first second : Bor (List ℕ)) where
+  pub first_reaches : row_reaches first.now second.now ≡ true →
+      AsItLies first second first × (first.now ≡ reaching_row first.now second.now)
+  unfolding reaching_row
+  first_reaches e = (
+    record {
+      is_first = λ t. refl;
+      is_second = λ t u. clash (row_reaches first.now second.now) e t;
+      is_empty = λ t u. clash (row_reaches first.now second.now) e t;
+    },
+    rw e,
+  )
+
+  pub second_reaches : row_reaches first.now second.now ≡ false → row_reaches second.now first.now ≡ true →
+      AsItLies first second second × (second.now ≡ reaching_row first.now second.now)
+  unfolding reaching_row
+  second_reaches e f = (
+    record {
+      is_first = λ t. clash (row_reaches first.now second.now) t e;
+      is_second = λ t u. refl;
+      is_empty = λ t u. clash (row_reaches second.now first.now) f u;
+    },
+    rw (e, f),
+  )
+
+  pub none_reaches : (r : Bor (List ℕ)) → r.ref_ptr ≡ first.ref_ptr → r.now ≡ [] →
+      row_reaches first.now second.now ≡ false → row_reaches second.now first.now ≡ false →
+      AsItLies first second r × (r.now ≡ reaching_row first.now second.now)
+  unfolding reaching_row
+  none_reaches r p n e f = (
+    record {
+      is_first = λ t. clash (row_reaches first.now second.now) t e;
+      is_second = λ t u. clash (row_reaches second.now first.now) u f;
+      is_empty = λ t u. (p, n);
+    },
+    rw (e, f) n,
+  )

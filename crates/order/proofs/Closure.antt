@@ -120,10 +120,10 @@ module _ (d : ℕ → ℕ → Bool) where
         rw (same, rounds_stay k n xs same) (h i b))
 
     module _ (n : ℕ) (below : (i k : ℕ) → d i k ≡ true → i < n) where
-      closed-down : (i k : ℕ) → d i k ≡ true → member k (j ∷ rounds n n d j []) ≡ true →
+      closed_down : (i k : ℕ) → d i k ≡ true → member k (j ∷ rounds n n d j []) ≡ true →
           member i (rounds n n d j []) ≡ true
       unfolding fresh
-      closed-down i k e m =
+      closed_down i k e m =
           let xs = rounds n n d j [] in
           is_true (member i xs)
           (λ f. clash (fresh d j xs i) (and_both (not (member i xs)) (any_of d i (j ∷ xs))
@@ -131,8 +131,8 @@ module _ (d : ℕ → ℕ → Bool) where
           (rounds_end n n [] (sized_nil n) (omega arith) i (below i k e)))
 
       chain_in : (i k : ℕ) → Chain d i k → member k (j ∷ rounds n n d j []) ≡ true → member i (rounds n n d j []) ≡ true
-      chain_in i k (once _ _ e) m = closed-down i k e m
-      chain_in i k (more _ h _ c e) m = chain_in i h c (member_there h j (rounds n n d j []) (closed-down h k e m))
+      chain_in i k (once _ _ e) m = closed_down i k e m
+      chain_in i k (more _ h _ c e) m = chain_in i h c (member_there h j (rounds n n d j []) (closed_down h k e m))
 
       pub chain_worked : (i : ℕ) → Chain d i j → member i (predecessors n d j) ≡ true
       unfolding predecessors

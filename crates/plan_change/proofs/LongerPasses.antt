@@ -43,7 +43,7 @@ marks_last i b (x ∷ xs) o e =
 pub runs_and_keeps : (p : Plan) → Sound p → (r : List ℕ) → is_full p r ≡ true → AllInTurn p → AllForced p →
     (order_refusal p).number ≡ 0
 unfolding none_given
-runs_and_keeps p sound r full in-turn forced = of (order_refusal p) (order_cases p)
+runs_and_keeps p sound r full in_turn forced = of (order_refusal p) (order_cases p)
   where
     of : (f : Refusal) → Ordered p f → f.number ≡ 0
     of f (stuck_there i m) =
@@ -51,7 +51,7 @@ runs_and_keeps p sound r full in-turn forced = of (order_refusal p) (order_cases
         let w = missing_some p known i m in
         clash (member i r) (full_has p r full i w.0) (standard_lacks p known i w.1 r (full_run p r full).0)
     of f (disordered_there i m d) =
-        let z : some i ≡ none = sym d ∙ (ordered_means p).1 in-turn in
+        let z : some i ≡ none = sym d ∙ (ordered_means p).1 in_turn in
         absurd (let y : ◌≡◌ {A = ℕ} 0 1 = cc in omega arith)
     of f (broken_there i m d e) =
         let z : some i ≡ none = sym e ∙ (unbroken_means p).1 forced in
@@ -80,11 +80,11 @@ module _ (p : Plan) (o : Operation) (silent : o.signals ≡ []) (unmarked : o.ma
   -- what was in turn is in turn
   pub last_in_turn : AllInTurn p → AllInTurn grown
   unfolding handovers
-  last_in_turn in-turn =
+  last_in_turn in_turn =
       (ordered_means grown).0 (disordered_by grown (λ a m.
       let here : Memᴰ a (handovers p) =
       subst (λ (xs : List Signal). Memᴰ a (handovers_from [] xs)) (last_signals p o silent) m in
-      still a (disordered_none p ((ordered_means p).1 in-turn) a here)))
+      still a (disordered_none p ((ordered_means p).1 in_turn) a here)))
     where
       still : (a : Ask) → met (λ i j. before p i j) a ≡ true → met (λ i j. before grown i j) a ≡ true
       still a e =

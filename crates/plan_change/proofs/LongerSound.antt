@@ -59,9 +59,9 @@ module _ (p : Plan) (o : Operation) (silent : o.signals ≡ []) where
         ap (λ (f : Refusal). f.number) (signals_same 0 [] p.operations) ∙ good.0 in
         ap (λ (f : Refusal). f.number) (or_else_second _ _ first) ∙ waits_low 0 p.operations good.1
 
-    in-longer : (x : Operation) → InRange p x → InRange grown x
+    in_longer : (x : Operation) → InRange p x → InRange grown x
     unfolding with_last queues
-    in-longer x h =
+    in_longer x h =
         record { queue = h.queue; waits = h.waits; signals = h.signals; marks = h.marks; kinds = h.kinds }
 
     -- what holds of each operation and of the new one
@@ -82,7 +82,7 @@ module _ (p : Plan) (o : Operation) (silent : o.signals ≡ []) where
       few_queues = sound.few_queues;
       few_operations = omega (arith, last_count p o);
       axes_distinct = sound.axes_distinct;
-      in_range = each_operation (InRange grown) (λ i l. in-longer (op p i) (sound.in_range i l)) (in-longer o known);
+      in_range = each_operation (InRange grown) (λ i l. in_longer (op p i) (sound.in_range i l)) (in_longer o known);
       waits_above_zero = λ i k h.
           each_operation AboveZero (λ j l. sound.waits_above_zero j) above i (wait_inside grown i k h) k h;
       rules = rules_none sound;

@@ -48,11 +48,11 @@ module _ (s v : ℕ) where
       by_cases (eqb x.semaphore s) (λ q. rw q (omega (arith, h 0 (omega arith) (eqb-true x.semaphore s q))))
       (λ q. rw q (omega arith))
 
-  pub in-over : (xs : List Point) → highest_in s xs < v → (0 < v) × Over xs
+  pub in_over : (xs : List Point) → highest_in s xs < v → (0 < v) × Over xs
   unfolding highest_in
-  in-over [] h = (h, λ l a. absurd (not-suc-le-zero a))
-  in-over (x ∷ xs) h =
-      let t = in-over xs (omega arith) in (t.0, λ l. at_place l t.1)
+  in_over [] h = (h, λ l a. absurd (not-suc-le-zero a))
+  in_over (x ∷ xs) h =
+      let t = in_over xs (omega arith) in (t.0, λ l. at_place l t.1)
     where
       at_place : (l : ℕ) → Over xs → l < length (x ∷ xs) →
           (get_or (x ∷ xs) l (record { semaphore = 0; value = 0 })).semaphore ≡ s →
@@ -73,7 +73,7 @@ module _ (s v : ℕ) where
       let t = highest_over os (omega arith) in (t.0, λ j. at_operation j t.1)
     where
       at_operation : (j : ℕ) → OverAll os → Over (get_or (o ∷ os) j empty_operation).signals
-      at_operation zero r = (in-over o.signals (omega arith)).1
+      at_operation zero r = (in_over o.signals (omega arith)).1
       at_operation (suc j) r = r j
 
   -- in the first so many

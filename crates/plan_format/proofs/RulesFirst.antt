@@ -17,7 +17,7 @@ use Rattle.plan_format.specs.Sound.{highest_in, highest, signals_number, signals
 use Rattle.plan_format.specs.Sound.{too_high, any_too_high, waits_refusal, WaitsAboveZero}
 use Rattle.plan_format.specs.Meaning.{signal_at, wait_at, IsSignal, Rising, GoodBefore, NotRising}
 use Rattle.plan_format.specs.Meaning.{SignalsGood, TooHigh}
-use Rattle.plan_format.proofs.Heights.{begins, ends, Over, over_in, in-over, over_highest}
+use Rattle.plan_format.proofs.Heights.{begins, ends, Over, over_in, in_over, over_highest}
 use Rattle.plan_format.proofs.Heights.{highest_over, over_taken, taken_over, all_taken, taken_all, highest_more}
 
 abbrev pub no_point : Point
@@ -50,7 +50,7 @@ module _ (p : Plan) where
         let s = (signal_at p i k).semaphore in
         let v = (signal_at p i k).value in
         let a = highest_over s v (take i p.operations) (omega arith) in
-        let b = in-over s v (take k (op p i).signals) (omega arith) in
+        let b = in_over s v (take k (op p i).signals) (omega arith) in
         rises_by a.0 (all_taken s v p.operations i a.1) (over_taken s v (op p i).signals k b.1)
       where
         rises_by : 0 < (signal_at p i k).value →

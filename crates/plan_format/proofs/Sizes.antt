@@ -59,29 +59,29 @@ record Measure (D : Spelt) (wide : ℕ → ℕ) : Type 0 where
   size_field : (w v : ℕ) (ds : List ℕ) → D w v ds → size (v ∷ []) ds ≡ wide w
 
 module _ (D : Spelt) (wide : ℕ → ℕ) (T : Most wide) (M : Measure D wide) where
-  abbrev At-most : (n : ℕ) → Takes
-  At-most n got vs ds = M.size vs ds ≤ n
+  abbrev AtMost : (n : ℕ) → Takes
+  AtMost n got vs ds = M.size vs ds ≤ n
 
-  most_none : (n : ℕ) → Nothing ⊆ At-most n
+  most_none : (n : ℕ) → Nothing ⊆ AtMost n
   most_none n got vs ds p = rw (p.numbers_are, p.bytes_are, M.size_none) zero-le
 
-  most_then : (a b n : ℕ) → a + b ≤ n → Then (At-most a) (At-most b) ⊆ At-most n
+  most_then : (a b n : ℕ) → a + b ≤ n → Then (AtMost a) (AtMost b) ⊆ AtMost n
   most_then a b n l got vs ds p = rw (p.numbers_are, p.bytes_are, M.size_append p.vs₁ p.vs₂ p.ds₁ p.ds₂)
       (omega (arith, p.first, p.second))
 
-  most_field : (w : ℕ) (c : Check) (v : ℕ) → Holds D w c v ⊆ At-most (wide w)
+  most_field : (w : ℕ) (c : Check) (v : ℕ) → Holds D w c v ⊆ AtMost (wide w)
   most_field w c v got vs ds h = rw (h.numbers_are, M.size_field w v ds h.spelt) (le_refl (wide w))
 
   most_counted : (l m w : ℕ) (g : Grammar) (k : ℕ) →
-      Then (Holds D w (λ _ v. count_check l m v) k) (At-most (k * T.most g)) ⊆ At-most (T.most (counted l m w g))
+      Then (Holds D w (λ _ v. count_check l m v) k) (AtMost (k * T.most g)) ⊆ AtMost (T.most (counted l m w g))
   most_counted l m w g k got vs ds p =
       let c : Check = λ _ v. count_check l m v in
       most_then (wide w) (k * T.most g) (T.most (counted l m w g))
       (omega (arith, T.counted_is l m w g, mul-le-mul_right (T.most g) (count_limits l m k p.first.passes).1))
-      got vs ds (then_first (Holds D w c k) (At-most (wide w)) (At-most (k * T.most g)) (most_field w c k) got vs ds p)
+      got vs ds (then_first (Holds D w c k) (AtMost (wide w)) (AtMost (k * T.most g)) (most_field w c k) got vs ds p)
 
-  parsed_size : (g : Grammar) → Parses D g ⊆ At-most (T.most g)
-  parsed_size = parsed_give D (λ g. At-most (T.most g)) (λ g k. At-most (k * T.most g)) (record {
+  parsed_size : (g : Grammar) → Parses D g ⊆ AtMost (T.most g)
+  parsed_size = parsed_give D (λ g. AtMost (T.most g)) (λ g k. AtMost (k * T.most g)) (record {
     of_field = λ w c v. rw (T.field_is w c) (most_field w c v);
     of_seq = λ g h. most_then (T.most g) (T.most h) (T.most (seq g h)) (omega (arith, T.seq_is g h));
     of_counted = most_counted;

@@ -37,20 +37,20 @@ module _ (bs : List ℕ) (t l : ℕ) (f : Refusal) where
   unfolding or_then
   plan_first h = rw (other_given checked.refusal h)
 
-  pub then-asked : checked.refusal.number ≡ 0 → asking ≡ outcome f rows_and_run
+  pub then_asked : checked.refusal.number ≡ 0 → asking ≡ outcome f rows_and_run
   unfolding or_then
-  then-asked z = rw (zero_not_given checked.refusal z)
+  then_asked z = rw (zero_not_given checked.refusal z)
 
   pub gives_asked : (n i : ℕ) → checked.refusal.number ≡ 0 → Refuses f n i → Gives asking n i rows_and_run
   unfolding outcome
-  gives_asked n i z r = rw (then-asked z) (r, refl)
+  gives_asked n i z r = rw (then_asked z) (r, refl)
 
   pub asked_leaves : asking.leaves ≡ checked.leaves
   unfolding outcome
   asked_leaves =
       by_cases (eqb checked.refusal.number 0)
       (λ a. let z = eqb-true checked.refusal.number 0 a in
-      ap (λ (o : Outcome). o.leaves) (then-asked z) ∙ sym (passed_leaves bs t l z))
+      ap (λ (o : Outcome). o.leaves) (then_asked z) ∙ sym (passed_leaves bs t l z))
       (λ a. ap (λ (o : Outcome). o.leaves) (plan_first (eqb-false checked.refusal.number 0 a)))
 
   -- rows and run are left exactly where the plan passes
@@ -67,7 +67,7 @@ module _ (bs : List ℕ) (t l : ℕ) (f : Refusal) where
   asked_own n lacks is =
       let m = checked.refusal.number in
       by_cases (eqb m 0)
-      (λ a. let z = eqb-true m 0 a in (z, sym (ap (λ (o : Outcome). o.refusal.number) (then-asked z)) ∙ is))
+      (λ a. let z = eqb-true m 0 a in (z, sym (ap (λ (o : Outcome). o.refusal.number) (then_asked z)) ∙ is))
       (λ a. let bad = eqb-false m 0 a in
       absurd (not_one check_gives m n lacks (given_one check_gives m (check_number bs t l) bad)
       (sym (ap (λ (o : Outcome). o.refusal.number) (plan_first bad)) ∙ is)))
@@ -83,7 +83,7 @@ module _ (bs : List ℕ) (t l : ℕ) (f : Refusal) where
     unfolding outcome
     asked_case =
         by_cases (eqb checked.refusal.number 0)
-        (λ a. subst (LeftCase own) (sym (then-asked (eqb-true checked.refusal.number 0 a)))
+        (λ a. subst (LeftCase own) (sym (then_asked (eqb-true checked.refusal.number 0 a)))
         (left_rows from_own refl))
         (λ a. let bad = eqb-false checked.refusal.number 0 a in
         plan_left (check_left_case bs t l) (plan_first bad) bad)

@@ -114,7 +114,7 @@ module _ (p : Plan) (sound : Sound p) where
         unraised = w.unraised;
         semaphore = w.semaphore;
         value = w.high;
-        signals = subst (λ (z : ℕ). Signals p z w.semaphore w.high) u.own w.then-signals;
+        signals = subst (λ (z : ℕ). Signals p z w.semaphore w.high) u.own w.then_signals;
         other = a.first;
         lower_value = w.low;
         other_signals = w.first_signals;

@@ -80,32 +80,32 @@ module _ (p : Plan) where
       (λ q. absurd (eqb-false x.semaphore z.semaphore f (sym (ap (λ (y : Signal). y.semaphore) q))))
       (λ u. let g = led z u in (g.0, (rw f g.1), g.2)))
 
-  linked-all : (bs xs : List Signal) → Led bs → Linked bs xs → (z y : Signal) → Memᴰ z bs → Memᴰ y xs →
+  linked_all : (bs xs : List Signal) → Led bs → Linked bs xs → (z y : Signal) → Memᴰ z bs → Memᴰ y xs →
       z.semaphore ≡ y.semaphore → At p z.operation y.operation
-  linked-all bs [] led h z y m n e = absurd (mathlib.Core.List.Memᴰ.not-nil n)
-  linked-all bs (x ∷ xs) led h z y m n e =
+  linked_all bs [] led h z y m n e = absurd (mathlib.Core.List.Memᴰ.not-nil n)
+  linked_all bs (x ∷ xs) led h z y m n e =
       let link = link_head bs x xs h in
       either (mathlib.Core.List.Memᴰ.cases_cons n)
       (λ q. let g = led z m in
       at_join p z.operation g.0 y.operation g.2
       (subst (λ (k : Signal). At p g.0 k.operation) (sym q) (link g.0
       (subst (λ (s : ℕ). last_signaller s bs ≡ some g.0) (e ∙ ap (λ (k : Signal). k.semaphore) q) g.1))))
-      (λ t. linked-all (x ∷ bs) xs (led_cons bs x led link) (link_tail bs x xs h) z y
+      (λ t. linked_all (x ∷ bs) xs (led_cons bs x led link) (link_tail bs x xs h) z y
       (mathlib.Core.List.Memᴰ.tail m) t e)
 
-  linked-pair : (bs xs : List Signal) → Led bs → Linked bs xs → Pairwise Sooner no_signal xs → (z y : Signal) →
+  linked_pair : (bs xs : List Signal) → Led bs → Linked bs xs → Pairwise Sooner no_signal xs → (z y : Signal) →
       Memᴰ z xs → Memᴰ y xs → z.semaphore ≡ y.semaphore →
       At p z.operation y.operation ⊎ (y.operation ≤ z.operation)
-  linked-pair bs [] led h w z y m n e = absurd (mathlib.Core.List.Memᴰ.not-nil m)
-  linked-pair bs (x ∷ xs) led h w z y m n e =
+  linked_pair bs [] led h w z y m n e = absurd (mathlib.Core.List.Memᴰ.not-nil m)
+  linked_pair bs (x ∷ xs) led h w z y m n e =
       let led' = led_cons bs x led (link_head bs x xs h) in
       either (mathlib.Core.List.Memᴰ.cases_cons n)
       (λ q. inr (subst (λ (k : Signal). k.operation ≤ z.operation) (sym q)
       (either (mathlib.Core.List.Memᴰ.cases_cons m) (λ u. omega (arith, ap (λ (k : Signal). k.operation) u))
       (λ u. sooner_low x z (pairwise_head Sooner no_signal x xs w z u)))))
       (λ t. either (mathlib.Core.List.Memᴰ.cases_cons m)
-      (λ q. inl (linked-all (x ∷ bs) xs led' (link_tail bs x xs h) z y (mathlib.Core.List.Memᴰ.head q) t e))
-      (λ u. linked-pair (x ∷ bs) xs led' (link_tail bs x xs h) (pairwise_tail Sooner no_signal x xs w) z y u t e))
+      (λ q. inl (linked_all (x ∷ bs) xs led' (link_tail bs x xs h) z y (mathlib.Core.List.Memᴰ.head q) t e))
+      (λ u. linked_pair (x ∷ bs) xs led' (link_tail bs x xs h) (pairwise_tail Sooner no_signal x xs w) z y u t e))
 
   -- so operations that signal one semaphore run in plan order
   module _ (asked : (a : Ask) → Memᴰ a (handovers p) → At p a.first a.then) where
@@ -115,7 +115,7 @@ module _ (p : Plan) where
         let inside : k < length p.operations = run_below (count p) (enabled p) r h k m in
         let x = from_has 0 s v p.operations i b e in
         let y = from_has 0 s w p.operations k inside g in
-        either (linked-pair [] (signals_from 0 p.operations) (λ z t. absurd (mathlib.Core.List.Memᴰ.not-nil t)) asked
+        either (linked_pair [] (signals_from 0 p.operations) (λ z t. absurd (mathlib.Core.List.Memᴰ.not-nil t)) asked
         (plan_rising p) x.0 y.0 x.1 y.1 (x.3 ∙ sym y.3))
         (λ t. of_at x.0.operation y.0.operation (omega (arith, x.2)) (omega (arith, y.2)) t)
         (λ z. absurd (omega (arith, x.2, y.2)))
@@ -174,10 +174,10 @@ module _ (p : Plan) where
     pub low : ℕ
     pub high : ℕ
     pub inside : a.then < count p
-    pub in-plan-order : a.first ≤ a.then
+    pub in_plan_order : a.first ≤ a.then
     pub same : a.same_allowed ≡ true
     pub first_signals : Signals p a.first semaphore low
-    pub then-signals : Signals p a.then semaphore high
+    pub then_signals : Signals p a.then semaphore high
 
   pub hands : (a : Ask) → Memᴰ a (handovers p) → Hands a
   hands a m =
@@ -193,10 +193,10 @@ module _ (p : Plan) where
             low = y.value;
             high = x.value;
             inside = t.0;
-            in-plan-order = sooner_low y x b.sooner;
+            in_plan_order = sooner_low y x b.sooner;
             same = refl;
             first_signals = subst (λ (s : ℕ). Signals p y.operation s y.value) b.one_semaphore f.1;
-            then-signals = t.1;
+            then_signals = t.1;
           }
 
   -- ---- what before does not force some full run has the other way, and that run does not raise in order
@@ -207,7 +207,7 @@ module _ (p : Plan) where
       by_cases (eqb a.first a.then)
       (λ t. absurd (true≢false (let z : true ≡ false = rw (h.same, t) at e in z)))
       (λ f. (
-        omega (arith, h.in-plan-order, eqb-false a.first a.then f),
+        omega (arith, h.in_plan_order, eqb-false a.first a.then f),
         (not_met (λ i j. before p i j) (λ i j. before p i j) a e).0,
       ))
 
@@ -219,7 +219,7 @@ module _ (p : Plan) where
     pub low : ℕ
     pub high : ℕ
     pub first_signals : Signals p a.first semaphore low
-    pub then-signals : Signals p a.then semaphore high
+    pub then_signals : Signals p a.then semaphore high
     pub falls : low < high
     pub too_soon : ahead run a.then a.first ≡ true
     pub unmet : met (λ i j. ahead run i j) a ≡ false
@@ -238,17 +238,17 @@ module _ (p : Plan) where
       of_run h l g is soon =
           let up = rises p signals_good a.first a.then h.semaphore h.low h.high l h.inside
           ((signals_means p a.first h.semaphore h.low).1 h.first_signals)
-          ((signals_means p a.then h.semaphore h.high).1 h.then-signals) in
+          ((signals_means p a.then h.semaphore h.high).1 h.then_signals) in
           record {
             run = g;
             full = is;
             unraised = falls_unraised g is a.first a.then h.semaphore h.low h.high
-                (omega (arith, h.inside)) h.inside h.first_signals h.then-signals up soon;
+                (omega (arith, h.inside)) h.inside h.first_signals h.then_signals up soon;
             semaphore = h.semaphore;
             low = h.low;
             high = h.high;
             first_signals = h.first_signals;
-            then-signals = h.then-signals;
+            then_signals = h.then_signals;
             falls = up;
             too_soon = unfold ahead in (lt-ltb (step_of 0 g a.then) (step_of 0 g a.first) soon);
             unmet = (not_met (λ i j. before p i j) (λ i j. ahead g i j) a e).1

@@ -292,9 +292,9 @@ module _ (p : Plan) (b : ℕ) where
         let l : g.0 < length ms = omega (arith, g.1, its_long) in
         subst (λ (z : Located). Memᴰ z all_located) (sym (its_at g.0 l) ∙ g.2) (its_marks g.0 l)
 
-    in-its : (x : Located) → Memᴰ x all_located → Memᴰ x its_located
+    in_its : (x : Located) → Memᴰ x all_located → Memᴰ x its_located
     unfolding op its located
-    in-its x t =
+    in_its x t =
         let g = from_only 0 b p.operations x t in
         let m = g.2 in
         let e = w.every g.0 x.place m.inside m.on_buffer in
@@ -312,7 +312,7 @@ module _ (p : Plan) (b : ℕ) where
     only_marks =
         marks_located
         ∙ ap (λ (z : List Located). map forget z) (pairwise_same Earlier nowhere strict all_located its_located
-        (from_rising 0 b p.operations) its_rising in-its its_in) ∙ its_forget
+        (from_rising 0 b p.operations) its_rising in_its its_in) ∙ its_forget
       where
         strict : (x y : Located) → Earlier x y → Earlier y x → ⊥
         strict x y (inl a) (inl c) = omega arith

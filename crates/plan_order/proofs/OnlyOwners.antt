@@ -125,8 +125,8 @@ module _ (p : Plan) (owners : OnlyOwners p) where
       ∙ ap (λ (s : ℕ). get_or p.owners s 0) w.one_semaphore ∙ (owners i k is).1)))))
       (λ same. inl same.0)
 
-  pub in-turn : ◌≡◌ {A = Option ℕ} (disordered p) none
-  in-turn = (ordered_means p).1 all_in_turn
+  pub in_turn : ◌≡◌ {A = Option ℕ} (disordered p) none
+  in_turn = (ordered_means p).1 all_in_turn
 
   module _ (rising : (signals_refusal 0 [] p.operations).number ≡ 0) where
     pub raises_same : (r : List ℕ) → is_run p r ≡ true → raises_in_order p r ≡ true
@@ -266,7 +266,7 @@ module _ (p : Plan) (owners : OnlyOwners p) where
 
       pub order_same : order_refusal p ≡ order_by_value p
       unfolding order_refusal order_by_value refused_at
-      order_same = rw (in-turn, missing_same) refl
+      order_same = rw (in_turn, missing_same) refl
 
 -- every signal rises, and so 7 is not given
 rising_by : (p : Plan) → SignalsGood p → (signals_refusal 0 [] p.operations).number ≡ 0

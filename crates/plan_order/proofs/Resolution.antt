@@ -245,14 +245,14 @@ module _ (p : Plan) (w : Point) where
       let sem = eqb-true x.semaphore w.semaphore
       (and_left (eqb x.semaphore w.semaphore) (leb w.value x.value) r) in
       let at_it : x.operation - 0 ≡ x.operation = omega arith in
-      let in-it : x.position - 0 ≡ x.position = omega arith in
+      let in_it : x.position - 0 ≡ x.position = omega arith in
       let whole : SignalAt x.operation 0 (op p x.operation).signals x =
       subst (λ (k : ℕ). SignalAt x.operation 0 (get_or p.operations k empty_operation).signals x) at_it st in
       let sem_at : (get_or (op p x.operation).signals x.position no_point).semaphore ≡ w.semaphore =
-      ap (λ (k : ℕ). (get_or (op p x.operation).signals k no_point).semaphore) (sym in-it)
+      ap (λ (k : ℕ). (get_or (op p x.operation).signals k no_point).semaphore) (sym in_it)
       ∙ whole.semaphore_there ∙ sem in
       let val_at : (get_or (op p x.operation).signals x.position no_point).value ≡ x.value =
-      ap (λ (k : ℕ). (get_or (op p x.operation).signals k no_point).value) (sym in-it) ∙ whole.value_there_is in
+      ap (λ (k : ℕ). (get_or (op p x.operation).signals k no_point).value) (sym in_it) ∙ whole.value_there_is in
       let inside_it : x.position < length (op p x.operation).signals = omega (arith, whole.high) in
       record {
         inside = omega (arith, s.high);

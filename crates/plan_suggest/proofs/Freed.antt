@@ -106,13 +106,13 @@ module _ (p : Plan) (sound : Sound p) (q : ℕ) (known : q < queues p) (i k : �
       let last = w.1 in
       (w.0, (last.0, same_marks p q b wait ∙ last.1), w.2, λ j marked. (count p, last_there, inr (frees j marked)))
 
-  module _ (r : List ℕ) (full : is_full p r ≡ true) (in-turn : AllInTurn p) (forced : AllForced p)
+  module _ (r : List ℕ) (full : is_full p r ≡ true) (in_turn : AllInTurn p) (forced : AllForced p)
       (few : count p < most_operations) where
     there_passes : (order_refusal there).number ≡ 0
     unfolding with_last
     there_passes =
         runs_and_keeps there (there_sound few) (r ++ (count p ∷ [])) (there_full r full)
-        (last_in_turn p new (waiting_silent q wait) (waiting_unmarked q wait) in-turn)
+        (last_in_turn p new (waiting_silent q wait) (waiting_unmarked q wait) in_turn)
         (last_forced p new (waiting_silent q wait) (waiting_unmarked q wait) forced)
 
     there_freed : (b : ℕ) → When p q b NotOrdered → WaitFrees p q b wait → Freed there q b
@@ -132,7 +132,7 @@ pub freed : (p : Plan) → Sound p → (r : List ℕ) → is_full p r ≡ true �
     count p < most_operations →
     (q b s v : ℕ) → q < queues p → When p q b NotOrdered → FirstFreeing p q b s v →
     Freed (longer p q (record { semaphore = s; value = v })) q b
-freed p sound r full in-turn forced few q b s v known w first =
+freed p sound r full in_turn forced few q b s v known w first =
     subst (λ (z : Point). Freed (longer p q z) q b) first.point
-    (there_freed p sound q known first.operation first.place first.signal r full in-turn forced few b w
+    (there_freed p sound q known first.operation first.place first.signal r full in_turn forced few b w
     first.frees)

@@ -123,15 +123,15 @@ module _ (p : Plan) (sound : Sound p) (q b : ℕ)
   abbrev there_after : Plan
   there_after = longer p q point
 
-  in-longer : (j : ℕ) → Before there_after j (count p) ↔ BeforeLast p (waiting q point) (waiting_silent q point) j
-  in-longer j = new_before p (waiting q point) (waiting_silent q point) j
+  in_longer : (j : ℕ) → Before there_after j (count p) ↔ BeforeLast p (waiting q point) (waiting_silent q point) j
+  in_longer j = new_before p (waiting q point) (waiting_silent q point) j
 
   free_first : WaitFrees p q b point → At p m.by i
   unfolding waiting
   free_first h =
       let marked = mark_marked there_after b m
       (subst (λ (ms : List Placed). Memᴰ m ms) (sym (same_marks p q b point)) (last_in p q b m last)) in
-      let w = (in-longer m.by).0 (h m.by marked) in
+      let w = (in_longer m.by).0 (h m.by marked) in
       of w.0 w.1 w.2 w.3
     where
       of : (n : ℕ) → n < count p → Because p (waiting q point) (waiting_silent q point) n → At p m.by n →
@@ -153,7 +153,7 @@ module _ (p : Plan) (sound : Sound p) (q b : ℕ)
       let here : Marked p b j = subst (λ (z : ℕ). Marked p b z) x.2
       (mark_marked p b x.0 (subst (λ (ms : List Placed). Memᴰ x.0 ms) (same_marks p q b point) x.1)) in
       let before_free = marked_by_free p b forced m last free j here in
-      (in-longer j).1 (
+      (in_longer j).1 (
         i,
         signal_inside p i k signal,
         waited_for point (Memᴰ.head refl) (rests_there p sound i k signal),

@@ -40,15 +40,15 @@ module _ (p : Plan) (q b : ℕ) where
   unfolding suggest_refusal question_refusal or_refusal refusal given none_given
   thirteen_is h g = rw (lt-leb (queues p) q h, le-leb (length p.sizes) b g) (refl, refl)
 
-  pub then-signals : q < queues p → b < length p.sizes → suggest_refusal p q b ≡ of_signals
+  pub then_signals : q < queues p → b < length p.sizes → suggest_refusal p q b ≡ of_signals
   unfolding suggest_refusal question_refusal or_refusal given none_given
-  then-signals h g = rw (lt-leb (queues p) q h, lt-leb (length p.sizes) b g)
+  then_signals h g = rw (lt-leb (queues p) q h, lt-leb (length p.sizes) b g)
 
   module _ (h : q < queues p) (g : b < length p.sizes) where
     nineteen_is : When p q b NotOrdered → NoneFrees p q b → Refuses (suggest_refusal p q b) 19 b
     unfolding refusal
     nineteen_is w n =
-        subst (λ (f : Refusal). Refuses f 19 b) (sym (then-signals h g)) (of of_signals (signal_case p q b))
+        subst (λ (f : Refusal). Refuses f 19 b) (sym (then_signals h g)) (of of_signals (signal_case p q b))
       where
         of : (f : Refusal) → SignalCase p q b f → Refuses f 19 b
         of f (none_case w n e) = subst (λ (f : Refusal). Refuses f 19 b) (sym e) (refl, refl)
@@ -56,7 +56,7 @@ module _ (p : Plan) (q b : ℕ) where
 
     none_is : (When p q b NotOrdered → NoneFrees p q b → ⊥) → Refuses (suggest_refusal p q b) 0 0
     unfolding none_given
-    none_is never = subst (λ (f : Refusal). Refuses f 0 0) (sym (then-signals h g)) (of of_signals (signal_case p q b))
+    none_is never = subst (λ (f : Refusal). Refuses f 0 0) (sym (then_signals h g)) (of of_signals (signal_case p q b))
       where
         of : (f : Refusal) → SignalCase p q b f → Refuses f 0 0
         of f (none_case w n e) = absurd (never w n)
@@ -76,7 +76,7 @@ module _ (p : Plan) (q b : ℕ) where
       by_cases (leb (length p.sizes) b)
       (λ v. let g = leb-true (length p.sizes) b v in buffer_case (thirteen_is h g).0 h g)
       (λ v. let g = leb-false (length p.sizes) b v in
-      of h g (suggest_refusal p q b) (subst (SignalCase p q b) (sym (then-signals h g)) (signal_case p q b))))
+      of h g (suggest_refusal p q b) (subst (SignalCase p q b) (sym (then_signals h g)) (signal_case p q b))))
     where
       of : q < queues p → b < length p.sizes → (f : Refusal) → SignalCase p q b f → OwnCase f.number
       of h g f (none_case w n e) = signals_case (ap (λ (z : Refusal). z.number) e) h g w n
@@ -173,5 +173,5 @@ module _ (bs : List ℕ) (q b t l : ℕ) where
         passes = w.0;
         queue = v.0;
         buffer = v.1;
-        signals = ap (λ (f : Refusal). f.number) (sym (then-signals plan q b v.0 v.1)) ∙ w.1;
+        signals = ap (λ (f : Refusal). f.number) (sym (then_signals plan q b v.0 v.1)) ∙ w.1;
       }

@@ -138,9 +138,9 @@ module _ (bs ts : List ℕ) (t l s : ℕ) where
   unfolding trace_outcome
   plan_first h = asking.plan_first bs t l own h
 
-  pub then-asked : checked.refusal.number ≡ 0 → here ≡ outcome own rows_and_run
+  pub then_asked : checked.refusal.number ≡ 0 → here ≡ outcome own rows_and_run
   unfolding trace_outcome
-  then-asked z = asking.then-asked bs t l own z
+  then_asked z = asking.then_asked bs t l own z
 
   pub gives_asked : (n i : ℕ) → checked.refusal.number ≡ 0 → Refuses own n i → Gives here n i rows_and_run
   unfolding trace_outcome
@@ -158,7 +158,7 @@ module _ (bs ts : List ℕ) (t l s : ℕ) where
   unfolding outcome
   nine_if i g =
       let z = passed_if.0 g.1 in
-      let same = then-asked z in
+      let same = then_asked z in
       let w = short_if ts s own (own_case ts s) i (
         sym (ap (λ (o : Outcome). o.refusal.number) same) ∙ g.0.0,
         sym (ap (λ (o : Outcome). o.refusal.place) same) ∙ g.0.1,
@@ -180,7 +180,7 @@ module _ (bs ts : List ℕ) (t l s : ℕ) where
   own_if : here.leaves ≡ rows_and_run → NoneOr trace_numbers here.refusal.number
   unfolding outcome
   own_if e =
-      one_is (0 ∷ trace_numbers) (ap (λ (o : Outcome). o.refusal.number) (then-asked (passed_if.0 e)))
+      one_is (0 ∷ trace_numbers) (ap (λ (o : Outcome). o.refusal.number) (then_asked (passed_if.0 e)))
       (own_number ts s own (own_case ts s))
 
   pub outcome_means : OutcomeMeans bs ts t l s (trace_outcome bs ts t l s)

@@ -44,16 +44,16 @@ tried_first {xs} {r = r} {bytes} n z =
 -- the first form refuses it, so that the second decides
 module _ {xs bytes₀ bytes₁ : List ℕ} {r₁ r : Told} {bytes : List ℕ} (first : BytesWritten false xs bytes₀ r₁ bytes₁)
     (refused : r₁.number ≡ 0 → ⊥) (n : BytesWritten true xs bytes₁ r bytes) where
-  in-second : (listed xs).fault.number ≡ 0 → spelled xs ≡ tried_bytes true xs
+  in_second : (listed xs).fault.number ≡ 0 → spelled xs ≡ tried_bytes true xs
   unfolding tried list_by form_by
-  in-second e = written_second xs e (λ z. refused (first.told.number ∙ z))
+  in_second e = written_second xs e (λ z. refused (first.told.number ∙ z))
 
   long_second : cond (given (listed xs).fault) 0 (length (tried_bytes true xs)) ≡
       cond (given (listed xs).fault) 0 (length (spelled xs))
   long_second =
       by_cases (given (listed xs).fault) (λ g. rw g refl)
       (λ g. ap (λ (l : List ℕ). cond (given (listed xs).fault) 0 (length l))
-      (sym (in-second (not_given_zero (listed xs).fault g))))
+      (sym (in_second (not_given_zero (listed xs).fault g))))
 
   pub tried_second : Tried xs r bytes
   unfolding tried list_by listed
@@ -61,7 +61,7 @@ module _ {xs bytes₀ bytes₁ : List ℕ} {r₁ r : Told} {bytes : List ℕ} (f
       let t : Tells (listed xs).fault (length (tried_bytes true xs)) r = n.told in
       record {
         told = record { number = t.number; place = t.place; answer_is = t.answer_is ∙ long_second };
-        front = λ z. rw (in-second (sym t.number ∙ z)) (form_front n z);
+        front = λ z. rw (in_second (sym t.number ∙ z)) (form_front n z);
         few = n.few;
         long = n.long;
       }

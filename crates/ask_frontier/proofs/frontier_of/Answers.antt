@@ -1,6 +1,6 @@
 -- `frontier_of` meets its contract: the check's refusal, or what `answer` says of a plan that passes. Assumes nothing.
 use Rattle.check_plan.proofs.Passed.{few_queues, rows_long}
-use Rattle.ask_frontier.proofs.SentCalls.{plan_refused, then-answered, sent_given}
+use Rattle.ask_frontier.proofs.SentCalls.{plan_refused, then_answered, sent_given}
 use Rattle.ask_frontier.proofs.frontier_of.Goals as goal
 
 pub returns-then-o-ne0 : goal.returns-then-o-ne0
@@ -16,5 +16,5 @@ answer-requires c = (
 
 pub returns : goal.returns
 returns c =
-    then-answered c.check_opened-o.result.counted _ _ c.check_opened-o.ensures.checked _ c.if-o-ne0.false
+    then_answered c.check_opened-o.result.counted _ _ c.check_opened-o.ensures.checked _ c.if-o-ne0.false
     (c.answer.ensures _ (sent_given (c.check_opened-o.ensures.opened c.if-o-ne0.false)))

@@ -2,7 +2,7 @@
 use native.Mathlib.Omega.{arith}
 use Rattle.check_run.proofs.Words.{has_le}
 use Rattle.check_run.proofs.Looks.{unit_shifted, shifted_small, mask_small}
-use Rattle.check_run.proofs.Bounds.{bounds-more}
+use Rattle.check_run.proofs.Bounds.{bounds_more}
 use Rattle.check_run.proofs.Turns.{turned}
 use Rattle.check_run.proofs.steps.turn.Goals as goal
 
@@ -25,7 +25,7 @@ returns c =
     record {
       small = c.wake.ensures.0;
       bounds = λ queue first_rows first tables bounds.
-          bounds-more queue c.args.n _ _ tables c.requires.3 _ _ _ first_rows _ first _ bounds
+          bounds_more queue c.args.n _ _ tables c.requires.3 _ _ _ first_rows _ first _ bounds
           c.requires.1 c.requires.2
           _ _ c.lowest-q.ensures.0 c.lowest-q.ensures.1 c.slot-j.ensures _ _ c.put32.ensures
           c.put32-2.ensures
