@@ -28,24 +28,27 @@ enum Pair {
     Wrong,
 }
 
-pub fn read_words(rt: &(impl Env + Eprint)) -> Asked {
+pub fn read_words(rt: &HostRuntime) -> Asked {
     let mut word = [0; 4096];
     match rt.arg(1, &mut word) {
         Ok(n) => command(rt, &word[..n]),
         Err(FillError::NotPresent) => Asked::Plan(Question::Check),
         Err(FillError::TooLong) => {
-            usage::say(rt, "the command is too long; right: see cundvrest help");
+            usage::say(
+                rt,
+                b"cundvrest: the command is too long; right: see cundvrest help\n",
+            );
             Asked::Nothing
         }
     }
 }
 
 // Whether there is an argument at i.
-fn is_given(rt: &impl Env, i: usize) -> bool {
+fn is_given(rt: &HostRuntime, i: usize) -> bool {
     !matches!(rt.arg(i, &mut [0; 1]), Err(FillError::NotPresent))
 }
 
-fn command(rt: &(impl Env + Eprint), word: &[u8]) -> Asked {
+fn command(rt: &HostRuntime, word: &[u8]) -> Asked {
     if word == b"reuse".as_slice() {
         return reuse(rt);
     }
@@ -62,7 +65,7 @@ fn command(rt: &(impl Env + Eprint), word: &[u8]) -> Asked {
 }
 
 // A command that takes no number.
-fn plain(rt: &(impl Env + Eprint), word: &[u8]) -> Asked {
+fn plain(rt: &HostRuntime, word: &[u8]) -> Asked {
     if word == b"read".as_slice() {
         return alone(rt, Asked::Plan(Question::Read), word);
     }
@@ -74,34 +77,39 @@ fn plain(rt: &(impl Env + Eprint), word: &[u8]) -> Asked {
     }
     usage::complain(
         rt,
-        "no command ",
+        b"no command ",
         word,
-        "; right: none, reuse or suggest QUEUE BUFFER, frontier OPERATION CAPACITY, trace FILE, read, write or help",
+        b"; right: none, reuse or suggest QUEUE BUFFER, frontier OPERATION CAPACITY, trace FILE, read, write or help",
     );
     Asked::Nothing
 }
 
 // A command that takes no further word.
-fn alone(rt: &(impl Env + Eprint), asked: Asked, word: &[u8]) -> Asked {
+fn alone(rt: &HostRuntime, asked: Asked, word: &[u8]) -> Asked {
     if is_given(rt, 2) {
-        usage::complain(rt, "too many words; right: ", word, " alone");
+        usage::complain(rt, b"too many words; right: ", word, b" alone");
         return Asked::Nothing;
     }
     asked
 }
 
 // The two numbers of a command, each under its name.
-fn two(rt: &(impl Env + Eprint), right: &[u8], first: &str, second: &str) -> Pair {
+fn two(rt: &HostRuntime, right: &[u8], first: &[u8], second: &[u8]) -> Pair {
     if !is_given(rt, 3) {
-        usage::complain(rt, "too few words; right: ", right, ", two decimal numbers");
+        usage::complain(
+            rt,
+            b"too few words; right: ",
+            right,
+            b", two decimal numbers",
+        );
         return Pair::Wrong;
     }
     if is_given(rt, 4) {
         usage::complain(
             rt,
-            "too many words; right: ",
+            b"too many words; right: ",
             right,
-            ", two decimal numbers",
+            b", two decimal numbers",
         );
         return Pair::Wrong;
     }
@@ -115,48 +123,49 @@ fn two(rt: &(impl Env + Eprint), right: &[u8], first: &str, second: &str) -> Pai
 }
 
 // The file's name is read where the file is opened.
-fn trace(rt: &(impl Env + Eprint)) -> Asked {
+fn trace(rt: &HostRuntime) -> Asked {
     if !is_given(rt, 2) {
         usage::complain(
             rt,
-            "too few words; right: ",
+            b"too few words; right: ",
             b"trace FILE",
-            ", the file of a recorded trace",
+            b", the file of a recorded trace",
         );
         return Asked::Nothing;
     }
     if is_given(rt, 3) {
         usage::complain(
             rt,
-            "too many words; right: ",
+            b"too many words; right: ",
             b"trace FILE",
-            ", the file of a recorded trace",
+            b", the file of a recorded trace",
         );
         return Asked::Nothing;
     }
     Asked::Trace
 }
 
-fn reuse(rt: &(impl Env + Eprint)) -> Asked {
-    let Pair::Numbers(queue, buffer) = two(rt, b"reuse QUEUE BUFFER", "QUEUE ", "BUFFER ") else {
+fn reuse(rt: &HostRuntime) -> Asked {
+    let Pair::Numbers(queue, buffer) = two(rt, b"reuse QUEUE BUFFER", b"QUEUE ", b"BUFFER ") else {
         return Asked::Nothing;
     };
     Asked::Plan(Question::Reuse(queue, buffer))
 }
 
-fn suggest(rt: &(impl Env + Eprint)) -> Asked {
-    let Pair::Numbers(queue, buffer) = two(rt, b"suggest QUEUE BUFFER", "QUEUE ", "BUFFER ") else {
+fn suggest(rt: &HostRuntime) -> Asked {
+    let Pair::Numbers(queue, buffer) = two(rt, b"suggest QUEUE BUFFER", b"QUEUE ", b"BUFFER ")
+    else {
         return Asked::Nothing;
     };
     Asked::Plan(Question::Suggest(queue, buffer))
 }
 
-fn frontier(rt: &(impl Env + Eprint)) -> Asked {
+fn frontier(rt: &HostRuntime) -> Asked {
     let Pair::Numbers(operation, capacity) = two(
         rt,
         b"frontier OPERATION CAPACITY",
-        "OPERATION ",
-        "CAPACITY ",
+        b"OPERATION ",
+        b"CAPACITY ",
     ) else {
         return Asked::Nothing;
     };
@@ -164,19 +173,19 @@ fn frontier(rt: &(impl Env + Eprint)) -> Asked {
 }
 
 // The argument at i as a number of 32 bits.
-fn number(rt: &(impl Env + Eprint), i: usize, name: &str) -> Given {
+fn number(rt: &HostRuntime, i: usize, name: &[u8]) -> Given {
     let mut word = [0; 4096];
     let Ok(n) = rt.arg(i, &mut word) else {
         usage::say(
             rt,
-            "a number is too long; right: decimal digits, at most 4294967295",
+            b"cundvrest: a number is too long; right: decimal digits, at most 4294967295\n",
         );
         return Given::Wrong;
     };
     read_number(rt, &word[..n], name)
 }
 
-fn read_number(rt: &impl Eprint, word: &[u8], name: &str) -> Given {
+fn read_number(rt: &HostRuntime, word: &[u8], name: &[u8]) -> Given {
     match base_decimal::of_word(word, 4294967295) {
         Word::Number(v) => Given::Number(v as u32),
         Word::Large => {
@@ -184,7 +193,7 @@ fn read_number(rt: &impl Eprint, word: &[u8], name: &str) -> Given {
                 rt,
                 name,
                 word,
-                " is too large; right: decimal digits, at most 4294967295",
+                b" is too large; right: decimal digits, at most 4294967295",
             );
             Given::Wrong
         }
@@ -193,7 +202,7 @@ fn read_number(rt: &impl Eprint, word: &[u8], name: &str) -> Given {
                 rt,
                 name,
                 word,
-                " is no number; right: decimal digits, at most 4294967295",
+                b" is no number; right: decimal digits, at most 4294967295",
             );
             Given::Wrong
         }

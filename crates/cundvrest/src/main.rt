@@ -4,13 +4,12 @@
 mod arguments;
 mod input;
 mod numbers;
+mod output;
 mod usage;
 
 use arguments::Asked;
 use plan_format::limits::{MOST_INPUT, PLAN_NUMBERS, TRACE_BYTES};
 use print_input::Question;
-use std::io;
-use std::rt::Runtime;
 
 // One byte more than is judged in the second form, one number more than the longest plan has, and one byte more than
 // the longest trace: so many decide the answer to an input of any length.
@@ -24,33 +23,38 @@ const FIRST_TRACE_BYTES: usize = TRACE_BYTES + 1;
 const TEXT_ROOM: usize = 262144;
 
 // The answer to a question on the plan of standard input.
-fn on_plan(rt: &impl Runtime, question: Question, out: &mut [u8]) -> usize {
+fn on_plan(rt: &HostRuntime, question: Question, out: &mut [u8]) -> usize {
     let mut plan = [0u8; FIRST_BYTES];
-    let Some(kept) = input::plan(rt, &mut plan) else {
+    let read = input::plan(rt, &mut plan);
+    if read.failed {
         return 0;
-    };
-    print_input::on_first(question, &plan, kept, out)
+    }
+    print_input::on_first(question, &plan, read.kept, out)
 }
 
 // A recorded trace held against the plan of standard input.
-fn on_trace(rt: &impl Runtime, out: &mut [u8]) -> usize {
+fn on_trace(rt: &HostRuntime, out: &mut [u8]) -> usize {
     let mut trace = [0u8; FIRST_TRACE_BYTES];
-    let Some(recorded) = input::trace(rt, &mut trace) else {
+    let recorded = input::trace(rt, &mut trace);
+    if recorded.failed {
         return 0;
-    };
+    }
     let mut plan = [0u8; FIRST_BYTES];
-    let Some(kept) = input::plan(rt, &mut plan) else {
+    let read = input::plan(rt, &mut plan);
+    if read.failed {
         return 0;
-    };
-    print_input::traced(&plan, kept, &trace, recorded, out)
+    }
+    print_input::traced(&plan, read.kept, &trace, recorded.kept, out)
 }
 
 // The stored plan of the numbers of standard input.
-fn write(rt: &impl Runtime, out: &mut [u8]) -> usize {
+fn write(rt: &HostRuntime, out: &mut [u8]) -> usize {
     let mut list = [0u64; FIRST_NUMBERS];
-    let Some(s) = numbers::from_input(rt, &mut list) else {
+    let read = numbers::from_input(rt, &mut list);
+    if read.failed {
         return 0;
-    };
+    }
+    let s = read.scan;
     if s.fault != 0 {
         usage::bad_number(rt, s.before, s.fault);
         return 0;
@@ -59,7 +63,7 @@ fn write(rt: &impl Runtime, out: &mut [u8]) -> usize {
 }
 
 // The text of what is asked; of length 0 where a line on standard error says why there is none.
-fn answer(rt: &impl Runtime, out: &mut [u8]) -> usize {
+fn answer(rt: &HostRuntime, out: &mut [u8]) -> usize {
     match arguments::read_words(rt) {
         Asked::Plan(question) => on_plan(rt, question, out),
         Asked::Trace => on_trace(rt, out),
@@ -69,18 +73,10 @@ fn answer(rt: &impl Runtime, out: &mut [u8]) -> usize {
     }
 }
 
-// Writes the first n bytes, or all where there are fewer.
-fn print(rt: &impl Print, text: &[u8], n: usize) -> io::Result<()> {
-    if n < text.len() {
-        return rt.write_all(&text[..n]);
-    }
-    rt.write_all(text)
-}
-
 fn main(rt: HostRuntime) {
     let mut out = [0u8; TEXT_ROOM];
     let n = answer(&rt, &mut out);
-    if let Err(e) = print(&rt, &out, n) {
-        usage::fail(&rt, "standard output cannot be written", e);
+    if let Err(error) = output::write(&rt.stdout(), &out, n) {
+        usage::fail(&rt, "standard output cannot be written", error);
     }
 }

@@ -1,8 +1,7 @@
 // The numbers that `write` reads: in decimal, separated by white space.
-use crate::usage;
+use crate::input;
 use base_decimal::Digits;
-use std::io;
-use std::io::{ErrorKind, Input, Read};
+use std::io::Read;
 
 // How far the text has been read: how many numbers are before, how many of them are kept, and the digits of a number
 // that has begun. The fault is 0, 1 at a byte that belongs to no number, or 2 at a number of 2^64 or more.
@@ -54,7 +53,7 @@ fn counted(before: u64) -> u64 {
 }
 
 // The end of a number that has begun, kept where there is room.
-fn ended(s: Scan, list: &mut [u64]) -> Scan {
+pub fn ended(s: Scan, list: &mut [u64]) -> Scan {
     if !s.begun {
         return s;
     }
@@ -103,31 +102,64 @@ fn text_read(s: Scan, text: &[u8], list: &mut [u64]) -> Scan {
     now
 }
 
-// The first numbers of the input, as many as there is room for, once all of it has been read. The turns only count up,
-// so that the loop is seen to end: no input uses them up. Only an interruption is no failure.
-fn all(from: &mut impl Read, list: &mut [u64]) -> io::Result<Scan> {
-    let mut text = [0; 65536];
-    let mut scan = between(0, 0);
-    for _ in 0..u64::MAX {
-        match from.read(&mut text) {
-            Ok(0) => break,
-            Ok(n) => scan = text_read(scan, &text[..n], list),
-            Err(e) if e.kind() == ErrorKind::Interrupted => {}
-            Err(e) => return Err(e),
-        }
-    }
-    Ok(scan)
+// What standard input has given so far, and whether there may be more, or a read failed.
+#[derive(Clone, Copy)]
+pub struct Numbers {
+    pub scan: Scan,
+    pub more: bool,
+    pub failed: bool,
 }
 
-// The same of standard input, with the number that its end ends; nothing where a line on standard error says that a
-// read has failed.
-pub fn from_input<R: Input + Eprint + Alloc>(rt: &R, list: &mut [u64]) -> Option<Scan> {
-    match all(&mut rt.reader(), list) {
-        Ok(s) if s.fault != 0 => Some(s),
-        Ok(s) => Some(ended(s, list)),
-        Err(e) => {
-            usage::fail(rt, "standard input cannot be read", e);
-            None
+// One read.
+fn some(rt: &HostRuntime, s: Scan, list: &mut [u64]) -> Numbers {
+    let mut text = [0; 65536];
+    match rt.stdin().read(&mut text) {
+        Ok(n) => {
+            let scan = text_read(s, &text[..n], list);
+            Numbers {
+                scan,
+                more: n > 0,
+                failed: false,
+            }
         }
+        Err(error) => {
+            let again = input::interrupted(rt, error, "standard input cannot be read");
+            Numbers {
+                scan: s,
+                more: again,
+                failed: !again,
+            }
+        }
+    }
+}
+
+// The first numbers of the input, as many as there is room for, once all of it has been read. The turns only count
+// down, so that the loop is seen to end: no input uses them up.
+fn all(rt: &HostRuntime, list: &mut [u64]) -> Numbers {
+    let mut read = Numbers {
+        scan: between(0, 0),
+        more: true,
+        failed: false,
+    };
+    let mut turns = u64::MAX;
+    while turns > 0 && read.more {
+        read = some(rt, read.scan, list);
+        turns -= 1;
+    }
+    read
+}
+
+// The same, with the number that the end of the input ends.
+pub fn from_input(rt: &HostRuntime, list: &mut [u64]) -> Numbers {
+    let read = all(rt, list);
+    let s = read.scan;
+    if s.fault != 0 {
+        return read;
+    }
+    let scan = ended(s, list);
+    Numbers {
+        scan,
+        more: false,
+        failed: read.failed,
     }
 }

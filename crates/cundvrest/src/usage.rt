@@ -1,5 +1,8 @@
 // What there is to ask, and what is said of a question that is none: one line on standard error.
-use std::{fmt, io};
+ghost use Rattle.std.specs.Prelude.{◌≡◌, length};
+
+use crate::output;
+use std::io;
 
 pub fn help(out: &mut [u8]) -> usize {
     base_text::words(
@@ -33,43 +36,78 @@ Over files: check, explain, draw, text, store, rows (cundvrest check --help). Ex
     )
 }
 
+// The room for a line on standard error.
+fn line() -> [u8; 512]
+    ensures { length result ≡ 512 }
+{
+    [0; 512]
+}
+
 // A byte that prints, or a question mark.
-fn shown(b: u8) -> char {
+fn shown(b: u8) -> u8 {
     if b < 32 {
-        return '?';
+        return b'?';
     }
     if b > 126 {
-        return '?';
+        return b'?';
     }
-    char::from(b)
+    b
 }
 
 // A word in quotes, its first bytes only.
-#[derive(Drop)]
-struct Quoted<'a>(&'a [u8]);
-
-impl fmt::Display for Quoted<'_> {
-    fn fmt<W: fmt::Write>(&self, f: &mut fmt::Formatter<W>) -> fmt::Result {
-        f.write_char('\'')?;
-        for b in self.0.iter().take(40) {
-            f.write_char(shown(*b))?;
+fn quoted(out: &mut [u8], at: usize, word: &[u8]) -> usize {
+    let mut end = base_text::byte(out, at, b'\'');
+    let mut i = 0;
+    while i < word.len() {
+        if i == 40 {
+            return base_text::words(out, end, b"..'");
         }
-        f.write_str(if self.0.len() > 40 { "..'" } else { "'" })
+        end = base_text::byte(out, end, shown(word[i]));
+        i += 1;
     }
+    base_text::byte(out, end, b'\'')
 }
 
 // A whole line. Where standard error takes none, there is nowhere to say so.
-pub fn say(rt: &impl Eprint, line: &str) {
-    let _ = eprintln!(rt; "cundvrest: {line}");
+pub fn say(rt: &HostRuntime, line: &[u8]) {
+    let _ = rt.stderr().write_all(line);
 }
 
 // A line with a word in quotes.
-pub fn complain(rt: &impl Eprint, before: &str, word: &[u8], after: &str) {
-    let _ = eprintln!(rt; "cundvrest: {before}{}{after}", Quoted(word));
+pub fn complain(rt: &HostRuntime, before: &[u8], word: &[u8], after: &[u8]) {
+    let mut out = line();
+    let name = base_text::words(&mut out, 0, b"cundvrest: ");
+    let first = base_text::words(&mut out, name, before);
+    let second = quoted(&mut out, first, word);
+    let third = base_text::words(&mut out, second, after);
+    let end = base_text::byte(&mut out, third, b'\n');
+    let _ = output::write(&rt.stderr(), &out, end);
+}
+
+// A line on a number of standard input that is none, or is too large.
+pub fn bad_number(rt: &HostRuntime, before: u64, fault: u8) {
+    let mut out = line();
+    let name = base_text::words(&mut out, 0, b"cundvrest: standard input: after ");
+    let first = base_text::number(&mut out, name, before);
+    let second = base_text::words(&mut out, first, b" numbers comes ");
+    let third = fault_words(&mut out, second, fault);
+    let end = base_text::words(
+        &mut out,
+        third,
+        b"; right: decimal digits, at most 18446744073709551615, white space between\n",
+    );
+    let _ = output::write(&rt.stderr(), &out, end);
+}
+
+fn fault_words(out: &mut [u8], at: usize, fault: u8) -> usize {
+    if fault == 1 {
+        return base_text::words(out, at, b"no number");
+    }
+    base_text::words(out, at, b"one too large")
 }
 
 // A line on what has failed, with the system's words for why.
-pub fn fail<R: Eprint + Alloc>(rt: &R, failed: &str, error: io::Error) {
+pub fn fail(rt: &HostRuntime, failed: &str, error: io::Error) {
     let _ = match format!(in rt.alloc(); "{error}") {
         Ok(text) => eprintln!(rt; "cundvrest: {failed}: {}", without_number(text.as_str())),
         Err(_) => eprintln!(rt; "cundvrest: {failed}: {error}"),
@@ -82,17 +120,4 @@ fn without_number(text: &str) -> &str {
         Some((words, _)) => words,
         None => text,
     }
-}
-
-// A line on a number of standard input that is none, or is too large.
-pub fn bad_number(rt: &impl Eprint, before: u64, fault: u8) {
-    let words = if fault == 1 {
-        "no number"
-    } else {
-        "one too large"
-    };
-    let right = "decimal digits, at most 18446744073709551615, white space between";
-    let _ = eprintln!(rt;
-        "cundvrest: standard input: after {before} numbers comes {words}; right: {right}"
-    );
 }
