@@ -5,10 +5,10 @@ use mathlib.Core.List.{List, []}
 use Prim.Native.Nat.{ℕ}
 use native.Mathlib.Omega.{arith}
 use lib.Dec.{leb}
-use lib.ListN.{length, get_or}
+use lib.ListN.{length}
 use borrow.Author.Tests.{leb-true, leb-false}
 use Rattle.base_lists.proofs.Tests.{by_cases}
-use Rattle.plan_format.specs.Sizes.{first_semaphores, second_lead}
+use Rattle.plan_format.specs.Sizes.{first_semaphores}
 use Rattle.plan_format.specs.Refusal.{none_given}
 use Rattle.plan_format.specs.Grammar.{numbers, Scan, scan}
 use Rattle.plan_format.specs.Form.{Form, first_form, second_form, form_with, scanned_by, spelled_by}

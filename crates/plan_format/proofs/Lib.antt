@@ -1,3 +1,4 @@
+pub mod Members
 pub mod Judged
 pub mod RefusalNumbers
 pub mod Faults

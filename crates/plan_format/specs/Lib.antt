@@ -7,6 +7,7 @@ pub mod Sections
 pub mod Plan
 pub mod Limits
 pub mod Sound
+pub mod Told
 pub mod Stored
 pub mod Promise
 pub mod AsBefore

@@ -3,9 +3,14 @@
 #![tactic(auto)]
 
 pub mod limits;
+pub mod refusal;
 
-ghost use Rattle.std.specs.Prelude.{◌≡◌, drop};
+ghost use Rattle.std.specs.Prelude.{◌≡◌, ◌==◌, drop};
+ghost use Rattle.std.specs.List.{list_any};
 ghost use Rattle.base_lists.specs.Lists.{member};
+ghost use Rattle.plan_format.specs.Told.{told_by};
+
+pub use refusal::{Reason, Refusal};
 
 // The number of a refusal and its place, or 0 and 0 with the answer.
 #[derive(Clone, Copy)]
@@ -44,16 +49,27 @@ pub fn answered(answer: u64) -> Told
     }
 }
 
+// What a result tells.
+pub fn as_told(r: Result<u64, Refusal>) -> Told
+    ensures { result ≡ told_by r }
+{
+    match r {
+        Ok(answer) => answered(answer),
+        Err(e) => forwarded(e.reason.number(), e.place),
+    }
+}
+
+// Whether a number is in a list after the first.
+fn is_after_first(list: &[u64], number: u64) -> bool
+    ensures { result ≡ list_any (λ x. x == number) (drop 1 list.now) }
+{
+    list.iter().skip(1).any(|&x| x == number)
+}
+
 // Whether a number is in a list after the first: an axis among the axes, the count being in front of them.
+#[tactic(auto, using(crate::proofs::Members::member_by_any))]
 pub fn repeated(list: &[u64], number: u64) -> bool
     ensures { result ≡ member number (drop 1 list.now) }
 {
-    let mut i = 1;
-    while i < list.len() {
-        if list[i] == number {
-            return true;
-        }
-        i += 1;
-    }
-    false
+    is_after_first(list, number)
 }
