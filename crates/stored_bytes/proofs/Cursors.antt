@@ -18,12 +18,12 @@ use Rattle.plan_format.specs.Sections.{repeat, limited}
 use Rattle.plan_format.proofs.Faults.{read_stays}
 use Rattle.plan_format.proofs.Repeats.{read_counted, repeat_stops, field_same, times_last}
 use Rattle.plan_format.proofs.Counts.{count_limited}
-use Rattle.stored_bytes.specs.declared.cursor.Cursor.{Cursor}
+use Rattle.stored_bytes.specs.Writing.{Reached}
 use Rattle.stored_bytes.specs.Writing.{fault_of, here, spelling, Writes, WriteLimited}
 use Rattle.stored_bytes.proofs.Fields.{here_given, fault_none, fault_clean}
 
 -- where there is no refusal at the end, there was none before
-pub clean_before : {g : Grammar} {many : ℕ} {xs : List ℕ} {c r : Cursor} {bytes bytes_now : List ℕ} →
+pub clean_before : {g : Grammar} {many : ℕ} {xs : List ℕ} {c r : Reached} {bytes bytes_now : List ℕ} →
     Writes g many xs c bytes r bytes_now → r.number ≡ 0 → c.number ≡ 0
 unfolding here scan
 clean_before {g} {xs = xs} {c} {r} p e =
@@ -32,7 +32,7 @@ clean_before {g} {xs = xs} {c} {r} p e =
     fault_none c (ap (λ (s : Scan). s.fault.number)
     (sym (read_stays numbers g (here xs c) (here_given xs c z)) ∙ p.read) ∙ fault_clean r e))
 
-module _ {xs : List ℕ} {c d r : Cursor} {bytes bytes₁ bytes₂ : List ℕ} where
+module _ {xs : List ℕ} {c d r : Reached} {bytes bytes₁ bytes₂ : List ℕ} where
   -- one thing after another
   pub writes_seq : {g h : Grammar} {m n : ℕ} → Writes g m xs c bytes d bytes₁ → Writes h n xs d bytes₁ r bytes₂ →
       Writes (seq g h) (m + n) xs c bytes r bytes₂
@@ -56,7 +56,7 @@ module _ {xs : List ℕ} {c d r : Cursor} {bytes bytes₁ bytes₂ : List ℕ} w
   writes_more {g} {m} i p q = rw (add-one i, mul-suc m i) (writes_seq p q)
 
 -- none of a thing
-pub writes_none : (g : Grammar) (m : ℕ) (xs : List ℕ) (c : Cursor) (bytes : List ℕ) → c.at ≤ length xs →
+pub writes_none : (g : Grammar) (m : ℕ) (xs : List ℕ) (c : Reached) (bytes : List ℕ) → c.at ≤ length xs →
     Writes (repeat 0 g) (m * 0) xs c bytes c bytes
 unfolding repeat read_by spell_by
 writes_none g m xs c bytes h = record {
@@ -82,8 +82,8 @@ unfolding spell_by
 spell_counted l m w n g s t e h = rw (e, h) (sym (spell_repeat n g t))
 
 -- a count, and so many of a thing
-pub writes_counted : {g : Grammar} {xs : List ℕ} {c start r : Cursor} {bytes bytes₁ bytes₂ : List ℕ} {w most : ℕ}
-    (m : ℕ) → WriteLimited w (most + 1) 2 xs c bytes start bytes₁ → (n : ℕ) → n ≡ start.value →
+pub writes_counted : {g : Grammar} {xs : List ℕ} {c start r : Reached} {bytes bytes₁ bytes₂ : List ℕ} {w most : ℕ}
+    {v : ℕ} (m : ℕ) → WriteLimited w (most + 1) 2 xs c bytes start v bytes₁ → (n : ℕ) → n ≡ v →
     Writes (repeat n g) (m * n) xs start bytes₁ r bytes₂ →
     Writes (counted 0 most w g) (w + m * most) xs c bytes r bytes₂
 unfolding here scan fault_of limited read_by spell_by spelling
@@ -112,7 +112,7 @@ writes_counted {g} {xs} {c} {start} {bytes = bytes} {bytes₁} {w = w} {most} m 
     }
 
 -- at most so many, and more room than that
-pub writes_within : {g : Grammar} {xs : List ℕ} {c r : Cursor} {bytes bytes_now : List ℕ} {m : ℕ} (n : ℕ) → m ≤ n →
+pub writes_within : {g : Grammar} {xs : List ℕ} {c r : Reached} {bytes bytes_now : List ℕ} {m : ℕ} (n : ℕ) → m ≤ n →
     Writes g m xs c bytes r bytes_now → Writes g n xs c bytes r bytes_now
 writes_within n l p =
     record {
@@ -127,7 +127,7 @@ writes_within n l p =
     }
 
 -- where a thing is refused, nothing is written of what comes after it
-pub writes_refused : {g : Grammar} (h : Grammar) {xs : List ℕ} {c r : Cursor} {bytes bytes_now : List ℕ} {m : ℕ}
+pub writes_refused : {g : Grammar} (h : Grammar) {xs : List ℕ} {c r : Reached} {bytes bytes_now : List ℕ} {m : ℕ}
     (n : ℕ) → (r.number ≡ 0 → ⊥) → m ≤ n → Writes g m xs c bytes r bytes_now →
     Writes (seq g h) n xs c bytes r bytes_now
 unfolding read_by
@@ -144,7 +144,7 @@ writes_refused h {xs} {c} {r} n z l p =
     }
 
 -- a loop that met a refusal has written all that can be written
-pub writes_stopped : {xs : List ℕ} {start r : Cursor} {bytes bytes_now : List ℕ} (g : Grammar) (m : ℕ) (i n : ℕ) →
+pub writes_stopped : {xs : List ℕ} {start r : Reached} {bytes bytes_now : List ℕ} (g : Grammar) (m : ℕ) (i n : ℕ) →
     (r.number ≡ 0 → ⊥) → i ≤ n → Writes (repeat i g) (m * i) xs start bytes r bytes_now →
     Writes (repeat n g) (m * n) xs start bytes r bytes_now
 writes_stopped {xs} {start} {r} {bytes} {bytes_now} g m i n z h p =

@@ -19,7 +19,7 @@ use Rattle.plan_format.specs.Sections.{limited}
 use Rattle.plan_format.proofs.Faults.{read_stays}
 use Rattle.plan_format.proofs.Judged.{other_given}
 use Rattle.plan_format.proofs.Seams.{last_snoc}
-use Rattle.stored_bytes.specs.declared.cursor.Cursor.{Cursor}
+use Rattle.stored_bytes.specs.Writing.{Reached}
 use Rattle.stored_bytes.specs.Writing.{fault_of, here, spelling, Writes, NumberPut, WriteLimited}
 
 module _ (w : ℕ) (c : ℕ → ℕ) (rest : List ℕ) (p : ℕ) (got : List ℕ) where
@@ -44,40 +44,40 @@ module _ (w : ℕ) (c : ℕ → ℕ) (rest : List ℕ) (p : ℕ) (got : List ℕ
   field_right h e k = rw (le-ltb (length rest) 1 h, e, lt-ltb (get_or rest 0 0) (256 ^ w) k)
 
 -- ---- cursors
-abbrev cursor : (number at put value : ℕ) → Cursor
-cursor n a k v = record { number = n; at = a; put = k; value = v }
+abbrev cursor : (number at put : ℕ) → Reached
+cursor n a k = record { number = n; at = a; put = k }
 
-pub here_clean : (xs : List ℕ) (c : Cursor) → c.number ≡ 0 →
+pub here_clean : (xs : List ℕ) (c : Reached) → c.number ≡ 0 →
     here xs c ≡ scan (drop c.at xs) c.at (take c.at xs) none_given
 unfolding here fault_of
 here_clean xs c e =
     ap (λ (n : ℕ). scan (drop c.at xs) c.at (take c.at xs) (cond (eqb n 0) none_given (refusal n c.at))) e
 
-here_fault : (xs : List ℕ) (n a k v : ℕ) → (n ≡ 0 → ⊥) →
-    here xs (cursor n a k v) ≡ scan (drop a xs) a (take a xs) (refusal n a)
+here_fault : (xs : List ℕ) (n a k : ℕ) → (n ≡ 0 → ⊥) →
+    here xs (cursor n a k) ≡ scan (drop a xs) a (take a xs) (refusal n a)
 unfolding here fault_of
-here_fault xs n a k v z = rw (ne_eqb n 0 z)
+here_fault xs n a k z = rw (ne_eqb n 0 z)
 
-pub fault_number : (c : Cursor) → (c.number ≡ 0 → ⊥) → (fault_of c).number ≡ c.number
+pub fault_number : (c : Reached) → (c.number ≡ 0 → ⊥) → (fault_of c).number ≡ c.number
 unfolding fault_of refusal
 fault_number c z = rw (ne_eqb c.number 0 z)
 
-pub here_given : (xs : List ℕ) (c : Cursor) → (c.number ≡ 0 → ⊥) → given (here xs c).fault ≡ true
+pub here_given : (xs : List ℕ) (c : Reached) → (c.number ≡ 0 → ⊥) → given (here xs c).fault ≡ true
 unfolding here scan
 here_given xs c z = other_given (fault_of c) (λ e. z (sym (fault_number c z) ∙ e))
 
-pub fault_none : (c : Cursor) → (fault_of c).number ≡ 0 → c.number ≡ 0
+pub fault_none : (c : Reached) → (fault_of c).number ≡ 0 → c.number ≡ 0
 fault_none c e =
     by_cases (eqb c.number 0) (λ t. eqb-true c.number 0 t)
     (λ f. sym (fault_number c (eqb-false c.number 0 f)) ∙ e)
 
-pub fault_clean : (c : Cursor) → c.number ≡ 0 → (fault_of c).number ≡ 0
+pub fault_clean : (c : Reached) → c.number ≡ 0 → (fault_of c).number ≡ 0
 unfolding fault_of none_given
 fault_clean c e = ap (λ (n : ℕ). (cond (eqb n 0) none_given (refusal n c.at)).number) e
 
 -- a cursor with a refusal passes through
-pub passed : {g : Grammar} {many : ℕ} {xs : List ℕ} {c : Cursor} {bytes : List ℕ} {v : ℕ} → (c.number ≡ 0 → ⊥) →
-    c.at ≤ length xs → Writes g many xs c bytes (cursor c.number c.at c.put v) bytes
+pub passed : {g : Grammar} {many : ℕ} {xs : List ℕ} {c : Reached} {bytes : List ℕ} → (c.number ≡ 0 → ⊥) →
+    c.at ≤ length xs → Writes g many xs c bytes c bytes
 unfolding here fault_of
 passed {g} {xs = xs} {c} z h =
     record {
@@ -91,13 +91,13 @@ passed {g} {xs = xs} {c} z h =
       past = refl;
     }
 
-read_clean : (w : ℕ) (check : Check) (xs : List ℕ) (c : Cursor) → c.number ≡ 0 →
+read_clean : (w : ℕ) (check : Check) (xs : List ℕ) (c : Reached) → c.number ≡ 0 →
     read_by numbers (field w check) (here xs c) ≡
     read_field numbers w (λ v. check (take c.at xs) v) (scan (drop c.at xs) c.at (take c.at xs) none_given)
 unfolding read_by scan
 read_clean w check xs c e = ap (λ (s : Scan). read_by numbers (field w check) s) (here_clean xs c e)
 
-front_number : (xs : List ℕ) (at : ℕ) → get_or (drop at xs) 0 0 ≡ get_or xs at 0
+pub front_number : (xs : List ℕ) (at : ℕ) → get_or (drop at xs) 0 0 ≡ get_or xs at 0
 front_number xs at = get_or-drop at xs 0 0 ∙ ap (λ (k : ℕ). get_or xs k 0) (add-zero at)
 
 front_is : (xs : List ℕ) (at v : ℕ) → v ≡ get_or xs at 0 → v ≡ get_or (drop at xs) 0 0
@@ -106,17 +106,17 @@ front_is xs at v d = d ∙ sym (front_number xs at)
 some_left : (xs : List ℕ) (at : ℕ) → at < length xs → 1 ≤ length (drop at xs)
 some_left xs at l = rw (length-drop at xs) (omega arith)
 
-module _ {w : ℕ} {check : Check} {xs : List ℕ} {c : Cursor} {bytes : List ℕ} (clean : c.number ≡ 0)
+module _ {w : ℕ} {check : Check} {xs : List ℕ} {c : Reached} {bytes : List ℕ} (clean : c.number ≡ 0)
     (h : c.at ≤ length xs) where
   -- refused, by what the field's number is
-  stopped : {n u : ℕ} → (n ≡ 0 → ⊥) →
+  stopped : {n : ℕ} → (n ≡ 0 → ⊥) →
       read_field numbers w (λ v. check (take c.at xs) v)
       (scan (drop c.at xs) c.at (take c.at xs) none_given) ≡
       scan (drop c.at xs) c.at (take c.at xs) (refusal n c.at) →
-      Writes (field w check) w xs c bytes (cursor n c.at c.put u) bytes
-  stopped {n} {u} z e =
+      Writes (field w check) w xs c bytes (cursor n c.at c.put) bytes
+  stopped {n} z e =
       record {
-        read = read_clean w check xs c clean ∙ e ∙ sym (here_fault xs n c.at c.put u z);
+        read = read_clean w check xs c clean ∙ e ∙ sym (here_fault xs n c.at c.put z);
         spell = λ q. absurd (z q);
         inside = h;
         more = omega arith;
@@ -126,21 +126,21 @@ module _ {w : ℕ} {check : Check} {xs : List ℕ} {c : Cursor} {bytes : List �
         past = refl;
       }
 
-  pub missing : {u : ℕ} → length xs ≤ c.at → Writes (field w check) w xs c bytes (cursor 1 c.at c.put u) bytes
+  pub missing : length xs ≤ c.at → Writes (field w check) w xs c bytes (cursor 1 c.at c.put) bytes
   missing l =
       stopped (eqb-false 1 0 refl) (field_missing w
       (λ u. check (take c.at xs) u) (drop c.at xs) c.at (take c.at xs)
       (rw (length-drop c.at xs) (omega arith)))
 
   module _ (l : c.at < length xs) {v : ℕ} (d : v ≡ get_or xs c.at 0) where
-    pub wrong : {n u : ℕ} → check (take c.at xs) v ≡ n → (n ≡ 0 → ⊥) →
-        Writes (field w check) w xs c bytes (cursor n c.at c.put u) bytes
+    pub wrong : {n : ℕ} → check (take c.at xs) v ≡ n → (n ≡ 0 → ⊥) →
+        Writes (field w check) w xs c bytes (cursor n c.at c.put) bytes
     wrong {n} e z =
         stopped z (field_wrong w (λ u. check (take c.at xs) u) (drop c.at xs) c.at (take c.at xs) n
         (some_left xs c.at l) (rw (← front_is xs c.at v d) e) z)
 
-    pub wide : {u : ℕ} → check (take c.at xs) v ≡ 0 → 256 ^ w ≤ v →
-        Writes (field w check) w xs c bytes (cursor 4 c.at c.put u) bytes
+    pub wide : check (take c.at xs) v ≡ 0 → 256 ^ w ≤ v →
+        Writes (field w check) w xs c bytes (cursor 4 c.at c.put) bytes
     wide e k =
         stopped (eqb-false 4 0 refl) (field_wide w
         (λ u. check (take c.at xs) u) (drop c.at xs) c.at (take c.at xs) (some_left xs c.at l)
@@ -148,7 +148,7 @@ module _ {w : ℕ} {check : Check} {xs : List ℕ} {c : Cursor} {bytes : List �
 
     pub kept : {bytes_now : List ℕ} → w ≤ 8 → check (take c.at xs) v ≡ 0 → v < 256 ^ w →
         NumberPut w bytes c.put v bytes_now → Writes (field w check) w xs c bytes
-        (cursor 0 (c.at + 1) (c.put + w) v) bytes_now
+        (cursor 0 (c.at + 1) (c.put + w)) bytes_now
     unfolding here fault_of spelling spell_by spell_field
     kept {bytes_now} narrow e k q =
         record {
@@ -167,19 +167,9 @@ module _ {w : ℕ} {check : Check} {xs : List ℕ} {c : Cursor} {bytes : List �
         }
 
 -- ---- limited fields, whose number the cursor has
-module _ {w limit over : ℕ} {xs : List ℕ} {c : Cursor} {bytes : List ℕ} where
-  pub limited_passed : (c.number ≡ 0 → ⊥) → c.at ≤ length xs →
-      WriteLimited w limit over xs c bytes (cursor c.number c.at c.put 0) bytes
-  limited_passed z h =
-      record {
-        writes = passed z h;
-        value_is = λ e. absurd (z e);
-        value_read = λ e. absurd (z e);
-        value_below = omega arith;
-      }
-
+module _ {w limit over : ℕ} {xs : List ℕ} {c : Reached} {bytes : List ℕ} where
   pub limited_missing : c.number ≡ 0 → c.at ≤ length xs → length xs ≤ c.at →
-      WriteLimited w limit over xs c bytes (cursor 1 c.at c.put 0) bytes
+      WriteLimited w limit over xs c bytes (cursor 1 c.at c.put) 0 bytes
   limited_missing e h l =
       record {
         writes = missing e h l;
@@ -190,31 +180,20 @@ module _ {w limit over : ℕ} {xs : List ℕ} {c : Cursor} {bytes : List ℕ} wh
 
   module _ (clean : c.number ≡ 0) (h : c.at ≤ length xs) (l : c.at < length xs) {v : ℕ}
       (d : v ≡ get_or xs c.at 0) where
-    pub limited_over : 1 ≤ over → limit ≤ v →
-        WriteLimited w limit over xs c bytes (cursor over c.at c.put 0) bytes
+    pub limited_over : (over ≡ 0 → ⊥) → limit ≤ v →
+        WriteLimited w limit over xs c bytes (cursor over c.at c.put) 0 bytes
     unfolding limited
     limited_over o m =
         record {
-          writes = wrong clean h l d (rw (le-ltb v limit m)) (λ e. omega arith);
-          value_is = λ e. absurd (let z : over ≡ 0 = e in omega arith);
-          value_read = λ e. absurd (let z : over ≡ 0 = e in omega arith);
-          value_below = omega arith;
-        }
-
-    pub limited_wide : v < limit → 256 ^ w ≤ v →
-        WriteLimited w limit over xs c bytes (cursor 4 c.at c.put 0) bytes
-    unfolding limited
-    limited_wide m k =
-        record {
-          writes = wide clean h l d (rw (lt-ltb v limit m)) k;
-          value_is = λ e. absurd (eqb-false 4 0 refl e);
-          value_read = λ e. absurd (eqb-false 4 0 refl e);
+          writes = wrong clean h l d (rw (le-ltb v limit m)) o;
+          value_is = λ e. absurd (o e);
+          value_read = λ e. absurd (o e);
           value_below = omega arith;
         }
 
     pub limited_kept : {bytes_now : List ℕ} → w ≤ 8 → v < limit → v < 256 ^ w →
         NumberPut w bytes c.put v bytes_now →
-        WriteLimited w limit over xs c bytes (cursor 0 (c.at + 1) (c.put + w) v) bytes_now
+        WriteLimited w limit over xs c bytes (cursor 0 (c.at + 1) (c.put + w)) v bytes_now
     unfolding limited here scan last_got
     limited_kept narrow m k q =
         record {

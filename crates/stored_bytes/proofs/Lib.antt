@@ -1,7 +1,4 @@
-pub mod Halves
+pub mod Writers
+pub mod Digits
 pub mod Fields
 pub mod Cursors
-pub mod Lists
-pub mod Spelled
-pub mod Counts
-pub mod WritingEnds

@@ -1,6 +1,7 @@
 -- What the writer's functions say: the reading and the spelling that a cursor stands for, and the bytes of a number.
 -- Assumes nothing: these are definitions.
 use Rattle.std.specs.Prelude.{◌≡◌, Bool, cond, List, [], ◌++◌, ℕ, ◌+◌, ◌-◌, ◌*◌, ◌≤◌, eqb, length, get_or, take, drop}
+use Rattle.std.specs.Prelude.{Result, Ok, Err}
 use Rattle.base_lists.specs.Lists.{in_front}
 use Rattle.plan_format.specs.Sizes.{second_width, plan_bytes}
 use Rattle.plan_format.specs.Refusal.{Refusal, refusal, none_given}
@@ -8,33 +9,44 @@ use Rattle.plan_format.specs.Grammar.{Grammar, field, digits, numbers, Scan, sca
 use Rattle.plan_format.specs.Grammar.{last_got, read_by, Spelling, spell_by}
 use Rattle.plan_format.specs.Form.{list_by, form_by, plan_grammar, scanned_by, spelled_by}
 use Rattle.plan_format.specs.Stored.{Tells}
+use Rattle.plan_format.specs.Told.{Refused, number_of}
 use Rattle.plan_format.specs.declared.Told.{Told}
 use Rattle.plan_format.specs.Sections.{limited}
 use Rattle.stored_bytes.specs.declared.cursor.Cursor.{Cursor}
+use Rattle.stored_bytes.specs.declared.writer.Writer.{Writer}
 
--- the reading of the list `xs` that a cursor stands for, and the spelling, its bytes being in front of `bytes`
-unfoldable pub fault_of : Cursor → Refusal
+-- how far a writing has come: the number of the refusal met, or 0; the place in the list; how many bytes are put
+pub record Reached : Type 0 where
+  pub number : ℕ
+  pub at : ℕ
+  pub put : ℕ
+
+-- the reading of the list `xs` that this stands for, and the spelling, its bytes being in front of `bytes`
+unfoldable pub fault_of : Reached → Refusal
 fault_of c = cond (eqb c.number 0) none_given (refusal c.number c.at)
 
-unfoldable pub here : (xs : List ℕ) → Cursor → Scan
+unfoldable pub here : (xs : List ℕ) → Reached → Scan
 here xs c = scan (drop c.at xs) c.at (take c.at xs) (fault_of c)
 
-unfoldable pub spelling : (xs : List ℕ) → Cursor → (bytes : List ℕ) → Spelling
+unfoldable pub spelling : (xs : List ℕ) → Reached → (bytes : List ℕ) → Spelling
 spelling xs c bytes = record { left = drop c.at xs; made = take c.put bytes }
 
--- a cursor that is inside the list, with room for so many bytes more
-pub record WriteRoom (many : ℕ) (xs : List ℕ) (c : Cursor) (bytes : List ℕ) : Type 0 where
-  pub inside : c.at ≤ length xs
-  pub room : c.put + many ≤ length bytes
+-- how far a writing is at a cursor, and after a result: R53, its refusal ends it
+abbrev pub from : Cursor → Reached
+from c = record { number = 0; at = c.at; put = c.put }
 
--- a cursor without a refusal, with so many numbers before the end
-pub record Whole (many : ℕ) (xs : List ℕ) (c : Cursor) : Type 0 where
-  pub clean : c.number ≡ 0
-  pub whole : c.at + many ≤ length xs
+abbrev pub after : {A : Type 0} → Result A Refused → Cursor → Reached
+after (Ok x) c = record { number = 0; at = c.at; put = c.put }
+after (Err e) c = record { number = number_of e.reason; at = e.place; put = c.put }
 
--- from the cursor `c` to the cursor `r` a thing is read from the list and, where there is no refusal, spelled, at most
--- so many bytes long and eight for each number; past the bytes put the array stays
-pub record Writes (g : Grammar) (many : ℕ) (xs : List ℕ) (c : Cursor) (bytes : List ℕ) (r : Cursor)
+-- the number that a result has, 0 beside a refusal
+abbrev pub value_of : Result ℕ Refused → ℕ
+value_of (Ok x) = x
+value_of (Err e) = 0
+
+-- from `c` to `r` a thing is read from the list and, where there is no refusal, spelled, at most so many bytes long and
+-- eight for each number; past the bytes put the array stays
+pub record Writes (g : Grammar) (many : ℕ) (xs : List ℕ) (c : Reached) (bytes : List ℕ) (r : Reached)
     (bytes_now : List ℕ) : Type 0 where
   pub read : read_by numbers g (here xs c) ≡ here xs r
   pub spell : r.number ≡ 0 → spell_by g (spelling xs c bytes) ≡ spelling xs r bytes_now
@@ -51,13 +63,29 @@ pub record NumberPut (width : ℕ) (bytes : List ℕ) (at v : ℕ) (bytes_now : 
   pub as_long : length bytes_now ≡ length bytes
   pub past : drop (at + width) bytes_now ≡ drop (at + width) bytes
 
--- a limited field was written, and the cursor has its number: 0 where it is refused
-pub record WriteLimited (width limit over : ℕ) (xs : List ℕ) (c : Cursor) (bytes : List ℕ) (r : Cursor)
+-- a limited field was written, with its number: 0 where it is refused
+pub record WriteLimited (width limit over : ℕ) (xs : List ℕ) (c : Reached) (bytes : List ℕ) (r : Reached) (v : ℕ)
     (bytes_now : List ℕ) : Type 0 where
   pub writes : Writes (field width (limited limit over)) width xs c bytes r bytes_now
-  pub value_is : r.number ≡ 0 → last_got (here xs r) ≡ r.value
-  pub value_read : r.number ≡ 0 → get_or (drop c.at xs) 0 0 ≡ r.value
-  pub value_below : r.value ≤ limit - 1
+  pub value_is : r.number ≡ 0 → last_got (here xs r) ≡ v
+  pub value_read : r.number ≡ 0 → get_or (drop c.at xs) 0 0 ≡ v
+  pub value_below : v ≤ limit - 1
+
+-- the writer `w` became `v`, with a result: the same list, of which a thing was written
+pub record Wrote {A : Type 0} (g : Grammar) (many : ℕ) (w : Writer) (r : Result A Refused) (v : Writer) : Type 0 where
+  pub same_list : v.numbers.now ≡ w.numbers.now
+  pub writes : Writes g many w.numbers.now (from w.cursor) w.bytes.now (after r v.cursor) v.bytes.now
+
+-- and the same of a limited field
+pub record WroteLimited (width limit over : ℕ) (w : Writer) (r : Result ℕ Refused) (v : Writer) : Type 0 where
+  pub same_list : v.numbers.now ≡ w.numbers.now
+  pub writes : WriteLimited width limit over w.numbers.now (from w.cursor) w.bytes.now (after r v.cursor)
+      (value_of r) v.bytes.now
+
+-- the count of a section, which is the number at the cursor, where the section is not refused
+pub record Counted (most : ℕ) (w : Writer) (r : Result ℕ Refused) (v : Writer) : Type 0 where
+  pub count_read : (after r v.cursor).number ≡ 0 → get_or w.numbers.now w.cursor.at 0 ≡ value_of r
+  pub count_few : value_of r ≤ most
 
 -- the most bytes of a point
 abbrev pub point_most : ℕ
@@ -71,7 +99,7 @@ pub record LeadPut (lead bytes : List ℕ) (k : ℕ) (bytes_now : List ℕ) : Ty
   pub past : drop k bytes_now ≡ drop k bytes
 
 -- the whole list was read and spelled after the lead, but for its end
-pub record PlanWritten (wide : Bool) (xs bytes : List ℕ) (r : Cursor) (bytes_now : List ℕ) : Type 0 where
+pub record PlanWritten (wide : Bool) (xs bytes : List ℕ) (r : Reached) (bytes_now : List ℕ) : Type 0 where
   pub read : read_by numbers (plan_grammar (list_by wide)) (scan xs 0 [] none_given) ≡ here xs r
   pub spell : r.number ≡ 0 →
       spell_by (plan_grammar (list_by wide)) (record { left = xs; made = (form_by wide).lead }) ≡ spelling xs r
