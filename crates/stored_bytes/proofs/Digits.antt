@@ -1,11 +1,11 @@
 -- The bytes of a number, put at a place of an array. Assumes nothing.
-use Rattle.std.proofs.Common.{◌≡◌, refl, sym, ap, ◌∙◌, subst, arith, ℕ, zero, suc, ◌+◌, ◌-◌, ◌≤◌, ◌/◌, ◌%◌, ◌*◌, ◌^◌}
-use Rattle.std.proofs.Common.{List, [], ◌∷◌, ◌++◌, length, take, drop}
+use Rattle.std.proofs.Common.{◌≡◌, refl, sym, ap, ◌∙◌, arith, ℕ, zero, suc, ◌+◌, ◌-◌, ◌≤◌, ◌/◌, ◌^◌}
+use Rattle.std.proofs.Common.{List, ◌++◌, length, take, drop}
 use Rattle.std.proofs.Math.Nat.{div-div-eq-div-mul, pow-suc}
 use Rattle.std.proofs.lemmas.List.{drop_all, append-nil, length-drop, length-take-le}
 use Rattle.std.proofs.lemmas.Slice.{take-put_mid, drop-put_mid}
 use borrow.Rule.Slice.PartMut.{put_mid, same_len_mid}
-use Rattle.std.specs.Int.{byte_at, bytes_low_first}
+use Rattle.std.specs.Int.{bytes_low_first}
 use Rattle.byteorder.specs.Numbers.{length-bytes_low_first}
 use Rattle.plan_format.specs.Grammar.{digits}
 use Rattle.stored_bytes.specs.Writing.{NumberPut}
@@ -30,12 +30,14 @@ pub number_put : (w at v : ℕ) (bytes : List ℕ) {part : List ℕ} → at + w 
     NumberPut w bytes at v (put_mid at (at + w - at) bytes part)
 number_put w at v bytes {part} h e =
     let mid : length (take (at + w - at) (drop at bytes)) ≡ at + w - at =
-        length-take-le (at + w - at) (drop at bytes) (omega (arith, length-drop at bytes)) in
+    length-take-le (at + w - at) (drop at bytes) (omega (arith, length-drop at bytes)) in
     let same : part ≡ digits w v =
-        e ∙ rw (drop_all w (take (at + w - at) (drop at bytes)) (omega (arith, mid)),
-        append-nil (bytes_low_first 0 w v)) (bytes_are w v) in
+    e ∙ rw (
+      drop_all w (take (at + w - at) (drop at bytes)) (omega (arith, mid)),
+      append-nil (bytes_low_first 0 w v),
+    ) (bytes_are w v) in
     let long : length part ≡ at + w - at =
-        ap length (same ∙ sym (bytes_are w v)) ∙ length-bytes_low_first 0 w v ∙ omega arith in
+    ap length (same ∙ sym (bytes_are w v)) ∙ length-bytes_low_first 0 w v ∙ omega arith in
     record {
       front = take-put_mid at (at + w - at) bytes part (at + w) (omega (arith, long)) (omega arith)
           ∙ ap (λ (l : List ℕ). take at bytes ++ l) same;

@@ -1,7 +1,7 @@
 -- What a writer writes, put together: one thing after another, a count and its things, and all that a refusal leaves
 -- unwritten. Assumes nothing.
-use Rattle.std.proofs.Common.{◌≡◌, refl, sym, ap, ◌∙◌, subst, arith, ℕ, zero, suc, ◌+◌, ◌*◌, ◌≤◌, ◌<◌, List, length}
-use Rattle.std.proofs.Common.{get_or, drop}
+use Rattle.std.proofs.Common.{◌≡◌, refl, sym, ◌∙◌, subst, arith, ℕ, suc, ◌+◌, ◌*◌, ◌≤◌, ◌<◌, List, length}
+use Rattle.std.proofs.Common.{get_or}
 use Rattle.std.specs.Prelude.{Result, Ok, Err, Bool, true, false, cond, eqb, ltb, ⊤}
 use Rattle.std.proofs.Math.Nat.{mul-le-mul_left, mul-suc}
 use Rattle.std.proofs.lemmas.Bool.{eqb-false}

@@ -3,11 +3,11 @@
 use Rattle.std.specs.Prelude.{◌≡◌, Bool, cond, List, [], ◌++◌, ℕ, ◌+◌, ◌-◌, ◌*◌, ◌≤◌, eqb, length, get_or, take, drop}
 use Rattle.std.specs.Prelude.{Result, Ok, Err}
 use Rattle.base_lists.specs.Lists.{in_front}
-use Rattle.plan_format.specs.Sizes.{second_width, plan_bytes}
+use Rattle.plan_format.specs.Sizes.{most_queues, most_buffers, most_operations, second_width, block_bytes, plan_bytes}
 use Rattle.plan_format.specs.Refusal.{Refusal, refusal, none_given}
 use Rattle.plan_format.specs.Grammar.{Grammar, field, digits, numbers, Scan, scan}
 use Rattle.plan_format.specs.Grammar.{last_got, read_by, Spelling, spell_by}
-use Rattle.plan_format.specs.Form.{list_by, form_by, plan_grammar, scanned_by, spelled_by}
+use Rattle.plan_format.specs.Form.{Form, list_by, form_by, plan_grammar, scanned_by, spelled_by}
 use Rattle.plan_format.specs.Stored.{Tells}
 use Rattle.plan_format.specs.Told.{Refused, number_of}
 use Rattle.plan_format.specs.declared.Told.{Told}
@@ -97,6 +97,14 @@ pub record LeadPut (lead bytes : List ℕ) (k : ℕ) (bytes_now : List ℕ) : Ty
   pub front : take k bytes_now ≡ lead
   pub as_long : length bytes_now ≡ length bytes
   pub past : drop k bytes_now ≡ drop k bytes
+
+-- a list that is tried with so many bytes for a semaphore's position, and so many semaphores at most
+abbrev pub listed_with : (width most : ℕ) → Form
+listed_with w m = record { lead = []; semaphore_width = w; semaphores_least = 0; semaphores_most = m }
+
+-- the most bytes of the four sections, those of the owners and of the rest
+abbrev pub sections_most : (owners : ℕ) → ℕ
+sections_most m = 1 + 8 * most_queues + (m + (2 + 4 * most_buffers + (2 + block_bytes * most_operations)))
 
 -- the whole list was read and spelled after the lead, but for its end
 pub record PlanWritten (wide : Bool) (xs bytes : List ℕ) (r : Reached) (bytes_now : List ℕ) : Type 0 where

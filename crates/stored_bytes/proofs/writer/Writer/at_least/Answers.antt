@@ -15,7 +15,7 @@ returns-then-value-least-clause-wrote c =
     record {
       same_list = refl;
       writes = rw c.refusal-then-value-least.ensures (wrong refl (omega arith) c.if-self.false refl
-      ((value_means c.args.least _ _).yes c.if-value-least.true) (eqb-false 16 0 refl));
+          ((value_means c.args.least _ _).yes c.if-value-least.true) (eqb-false 16 0 refl));
     }
 
 pub returns-clause-wrote : goal.returns-clause-wrote
@@ -23,6 +23,6 @@ returns-clause-wrote c =
     record {
       same_list = c.put.ensures.same_list;
       writes = rw c.put.ensures.past (kept refl (omega arith) c.if-self.false refl (omega arith)
-      (passes_at_least c.args.least _ _ c.if-value-least.false)
-      (search rules) c.put.ensures.put);
+          (passes_at_least c.args.least _ _ c.if-value-least.false)
+          (search rules) c.put.ensures.put);
     }

@@ -1,6 +1,5 @@
 -- `axes` meets its contract: after k turns, k axes are written.
 use Rattle.std.proofs.Common.{◌≡◌, ◌*◌, Ok}
-use Rattle.plan_format.specs.Sizes.{most_queues}
 use Rattle.plan_format.specs.Sections.{axis_field}
 use Rattle.plan_format.specs.Sections.{repeat}
 use Rattle.stored_bytes.specs.Writing.{Wrote}

@@ -1,5 +1,5 @@
 -- `axis` meets its contract, by the law of each way out.
-use Rattle.std.proofs.Common.{rules, refl, sym, arith, length-take-le}
+use Rattle.std.proofs.Common.{rules, refl, arith}
 use Rattle.std.proofs.lemmas.Bool.{eqb-false}
 use Rattle.plan_format.specs.Sections.{axis_field}
 use Rattle.plan_format.proofs.Axes.{axis_again, axis_new}
@@ -17,7 +17,7 @@ returns-then-repeated-clause-wrote c =
     record {
       same_list = refl;
       writes = rw c.refusal-then-repeated.ensures (wrong refl (omega arith) c.if-self-at.false refl
-      (axis_again _ _ _ c.repeated.ensures c.if-repeated.true) (eqb-false 5 0 refl));
+          (axis_again _ _ _ c.repeated.ensures c.if-repeated.true) (eqb-false 5 0 refl));
     }
 
 pub returns-clause-wrote : goal.returns-clause-wrote
@@ -26,6 +26,6 @@ returns-clause-wrote c =
     record {
       same_list = c.put.ensures.same_list;
       writes = rw c.put.ensures.past (kept refl (omega arith) c.if-self-at.false refl (omega arith)
-      (axis_new _ _ _ c.repeated.ensures c.if-repeated.false)
-      (search rules) c.put.ensures.put);
+          (axis_new _ _ _ c.repeated.ensures c.if-repeated.false)
+          (search rules) c.put.ensures.put);
     }

@@ -13,7 +13,7 @@ returns-then-limit-value-clause-wrote g c =
     record {
       same_list = refl;
       writes = rw c.refusal-then-limit-value.ensures (limited_over refl (omega arith) c.if-self.false refl
-      (reason_given c.args.over) c.if-limit-value.true);
+          (reason_given c.args.over) c.if-limit-value.true);
     }
 
 pub returns-clause-wrote : goal.returns-clause-wrote
@@ -21,5 +21,5 @@ returns-clause-wrote g c =
     record {
       same_list = c.put.ensures.same_list;
       writes = rw c.put.ensures.past (limited_kept refl (omega arith) c.if-self.false refl c.requires.width.1
-      c.if-limit-value.false (omega (arith, c.if-limit-value.false, c.requires.fits)) c.put.ensures.put);
+          c.if-limit-value.false (omega (arith, c.if-limit-value.false, c.requires.fits)) c.put.ensures.put);
     }

@@ -1,6 +1,5 @@
 -- `marks` meets its contract: after k turns, k marks are written.
 use Rattle.std.proofs.Common.{◌≡◌, ◌*◌, Ok}
-use Rattle.plan_format.specs.Sizes.{most_marks}
 use Rattle.plan_format.specs.Sections.{mark_below}
 use Rattle.plan_format.specs.Sections.{repeat}
 use Rattle.stored_bytes.specs.Writing.{Wrote}

@@ -1,8 +1,7 @@
 -- `operation` meets its contract: one part after the other, or the first one refused.
 use Rattle.std.proofs.Common.{rules, ◌≡◌, Err, arith}
-use Rattle.plan_format.specs.Sizes.{most_waits, most_signals, most_marks, least_wait, least_signal, block_bytes}
-use Rattle.plan_format.specs.Grammar.{seq, counted}
-use Rattle.plan_format.specs.Sections.{point_below, mark_below, operation_below}
+use Rattle.plan_format.specs.Sizes.{block_bytes}
+use Rattle.plan_format.specs.Sections.{operation_below}
 use Rattle.stored_bytes.proofs.Writers.{wrote_field, wrote_seq, wrote_stop}
 use Rattle.stored_bytes.proofs.writer.Writer.operation.Goals as goal
 

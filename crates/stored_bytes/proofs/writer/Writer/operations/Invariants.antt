@@ -1,6 +1,6 @@
 -- `operations` meets its contract: after k turns, k operations are written.
 use Rattle.std.proofs.Common.{◌≡◌, ◌*◌, Ok}
-use Rattle.plan_format.specs.Sizes.{block_bytes, most_operations}
+use Rattle.plan_format.specs.Sizes.{block_bytes}
 use Rattle.plan_format.specs.Sections.{operation_below}
 use Rattle.plan_format.specs.Sections.{repeat}
 use Rattle.stored_bytes.specs.Writing.{Wrote}

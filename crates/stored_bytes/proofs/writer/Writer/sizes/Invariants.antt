@@ -1,6 +1,5 @@
 -- `sizes` meets its contract: after k turns, k sizes are written.
 use Rattle.std.proofs.Common.{◌≡◌, ◌*◌, Ok}
-use Rattle.plan_format.specs.Sizes.{most_buffers}
 use Rattle.plan_format.specs.Sections.{size_field}
 use Rattle.plan_format.specs.Sections.{repeat}
 use Rattle.stored_bytes.specs.Writing.{Wrote}
