@@ -1,22 +1,25 @@
 -- What the bytes that were written, in the first form that takes the list, are to the room. Assumes nothing.
 use mathlib.Core.Path.{◌≡◌, refl, sym, ap, ◌∙◌}
 use mathlib.Core.Bool.{Bool, true, false, cond}
-use mathlib.Core.List.{List, []}
-use Prim.Native.Nat.{ℕ, ◌≤◌}
-use native.Mathlib.Omega.{arith}
-use lib.ListN.{length, take, drop, length-take}
+use mathlib.Core.List.{List, [], ◌++◌}
+use Prim.Native.Nat.{ℕ, ◌≤◌, ◌<◌}
+use lib.ListN.{length, take, drop}
 use lib.Seq.{take-append_seam}
 use Rattle.base_lists.specs.Lists.{in_front}
 use Rattle.base_lists.proofs.Tests.{by_cases}
 use Rattle.plan_format.specs.Refusal.{given}
 use Rattle.plan_format.specs.Form.{list_by, form_by}
 use Rattle.plan_format.specs.Meaning.{WriteMeans}
-use Rattle.plan_format.specs.Stored.{listed, spelled, Tells, WriteSays}
+use Rattle.plan_format.specs.Stored.{listed, spelled, Tells, write_refusal, WriteSays}
+use Rattle.std.specs.Prelude.{Result, Ok, Err}
+use Rattle.plan_format.specs.Told.{Refused, refused_by, told_by}
 use Rattle.plan_format.specs.declared.Told.{Told}
+use Rattle.plan_format.specs.declared.refusal.Reason.TheVariants.{RoomTooShort}
 use Rattle.plan_format.proofs.Judged.{not_given_zero}
-use Rattle.plan_format.proofs.HandedBack.{answer_long}
+use Rattle.plan_format.proofs.HandedBack.{answer_long, not_read, no_room, stored}
 use Rattle.plan_format.proofs.RoundTripRoom.{write_means}
 use Rattle.plan_format.proofs.AsBefore.{as_before, written_second}
+use Rattle.stored_bytes.proofs.Writers.{reason_given}
 use Rattle.stored_bytes.specs.Writing.{tried, tried_bytes, BytesWritten}
 use Rattle.stored_write.specs.Tried.{Tried}
 
@@ -66,24 +69,38 @@ module _ {xs bytes₀ bytes₁ : List ℕ} {r₁ r : Told} {bytes : List ℕ} (f
         long = n.long;
       }
 
-module _ {xs : List ℕ} {r : Told} {bytes : List ℕ} (n : Tried xs r bytes) (z : r.number ≡ 0) where
-  -- they fit the array that they were put into
-  pub written_fits : r.answer ≤ length bytes
-  written_fits =
-      omega (
-        arith,
-        answer_long (listed xs).fault (spelled xs) n.told [] z,
-        ap length (n.front z),
-        length-take (length (spelled xs)) bytes,
-      )
-
-  -- and are in front
-  pub written_front : (room : List ℕ) → in_front (take r.answer bytes) room ≡ in_front (spelled xs) room
-  written_front room =
-      ap (λ (l : List ℕ). in_front l room)
-      (ap (λ (k : ℕ). take k bytes) (answer_long (listed xs).fault (spelled xs) n.told [] z) ∙ n.front z)
-
 -- what is said, and what it means
-pub both : (xs : List ℕ) (r : Told) (room room_now : List ℕ) → WriteSays xs r room room_now →
-    WriteSays xs r room room_now × WriteMeans xs r room room_now
-both xs r room room_now w = (w, write_means xs r room room_now w)
+abbrev Says : (xs : List ℕ) → Result ℕ Refused → (room room_now : List ℕ) → Type 0
+Says xs r room room_now = WriteSays xs (told_by r) room room_now × WriteMeans xs (told_by r) room room_now
+
+both : (xs : List ℕ) (r : Result ℕ Refused) (room room_now : List ℕ) → WriteSays xs (told_by r) room room_now →
+    Says xs r room room_now
+both xs r room room_now w = (w, write_means xs (told_by r) room room_now w)
+
+-- a refusal
+pub written_refused : {xs bytes room : List ℕ} (e : Refused) → Tried xs (told_by (Err e)) bytes →
+    Says xs (Err e) room room
+unfolding WriteSays write_refusal
+written_refused {xs} {bytes} {room} e n =
+    both xs (Err e) room room
+    (not_read (listed xs).fault (spelled xs) n.told room (reason_given e.reason))
+
+module _ {xs bytes : List ℕ} (k : ℕ) (n : Tried xs (told_by (Ok k)) bytes) where
+  long : k ≡ length (spelled xs)
+  long = answer_long (listed xs).fault (spelled xs) n.told [] refl
+
+  -- too little room
+  pub written_short : {room : List ℕ} → length room < k → Says xs (Err (refused_by RoomTooShort k)) room room
+  unfolding WriteSays write_refusal
+  written_short {room} h =
+      both xs (Err (refused_by RoomTooShort k)) room room
+      (no_room (listed xs).fault (spelled xs) n.told room refl h)
+
+  -- the bytes, in front of the room
+  pub written_stored : {part room : List ℕ} → k ≤ length room → part ≡ take k bytes → Says xs (Ok k) room (part ++ drop k room)
+  unfolding WriteSays write_refusal in_front
+  written_stored {part} {room} h e =
+      let front : part ≡ spelled xs = e ∙ ap (λ (j : ℕ). take j bytes) long ∙ n.front refl in
+      both xs (Ok k) room (part ++ drop k room)
+      (stored (listed xs).fault (spelled xs) n.told room refl h
+      (ap (λ (l : List ℕ). l ++ drop k room) front ∙ ap (λ (j : ℕ). spelled xs ++ drop j room) long))

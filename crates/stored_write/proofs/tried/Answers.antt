@@ -1,12 +1,11 @@
 -- `tried` meets its contract: the first form takes the list, or the second decides.
+use Rattle.std.proofs.Common.{refl}
+use Rattle.stored_bytes.proofs.Writers.{reason_given}
 use Rattle.stored_write.proofs.WrittenRoom.{tried_first, tried_second}
 use Rattle.stored_write.proofs.tried.Goals as goal
 
-pub returns-then-first-eq0 : goal.returns-then-first-eq0
-returns-then-first-eq0 c =
-    tried_first c.write_bytes-first.ensures c.if-first-eq0.true
+pub returns-in-Ok : goal.returns-in-Ok
+returns-in-Ok c = tried_first c.in-Ok.ensures refl
 
-pub returns : goal.returns
-returns c =
-    tried_second c.write_bytes-first.ensures c.if-first-eq0.false
-    c.write_bytes.ensures
+pub returns-in-Err : goal.returns-in-Err
+returns-in-Err c = tried_second c.in-Err.ensures (reason_given c.in-Err.field-0.reason) c.write_bytes-in-Err.ensures
