@@ -25,7 +25,10 @@ pub extern "C" fn cundvrest_write(numbers: &[u64], room: &mut [u8], told: &mut [
     ensures says { WriteSays numbers.now (told_of told.new) room.old room.new }
     ensures means { WriteMeans numbers.now (told_of told.new) room.old room.new }
 {
-    c_told::tell(stored_write::write_plan(numbers, room), told);
+    c_told::tell(
+        plan_format::as_told(stored_write::write_plan(numbers, room)),
+        told,
+    );
 }
 
 // The check of a stored plan: the rows and the run in table and list.

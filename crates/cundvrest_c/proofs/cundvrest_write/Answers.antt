@@ -3,4 +3,4 @@ use Rattle.cundvrest_c.proofs.cundvrest_write.Goals as goal
 
 -- look: clauses says, means
 pub returns : goal.returns
-returns c = rw c.tell.ensures c.write_plan.ensures
+returns c = rw (c.tell.ensures, c.as_told.ensures) c.write_plan.ensures
