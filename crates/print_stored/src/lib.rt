@@ -37,7 +37,7 @@ fn written(numbers: &[u64], out: &mut [u8]) -> usize
     ensures { Puts (write_text numbers.now (length out.old)) out.old 0
         out.new result }
 {
-    let told = stored_write::write_plan(numbers, out);
+    let told = plan_format::as_told(stored_write::write_plan(numbers, out));
     if told.number != 0 {
         return base_text::refused(out, told.number, told.place);
     }
