@@ -10,6 +10,7 @@ ghost use Rattle.plan_format.specs.Plan.{Plan};
 ghost use Rattle.plan_format.specs.Refusal.{or_refusal};
 ghost use Rattle.plan_format.specs.Sound.{rules_refusal};
 ghost use Rattle.plan_format.specs.Stored.{Tells};
+ghost use Rattle.plan_format.specs.Told.{told_as};
 ghost use Rattle.plan_order.specs.Check.{room_refusal, PlanCheckSays};
 ghost use Rattle.check_columns.specs.Columns.{columns, SourceColumn};
 ghost use Rattle.check_signals.specs.Owners.{by_owners};
@@ -18,8 +19,8 @@ ghost use Rattle.check_passes.specs.Answering.{AnswersBy};
 ghost use Rattle.check_passes.specs.Given.{CheckGiven, RulesGiven, Ruled};
 
 use check_columns::{QueueColumn, WaitColumn};
-use plan_format::Told;
 use plan_format::limits::{FIRST_SEMAPHORES, MOST_SEMAPHORES};
+use plan_format::{Refusal, Told};
 
 // Refusals 7, 8 and 9, then the order: the answer, what is left in table and list, and the operation that each wait
 // rests on, in place of its semaphore. Where the columns show no plan within the limits, it is unspecified which
@@ -142,11 +143,15 @@ fn ruled(
         wval.now ssem.now sval.now sop.now →
         Ruled p result wait.new }
 {
-    let signalled = check_signals::judge(semaphores, signals, owner, queue, ssem, sval, sop, last);
+    let signalled = told_whether(check_signals::judge(
+        semaphores, signals, owner, queue, ssem, sval, sop, last,
+    ));
     if signalled.number != 0 {
         return signalled;
     }
-    let resolved = check_waits::resolve(n, semaphores, signals, ssem, sval, sop, wait, wval, last);
+    let resolved = told_passed(check_waits::resolve(
+        n, semaphores, signals, ssem, sval, sop, wait, wval, last,
+    ));
     if resolved.number != 0 {
         return resolved;
     }
@@ -154,5 +159,25 @@ fn ruled(
         number: resolved.number,
         place: resolved.place,
         answer: signalled.answer,
+    }
+}
+
+// What a result tells: 1 for yes, 0 for no.
+fn told_whether(r: Result<bool, Refusal>) -> Told
+    ensures { result ≡ told_as (λ b. cond b 1 0) r }
+{
+    match r {
+        Ok(b) => plan_format::answered(if b { 1 } else { 0 }),
+        Err(e) => plan_format::forwarded(e.reason.number(), e.place),
+    }
+}
+
+// What a result without an answer tells.
+fn told_passed(r: Result<(), Refusal>) -> Told
+    ensures { result ≡ told_as (λ _. 0) r }
+{
+    match r {
+        Ok(()) => plan_format::answered(0),
+        Err(e) => plan_format::forwarded(e.reason.number(), e.place),
     }
 }
