@@ -1,5 +1,5 @@
 -- What one turn of the walk over the signals does. Assumes nothing.
-use mathlib.Core.Path.{◌≡◌, refl, sym, ap, ◌∙◌}
+use mathlib.Core.Path.{◌≡◌, refl, sym, ◌∙◌}
 use mathlib.Core.Bool.{Bool, true, false, not, cond}
 use mathlib.Core.List.{List}
 use Prim.Native.Nat.{ℕ, suc, ◌+◌, ◌-◌, ◌*◌, ◌%◌, ◌≤◌, ◌<◌}
@@ -10,7 +10,7 @@ use borrow.Author.Tests.{lt-ltb, le-ltb, leb-true, leb-false}
 use Rattle.base_lists.proofs.Tests.{by_cases}
 use Rattle.plan_format.specs.Sizes.{most_operations, row_width, no_operation}
 use Rattle.check_columns.proofs.Ordered.{ordered_is}
-use Rattle.check_handover.specs.Walk.{held, unturned, turn_walk, turns_found}
+use Rattle.check_handover.specs.Walk.{unturned, turn_walk}
 
 -- ---- the test
 not_leb : (a b : ℕ) → ltb b a ≡ not (leb a b)

@@ -96,12 +96,13 @@ fn judge(
         let i = check_stuck::stuck(n, queue, rows).unwrap_or(many);
         return Err(Reason::Stuck.at(i));
     }
-    if let Some(i) = check_handover::disordered(
+    // columns that show no plan can name an operation past n, which is none
+    if let Some(unturned) = check_handover::disordered(
         n, semaphores, signals, owned, queue, ssem, sop, rows,
     )
-        && i < many
+        && unturned < many
     {
-        return Err(Reason::OutOfTurn.at(i));
+        return Err(Reason::OutOfTurn.at(unturned));
     }
     if let Some(i) = check_marks::broken(n, marks, queue, mark, mop, rows)
         && i < many

@@ -8,9 +8,9 @@ use Rattle.check_passes.proofs.Orders.{stuck_told, handovers_given, disordered_t
 use Rattle.check_passes.proofs.Orders.{passed_told}
 use Rattle.check_passes.proofs.AnyColumns.{order_stuck, order_disordered, order_broken, order_passed}
 use Rattle.check_passes.proofs.decide.judge.Goals.{In_default, in_default-via-in-None-1}
-use Rattle.check_passes.proofs.decide.judge.Goals.{in_default-via-in-Some+else-i-many, In_default-2}
+use Rattle.check_passes.proofs.decide.judge.Goals.{in_default-via-in-Some+else-unturned-many, In_default-2}
 use Rattle.check_passes.proofs.decide.judge.Goals.{in_default-2-via-in-None-1}
-use Rattle.check_passes.proofs.decide.judge.Goals.{in_default-2-via-in-Some-broken+else-i-many-2}
+use Rattle.check_passes.proofs.decide.judge.Goals.{in_default-2-via-in-Some-broken+else-i-many}
 use Rattle.check_passes.proofs.decide.judge.Goals as goal
 
 pub returns-then-ran-many : goal.returns-then-ran-many
@@ -26,7 +26,7 @@ returns-then-ran-many c =
 pub returns : goal.returns
 returns c =
     let all = rw c.from-many.ensures at c.if-ran-many.false in
-    let low = rw c.from-many.ensures at c.if-i-many.true in
+    let low = rw c.from-many.ensures at c.if-unturned-many.true in
     rw c.at-2.ensures (record {
       told = order_disordered _ _ _ _ all c.in-Some.ensures.found low;
       of_plans = λ p given. disordered_told given all (c.in-Some.ensures.of_plans p (handovers_given given all)) low;
@@ -37,22 +37,22 @@ turned : (c : In_default) → c.args.n ≤ unwrap_or c.disordered.result c.args.
 turned c = elim c.in_default.branch [
   | in_default-via-in-None-1 none ↦
       let e : ◌≡◌ {A = Option ℕ} c.disordered.result None = cc in rw e (le_refl c.args.n)
-  | in_default-via-in-Some+else-i-many w ↦ rw w.in-Some.is (rw c.from-many.ensures at w.if-i-many.false)
+  | in_default-via-in-Some+else-unturned-many w ↦ rw w.in-Some.is (rw c.from-many.ensures at w.if-unturned-many.false)
 ]
 
 unbroken : (c : In_default-2) → c.args.n ≤ unwrap_or c.broken.result c.args.n
 unbroken c = elim c.in_default-2.branch [
   | in_default-2-via-in-None-1 none ↦
       let e : ◌≡◌ {A = Option ℕ} c.broken.result None = cc in rw e (le_refl c.args.n)
-  | in_default-2-via-in-Some-broken+else-i-many-2 w ↦
-      rw w.in-Some-broken.is (rw c.from-many.ensures at w.if-i-many-2.false)
+  | in_default-2-via-in-Some-broken+else-i-many w ↦
+      rw w.in-Some-broken.is (rw c.from-many.ensures at w.if-i-many.false)
 ]
 
 pub returns-2 : goal.returns-2
 returns-2 c =
     let all = rw c.from-many.ensures at c.if-ran-many.false in
     let in_turn = turned (goal.at.returns-2 c).In_default in
-    let low = rw c.from-many.ensures at c.if-i-many-2.true in
+    let low = rw c.from-many.ensures at c.if-i-many.true in
     rw c.at-3.ensures (record {
       told = order_broken _ _ _ _ all c.disordered.ensures.found in_turn c.in-Some-broken.ensures.found low;
       of_plans = λ p given. broken_told given all (c.disordered.ensures.of_plans p (handovers_given given all)) in_turn low

@@ -1,5 +1,4 @@
 -- `decide::room` meets its contract: a short table, a short list, or enough of both. Assumes nothing.
-use native.Mathlib.Omega.{arith}
 use Rattle.plan_format.proofs.Telling.{tells}
 use Rattle.check_passes.proofs.Untouched.{short_table, short_list, room_enough}
 use Rattle.check_passes.proofs.decide.room.Goals as goal

@@ -1,6 +1,6 @@
 -- `leave::results` meets its contract: on a refusal zeros are over the front of both. Assumes nothing.
-use Rattle.std.proofs.Common.{rules, ◌≡◌, ℕ, ◌*◌, ◌++◌, List}
-use mathlib.Core.Path.{◌∙◌, refl}
+use Rattle.std.proofs.Common.{rules, ◌≡◌, ℕ, ◌*◌, ◌++◌}
+use mathlib.Core.Path.{◌∙◌}
 use Rattle.base_lists.proofs.Tests.{clash}
 use lib.ListN.{drop, replicate}
 use Rattle.check_passes.proofs.Zeroed.{zeroed}
