@@ -237,7 +237,7 @@ module _ (p : Plan) where
       (λ w. by_cases (leb i r) (λ t. omega (arith, leb-true i r t))
       (λ f. clash (met forced w.0) (s.1 w.0 w.1 (omega (arith, w.3, leb-false i r f))) w.2))))
 
-pub unturned_found : (p : Plan) (n semaphores signals : ℕ) (owned : Bool) (queue ssem sop rows : List ℕ) →
+unturned_found : (p : Plan) (n semaphores signals : ℕ) (owned : Bool) (queue ssem sop rows : List ℕ) →
     HandoversGiven p n semaphores signals owned queue ssem sop rows →
     first_unturned queue rows ssem sop owned n semaphores signals ≡ place_or n (disordered p)
 unfolding first_unturned turns_found place_or
@@ -253,25 +253,25 @@ unturned_found p n semaphores signals owned queue ssem sop rows c =
     (shows_none semaphores c.few_semaphores)
     ∙ lowest_out p))
 
--- ---- places for the last signallers
-pub none_few : (semaphores : ℕ) → semaphores ≤ first_semaphores →
-    replicate first_semaphores no_operation ≡ none_yet semaphores
-unfolding none_yet
-none_few semaphores few = rw (le-leb semaphores first_semaphores few)
+pub plans_by : {p : Plan} {n semaphores signals : ℕ} {owned : Bool} {queue ssem sop rows : List ℕ} {r : ℕ} →
+    r ≡ first_unturned queue rows ssem sop owned n semaphores signals →
+    HandoversGiven p n semaphores signals owned queue ssem sop rows → r ≡ place_or n (disordered p)
+plans_by e c = e ∙ unturned_found _ _ _ _ _ _ _ _ _ c
 
-pub none_many : (semaphores : ℕ) → first_semaphores < semaphores →
-    replicate most_semaphores no_operation ≡ none_yet semaphores
-unfolding none_yet
-none_many semaphores many = rw (lt-leb semaphores first_semaphores many)
-
--- what is found: none where only owners are said to signal, else by the walk from those places
-module _ (queue rows ssem sop : List ℕ) (n semaphores signals : ℕ) {owned : Bool} where
+-- what is found: none where only owners are said to signal, else by the walk with places for the last signallers
+module _ (queue rows ssem sop : List ℕ) (n semaphores signals : ℕ) (owned : Bool) where
   pub owners_is : owned ≡ true → n ≡ first_unturned queue rows ssem sop owned n semaphores signals
   unfolding first_unturned
   owners_is h = rw h refl
 
-  pub walk_is : {last : List ℕ} {r : ℕ} → owned ≡ false → last ≡ none_yet semaphores →
-      r ≡ turns_found queue rows ssem sop n signals last →
+  pub walk_few : {r : ℕ} → owned ≡ false → semaphores ≤ first_semaphores →
+      r ≡ turns_found queue rows ssem sop n signals (replicate first_semaphores no_operation) →
       r ≡ first_unturned queue rows ssem sop owned n semaphores signals
-  unfolding first_unturned
-  walk_is f e h = rw f (h ∙ rw e)
+  unfolding first_unturned none_yet
+  walk_few f few h = rw (f, le-leb semaphores first_semaphores few) h
+
+  pub walk_many : {r : ℕ} → owned ≡ false → first_semaphores < semaphores →
+      r ≡ turns_found queue rows ssem sop n signals (replicate most_semaphores no_operation) →
+      r ≡ first_unturned queue rows ssem sop owned n semaphores signals
+  unfolding first_unturned none_yet
+  walk_many f many h = rw (f, lt-leb semaphores first_semaphores many) h

@@ -1,5 +1,5 @@
 -- What one turn of the walk over the signals does. Assumes nothing.
-use mathlib.Core.Path.{◌≡◌, refl, sym, ap, ◌∙◌}
+use mathlib.Core.Path.{◌≡◌, refl, sym, ◌∙◌}
 use mathlib.Core.Bool.{Bool, true, false, not, cond}
 use mathlib.Core.List.{List}
 use Prim.Native.Nat.{ℕ, suc, ◌+◌, ◌-◌, ◌*◌, ◌%◌, ◌≤◌, ◌<◌}
@@ -10,25 +10,25 @@ use borrow.Author.Tests.{lt-ltb, le-ltb, leb-true, leb-false}
 use Rattle.base_lists.proofs.Tests.{by_cases}
 use Rattle.plan_format.specs.Sizes.{most_operations, row_width, no_operation}
 use Rattle.check_columns.proofs.Ordered.{ordered_is}
-use Rattle.check_handover.specs.Walk.{held, unturned, turn_walk, turns_found}
+use Rattle.check_handover.specs.Walk.{unturned, turn_walk}
 
 -- ---- the test
 not_leb : (a b : ℕ) → ltb b a ≡ not (leb a b)
 not_leb a b = by_cases (leb a b) (λ t. rw t (le-ltb b a (leb-true a b t))) (λ f. rw f (lt-ltb b a (leb-false a b f)))
 
-pub unturned_by : (queue rows : List ℕ) (g i x q own other : ℕ) → g < no_operation → x ≡ get_or queue g 0 →
-    q ≡ x % row_width → other ≡ get_or rows (row_width * i + q) 0 → own ≡ get_or rows (row_width * g + q) 0 →
-    ltb other own ≡ unturned queue rows g i
+pub unturned_some : (queue rows : List ℕ) (g i : ℕ) → g < no_operation →
+    ltb (get_or rows (row_width * i + get_or queue g 0 % row_width) 0)
+    (get_or rows (row_width * g + get_or queue g 0 % row_width) 0)
+    ≡ unturned queue rows g i
 unfolding unturned
-unturned_by queue rows g i x q own other l e m f h =
-    rw (
-      lt-ltb g no_operation l,
-      not_leb own other,
-      ordered_is queue rows g i x own other e (h ∙ ap (λ (z : ℕ). get_or rows (row_width * g + z) 0) m)
-          (f ∙ ap (λ (z : ℕ). get_or rows (row_width * i + z) 0) m),
-    ) refl
+unturned_some queue rows g i l =
+    let q = get_or queue g 0 % row_width in
+    let own = get_or rows (row_width * g + q) 0 in
+    let other = get_or rows (row_width * i + q) 0 in
+    rw (lt-ltb g no_operation l, not_leb own other, ordered_is queue rows g i (get_or queue g 0) own other refl refl refl)
+    refl
 
-pub unturned_none : (queue rows : List ℕ) (g i : ℕ) → no_operation ≤ g → false ≡ unturned queue rows g i
+pub unturned_none : (queue rows : List ℕ) (g i : ℕ) → no_operation ≤ g → ltb g no_operation ≡ unturned queue rows g i
 unfolding unturned
 unturned_none queue rows g i l = rw (le-ltb g no_operation l) refl
 
@@ -60,14 +60,6 @@ module _ {queue rows ssem sop : List ℕ} {n many : ℕ} {first : List ℕ} wher
     pub left_found : t ≡ true → i ≡ turn_walk queue rows ssem sop n many 0 first
     left_found h = sym (next_is ∙ rw h refl) ∙ b.rest
 
-    pub left_more : t ≡ false → {next : List ℕ} → next ≡ set last s (i % 65536) →
+    pub left_more : t ≡ false → {next : List ℕ} → next ≡ set last s i →
         Left queue rows ssem sop n many first (k + 1) next
-    left_more h e =
-        let stored : i % 65536 ≡ i = omega (arith, i_is) in
-        record { inside = omega arith; rest = rw (e, stored) (sym (next_is ∙ rw h refl) ∙ b.rest) }
-
--- of the signals only those that both columns hold
-pub cut_is : (queue rows ssem sop : List ℕ) (n signals many r : ℕ) (first : List ℕ) → many ≡ held signals ssem sop →
-    r ≡ turn_walk queue rows ssem sop n many 0 first → r ≡ turns_found queue rows ssem sop n signals first
-unfolding turns_found
-cut_is queue rows ssem sop n signals many r first m e = e ∙ rw m refl
+    left_more h e = record { inside = omega arith; rest = rw e (sym (next_is ∙ rw h refl) ∙ b.rest) }

@@ -11,6 +11,9 @@ use lib.Dec.{ltb, eqb}
 use lib.ListN.{length, length-set, length-replicate, get_or-replicate}
 use lib.Seq.{get_or-set_same, get_or-set_other}
 use borrow.Author.Tests.{ltb-true, ltb-false, eqb-true, eqb-false, eq-eqb, ne_eqb}
+use Rattle.std.specs.Prelude.{unwrap_or}
+use Rattle.std.specs.Bool.{then_some}
+use Rattle.std.specs.Prelude as option
 use Rattle.base_lists.specs.Lists.{place_or}
 use Rattle.base_lists.proofs.Tests.{by_cases, by_option, clash, either}
 use Rattle.plan_format.specs.Sizes.{most_buffers, no_operation}
@@ -263,15 +266,22 @@ module _ (p : Plan) (sound : Sound p) (few : length p.sizes ≤ 256) (f : List �
       ))))
 
 -- ---- the lower of the two
-pub lower_found : (n many held cut a b r : ℕ) (queue mark operation rows : List ℕ) →
+-- what is handed back for the lower number, which is n for none
+pub lower_found : (n o many held cut x y lowest : ℕ) (queue mark operation rows : List ℕ)
+    (r : option.Option ℕ) → o ≡ n →
     held ≡ min (length mark) (length operation) → cut ≡ min many held →
-    a ≡ first_late queue rows n (shown_from mark operation cut 0) →
-    b ≡ first_early queue rows n none_noted (shown_from mark operation cut 0) →
-    r ≡ min a b → r ≡ first_broken queue rows n many mark operation
+    x ≡ first_late queue rows o (shown_from mark operation cut 0) →
+    y ≡ first_early queue rows o none_noted (shown_from mark operation cut 0) →
+    lowest ≡ min x y → r ≡ then_some (not (eqb lowest o)) lowest →
+    unwrap_or r n ≡ first_broken queue rows n many mark operation
 unfolding first_broken
-lower_found n many held cut a b r queue mark operation rows h c ea eb er = rw (er, ea, eb, c, h)
+lower_found n o many held cut x y lowest queue mark operation rows r n_is h c l e low r_is =
+    let all : lowest ≡ first_broken queue rows n many mark operation = rw (low, l, e, c, h, n_is) in
+    by_cases (eqb lowest o)
+    (λ t. rw (r_is, t) (sym n_is ∙ sym (eqb-true lowest o t) ∙ all))
+    (λ f. rw (r_is, f) all)
 
-pub broken_found : (p : Plan) (n many : ℕ) (queue mark operation rows : List ℕ) →
+broken_found : (p : Plan) (n many : ℕ) (queue mark operation rows : List ℕ) →
     MarksGiven p n many queue mark operation rows →
     first_broken queue rows n many mark operation ≡ place_or n (broken p)
 unfolding first_broken
@@ -289,3 +299,8 @@ broken_found p n many queue mark operation rows c =
           (count p) (plan_marks p) none_noted none_yet shows_none (λ b. tt) known,
     )
     (lowest_found p c.sound c.few_buffers c.run c.full queue rows c.queues_shown c.rows_shown)
+
+pub plans_by : {p : Plan} {n many r : ℕ} {queue mark operation rows : List ℕ} →
+    r ≡ first_broken queue rows n many mark operation → MarksGiven p n many queue mark operation rows →
+    r ≡ place_or n (broken p)
+plans_by e c = e ∙ broken_found _ _ _ _ _ _ _ c

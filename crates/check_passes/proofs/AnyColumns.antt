@@ -8,12 +8,14 @@ use lib.Dec.{ltb}
 use lib.ListN.{take, drop, replicate, length-replicate}
 use lib.Seq.{length-take-le}
 use borrow.Author.Tests.{lt-ltb, le-ltb}
+use Rattle.std.specs.Prelude.{Result, is_ok, ⊤}
 use Rattle.base_lists.specs.Lists.{in_front}
 use Rattle.base_lists.proofs.Tests.{by_cases, clash, or_left, or_right}
 use Rattle.base_lists.proofs.Fronts.{front_taken, front_alike}
 use Rattle.plan_format.specs.Sizes.{row_width, row_places, most_operations}
 use Rattle.plan_format.specs.Refusal.{Refusal, refusal, none_given, given, or_refusal}
 use Rattle.plan_format.specs.Stored.{Tells}
+use Rattle.plan_format.specs.Told.{Refused}
 use Rattle.plan_format.specs.declared.Told.{Told}
 use Rattle.plan_format.proofs.Telling.{told, tells}
 use Rattle.plan_format.proofs.Judged.{zero_not_given, other_given, not_given_zero, or_else_first, or_else_second}
@@ -28,6 +30,7 @@ use Rattle.check_marks.specs.Passes.{first_broken}
 use Rattle.check_passes.specs.Answering.{zeros, rules_by, SourcesBy, OrderColumns, disordered_by}
 use Rattle.check_passes.specs.Answering.{broken_by, order_by, RunJudged, AnswersBy}
 use Rattle.check_passes.specs.Leaving.{ResultsRoom, ResultsLeft}
+use Rattle.check_passes.proofs.Results.{told_of, passed_by, refused_as}
 use Rattle.check_passes.proofs.Inside.{order_inside}
 
 -- ---- the first of two that is given, whatever would be answered without it
@@ -109,11 +112,11 @@ module _ (n ran : ℕ) (cs : OrderColumns) (rows : List ℕ) where
       order_passed b = tells (rw (le-ltb ran n all, ← out, le-ltb u n turned, ← e, le-ltb i n b))
 
 -- ---- what is left
-module _ (n ran : ℕ) (cs : OrderColumns) (rows : List ℕ) {t t' l l₁ l' : List ℕ} {r : Told} (room : ResultsRoom n t l)
-    (bounded : Bounded n ran (replicate row_places 0) rows l l₁)
-    (told_is : Tells (order_by n cs ran rows) 0 r)
-    (left : ResultsLeft r.number n rows t t' l₁ l') where
-  run_judged : RunJudged n cs r t t' l l'
+module _ (n ran : ℕ) (cs : OrderColumns) (rows : List ℕ) {t t' l l₁ l' : List ℕ} (r : Result ⊤ Refused)
+    (room : ResultsRoom n t l) (bounded : Bounded n ran (replicate row_places 0) rows l l₁)
+    (told_is : Tells (order_by n cs ran rows) 0 (told_of r))
+    (left : ResultsLeft (is_ok r) n rows t t' l₁ l') where
+  run_judged : RunJudged n cs (told_of r) t t' l l'
   run_judged = record {
     ran = ran;
     rows = rows;
@@ -125,14 +128,14 @@ module _ (n ran : ℕ) (cs : OrderColumns) (rows : List ℕ) {t t' l l₁ l' : L
         subst (λ (k : ℕ). k < n) (sym told_is.place)
         (order_inside bounded (omega (arith, room.in_list)) cs (λ e. z (told_is.number ∙ e)));
     table_holds = by_cases (given (order_by n cs ran rows))
-        (λ g. left.refused_table (not_none g)
+        (λ g. left.refused_table (refused_as r (not_none g))
         ∙ sym (ap (λ (b : Bool). in_front (cond b (replicate (row_width * n) 0) (take (row_width * n) rows)) t) g))
-        (λ f. left.passed_table (is_none f)
+        (λ f. left.passed_table (passed_by r (is_none f))
         ∙ sym (ap (λ (b : Bool). in_front (cond b (replicate (row_width * n) 0) (take (row_width * n) rows)) t) f));
     list_holds = by_cases (given (order_by n cs ran rows))
-        (λ g. left.refused_list (not_none g) ∙ front_alike (replicate (2 * n) 0) l₁ l (rw length-replicate past)
+        (λ g. left.refused_list (refused_as r (not_none g)) ∙ front_alike (replicate (2 * n) 0) l₁ l (rw length-replicate past)
         ∙ sym (ap (λ (b : Bool). in_front (cond b (replicate (2 * n) 0) (take (2 * n) l₁)) l) g))
-        (λ f. left.passed_list (is_none f) ∙ in_list
+        (λ f. left.passed_list (passed_by r (is_none f)) ∙ in_list
         ∙ sym (ap (λ (b : Bool). in_front (cond b (replicate (2 * n) 0) (take (2 * n) l₁)) l) f));
   }
     where
@@ -142,17 +145,17 @@ module _ (n ran : ℕ) (cs : OrderColumns) (rows : List ℕ) {t t' l l₁ l' : L
       in_list : l₁ ≡ in_front (take (2 * n) l₁) l
       in_list = front_taken (2 * n) l₁ l (omega (arith, bounded.long, room.in_list)) past
 
-      not_none : given (order_by n cs ran rows) ≡ true → r.number ≡ 0 → ⊥
+      not_none : given (order_by n cs ran rows) ≡ true → (told_of r).number ≡ 0 → ⊥
       not_none g e =
           clash (given (order_by n cs ran rows)) g
           (zero_not_given (order_by n cs ran rows) (sym told_is.number ∙ e))
 
-      is_none : given (order_by n cs ran rows) ≡ false → r.number ≡ 0
+      is_none : given (order_by n cs ran rows) ≡ false → (told_of r).number ≡ 0
       is_none f = told_is.number ∙ not_given_zero (order_by n cs ran rows) f
 
   -- a run
   pub answers_run : {first : Refusal} {lent : Told} → Tells first 0 lent → lent.number ≡ 0 →
-      AnswersBy first n cs r t t' l l'
+      AnswersBy first n cs (told_of r) t t' l l'
   answers_run {first} h z =
       let none : (given first || ltb most_operations n) ≡ false =
       rw (zero_not_given first (sym h.number ∙ z)) (le-ltb most_operations n room.few) in

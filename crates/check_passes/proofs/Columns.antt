@@ -71,13 +71,15 @@ module _ {p : Plan} {n semaphores signals : ℕ} {owner queue wsem wval ssem sva
   }
 
 -- ---- the whole check
--- an answer of 1 or 0 as yes or no
+-- yes or no, told as 1 or 0
 is_one : (b : Bool) → eqb (cond b 1 0) 1 ≡ b
 is_one true = refl
 is_one false = refl
 
-pub owned_told : {f : Refusal} {b : Bool} {r : Told} → Tells f (cond b 1 0) r → r.number ≡ 0 → eqb r.answer 1 ≡ b
-owned_told {b = b} h z = ap (λ (k : ℕ). eqb k 1) (answer_told h z) ∙ is_one b
+pub owned_told : {f : Refusal} {b owned : Bool} →
+    Tells f (cond b 1 0) (record { number = 0; place = 0; answer = cond owned 1 0 }) → owned ≡ b
+owned_told {b = b} {owned} h =
+    sym (is_one owned) ∙ ap (λ (k : ℕ). eqb k 1) (answer_told h refl) ∙ is_one b
 
 module _ {p : Plan} {n semaphores signals marks : ℕ} {owner : List ℕ} {cs : Columns}
     (g : CheckGiven p n semaphores signals marks owner cs) where
@@ -93,17 +95,18 @@ module _ {p : Plan} {n semaphores signals marks : ℕ} {owner : List ℕ} {cs : 
     signals_shown = g.shown.signals_shown;
   }
 
-  pub order_given : {t : Told} {source : List ℕ} → Ruled p t source → t.number ≡ 0 →
-      OrderGiven p n source (order_columns semaphores signals marks (eqb t.answer 1) cs.queue
+  pub order_given : {owned : Bool} {source : List ℕ} →
+      Ruled p (record { number = 0; place = 0; answer = cond owned 1 0 }) source →
+      OrderGiven p n source (order_columns semaphores signals marks owned cs.queue
       cs.signal_semaphore cs.signal_operation cs.mark cs.mark_operation)
-  order_given {t} ruled z = record {
+  order_given {owned} ruled = record {
     limits = g.limits;
-    rules = sym ruled.told.number ∙ z;
+    rules = sym ruled.told.number;
     many = g.many;
-    sources_shown = ruled.sources_shown z;
+    sources_shown = ruled.sources_shown refl;
     shown = record {
       own_semaphores = g.own_semaphores;
-      only_owners = λ e. ruled.owned_means.0 (sym (owned_told ruled.told z) ∙ e);
+      only_owners = λ e. ruled.owned_means.0 (sym (owned_told ruled.told) ∙ e);
       queues_shown = g.shown.queues_shown;
       values = cs.signal_value;
       signals_shown = g.shown.signals_shown;

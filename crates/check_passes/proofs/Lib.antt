@@ -1,3 +1,5 @@
+pub mod Zeroed
+pub mod Results
 pub mod Columns
 pub mod Untouched
 pub mod Orders

@@ -9,6 +9,7 @@ use native.Mathlib.Nat.{div-add-mod}
 use native.Mathlib.Omega.{arith}
 use lib.ListN.{length, get_or, take, replicate, length-replicate}
 use lib.Seq.{ext_get_or, get_or-take, length-take-le}
+use Rattle.std.specs.Prelude.{Result, is_ok, ⊤}
 use Rattle.base_lists.specs.Lists.{member, in_front, lowest_below, place_or}
 use Rattle.base_lists.proofs.Tests.{by_cases, by_option, clash}
 use Rattle.base_lists.proofs.Fronts.{front_alike}
@@ -18,7 +19,7 @@ use Rattle.plan_format.specs.Refusal.{Refusal, refusal, none_given, given}
 use Rattle.plan_format.specs.Plan.{Plan, count, op, queues}
 use Rattle.plan_format.specs.Sound.{Sound, rules_refusal}
 use Rattle.plan_format.specs.Stored.{Tells}
-use Rattle.plan_format.specs.declared.Told.{Told}
+use Rattle.plan_format.specs.Told.{Refused}
 use Rattle.plan_format.proofs.Telling.{told, tells}
 use Rattle.plan_format.proofs.Judged.{zero_not_given, not_given_zero}
 use Rattle.plan_order.specs.Check.{room_refusal, refused_at, order_refusal, zeros, rows_and_run, Outcome, outcome}
@@ -36,6 +37,7 @@ use Rattle.check_marks.specs.Given.{MarksGiven}
 use Rattle.check_passes.specs.Answering.{OrderColumns}
 use Rattle.check_passes.specs.Leaving.{ResultsRoom, ResultsLeft}
 use Rattle.check_passes.specs.Given.{JudgeGiven}
+use Rattle.check_passes.proofs.Results.{told_of, passed_by, refused_as}
 use Rattle.check_passes.proofs.Untouched.{room_enough}
 
 -- ---- the standard run of a sound plan is full, or an operation is missing
@@ -168,10 +170,10 @@ rows_taken p rows_now room shows =
     ∙ sym (rows_at p (k / row_width) (k % row_width) j_inside q_inside)
     ∙ ap (λ (x : ℕ). get_or (rows p) x 0) place)
 
-module _ (p : Plan) {n ran : ℕ} {rows_now : List ℕ} {r : Told} {t t' l l₁ l' : List ℕ} (sound : Sound p)
-    (many : count p ≡ n) (room : ResultsRoom n t l)
-    (run : Ran p n ran rows_now l l₁) (told_is : Tells (order_refusal p) 0 r)
-    (left : ResultsLeft r.number n rows_now t t' l₁ l') where
+module _ (p : Plan) {n ran : ℕ} {rows_now : List ℕ} (r : Result ⊤ Refused) {t t' l l₁ l' : List ℕ}
+    (sound : Sound p) (many : count p ≡ n) (room : ResultsRoom n t l)
+    (run : Ran p n ran rows_now l l₁) (told_is : Tells (order_refusal p) 0 (told_of r))
+    (left : ResultsLeft (is_ok r) n rows_now t t' l₁ l') where
   ordered : plan_outcome p (length t) (length l) ≡
       or_then (outcome (order_refusal p) zeros) (outcome none_given rows_and_run)
   unfolding plan_outcome or_then outcome refusal
@@ -184,38 +186,38 @@ module _ (p : Plan) {n ran : ℕ} {rows_now : List ℕ} {r : Told} {t t' l l₁ 
         zero_not_given (room_refusal (count p) (length t) (length l)) enough,
       )
 
-  refused_says : given (order_refusal p) ≡ true → PlanCheckSays p r t t' l l'
+  refused_says : given (order_refusal p) ≡ true → PlanCheckSays p (told_of r) t t' l l'
   unfolding PlanCheckSays or_then outcome table_left list_left left_in
   refused_says g =
-      let z : r.number ≡ 0 → ⊥ = λ e.
+      let z : (told_of r).number ≡ 0 → ⊥ = λ e.
       clash (given (order_refusal p)) g (zero_not_given (order_refusal p) (sym told_is.number ∙ e)) in
       let same : plan_outcome p (length t) (length l) ≡ outcome (order_refusal p) zeros = ordered ∙ rw g in
-      subst (λ (o : Outcome). Says o 0 p r t t' l l') (sym same)
+      subst (λ (o : Outcome). Says o 0 p (told_of r) t t' l l') (sym same)
       (record {
         tells = told_is;
-        table_holds = left.refused_table z ∙ ap (λ (k : ℕ). in_front (replicate (row_width * k) 0) t) (sym many);
-        list_holds = left.refused_list z ∙ front_alike (replicate (2 * n) 0) l₁ l
+        table_holds = left.refused_table (refused_as r z) ∙ ap (λ (k : ℕ). in_front (replicate (row_width * k) 0) t) (sym many);
+        list_holds = left.refused_list (refused_as r z) ∙ front_alike (replicate (2 * n) 0) l₁ l
             (rw length-replicate run.listed.past)
             ∙ ap (λ (k : ℕ). in_front (replicate (2 * k) 0) l) (sym many);
       })
 
-  passed_says : (order_refusal p).number ≡ 0 → PlanCheckSays p r t t' l l'
+  passed_says : (order_refusal p).number ≡ 0 → PlanCheckSays p (told_of r) t t' l l'
   unfolding PlanCheckSays or_then outcome table_left list_left left_in
   passed_says e =
       let z = told_is.number ∙ e in
       let some_run = missing_none p (known p sound) (passed_means p e).0 in
       let full = (full_run p (standard p) (standard_full p (known p sound) some_run)).1 in
-      let taken = rows_taken p rows_now (rw many (left.long z)) (all_rows p sound rows_now some_run run.filled) in
+      let taken = rows_taken p rows_now (rw many (left.long (passed_by r z))) (all_rows p sound rows_now some_run run.filled) in
       let same : plan_outcome p (length t) (length l) ≡ outcome none_given rows_and_run =
       ordered ∙ rw (zero_not_given (order_refusal p) e) in
-      subst (λ (o : Outcome). Says o 0 p r t t' l l') (sym same)
+      subst (λ (o : Outcome). Says o 0 p (told_of r) t t' l l') (sym same)
       (record {
-        tells = subst (λ (f : Refusal). Tells f 0 r) (passed_means p e).1 told_is;
-        table_holds = left.passed_table z
+        tells = subst (λ (f : Refusal). Tells f 0 (told_of r)) (passed_means p e).1 told_is;
+        table_holds = left.passed_table (passed_by r z)
             ∙ ap (λ (x : List ℕ). in_front x t) (ap (λ (k : ℕ). take (row_width * k) rows_now) (sym many) ∙ taken);
-        list_holds = left.passed_list z ∙ run.whole (run.many ∙ full ∙ many);
+        list_holds = left.passed_list (passed_by r z) ∙ run.whole (run.many ∙ full ∙ many);
       })
 
-  pub order_says : PlanCheckSays p r t t' l l'
+  pub order_says : PlanCheckSays p (told_of r) t t' l l'
   order_says =
       by_cases (given (order_refusal p)) refused_says (λ f. passed_says (not_given_zero (order_refusal p) f))

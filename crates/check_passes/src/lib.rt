@@ -5,11 +5,13 @@
 mod decide;
 mod leave;
 
-ghost use Rattle.std.specs.Prelude.{◌≡◌, cond, length};
+ghost use Rattle.std.specs.Prelude.{◌≡◌, ◌≤◌, cond, length, replicate};
+ghost use Rattle.plan_format.specs.Sizes.{most_semaphores};
 ghost use Rattle.plan_format.specs.Plan.{Plan};
 ghost use Rattle.plan_format.specs.Refusal.{or_refusal};
 ghost use Rattle.plan_format.specs.Sound.{rules_refusal};
 ghost use Rattle.plan_format.specs.Stored.{Tells};
+ghost use Rattle.plan_format.specs.Told.{told_as};
 ghost use Rattle.plan_order.specs.Check.{room_refusal, PlanCheckSays};
 ghost use Rattle.check_columns.specs.Columns.{columns, SourceColumn};
 ghost use Rattle.check_signals.specs.Owners.{by_owners};
@@ -18,7 +20,7 @@ ghost use Rattle.check_passes.specs.Answering.{AnswersBy};
 ghost use Rattle.check_passes.specs.Given.{CheckGiven, RulesGiven, Ruled};
 
 use check_columns::{QueueColumn, WaitColumn};
-use plan_format::Told;
+use plan_format::Refusal;
 use plan_format::limits::{FIRST_SEMAPHORES, MOST_SEMAPHORES};
 
 // Refusals 7, 8 and 9, then the order: the answer, what is left in table and list, and the operation that each wait
@@ -40,47 +42,32 @@ pub fn judge_columns(
     mop: &[u16],
     table: &mut [u32],
     list: &mut [u32],
-) -> Told
+) -> Result<(), Refusal>
     ensures answers { AnswersBy (or_refusal
         (rules_by n semaphores signals wait.old wval.now ssem.now sval.now
         sop.now) (room_refusal n (length table.old) (length list.old))) n
         (order_columns semaphores signals marks
         (by_owners signals owner.now queue.now ssem.now sval.now
         sop.now) queue.now ssem.now sop.now mark.now
-        mop.now) result table.old table.new list.old list.new }
+        mop.now) (told_as (λ _. 0) result) table.old table.new list.old list.new }
     ensures sources { SourcesBy n semaphores signals wait.old wval.now
         ssem.now sval.now sop.now wait.new }
     ensures of_plans { (p : Plan) → CheckGiven p n semaphores signals marks owner.now
         (columns queue.now wait.old wval.now ssem.now sval.now
         sop.now mark.now mop.now) →
-        PlanCheckSays p result table.old table.new list.old list.new ×
+        PlanCheckSays p (told_as (λ _. 0) result) table.old table.new list.old list.new ×
         ((rules_refusal p).number ≡ 0 → SourceColumn p wait.new) }
 {
-    let ruled = rules(
+    let owned = rules(
         n, semaphores, signals, owner, queue, wait, wval, ssem, sval, sop,
-    );
-    if ruled.number != 0 {
-        return ruled;
-    }
+    )?;
     decide::check_order(
-        n,
-        semaphores,
-        signals,
-        marks,
-        ruled.answer == 1,
-        queue,
-        wait,
-        ssem,
-        sop,
-        mark,
-        mop,
-        table,
-        list,
+        n, semaphores, signals, marks, owned, queue, wait, ssem, sop, mark, mop, table, list,
     )
 }
 
-// 7, else 8; else the answer 1 where only owners signal, else 0, and, in place of the semaphore of each wait, the
-// operation that it rests on.
+// 7, else 8; else whether only owners signal, and, in place of the semaphore of each wait, the operation that it rests
+// on.
 fn rules(
     n: u16,
     semaphores: usize,
@@ -92,32 +79,31 @@ fn rules(
     ssem: &[u16],
     sval: &[u64],
     sop: &[u16],
-) -> Told
+) -> Result<bool, Refusal>
     ensures told { Tells (rules_by n semaphores signals wait.old wval.now
         ssem.now sval.now sop.now)
         (cond (by_owners signals owner.now queue.now ssem.now sval.now
-        sop.now) 1 0) result }
+        sop.now) 1 0) (told_as (λ b. cond b 1 0) result) }
     ensures sources { SourcesBy n semaphores signals wait.old wval.now
         ssem.now sval.now sop.now wait.new }
     ensures of_plans { (p : Plan) →
         RulesGiven p n semaphores signals owner.now queue.now wait.old
         wval.now ssem.now sval.now sop.now →
-        Ruled p result wait.new }
+        Ruled p (told_as (λ b. cond b 1 0) result) wait.new }
 {
     if semaphores <= FIRST_SEMAPHORES {
-        let mut last = [0u64; FIRST_SEMAPHORES];
-        return ruled(
-            n, semaphores, signals, owner, queue, wait, wval, ssem, sval, sop, &mut last,
-        );
+        ruled::<FIRST_SEMAPHORES>(
+            n, semaphores, signals, owner, queue, wait, wval, ssem, sval, sop,
+        )
+    } else {
+        ruled::<MOST_SEMAPHORES>(
+            n, semaphores, signals, owner, queue, wait, wval, ssem, sval, sop,
+        )
     }
-    let mut last = [0u64; MOST_SEMAPHORES];
-    ruled(
-        n, semaphores, signals, owner, queue, wait, wval, ssem, sval, sop, &mut last,
-    )
 }
 
-// The same, with the places for last values lent.
-fn ruled(
+// The same, with a place for the last value of each of some semaphores.
+fn ruled<const SEMAPHORES: usize>(
     n: u16,
     semaphores: usize,
     signals: usize,
@@ -128,31 +114,24 @@ fn ruled(
     ssem: &[u16],
     sval: &[u64],
     sop: &[u16],
-    last: &mut [u64],
-) -> Told
-    requires { last.old ≡ zeros semaphores }
+) -> Result<bool, Refusal>
+    requires few { SEMAPHORES ≤ most_semaphores }
+    requires enough { replicate SEMAPHORES 0 ≡ zeros semaphores }
     ensures told { Tells (rules_by n semaphores signals wait.old wval.now
         ssem.now sval.now sop.now)
         (cond (by_owners signals owner.now queue.now ssem.now sval.now
-        sop.now) 1 0) result }
+        sop.now) 1 0) (told_as (λ b. cond b 1 0) result) }
     ensures sources { SourcesBy n semaphores signals wait.old wval.now
         ssem.now sval.now sop.now wait.new }
     ensures of_plans { (p : Plan) →
         RulesGiven p n semaphores signals owner.now queue.now wait.old
         wval.now ssem.now sval.now sop.now →
-        Ruled p result wait.new }
+        Ruled p (told_as (λ b. cond b 1 0) result) wait.new }
 {
-    let signalled = check_signals::judge(semaphores, signals, owner, queue, ssem, sval, sop, last);
-    if signalled.number != 0 {
-        return signalled;
-    }
-    let resolved = check_waits::resolve(n, semaphores, signals, ssem, sval, sop, wait, wval, last);
-    if resolved.number != 0 {
-        return resolved;
-    }
-    Told {
-        number: resolved.number,
-        place: resolved.place,
-        answer: signalled.answer,
-    }
+    let mut last = [0u64; SEMAPHORES];
+    let owned = check_signals::judge(
+        semaphores, signals, owner, queue, ssem, sval, sop, &mut last,
+    )?;
+    check_waits::resolve(n, semaphores, signals, ssem, sval, sop, wait, wval, &last)?;
+    Ok(owned)
 }

@@ -13,17 +13,18 @@ ghost use Rattle.plan_order.specs.Promise.{Checked};
 ghost use Rattle.check_columns.specs.Columns.{columns};
 ghost use Rattle.check_columns.specs.Shown.{PlacesFor};
 ghost use Rattle.check_load.specs.Loading.{HeadKnown};
+ghost use Rattle.plan_format.specs.Told.{told_as};
 ghost use Rattle.check_plan.specs.Counting.{small_room, middle_room, SizesTold, CountsTold, opened_of};
 ghost use Rattle.check_plan.specs.Counting.{counts_of};
 ghost use Rattle.check_plan.specs.Opening.{ReadPlan, OpenedPlan, LentKept, LentLeft, lent};
 
 use check_columns::{MarkColumn, QueueColumn, SignalColumn, SignalValues, WaitColumn};
 use check_load::Loaded;
-use plan_format::Told;
 use plan_format::limits::{
     HEAD_NUMBERS, HeadNumbers, MARK_PLACES, MOST_MARKS, MOST_OPERATIONS, MOST_SIGNALS, MOST_WAITS,
     SIGNAL_PLACES, WAIT_PLACES,
 };
+use plan_format::{Refusal, Told};
 use stored_numbers::{FIRST_HEAD_NUMBERS, FirstHeadNumbers, Head};
 
 // For how many operations columns are made; for all that a plan can have where it has more than either.
@@ -365,7 +366,7 @@ fn judged(
     }
     let first = 2 + h.queues as usize;
     let owner = &head[first..];
-    let told = check_passes::judge_columns(
+    let told = told_passed(check_passes::judge_columns(
         l.operations,
         l.semaphores as usize,
         l.signals as usize,
@@ -381,8 +382,18 @@ fn judged(
         mop,
         table,
         list,
-    );
+    ));
     with_lists(l, told.number, told.place)
+}
+
+// What a result without an answer tells.
+fn told_passed(r: Result<(), Refusal>) -> Told
+    ensures { result ≡ told_as (λ _. 0) r }
+{
+    match r {
+        Ok(()) => plan_format::answered(0),
+        Err(e) => plan_format::forwarded(e.reason.number(), e.place),
+    }
 }
 
 // The counts of a loaded plan, beside a number and its place.

@@ -3,8 +3,8 @@
 use mathlib.Core.Path.{◌≡◌, refl, sym, ap, ◌∙◌, subst}
 use mathlib.Core.Bool.{true, ◌&&◌, not}
 use mathlib.Core.List.{List}
-use Prim.Native.Nat.{ℕ, suc, ◌+◌, ◌-◌, ◌*◌, ◌%◌, ◌^◌, ◌≤◌, ◌<◌}
-use native.Mathlib.Nat.{not-suc-le-zero, mod-eq_of_lt}
+use Prim.Native.Nat.{ℕ, suc, ◌+◌, ◌-◌, ◌*◌, ◌^◌, ◌≤◌, ◌<◌}
+use native.Mathlib.Nat.{not-suc-le-zero}
 use native.Mathlib.Omega.{arith}
 use lib.Count.{ones, ones-le}
 use lib.Dec.{eqb}
@@ -21,7 +21,6 @@ use Rattle.check_run.specs.Merge.{cell}
 use Rattle.check_run.specs.Run.{Bounded}
 use Rattle.check_run.specs.State.{Tables, Prepared, slot_of, Stepped, Ahead, Bounds}
 use Rattle.check_run.proofs.Words.{has_none, has_minus, ones_bits}
-use Rattle.check_run.proofs.Chains.{first_small}
 use Rattle.check_run.proofs.Listings.{step_long, step_at, number_at, step_other, step_past}
 use Rattle.check_run.proofs.Merges.{merged_past}
 use Rattle.check_run.proofs.Watches.{go_gives}
@@ -81,8 +80,8 @@ module _ (queue : List ℕ) (n : ℕ) (next unit : List ℕ) (tables : Tables qu
     (i ready : ℕ) (head rows₀ rows first list : List ℕ) (bounds : Bounds queue n i head ready rows₀ rows first list)
     (small : ready < 65536) (inside : i < n)
     (q j : ℕ) (on : q < most_queues) (low : LowestBit ready q) (j_is : j ≡ slot_of (get_or head q 0))
-    (list₁ list₂ : List ℕ) (first_is : list₁ ≡ set list (i + n) (ones ready % 4294967296))
-    (then_is : list₂ ≡ set list₁ i (j % 4294967296))
+    (list₁ list₂ : List ℕ) (first_is : list₁ ≡ set list (i + n) (ones ready))
+    (then_is : list₂ ≡ set list₁ i j)
     (source prev ran head' prev' ran' rows' : List ℕ)
     (stepped : Stepped j q source next unit head prev ran rows head' prev' ran' rows')
     (mask bit : ℕ) (bit_is : bit ≡ 2 ^ q) (waiter : List ℕ) (ready' : ℕ) (waiter' : List ℕ)
@@ -114,14 +113,12 @@ module _ (queue : List ℕ) (n : ℕ) (next unit : List ℕ) (tables : Tables qu
   head_same : get_or head' q 0 ≡ get_or next j 0
   head_same =
       ap (λ (x : List ℕ). get_or x q 0) stepped.head_is
-      ∙ get_or-set_same head q (get_or next j 0 % 65536) 0 (let h : q < length head =
+      ∙ get_or-set_same head q (get_or next j 0) 0 (let h : q < length head =
       omega (arith, bounds.head_long) in h)
-      ∙ mod-eq_of_lt (let h : get_or next j 0 < 65536 = omega
-      (arith, first_small queue q (suc j) n (get_or next j 0) fits next_first) in h)
 
   head_other : (k : ℕ) → (k ≡ q → ⊥) → get_or head' k 0 ≡ get_or head k 0
   head_other k ne = ap (λ (x : List ℕ). get_or x k 0) stepped.head_is
-      ∙ get_or-set_other head q k (get_or next j 0 % 65536) 0 ne
+      ∙ get_or-set_other head q k (get_or next j 0) 0 ne
 
   -- ---- the list afterwards
   ones_small : ones ready ≤ most_queues
@@ -237,7 +234,7 @@ module _ (queue : List ℕ) (n : ℕ) (next unit : List ℕ) (tables : Tables qu
         (λ f. ahead_other k l (eqb-false k q f));
     readies = λ k l t. looked_ready mask (ready - bit) head' source ran' waiter ready' waiter' looked k l
         (still_ready k l) t;
-    head_long = ap length stepped.head_is ∙ length-set head q (get_or next j 0 % 65536) ∙ bounds.head_long;
+    head_long = ap length stepped.head_is ∙ length-set head q (get_or next j 0) ∙ bounds.head_long;
     bounded = bounded_more;
   }
 

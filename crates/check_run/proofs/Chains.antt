@@ -1,8 +1,8 @@
 -- Operations chained by queue, from the last to the first. Assumes nothing.
 use mathlib.Core.Path.{◌≡◌, sym, ap, ◌∙◌, subst}
 use mathlib.Core.List.{List}
-use Prim.Native.Nat.{ℕ, suc, ◌%◌, ◌≤◌, ◌<◌}
-use native.Mathlib.Nat.{le_refl, mod-eq_of_lt}
+use Prim.Native.Nat.{ℕ, suc, ◌≤◌, ◌<◌}
+use native.Mathlib.Nat.{le_refl}
 use native.Mathlib.Omega.{arith}
 use lib.Dec.{eqb}
 use lib.ListN.{length, get_or, set, replicate, length-set, length-replicate, get_or-replicate}
@@ -44,31 +44,29 @@ module _ (queue : List ℕ) (n : ℕ) (few : n ≤ most_operations) where
   module _ (k q first : ℕ) (head next head_now next_now : List ℕ) (inside : k < n) (i : ℕ) (i_is : i ≡ suc k)
       (before : Chained queue i n head next)
       (q_is : q ≡ get_or queue k 0) (first_is : first ≡ get_or head q 0)
-      (next_is : next_now ≡ set next k (first % 65536)) (head_is : head_now ≡ set head q (k % 65536)) where
+      (next_is : next_now ≡ set next k first) (head_is : head_now ≡ set head q k) where
     chained : Chained queue (suc k) n head next
     chained = subst (λ (x : ℕ). Chained queue x n head next) i_is before
 
     head_same : (r : ℕ) → r < 16 → r ≡ q → get_or head_now r 0 ≡ k
     head_same r l e =
         ap (λ (x : List ℕ). get_or x r 0) head_is
-        ∙ ap (λ (x : ℕ). get_or (set head q (k % 65536)) x 0) e
-        ∙ get_or-set_same head q (k % 65536) 0 (let h : q < length head = omega (arith, chained.head_long) in h)
-        ∙ mod-eq_of_lt (let h : k < 65536 = omega arith in h)
+        ∙ ap (λ (x : ℕ). get_or (set head q k) x 0) e
+        ∙ get_or-set_same head q k 0 (let h : q < length head = omega (arith, chained.head_long) in h)
 
     head_other : (r : ℕ) → (r ≡ q → ⊥) → get_or head_now r 0 ≡ get_or head r 0
-    head_other r ne = ap (λ (x : List ℕ). get_or x r 0) head_is ∙ get_or-set_other head q r (k % 65536) 0 ne
+    head_other r ne = ap (λ (x : List ℕ). get_or x r 0) head_is ∙ get_or-set_other head q r k 0 ne
 
     next_same : q < 16 → FirstFrom queue q (suc k) n (get_or next_now k 0)
     next_same l =
         let h = chained.heads q l in
-        let small = first_small queue q (suc k) n (get_or head q 0) few h in
         subst (λ (x : ℕ). FirstFrom queue q (suc k) n x)
         (sym (ap (λ (x : List ℕ). get_or x k 0) next_is
-        ∙ get_or-set_same next k (first % 65536) 0 (let h : k < length next = omega (arith, chained.next_long) in h)
-        ∙ mod-eq_of_lt (let h : first < 65536 = omega arith in h) ∙ first_is)) h
+        ∙ get_or-set_same next k first 0 (let h : k < length next = omega (arith, chained.next_long) in h)
+        ∙ first_is)) h
 
     next_other : (i : ℕ) → (i ≡ k → ⊥) → get_or next_now i 0 ≡ get_or next i 0
-    next_other i ne = ap (λ (x : List ℕ). get_or x i 0) next_is ∙ get_or-set_other next k i (first % 65536) 0 ne
+    next_other i ne = ap (λ (x : List ℕ). get_or x i 0) next_is ∙ get_or-set_other next k i first 0 ne
 
     pub chained_more : Chained queue k n head_now next_now
     chained_more = record {
@@ -86,6 +84,6 @@ module _ (queue : List ℕ) (n : ℕ) (few : n ≤ most_operations) where
           (λ f. let ne = eqb-false i k f in
           subst (λ (x : ℕ). FirstFrom queue (get_or queue i 0) (suc i) n x) (sym (next_other i ne))
           (chained.nexts i (omega arith) b l));
-      head_long = ap length head_is ∙ length-set head q (k % 65536) ∙ chained.head_long;
-      next_long = ap length next_is ∙ length-set next k (first % 65536) ∙ chained.next_long;
+      head_long = ap length head_is ∙ length-set head q k ∙ chained.head_long;
+      next_long = ap length next_is ∙ length-set next k first ∙ chained.next_long;
     }

@@ -2,8 +2,7 @@
 use mathlib.Core.Path.{◌≡◌, refl, sym, ap, ◌∙◌}
 use mathlib.Core.List.{List, [], ◌∷◌, ◌++◌}
 use mathlib.Core.Option.{Option, none, some}
-use Prim.Native.Nat.{ℕ, zero, suc, ◌+◌, ◌-◌, ◌*◌, ◌%◌, ◌≤◌, ◌<◌}
-use native.Mathlib.Nat.{mod-eq_of_lt}
+use Prim.Native.Nat.{ℕ, zero, suc, ◌+◌, ◌-◌, ◌*◌, ◌≤◌, ◌<◌}
 use native.Mathlib.Omega.{arith}
 use lib.Dec.{eqb}
 use lib.ListN.{length, get_or, set, drop, length-append, length-set, get_or-append}
@@ -37,40 +36,38 @@ module _ (next : List ℕ → Option ℕ) where
 -- ---- the list after a step: the number ready and the operation, each where the list has the place
 module _ (n : ℕ) (list list₁ list₂ : List ℕ) (i j ready : ℕ) (inside : i < n) (few : j < no_operation)
     (small : ready < 65536)
-    (first_is : list₁ ≡ set list (i + n) (ready % 4294967296)) (then_is : list₂ ≡ set list₁ i (j % 4294967296)) where
+    (first_is : list₁ ≡ set list (i + n) ready) (then_is : list₂ ≡ set list₁ i j) where
   first_long : length list₁ ≡ length list
-  first_long = ap length first_is ∙ length-set list (i + n) (ready % 4294967296)
+  first_long = ap length first_is ∙ length-set list (i + n) ready
 
   pub step_long : length list₂ ≡ length list
-  step_long = ap length then_is ∙ length-set list₁ i (j % 4294967296) ∙ first_long
+  step_long = ap length then_is ∙ length-set list₁ i j ∙ first_long
 
   pub step_at : i < length list → get_or list₂ i 0 ≡ j
   step_at l =
       ap (λ (x : List ℕ). get_or x i 0) then_is
-      ∙ get_or-set_same list₁ i (j % 4294967296) 0 (let h : i < length list₁ = omega (arith, first_long) in h)
-      ∙ mod-eq_of_lt (let h : j < 4294967296 = omega arith in h)
+      ∙ get_or-set_same list₁ i j 0 (let h : i < length list₁ = omega (arith, first_long) in h)
 
   then_other : (k : ℕ) → (k ≡ i → ⊥) → get_or list₂ k 0 ≡ get_or list₁ k 0
-  then_other k ne = ap (λ (x : List ℕ). get_or x k 0) then_is ∙ get_or-set_other list₁ i k (j % 4294967296) 0 ne
+  then_other k ne = ap (λ (x : List ℕ). get_or x k 0) then_is ∙ get_or-set_other list₁ i k j 0 ne
 
   pub number_at : n + i < length list → get_or list₂ (n + i) 0 ≡ ready
   number_at l =
       then_other (n + i) (λ z. absurd (omega arith))
       ∙ ap (λ (x : List ℕ). get_or x (n + i) 0) first_is
-      ∙ ap (λ (x : ℕ). get_or (set list (i + n) (ready % 4294967296)) x 0) (let e : n + i ≡ i + n = omega arith in e)
-      ∙ get_or-set_same list (i + n) (ready % 4294967296) 0 (let h : i + n < length list = omega arith in h)
-      ∙ mod-eq_of_lt (let h : ready < 4294967296 = omega arith in h)
+      ∙ ap (λ (x : ℕ). get_or (set list (i + n) ready) x 0) (let e : n + i ≡ i + n = omega arith in e)
+      ∙ get_or-set_same list (i + n) ready 0 (let h : i + n < length list = omega arith in h)
 
   pub step_other : (k : ℕ) → (k ≡ i → ⊥) → (k ≡ n + i → ⊥) → get_or list₂ k 0 ≡ get_or list k 0
   step_other k ne far =
       then_other k ne
       ∙ ap (λ (x : List ℕ). get_or x k 0) first_is
-      ∙ get_or-set_other list (i + n) k (ready % 4294967296) 0 (λ z. far (let e : k ≡ n + i = omega arith in e))
+      ∙ get_or-set_other list (i + n) k ready 0 (λ z. far (let e : k ≡ n + i = omega arith in e))
 
   pub step_past : (m : ℕ) → n + i < m → drop m list₂ ≡ drop m list
   step_past m l =
-      ap (λ (x : List ℕ). drop m x) then_is ∙ drop-set-lt m list₁ i (j % 4294967296) (let h : i < m = omega arith in h)
-      ∙ ap (λ (x : List ℕ). drop m x) first_is ∙ drop-set-lt m list (i + n) (ready % 4294967296)
+      ap (λ (x : List ℕ). drop m x) then_is ∙ drop-set-lt m list₁ i j (let h : i < m = omega arith in h)
+      ∙ ap (λ (x : List ℕ). drop m x) first_is ∙ drop-set-lt m list (i + n) ready
       (let h : i + n < m = omega arith in h)
 
 -- ---- one step more
@@ -78,7 +75,7 @@ module _ (p : Plan) (n : ℕ) (first r list list₁ list₂ : List ℕ) (i j rea
     (listed : RunListed p n r first list)
     (many : length r ≡ i) (inside : i < n) (few : j < no_operation) (small : ready < 65536)
     (counted : ready ≡ number_ready p r)
-    (first_is : list₁ ≡ set list (i + n) (ready % 4294967296)) (then_is : list₂ ≡ set list₁ i (j % 4294967296)) where
+    (first_is : list₁ ≡ set list (i + n) ready) (then_is : list₂ ≡ set list₁ i j) where
   length_more : length (r ++ (j ∷ [])) ≡ i + 1
   length_more = length-append r (j ∷ []) ∙ omega (arith, many)
 

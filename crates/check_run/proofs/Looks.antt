@@ -2,10 +2,10 @@
 use mathlib.Core.Path.{◌≡◌, refl, sym, ap, ◌∙◌, subst}
 use mathlib.Core.Bool.{Bool, true, false, ◌&&◌, ◌||◌, and-false, or-false}
 use mathlib.Core.List.{List}
-use Prim.Native.Nat.{ℕ, ◌+◌, ◌-◌, ◌*◌, ◌%◌, ◌^◌, ◌≤◌, ◌<◌}
+use Prim.Native.Nat.{ℕ, zero, suc, ◌+◌, ◌-◌, ◌*◌, ◌%◌, ◌^◌, ◌≤◌, ◌<◌}
 use native.Mathlib.Nat.{mod-eq_of_lt}
 use native.Mathlib.Omega.{arith}
-use lib.Bits.{bit_or, or_lt}
+use lib.Bits.{bit_or}
 use lib.Dec.{ltb, eqb}
 use lib.ListN.{length, get_or, set, length-set}
 use lib.Pow.{pow-lt}
@@ -15,7 +15,7 @@ use Rattle.base_lists.proofs.Tests.{by_cases, clash, and_both, or_cases, or_left
 use Rattle.plan_format.specs.Sizes.{no_operation}
 use Rattle.check_run.specs.Words.{has, LowestBit}
 use Rattle.check_run.specs.Queues.{held_by, blocker_of, can_go, HeadsLooked}
-use Rattle.check_run.proofs.Words.{has_none, has_cut, has_unit, has_or, has_split}
+use Rattle.check_run.proofs.Words.{has_none, has_unit, has_or, has_split}
 
 -- ---- what holds an operation
 module _ (ran : List ℕ) where
@@ -29,12 +29,12 @@ module _ (ran : List ℕ) where
 
 -- a, b and c are the sources of j, and x, y and z tell whether they have run
 module _ (source ran : List ℕ) (j : ℕ) (a x : ℕ) (a_is : a ≡ get_or source (3 * j) 0) (x_is : x ≡ get_or ran a 0) where
-  pub held_first : x ≡ 0 → a ≡ blocker_of source ran j
+  held_first : x ≡ 0 → a ≡ blocker_of source ran j
   unfolding blocker_of
   held_first e = rw (← a_is) (sym (held_yes ran a _ (sym x_is ∙ e)))
 
   module _ (x_ran : x ≡ 0 → ⊥) (b y : ℕ) (b_is : b ≡ get_or source (3 * j + 1) 0) (y_is : y ≡ get_or ran b 0) where
-    pub held_second : y ≡ 0 → b ≡ blocker_of source ran j
+    held_second : y ≡ 0 → b ≡ blocker_of source ran j
     unfolding blocker_of
     held_second e =
         rw (← a_is, ← b_is) (sym (held_no ran a _ (λ z. x_ran (x_is ∙ z)) ∙ held_yes ran b _ (sym y_is ∙ e)))
@@ -44,15 +44,42 @@ module _ (source ran : List ℕ) (j : ℕ) (a x : ℕ) (a_is : a ≡ get_or sour
       passed last = held_no ran a (held_by ran b last) (λ u. x_ran (x_is ∙ u))
           ∙ held_no ran b last (λ u. y_ran (y_is ∙ u))
 
-      pub held_third : z ≡ 0 → c ≡ blocker_of source ran j
+      held_third : z ≡ 0 → c ≡ blocker_of source ran j
       unfolding blocker_of
       held_third e = rw (← a_is, ← b_is, ← c_is)
           (sym (passed (held_by ran c no_operation) ∙ held_yes ran c no_operation (sym z_is ∙ e)))
 
-      pub held_none : (z ≡ 0 → ⊥) → no_operation ≡ blocker_of source ran j
+      held_last : (z ≡ 0 → ⊥) → no_operation ≡ blocker_of source ran j
       unfolding blocker_of
-      held_none z_ran = rw (← a_is, ← b_is, ← c_is)
+      held_last z_ran = rw (← a_is, ← b_is, ← c_is)
           (sym (passed (held_by ran c no_operation) ∙ held_no ran c no_operation (λ u. z_ran (z_is ∙ u))))
+
+-- those before place k have run
+module _ (source ran : List ℕ) (j : ℕ) where
+  abbrev pub Passed : (k : ℕ) → Type 0
+  Passed k = (m : ℕ) → m < k → get_or ran (get_or source (3 * j + m) 0) 0 ≡ 0 → ⊥
+
+  no_more : 3 * j + 0 ≡ 3 * j
+  no_more = omega arith
+
+  first_ran : {k : ℕ} → 0 < k → Passed k → get_or ran (get_or source (3 * j) 0) 0 ≡ 0 → ⊥
+  first_ran l passed u = passed 0 l (ap (λ (x : ℕ). get_or ran (get_or source x 0) 0) no_more ∙ u)
+
+  pub held_at : (k at : ℕ) → Passed k → k < 3 → at ≡ get_or source (3 * j + k) 0 → get_or ran at 0 ≡ 0 →
+      at ≡ blocker_of source ran j
+  held_at zero at passed l e z =
+      held_first source ran j at _ (e ∙ ap (λ (x : ℕ). get_or source x 0) no_more) refl z
+  held_at (suc zero) at passed l e z =
+      held_second source ran j _ _ refl refl (first_ran (omega arith) passed) at _ e refl z
+  held_at (suc (suc zero)) at passed l e z =
+      held_third source ran j _ _ refl refl (first_ran (omega arith) passed) _ _ refl refl (passed 1 (omega arith)) at _ e
+      refl z
+  held_at (suc (suc (suc k))) at passed l e z = absurd (omega arith)
+
+  pub held_none : Passed 3 → no_operation ≡ blocker_of source ran j
+  held_none passed =
+      held_last source ran j _ _ refl refl (first_ran (omega arith) passed) _ _ refl refl (passed 1 (omega arith)) _ _ refl
+      refl (passed 2 (omega arith))
 
 -- ---- the bit of a queue
 unit_small : (q : ℕ) → q < 16 → 2 ^ q < 65536
@@ -65,9 +92,6 @@ unit_shifted q w l u =
 
 pub shifted_small : (q w : ℕ) → q < 16 → 65536 ≤ w → 1 * 2 ^ q % w < 65536
 shifted_small q w l u = rw (unit_shifted q w l u) (unit_small q l)
-
-pub mask_small : (seen unit : ℕ) → unit < 65536 → bit_or (seen % 65536) unit < 65536
-mask_small seen unit h = or_lt 16 (seen % 65536) unit (omega arith) h
 
 unit_only : (q k : ℕ) → has (2 ^ q) k ≡ true → q ≡ k
 unit_only q k h = eqb-true q k (sym (has_unit q k) ∙ h)
@@ -173,18 +197,18 @@ module _ (head source ran : List ℕ) where
     noted_at :
         length waiter ≡ no_operation + 1 → (b : ℕ) → b ≡ blocker_of source ran j → (b ≡ no_operation → ⊥) →
         (unit : ℕ) → unit ≡ 2 ^ q →
-        HeadsLooked (2 ^ q) ready head source ran waiter ready (set waiter b (bit_or (get_or waiter b 0) unit % 65536))
+        HeadsLooked (2 ^ q) ready head source ran waiter ready (set waiter b (bit_or (get_or waiter b 0) unit))
     noted_at long b b_is ne unit u = record {
       readies = λ k m. not_added (λ i t. stays t) k;
       kept = λ i k m t. by_cases (eqb i b) (λ z. same i k m (eqb-true i b z) t)
-          (λ z. rw (get_or-set_other waiter b i (bit_or (get_or waiter b 0) unit % 65536) 0 (eqb-false i b z)) t);
+          (λ z. rw (get_or-set_other waiter b i (bit_or (get_or waiter b 0) unit) 0 (eqb-false i b z)) t);
       noted = λ k i m t v z w.
           let qk = unit_only q k t in
           let ib : b ≡ i = e ∙ ap (λ (x : ℕ). blocker_of source ran (get_or head x 0)) qk ∙ z in
-          subst (λ (x : ℕ). has (get_or (set waiter b (bit_or (get_or waiter b 0) unit % 65536)) x 0) k ≡ true) ib
+          subst (λ (x : ℕ). has (get_or (set waiter b (bit_or (get_or waiter b 0) unit)) x 0) k ≡ true) ib
           (marked k m (omega (arith, ib))
           (or_right (has (get_or waiter b 0) k) (has unit k) (ap (λ (x : ℕ). has x k) u ∙ t)));
-      long = length-set waiter b (bit_or (get_or waiter b 0) unit % 65536);
+      long = length-set waiter b (bit_or (get_or waiter b 0) unit);
     }
       where
         e : b ≡ blocker_of source ran (get_or head q 0)
@@ -196,28 +220,28 @@ module _ (head source ran : List ℕ) where
             (and-false (ltb (get_or head q 0) no_operation)))
 
         marked : (k : ℕ) → k < 16 → b < no_operation + 1 → (has (get_or waiter b 0) k || has unit k) ≡ true →
-            has (get_or (set waiter b (bit_or (get_or waiter b 0) unit % 65536)) b 0) k ≡ true
+            has (get_or (set waiter b (bit_or (get_or waiter b 0) unit)) b 0) k ≡ true
         marked k m v t =
-            rw (get_or-set_same waiter b (bit_or (get_or waiter b 0) unit % 65536) 0
+            rw (get_or-set_same waiter b (bit_or (get_or waiter b 0) unit) 0
             (let h : b < length waiter = omega arith in h))
-            (has_cut 16 (bit_or (get_or waiter b 0) unit) k m ∙ has_or (get_or waiter b 0) unit k ∙ t)
+            (has_or (get_or waiter b 0) unit k ∙ t)
 
         same : (i k : ℕ) → k < 16 → i ≡ b → has (get_or waiter i 0) k ≡ true →
-            has (get_or (set waiter b (bit_or (get_or waiter b 0) unit % 65536)) i 0) k ≡ true
+            has (get_or (set waiter b (bit_or (get_or waiter b 0) unit)) i 0) k ≡ true
         same i k m z t =
             by_cases (ltb b (no_operation + 1))
-            (λ y. subst (λ (x : ℕ). has (get_or (set waiter b (bit_or (get_or waiter b 0) unit % 65536)) x 0) k ≡ true)
+            (λ y. subst (λ (x : ℕ). has (get_or (set waiter b (bit_or (get_or waiter b 0) unit)) x 0) k ≡ true)
             (sym z)
             (marked k m (ltb-true b (no_operation + 1) y)
             (or_left (has (get_or waiter b 0) k) (has unit k) (ap (λ (x : ℕ). has (get_or waiter x 0) k) (sym z) ∙ t))))
-            (λ y. rw (set_out waiter b (bit_or (get_or waiter b 0) unit % 65536)
+            (λ y. rw (set_out waiter b (bit_or (get_or waiter b 0) unit)
             (let h : length waiter ≤ b = omega (arith, ltb-false b (no_operation + 1) y) in h)) t)
 
     pub looked_held :
         length waiter ≡ no_operation + 1 → (b : ℕ) → b ≡ blocker_of source ran j → (b ≡ no_operation → ⊥) →
         (unit : ℕ) → unit ≡ 2 ^ q →
-        (w : ℕ) → w ≡ get_or waiter b 0 → (waiter_now : List ℕ) → waiter_now ≡ set waiter b (bit_or w unit % 65536) →
+        (w : ℕ) → w ≡ get_or waiter b 0 → (waiter_now : List ℕ) → waiter_now ≡ set waiter b (bit_or w unit) →
         HeadsLooked (2 ^ q) ready head source ran waiter ready waiter_now
     looked_held long b b_is ne unit u w w_is waiter_now now_is =
         subst (λ (x : List ℕ). HeadsLooked (2 ^ q) ready head source ran waiter ready x)
-        (sym (now_is ∙ ap (λ (x : ℕ). set waiter b (bit_or x unit % 65536)) w_is)) (noted_at long b b_is ne unit u)
+        (sym (now_is ∙ ap (λ (x : ℕ). set waiter b (bit_or x unit)) w_is)) (noted_at long b b_is ne unit u)

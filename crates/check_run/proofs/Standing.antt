@@ -2,8 +2,7 @@
 use mathlib.Core.Path.{◌≡◌, sym, ap, ◌∙◌, subst}
 use mathlib.Core.Bool.{Bool, true, false, cond}
 use mathlib.Core.List.{List, [], ◌∷◌, ◌++◌}
-use Prim.Native.Nat.{ℕ, suc, ◌%◌, ◌≤◌, ◌<◌}
-use native.Mathlib.Nat.{mod-eq_of_lt}
+use Prim.Native.Nat.{ℕ, suc, ◌≤◌, ◌<◌}
 use native.Mathlib.Omega.{arith}
 use lib.Dec.{ltb, eqb}
 use lib.ListN.{length, get_or, set, length-set}
@@ -13,7 +12,7 @@ use Rattle.base_lists.specs.Lists.{member}
 use Rattle.base_lists.proofs.Tests.{by_cases, clash, is_false, either}
 use Rattle.base_lists.proofs.Members.{member_left, member_snoc, member_last}
 use Rattle.order.proofs.Runs.{runs_snoc}
-use Rattle.plan_format.specs.Sizes.{no_operation, most_operations}
+use Rattle.plan_format.specs.Sizes.{no_operation}
 use Rattle.plan_format.specs.Plan.{Plan, count, op}
 use Rattle.plan_order.specs.Runs.{enabled, ready, is_run}
 use Rattle.plan_order.proofs.Readiness.{queue_in}
@@ -21,14 +20,13 @@ use Rattle.check_columns.specs.Columns.{QueueColumn}
 use Rattle.check_run.specs.Queues.{FirstFrom, found, absent}
 use Rattle.check_run.specs.Run.{RunGiven}
 use Rattle.check_run.specs.State.{Head, waiting, finished, Last, latest, unused, RunPlaces, Tables}
-use Rattle.check_run.proofs.Chains.{first_small}
 use Rattle.check_run.proofs.Readies.{Goes}
 
 module _ (p : Plan) (n : ℕ) (queue source next unit : List ℕ) (shown : RunGiven p n queue source)
     (tables : Tables queue n next unit)
     (r head prev ran : List ℕ) (places : RunPlaces p r head prev ran) (q j : ℕ) (inside : q < 16)
     (goes : Goes p n queue source shown r head prev ran places q j) (head' prev' ran' : List ℕ)
-    (head_is : head' ≡ set head q (get_or next j 0 % 65536)) (prev_is : prev' ≡ set prev q j)
+    (head_is : head' ≡ set head q (get_or next j 0)) (prev_is : prev' ≡ set prev q j)
     (ran_is : ran' ≡ set ran j 1) where
   -- ---- members of the longer run
   grows : (i : ℕ) → member i r ≡ true → member i (r ++ (j ∷ [])) ≡ true
@@ -83,13 +81,11 @@ module _ (p : Plan) (n : ℕ) (queue source next unit : List ℕ) (shown : RunGi
       let qj : get_or queue j 0 ≡ q = column j goes.inside ∙ goes.on_queue in
       let f : FirstFrom queue q (suc j) n (get_or next j 0) =
       subst (λ (x : ℕ). FirstFrom queue x (suc j) n (get_or next j 0)) qj (tables.nexts j l (rw qj inside)) in
-      let few : n ≤ most_operations = omega (arith, shown.many, shown.sound.few_operations) in
-      let small : get_or next j 0 < 65536 = omega (arith, first_small queue q (suc j) n (get_or next j 0) few f) in
       subst (λ (x : ℕ). Head p (r ++ (j ∷ [])) q x)
       (sym (ap (λ (x : List ℕ). get_or x q 0) head_is
-      ∙ get_or-set_same head q (get_or next j 0 % 65536) 0 (let h : q < length head =
+      ∙ get_or-set_same head q (get_or next j 0) 0 (let h : q < length head =
       omega (arith, places.head_long) in h)
-      ∙ mod-eq_of_lt small))
+      ))
       (next_head (get_or next j 0) f)
 
   -- ---- the last that ran
@@ -132,7 +128,7 @@ module _ (p : Plan) (n : ℕ) (queue source next unit : List ℕ) (shown : RunGi
         (λ f. let ne = eqb-false q k f in
         subst (λ (x : ℕ). Head p (r ++ (j ∷ [])) k x)
         (sym (ap (λ (x : List ℕ). get_or x k 0) head_is
-        ∙ get_or-set_other head q k (get_or next j 0 % 65536) 0 (λ z. ne (sym z))))
+        ∙ get_or-set_other head q k (get_or next j 0) 0 (λ z. ne (sym z))))
         (other_head k (get_or head k 0) ne (places.heads k l)));
     lasts = λ k l. by_cases (eqb q k)
         (λ t. subst (λ (x : ℕ). Last p (r ++ (j ∷ [])) x (get_or prev' x 0)) (eqb-true q k t) own_last)
@@ -143,7 +139,7 @@ module _ (p : Plan) (n : ℕ) (queue source next unit : List ℕ) (shown : RunGi
     has_run = ran_now;
     none_run = ap (λ (x : List ℕ). get_or x no_operation 0) ran_is ∙ get_or-set_other ran j no_operation 1 0
         (λ z. absurd (omega (arith, goes.inside, shown.sound.few_operations))) ∙ places.none_run;
-    head_long = ap length head_is ∙ length-set head q (get_or next j 0 % 65536) ∙ places.head_long;
+    head_long = ap length head_is ∙ length-set head q (get_or next j 0) ∙ places.head_long;
     prev_long = ap length prev_is ∙ length-set prev q j ∙ places.prev_long;
     ran_long = ap length ran_is ∙ length-set ran j 1 ∙ places.ran_long;
   }

@@ -3,7 +3,7 @@ use mathlib.Core.Path.{◌≡◌, sym, ap, ◌∙◌, subst}
 use mathlib.Core.Bool.{true}
 use mathlib.Core.List.{List, [], ◌∷◌, ◌++◌}
 use mathlib.Core.Option.{some}
-use Prim.Native.Nat.{ℕ, ◌+◌, ◌-◌, ◌*◌, ◌%◌, ◌^◌, ◌≤◌, ◌<◌}
+use Prim.Native.Nat.{ℕ, ◌+◌, ◌-◌, ◌*◌, ◌^◌, ◌≤◌, ◌<◌}
 use native.Mathlib.Omega.{arith}
 use lib.Bits.{bit_or}
 use lib.Count.{ones, ones-le}
@@ -34,12 +34,12 @@ module _ (p : Plan) (n : ℕ) (queue source next unit first : List ℕ) (shown :
       Going p n i source head prev ran waiter ready rows first list →
       0 < ready → ready < 65536 → i < n →
       (q j : ℕ) → q < 16 → LowestBit ready q → j ≡ slot_of (get_or head q 0) →
-      (list₁ list₂ : List ℕ) → list₁ ≡ set list (i + n) (ones ready % 4294967296) →
-      list₂ ≡ set list₁ i (j % 4294967296) →
+      (list₁ list₂ : List ℕ) → list₁ ≡ set list (i + n) (ones ready) →
+      list₂ ≡ set list₁ i j →
       (head' prev' ran' rows' : List ℕ) → Stepped j q source next unit head prev ran rows head' prev' ran' rows' →
       (seen bit : ℕ) → seen ≡ get_or waiter j 0 → bit ≡ 2 ^ q →
       (ready' : ℕ) (waiter' : List ℕ) →
-      HeadsLooked (bit_or (seen % 65536) bit) (ready - bit) head' source ran' waiter ready' waiter' →
+      HeadsLooked (bit_or seen bit) (ready - bit) head' source ran' waiter ready' waiter' →
       Going p n (i + 1) source head' prev' ran' waiter' ready' rows' first list₂
   turned i ready head prev ran waiter rows list going pos small b q j l low j_is list₁ list₂ e₁ e₂ head' prev' ran'
       rows' st seen bit s_is bit_is ready' waiter' looked =
@@ -66,7 +66,7 @@ module _ (p : Plan) (n : ℕ) (queue source next unit first : List ℕ) (shown :
         watch =
             watch_more source head ran waiter ready going.watch places.none_run places.head_long
             places.ran_long q j l low.there few
-            (get_or next j 0 % 65536) head' ran' st.head_is st.ran_is
+            (get_or next j 0) head' ran' st.head_is st.ran_is
             (λ k u v m w. source_small p n queue source shown (get_or head' k 0) m
             (head_inside p (r ++ (j ∷ [])) k (get_or head' k 0) (places'.heads k u) v) w)
             seen bit s_is bit_is ready' waiter' looked;

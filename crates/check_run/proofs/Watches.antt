@@ -3,7 +3,7 @@
 use mathlib.Core.Path.{◌≡◌, refl, sym, ap, ◌∙◌}
 use mathlib.Core.Bool.{Bool, true, false, ◌&&◌, ◌||◌, not, and-false, or-true}
 use mathlib.Core.List.{List}
-use Prim.Native.Nat.{ℕ, ◌+◌, ◌-◌, ◌*◌, ◌%◌, ◌^◌, ◌≤◌, ◌<◌}
+use Prim.Native.Nat.{ℕ, ◌+◌, ◌-◌, ◌*◌, ◌^◌, ◌≤◌, ◌<◌}
 use native.Mathlib.Omega.{arith}
 use lib.Bits.{bit_or}
 use lib.Dec.{ltb, eqb}
@@ -15,7 +15,7 @@ use Rattle.plan_format.specs.Sizes.{no_operation}
 use Rattle.check_run.specs.Words.{has}
 use Rattle.check_run.specs.Queues.{blocker_of, can_go, HeadsLooked}
 use Rattle.check_run.specs.State.{Noted, Watch}
-use Rattle.check_run.proofs.Words.{has_cut, has_unit, has_or, has_minus}
+use Rattle.check_run.proofs.Words.{has_unit, has_or, has_minus}
 use Rattle.check_run.proofs.Sources.{blocker_none, no_blocker_gives, blocker_where}
 
 -- ---- a queue that can go
@@ -69,7 +69,7 @@ module _ (source head ran waiter : List ℕ) (ready : ℕ) (watch : Watch source
     (sources_small : (k : ℕ) → k < 16 → get_or head' k 0 < no_operation → (m : ℕ) → m < 3 →
     get_or source (3 * get_or head' k 0 + m) 0 ≤ no_operation)
     (seen bit : ℕ) (seen_is : seen ≡ get_or waiter j 0) (bit_is : bit ≡ 2 ^ q) (ready' : ℕ) (waiter' : List ℕ)
-    (looked : HeadsLooked (bit_or (seen % 65536) bit) (ready - bit) head' source ran' waiter ready' waiter') where
+    (looked : HeadsLooked (bit_or seen bit) (ready - bit) head' source ran' waiter ready' waiter') where
   head_other : (k : ℕ) → (q ≡ k → ⊥) → get_or head' k 0 ≡ get_or head k 0
   head_other k ne = ap (λ (x : List ℕ). get_or x k 0) head_is ∙ get_or-set_other head q k after 0 (λ z. ne (sym z))
 
@@ -94,10 +94,10 @@ module _ (source head ran waiter : List ℕ) (ready : ℕ) (watch : Watch source
   sentinel' z = sentinel (ran_still no_operation z)
 
   -- ---- the words
-  mask_bits : (k : ℕ) → k < 16 → has (bit_or (seen % 65536) bit) k ≡ (has (get_or waiter j 0) k || eqb q k)
+  mask_bits : (k : ℕ) → k < 16 → has (bit_or seen bit) k ≡ (has (get_or waiter j 0) k || eqb q k)
   mask_bits k l =
-      has_or (seen % 65536) bit k
-      ∙ ap (λ (x : Bool). x || has bit k) (has_cut 16 seen k l ∙ ap (λ (x : ℕ). has x k) seen_is)
+      has_or seen bit k
+      ∙ ap (λ (x : Bool). x || has bit k) (ap (λ (x : ℕ). has x k) seen_is)
       ∙ ap (λ (x : Bool). has (get_or waiter j 0) k || x) (ap (λ (x : ℕ). has x k) bit_is ∙ has_unit q k)
 
   left_bits : (k : ℕ) → has (ready - bit) k ≡ (not (eqb q k) && has ready k)
@@ -125,7 +125,7 @@ module _ (source head ran waiter : List ℕ) (ready : ℕ) (watch : Watch source
 
   -- a held queue that can go now was noted at j
   woken : (k : ℕ) → k < 16 → (q ≡ k → ⊥) → can_go head source ran k ≡ false → can_go head' source ran' k ≡ true →
-      has (bit_or (seen % 65536) bit) k ≡ true
+      has (bit_or seen bit) k ≡ true
   woken k l ne f t =
       let N = watch.noted k l (rw (head_other k ne) at (go_gives head' source ran' k t).0) f in
       mask_bits k l
@@ -140,9 +140,9 @@ module _ (source head ran waiter : List ℕ) (ready : ℕ) (watch : Watch source
       rw (left_bits k, f, watch.readies k l) (by_cases (can_go head source ran k)
       (λ t. rw (t, no_fewer k ne t))
       (λ u. rw u (by_cases (can_go head' source ran' k) (λ t. rw (t, woken k l ne u t))
-      (λ v. rw (v, and-false (has (bit_or (seen % 65536) bit) k)))))))
+      (λ v. rw (v, and-false (has (bit_or seen bit) k)))))))
 
-  noted_old : (k : ℕ) → k < 16 → has (bit_or (seen % 65536) bit) k ≡ false → get_or head' k 0 < no_operation →
+  noted_old : (k : ℕ) → k < 16 → has (bit_or seen bit) k ≡ false → get_or head' k 0 < no_operation →
       can_go head' source ran' k ≡ false → Noted head' source ran' waiter' k
   noted_old k l m h f =
       let either_bit = sym (mask_bits k l) ∙ m in
@@ -168,8 +168,8 @@ module _ (source head ran waiter : List ℕ) (ready : ℕ) (watch : Watch source
   pub watch_more : Watch source head' ran' waiter' ready'
   watch_more = record {
     readies = readies';
-    noted = λ k l h f. by_cases (has (bit_or (seen % 65536) bit) k)
-        (λ t. noted_by (bit_or (seen % 65536) bit) (ready - bit) head' source ran' waiter ready' waiter' looked k l t
+    noted = λ k l h f. by_cases (has (bit_or seen bit) k)
+        (λ t. noted_by (bit_or seen bit) (ready - bit) head' source ran' waiter ready' waiter' looked k l t
         (sources_small k l h) h f) (λ n. noted_old k l n h f);
     long = looked.long ∙ watch.long;
   }

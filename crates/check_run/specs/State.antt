@@ -1,5 +1,5 @@
 -- The state of the pass after a run r of a plan. Assumes nothing: these are definitions.
-use Rattle.std.specs.Prelude.{◌≡◌, true, false, cond, List, ℕ, suc, ◌+◌, ◌-◌, ◌*◌, ◌%◌, ◌≤◌, ◌<◌, min, length, get_or}
+use Rattle.std.specs.Prelude.{◌≡◌, true, false, cond, List, ℕ, suc, ◌+◌, ◌-◌, ◌*◌, ◌≤◌, ◌<◌, min, length, get_or}
 use Rattle.std.specs.Prelude.{set, replicate}
 use Rattle.base_lists.specs.Lists.{member}
 use Rattle.order.specs.Greedy.{greedy}
@@ -86,7 +86,7 @@ slot_of x = min x no_operation
 -- operation j, the next of queue q, runs
 pub record Stepped (j q : ℕ)
     (source next unit head prev ran rows head_now prev_now ran_now rows_now : List ℕ) : Type 0 where
-  pub head_is : head_now ≡ set head q (get_or next j 0 % 65536)
+  pub head_is : head_now ≡ set head q (get_or next j 0)
   pub prev_is : prev_now ≡ set prev q j
   pub ran_is : ran_now ≡ set ran j 1
   pub rows_are :

@@ -18,7 +18,7 @@ use plan_format::limits::{
 const SLOTS: usize = NO_OPERATION + 1;
 
 // The word with a bit for every queue.
-const ALL_QUEUES: u32 = (1 << MOST_QUEUES) - 1;
+const ALL_QUEUES: u16 = u16::MAX;
 
 // A row with a one in the middle: the part of it that begins at width - q has the one in column q.
 const UNIT: usize = 2 * ROW_WIDTH;
@@ -40,7 +40,7 @@ pub fn run(
         Cleared rows.old → 2 * n ≤ length list.old →
         Ran p n result rows.new list.old list.new }
 {
-    let many = n as usize;
+    let many = usize::from(n);
     if MOST_OPERATIONS < many {
         return 0;
     }
@@ -49,7 +49,7 @@ pub fn run(
     let mut ran = [0u16; SLOTS];
     let mut waiter = [0u16; SLOTS];
     ran[NO_OPERATION] = 1;
-    queues::chain(many, queue, &mut head, &mut next);
+    queues::chain(n, queue, &mut head, &mut next);
     let ready = queues::wake(ALL_QUEUES, 0, &head, source, &ran, &mut waiter);
     steps::all(
         many,

@@ -11,7 +11,7 @@ use plan_format::limits::ROW_WIDTH;
 fn sum(a: u16, b: u16) -> u16
     ensures { result ≡ (a + b) % 65536 }
 {
-    ((base_numbers::u16_to_u32(a) + base_numbers::u16_to_u32(b)) % 65536) as u16
+    a.wrapping_add(b)
 }
 
 // The larger of two rows in a column.
@@ -20,7 +20,7 @@ fn higher(rows: &Rows, a: usize, b: usize, k: usize) -> u16
     ensures { result ≡ max (get_or rows.now (row_width * a + k) 0)
         (get_or rows.now (row_width * b + k) 0) }
 {
-    base_numbers::max_u16(rows[ROW_WIDTH * a + k], rows[ROW_WIDTH * b + k])
+    rows[ROW_WIDTH * a + k].max(rows[ROW_WIDTH * b + k])
 }
 
 // The largest of four rows in each column, and what `unit` has for it, shifted to column q.
@@ -43,7 +43,7 @@ pub fn merge(
     for k in 0..ROW_WIDTH {
         let ab = higher(rows, a, b, k);
         let cd = higher(rows, c, d, k);
-        row[k] = sum(base_numbers::max_u16(ab, cd), unit[from + k]);
+        row[k] = sum(ab.max(cd), unit[from + k]);
     }
     row
 }

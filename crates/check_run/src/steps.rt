@@ -8,14 +8,13 @@ ghost use Rattle.check_run.specs.State.{Tables, Prepared, slot_of, Stepped, Goin
 
 use crate::{SLOTS, UNIT, merge, queues};
 use check_columns::{QueueColumn, Rows, WaitColumn};
-use plan_format::limits::{MOST_QUEUES, MOST_WAITS, NO_OPERATION, NO_OPERATION_STORED, ROW_WIDTH};
+use plan_format::limits::{MOST_QUEUES, MOST_WAITS, NO_OPERATION_STORED, ROW_WIDTH};
 
 // An operation number; past 1,024 it reads as 1,024, whose row is zero.
 fn slot(a: &[u16], i: usize) -> usize
     ensures { result ≡ slot_of (get_or a.now i 0) }
 {
-    let x = base_slices::get16(a, i);
-    if x < NO_OPERATION { x } else { NO_OPERATION }
+    usize::from(base_slices::get_or(a, i, 0).min(NO_OPERATION_STORED))
 }
 
 // The row of operation j of queue q, from those of the queue's last operation and of its sources.
@@ -59,17 +58,17 @@ fn step(
         rows.old head.new prev.new ran.new rows.new }
 {
     fill(j, q, source, prev, unit, rows);
-    base_slices::put16(ran, j, 1);
-    base_slices::put16(prev, q, j);
-    let after = base_slices::get16(next, j);
-    base_slices::put16(head, q, after);
+    base_slices::put(ran, j, 1);
+    base_slices::put(prev, q, j as u16);
+    let after = base_slices::get_or(next, j, 0);
+    base_slices::put(head, q, after);
 }
 
 // Step i of the run: the next operation of the lowest ready queue. The queues that are ready afterwards.
 pub fn turn(
     i: usize,
     n: usize,
-    ready: u32,
+    ready: u16,
     source: &WaitColumn,
     next: &QueueColumn,
     unit: &[u16; UNIT],
@@ -79,9 +78,8 @@ pub fn turn(
     waiter: &mut [u16; SLOTS],
     rows: &mut Rows,
     list: &mut [u32],
-) -> u32
-    requires { (0 < ready) × (ready < 65536) × (i < n) × (n ≤ most_operations) }
-    ensures small { result < 65536 }
+) -> u16
+    requires { (0 < ready) × (i < n) × (n ≤ most_operations) }
     ensures bounds { (queue first_rows first : List ℕ) →
         Tables queue n next.now unit.now →
         Bounds queue n i head.old ready first_rows rows.old first list.old →
@@ -96,17 +94,18 @@ pub fn turn(
 {
     let q = queues::lowest(ready);
     let j = slot(head, q);
-    base_slices::put32(list, i + n, u32::count_ones(ready) as usize);
-    base_slices::put32(list, i, j);
+    base_slices::put(list, i + n, ready.count_ones());
+    base_slices::put(list, i, j as u32);
     step(j, q, source, next, unit, head, prev, ran, rows);
-    let mask = ((base_slices::get16(waiter, j) % 65536) as u32) | (1u32 << q);
-    queues::wake(mask, ready - (1u32 << q), head, source, ran, waiter)
+    let own = 1u16 << q;
+    let mask = base_slices::get_or(waiter, j, 0) | own;
+    queues::wake(mask, ready - own, head, source, ran, waiter)
 }
 
 // The steps of the run from the first, as long as a queue is ready; how many there are.
 pub fn all(
     n: usize,
-    ready: u32,
+    ready: u16,
     source: &WaitColumn,
     next: &QueueColumn,
     head: &mut [u16; MOST_QUEUES],
@@ -115,7 +114,7 @@ pub fn all(
     rows: &mut Rows,
     list: &mut [u32],
 ) -> usize
-    requires { (ready < 65536) × (n ≤ most_operations) }
+    requires { n ≤ most_operations }
     ensures bounds { (queue : List ℕ) →
         Prepared queue n source.now head.old next.now ran.old
         waiter.old ready →
@@ -130,15 +129,13 @@ pub fn all(
     let mut unit = [0u16; UNIT];
     unit[ROW_WIDTH] = 1;
     let mut word = ready;
-    let mut i: usize = 0;
-    while i < n {
+    for i in 0..n {
         if word == 0 {
             return i;
         }
         word = turn(
             i, n, word, source, next, &unit, head, &mut prev, ran, waiter, rows, list,
         );
-        i += 1;
     }
-    i
+    n
 }

@@ -5,16 +5,17 @@
 ghost use Rattle.std.specs.Prelude.{◌≡◌, ◌&&◌, cond, eqb, get_or};
 ghost use Rattle.plan_format.specs.Plan.{Plan};
 ghost use Rattle.plan_format.specs.Stored.{Tells};
+ghost use Rattle.plan_format.specs.Told.{told_as};
 ghost use Rattle.check_signals.specs.Walks.{SignalsGiven, Judged, signals_found, lasts_found, cleared, held_in};
 ghost use Rattle.check_signals.specs.Owners.{by_owners};
 
 use check_columns::QueueColumn;
-use plan_format::Told;
+use plan_format::{Reason, Refusal};
 
-// 7 at the first signal that is not above the last of its semaphore; or none, and the answer 1 where each signal is by
-// the queue that owns its semaphore, else 0. In `last`, of the plan's own semaphores, the last values of the signals
-// before it. By the columns of a plan the refusal is the plan's, and where there is none the last values are the
-// highest, and the answer is 1 exactly if only owners signal. Of more signals than the columns hold those that they
+// `SignalNotHigher` at the operation of the first signal that is not above the last of its semaphore; or whether each
+// signal is by the queue that owns its semaphore. In `last`, of the plan's own semaphores, the last values of the
+// signals before it. By the columns of a plan the refusal is the plan's, and where there is none the last values are
+// the highest, and the answer is whether only owners signal. Of more signals than the columns hold those that they
 // hold are judged; a signal of a semaphore that the plan lacks is judged by what is lent in its place. No branch
 // depends on who signals.
 pub fn judge(
@@ -26,18 +27,18 @@ pub fn judge(
     sval: &[u64],
     sop: &[u16],
     last: &mut [u64],
-) -> Told
+) -> Result<bool, Refusal>
     ensures told { Tells
         (signals_found semaphores signals ssem.now sval.now sop.now
         last.old)
         (cond (by_owners signals owner.now queue.now ssem.now sval.now
-        sop.now) 1 0) result }
+        sop.now) 1 0) (told_as (λ b. cond b 1 0) result) }
     ensures lasts { last.new ≡
         lasts_found semaphores signals ssem.now sval.now sop.now
         last.old }
     ensures of_plans { (p : Plan) →
         SignalsGiven p semaphores signals owner.now queue.now ssem.now
-        sval.now sop.now last.old → Judged p result last.new }
+        sval.now sop.now last.old → Judged p (told_as (λ b. cond b 1 0) result) last.new }
 {
     clear(semaphores, last);
     let many = held(signals, ssem.len(), sval.len(), sop.len());
@@ -50,12 +51,12 @@ pub fn judge(
         all = both(all, own);
         let value = sval[k];
         if value <= base_slices::get64(last, s) {
-            return plan_format::refused(7, i);
+            return Err(Reason::SignalNotHigher.at(i));
         }
         base_slices::put64(last, s, value);
         k += 1;
     }
-    plan_format::answered(one_if(all))
+    Ok(all)
 }
 
 // Whether semaphore s is owned by the queue of operation i.
@@ -70,12 +71,6 @@ fn both(a: bool, b: bool) -> bool
     ensures { result ≡ (a && b) }
 {
     if a { b } else { false }
-}
-
-fn one_if(b: bool) -> u64
-    ensures { result ≡ cond b 1 0 }
-{
-    if b { 1 } else { 0 }
 }
 
 // How many of the signals the columns hold.

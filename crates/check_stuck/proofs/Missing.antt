@@ -22,11 +22,6 @@ use Rattle.check_run.specs.Run.{RowsOf}
 use Rattle.check_run.proofs.Fills.{epoch_first}
 use Rattle.check_stuck.specs.Zeros.{own_zero, first_zero}
 
-pub own_cell :
-    (queue rows : List ℕ) (i q x : ℕ) → q ≡ get_or queue i 0 → x ≡ get_or rows (16 * i + q % 16) 0 →
-    get_or rows (16 * i + get_or queue i 0 % 16) 0 ≡ x
-own_cell queue rows i q x q_is x_is = sym (x_is ∙ ap (λ (y : ℕ). get_or rows (16 * i + y % 16) 0) q_is)
-
 -- the row of operation i is zero at its own queue
 abbrev pub Zero : (queue rows : List ℕ) → (i : ℕ) → Type 0
 Zero queue rows i = get_or rows (16 * i + get_or queue i 0 % 16) 0 ≡ 0
@@ -108,7 +103,7 @@ module _ (p : Plan) (n : ℕ) (queue rows : List ℕ) (sound : Sound p) (many : 
       (others_zero j w.inside (not-true (member j (standard p)) w.passes))))
 
   -- what the columns show of the plan
-  pub first_missing : first_zero n queue rows ≡ place_or n (missing p)
+  first_missing : first_zero n queue rows ≡ place_or n (missing p)
   first_missing =
       by_option (lowest_below n (own_zero queue rows))
       (λ e. sym (zero_nowhere n queue rows (none_zero e)) ∙ stuck_nowhere (none_zero e))
@@ -122,3 +117,6 @@ module _ (p : Plan) (n : ℕ) (queue rows : List ℕ) (sound : Sound p) (many : 
           Zero queue rows k → ⊥
       none_zero e k l z =
           clash (own_zero queue rows k) (zero_test n queue rows k z) (lowest_none n (own_zero queue rows) e k l)
+
+  pub missing_by : {r : ℕ} → r ≡ first_zero n queue rows → r ≡ place_or n (missing p)
+  missing_by e = e ∙ first_missing

@@ -1,6 +1,6 @@
 -- `check_marks::uses` goes from the last mark to the first: table and answer are those of the marks passed. Assumes
 -- nothing.
-use mathlib.Core.Path.{ap}
+use mathlib.Core.Path.{ap, refl}
 use Prim.Native.Nat.{ℕ, ◌%◌}
 use Rattle.plan_format.specs.Sizes.{most_operations}
 use Rattle.check_columns.specs.Shown.{mark_codes}
@@ -13,6 +13,6 @@ loop-k-init c = backward_none
 pub loop-k-preserved : goal.loop-k-preserved
 loop-k-preserved c =
     backward_more c.loop-k.invariant c.loop-k-test.true
-    (ap (λ (z : ℕ). z % mark_codes) c.u16_to_usize-m.ensures.0)
-    (ap (λ (z : ℕ). z % most_operations) c.u16_to_usize-i.ensures.0) c.u16_to_usize-free.ensures.0
+    (ap (λ (z : ℕ). z % mark_codes) c.from-m.ensures)
+    (ap (λ (z : ℕ). z % most_operations) c.from-i.ensures) refl
     c.late.ensures c.pick-lowest.ensures c.noted.ensures

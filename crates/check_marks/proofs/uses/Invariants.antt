@@ -6,6 +6,3 @@ use Rattle.check_marks.proofs.uses.Given as goal
 abbrev pub invariant-loop-k : goal.invariant-loop-k
 invariant-loop-k l =
     Backward l.queue l.rows l.mark l.mop l.n l.marks l.frees l.lowest l.k
-
-abbrev pub decreases-loop-k : goal.decreases-loop-k
-decreases-loop-k l = l.k

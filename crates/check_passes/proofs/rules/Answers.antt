@@ -2,8 +2,10 @@
 use Rattle.check_passes.proofs.Columns.{zeros_few, zeros_many}
 use Rattle.check_passes.proofs.rules.Goals as goal
 
-pub ruled-requires : goal.ruled-requires
-ruled-requires c = zeros_few _ c.if-semaphores-le-FIRST_SEMAPHORES.true
+pub ruled-requires-clause-enough : goal.ruled-requires-clause-enough
+ruled-requires-clause-enough c = zeros_few _ c.if-semaphores-le-FIRST_SEMAPHORES.true
 
-pub ruled-requires-2 : goal.ruled-requires-2
-ruled-requires-2 c = zeros_many _ c.if-semaphores-le-FIRST_SEMAPHORES.false
+pub ruled-requires-else-semaphores-le-FIRST_SEMAPHORES-clause-enough :
+    goal.ruled-requires-else-semaphores-le-FIRST_SEMAPHORES-clause-enough
+ruled-requires-else-semaphores-le-FIRST_SEMAPHORES-clause-enough c =
+    zeros_many _ c.if-semaphores-le-FIRST_SEMAPHORES.false

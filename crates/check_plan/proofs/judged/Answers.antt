@@ -48,7 +48,8 @@ returns c =
     let l = loaded.0 in
     let owners = owners_part _ c.args.head.now (2 + c.args.h.queues) c.args.h.semaphores
     (loaded.1 c.if-l-ne0.false) in
-    let of_plan = c.judge_columns-told.ensures.of_plans _ (loaded_given l c.if-l-ne0.false _ owners) in
+    let of_plan = rw (← c.told_passed-told.ensures) at
+    (c.judge_columns.ensures.of_plans _ (loaded_given l c.if-l-ne0.false _ owners)) in
     let whole = checked _ _ _ _ _ _ (read_says _ _ _ _ _ _ (loaded_clean l c.if-l-ne0.false) of_plan.0) in
     let read = loaded_read l _ _ (λ _. of_plan.1) in
     rw c.with_lists-2.ensures (record {
@@ -57,5 +58,5 @@ returns c =
       refused = loaded_none l;
       read = read;
       opened = λ z. opened_plan l.sizes whole z (read (loaded_clean l c.if-l-ne0.false));
-      kept = kept_judged l loaded.2 _ _ c.if-l-ne0.false (sources_kept c.judge_columns-told.ensures.sources);
+      kept = kept_judged l loaded.2 _ _ c.if-l-ne0.false (sources_kept c.judge_columns.ensures.sources);
     })

@@ -5,11 +5,12 @@ use Rattle.check_run.proofs.run.Goals as goal
 
 pub returns : goal.returns
 returns c =
+    let whole = rw c.from-many.ensures at c.all.ensures in
     let prepared : Prepared _ _ _ _ _ _ _ _ = record {
       chained = c.chain.ensures;
       ran_is = refl;
-      looked = c.wake-ready.ensures.1;
+      looked = c.wake-ready.ensures;
     } in record {
-      bounds = c.all.ensures.bounds _ prepared;
-      of_plans = λ p shown cleared room. c.all.ensures.of_plans p _ shown cleared room prepared;
+      bounds = whole.bounds _ prepared;
+      of_plans = λ p shown cleared room. whole.of_plans p _ shown cleared room prepared;
     }

@@ -32,7 +32,7 @@ returns-then-value-get64 c =
     (signals_seven c.loop-k.invariant.1 c.loop-k-test.true c.u16_to_usize-s.ensures.0 refl
     c.get64.ensures c.if-value-get64.true c.u16_to_usize-i.ensures.0) in
     let t = refused_alike (tells (sym e.found)) (λ z. omega (arith, z)) in
-    rw c.refused.ensures (record {
+    rw c.at.ensures (record {
       told = t;
       lasts = e.table;
       of_plans = λ p shown. judged shown t e.table;
@@ -59,8 +59,8 @@ returns c =
     (signals_end c.loop-k.invariant.1 c.loop-k-test.false) in
     let all = owned_cut _ _ _ _ _ _ _ c.held-many.ensures (owned_end c.loop-k-test.false c.loop-k.invariant.5) in
     let t = passed_with (tells (sym e.found)) refl
-    (c.one_if.ensures ∙ ap (λ (b : Bool). cond {A = ℕ} b 1 0) all) in
-    rw c.answered.ensures (record {
+    (ap (λ (b : Bool). cond {A = ℕ} b 1 0) all) in
+    (record {
       told = t;
       lasts = e.table;
       of_plans = λ p shown. judged shown t e.table;

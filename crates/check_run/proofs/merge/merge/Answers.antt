@@ -18,6 +18,6 @@ loop-k-preserved c =
       simp length-set c.loop-k.invariant.1,
       merged_more f c.loop-k.row c.loop-k.k c.sum.result _ c.loop-k.invariant.1 (omega arith)
           c.loop-k.invariant.2
-          (merged_is _ _ _ _ _ _ _ _ _ _ _ c.higher-ab.ensures c.higher-cd.ensures c.max_u16.ensures
+          (merged_is _ _ _ _ _ _ _ _ _ _ _ c.higher-ab.ensures c.higher-cd.ensures c.max.ensures
           c.sum.ensures) refl,
     )

@@ -1,27 +1,16 @@
 -- `queues::blocker` gives the first source that has not run. Assumes nothing.
-use Rattle.check_run.proofs.Looks.{held_first, held_second, held_third, held_none}
+use Rattle.std.proofs.Common.{rules, ◌≡◌}
+use native.Mathlib.Omega.{arith}
+use lib.ListN.{get_or}
+use Rattle.check_run.proofs.Looks.{held_at, held_none}
 use Rattle.check_run.proofs.queues.blocker.Goals as goal
 
-pub returns-then-get16-eq0 : goal.returns-then-get16-eq0
-returns-then-get16-eq0 c =
-    held_first _ _ _ _ _ c.get16-a.ensures c.get16.ensures c.if-get16-eq0.true
-
-pub returns-then-get16-eq0-2 : goal.returns-then-get16-eq0-2
-returns-then-get16-eq0-2 c =
-    held_second _ _ _ _ _ c.get16-a.ensures c.get16.ensures
-    c.if-get16-eq0.false
-    _ _ c.get16-b.ensures c.get16-2.ensures c.if-get16-eq0-2.true
-
-pub returns-then-get16-eq0-3 : goal.returns-then-get16-eq0-3
-returns-then-get16-eq0-3 c =
-    held_third _ _ _ _ _ c.get16-a.ensures c.get16.ensures
-    c.if-get16-eq0.false
-    _ _ c.get16-b.ensures c.get16-2.ensures c.if-get16-eq0-2.false
-    _ _ c.get16-c.ensures c.get16-3.ensures c.if-get16-eq0-3.true
+pub returns-then-get_or-eq0 : goal.returns-then-get_or-eq0
+returns-then-get_or-eq0 c =
+    let waits : get_or c.args.ran.now c.get_or-at.result 0 ≡ 0 = search rules in
+    held_at _ _ _ c.loop-k.k _ c.loop-k.invariant c.loop-k-test.true c.get_or-at.ensures waits
 
 pub returns : goal.returns
 returns c =
-    held_none _ _ _ _ _ c.get16-a.ensures c.get16.ensures
-    c.if-get16-eq0.false
-    _ _ c.get16-b.ensures c.get16-2.ensures c.if-get16-eq0-2.false
-    _ _ c.get16-c.ensures c.get16-3.ensures c.if-get16-eq0-3.false
+    let e : c.loop-k.k ≡ 3 = omega (arith, c.loop-k.auto.k-end, c.loop-k-test.false) in
+    held_none _ _ _ (rw e at c.loop-k.invariant)

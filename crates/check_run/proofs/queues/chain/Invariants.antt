@@ -6,6 +6,3 @@ use Rattle.check_run.proofs.queues.chain.Given as goal
 
 abbrev pub invariant-loop-i : goal.invariant-loop-i
 invariant-loop-i l = (l.i ≤ l.n) × Chained l.queue l.i l.n l.head l.next
-
-abbrev pub decreases-loop-i : goal.decreases-loop-i
-decreases-loop-i l = l.i

@@ -4,4 +4,4 @@ use Rattle.check_run.proofs.Words.{trailing_lowest}
 use Rattle.check_run.proofs.queues.lowest.Goals as goal
 
 pub returns : goal.returns
-returns c = trailing_lowest 32 16 c.args.word (omega arith) c.requires.0 c.requires.1
+returns c = trailing_lowest 16 16 c.args.word (omega arith) c.requires c.ranges.word.fits

@@ -9,18 +9,15 @@ pub overflow_sub-left : goal.overflow_sub-left
 overflow_sub-left c =
     omega (
       arith,
-      unit_shifted c.lowest-q.result 4294967296 c.lowest-q.ensures.0 (omega arith),
+      unit_shifted c.lowest-q.result 65536 c.lowest-q.ensures.0 (omega arith),
       has_le _ _ c.lowest-q.ensures.1.there,
     )
 
 pub loop-left-preserved : goal.loop-left-preserved
-loop-left-preserved c = (
-  omega arith,
-  c.look-r.ensures.0,
-  λ x w h. c.loop-left.invariant.2 x w
-      (looked_lowest _ _ _ _ c.lowest-q.result _ _ _ _ _ x w c.lowest-q.ensures.1
-      (unit_shifted c.lowest-q.result 4294967296 c.lowest-q.ensures.0 (omega arith)) c.look-r.ensures.1 h),
-)
+loop-left-preserved c =
+    λ x w h. c.loop-left.invariant x w
+    (looked_lowest _ _ _ _ c.lowest-q.result _ _ _ _ _ x w c.lowest-q.ensures.1
+    (unit_shifted c.lowest-q.result 65536 c.lowest-q.ensures.0 (omega arith)) c.look-r.ensures h)
 
 pub returns : goal.returns
-returns c = (c.loop-left.invariant.1, c.loop-left.invariant.2 _ _ (looked_end _ _ _ _ _ _ (omega arith)))
+returns c = c.loop-left.invariant _ _ (looked_end _ _ _ _ _ _ (omega arith))
