@@ -1,14 +1,13 @@
 -- A loop that stores f 0, f 1, .. from a place on. Assumes nothing.
 use mathlib.Core.Path.{◌≡◌, sym, ap, ◌∙◌}
 use mathlib.Core.List.{List}
-use Prim.Native.Nat.{ℕ, suc, ◌+◌, ◌-◌, ◌*◌, ◌%◌, ◌≤◌, ◌<◌}
+use Prim.Native.Nat.{ℕ, suc, ◌+◌, ◌-◌, ◌≤◌, ◌<◌}
 use native.Mathlib.Nat.{zero-add}
 use native.Mathlib.Numerals.{add-one}
 use native.Mathlib.Omega.{arith}
 use lib.ListN.{length, set}
 use lib.Seq.{sets, length-sets}
 use Rattle.base_lists.specs.Lists.{tabulate_from}
-use Rattle.plan_format.specs.Sizes.{most_operations}
 
 pub record Putting (f : ℕ → ℕ) (place many : ℕ) (before now : List ℕ) (j : ℕ) : Type 0 where
   pub inside : j ≤ many
@@ -45,10 +44,3 @@ pub putting_front : {f : ℕ → ℕ} {many : ℕ} {before old new : List ℕ} {
     j < many → new ≡ set old j v → v ≡ f j →
     Putting f 0 many before new (j + 1)
 putting_front {j} b l e h = putting_next b l (e ∙ rw (zero-add j)) h
-
--- what is stored of a small number is the number
-pub small_is : (i : ℕ) → i < most_operations → i % 65536 ≡ i
-small_is i l = omega arith
-
-pub code_is : (a b x y : ℕ) → a ≡ x → b ≡ y → (2 * (a % 256) + b % 2) % 65536 ≡ 2 * (x % 256) + y % 2
-code_is a b x y e f = rw (e, f) (omega arith)

@@ -36,7 +36,7 @@ pub type Rows = [u16; ROW_PLACES];
 pub const MARK_CODES: usize = 2 * MOST_BUFFERS;
 
 // How many signals and marks a plan has.
-#[derive(Clone, Copy)]
+#[derive(Clone, Copy, Debug, PartialEq, Eq, Hash)]
 pub struct Filled {
     pub signals: usize,
     pub marks: usize,
@@ -73,43 +73,28 @@ pub fn add(
         sop.old mark.old mop.old) }
 {
     let operation = i as usize;
-    let signals_before = signals as usize;
-    let marks_before = marks as usize;
-    if MOST_OPERATIONS <= operation {
-        return Filled {
-            signals: signals_before,
-            marks: marks_before,
-        };
+    let before = Filled {
+        signals: signals as usize,
+        marks: marks as usize,
+    };
+    if operation >= MOST_OPERATIONS || wval.len() < MOST_WAITS * operation + MOST_WAITS {
+        return before;
     }
-    if wval.len() < MOST_WAITS * operation + MOST_WAITS {
-        return Filled {
-            signals: signals_before,
-            marks: marks_before,
-        };
-    }
-    base_slices::put16(queue, operation, base_numbers::u64_to_usize(window[0]));
-    let w = put_waits(window, operation, wsem, wval);
+    base_slices::put(queue, operation, low(window[0]));
+    let w = put_waits(window, i, wsem, wval);
     let signals_at = 2 + 2 * w;
-    let s = put_signals(
-        window,
-        signals_at,
-        operation,
-        signals_before,
-        ssem,
-        sval,
-        sop,
-    );
+    let s = put_signals(window, signals_at, i, before.signals, ssem, sval, sop);
     let marks_at = signals_at + 1 + 2 * s;
-    let m = put_marks(window, marks_at, operation, marks_before, mark, mop);
+    let m = put_marks(window, marks_at, i, before.marks, mark, mop);
     Filled {
-        signals: signals_before + s,
-        marks: marks_before + m,
+        signals: before.signals + s,
+        marks: before.marks + m,
     }
 }
 
 // Stores the waits of operation i at its three places, and that there is none at each place left; gives how many it
 // has.
-fn put_waits(window: &Window, i: usize, semaphore: &mut [u16], value: &mut [u64]) -> usize
+fn put_waits(window: &Window, i: u16, semaphore: &mut [u16], value: &mut [u64]) -> usize
     requires { (i < most_operations) × (wait_places ≤ length semaphore.old) ×
         (most_waits * i + most_waits ≤ length value.old) }
     ensures many { result ≡ get_or window.now 1 0 % 4 }
@@ -118,10 +103,11 @@ fn put_waits(window: &Window, i: usize, semaphore: &mut [u16], value: &mut [u64]
     ensures values { value.new ≡
         sets value.old (3 * i) (wait_values window.now result 1) }
 {
-    let many = base_numbers::u64_to_usize(window[1]) % 4;
-    for j in 0..3 {
-        semaphore[3 * i + j] = low(waited(window[2 + 2 * j], j, many));
-        value[3 * i + j] = waited(window[3 + 2 * j], j, many);
+    let many = window[1] as usize % 4;
+    let place = MOST_WAITS * (i as usize);
+    for j in 0..MOST_WAITS {
+        semaphore[place + j] = low(waited(window[2 + 2 * j], j, many));
+        value[place + j] = waited(window[3 + 2 * j], j, many);
     }
     many
 }
@@ -137,7 +123,7 @@ fn waited(x: u64, j: usize, many: usize) -> u64
 fn put_signals(
     window: &Window,
     at: usize,
-    i: usize,
+    i: u16,
     had: usize,
     semaphore: &mut [u16],
     value: &mut [u64],
@@ -151,17 +137,11 @@ fn put_signals(
         sets value.old had (signal_values window.now result at) }
     ensures operations { operation.new ≡ sets operation.old had (repeated result i) }
 {
-    let many = base_numbers::u64_to_usize(window[at]) % 4;
-    let mut j = 0;
-    while j < many {
-        base_slices::put16(
-            semaphore,
-            had + j,
-            base_numbers::u64_to_usize(window[at + 1 + 2 * j]),
-        );
-        base_slices::put64(value, had + j, window[at + 2 + 2 * j]);
-        base_slices::put16(operation, had + j, i);
-        j += 1;
+    let many = window[at] as usize % 4;
+    for j in 0..many {
+        base_slices::put(semaphore, had + j, low(window[at + 1 + 2 * j]));
+        base_slices::put(value, had + j, window[at + 2 + 2 * j]);
+        base_slices::put(operation, had + j, i);
     }
     many
 }
@@ -170,7 +150,7 @@ fn put_signals(
 fn put_marks(
     window: &Window,
     at: usize,
-    i: usize,
+    i: u16,
     had: usize,
     mark: &mut [u16],
     operation: &mut [u16],
@@ -181,14 +161,12 @@ fn put_marks(
         sets mark.old had (codes_of_marks window.now result at) }
     ensures operations { operation.new ≡ sets operation.old had (repeated result i) }
 {
-    let many = base_numbers::u64_to_usize(window[at]) % 8;
-    let mut j = 0;
-    while j < many {
-        let b = base_numbers::u64_to_usize(window[at + 1 + 2 * j]) % MOST_BUFFERS;
-        let f = base_numbers::u64_to_usize(window[at + 2 + 2 * j]) % 2;
-        base_slices::put16(mark, had + j, 2 * b + f);
-        base_slices::put16(operation, had + j, i);
-        j += 1;
+    let many = window[at] as usize % 8;
+    for j in 0..many {
+        let b = window[at + 1 + 2 * j] % MOST_BUFFERS as u64;
+        let f = window[at + 2 + 2 * j] % 2;
+        base_slices::put(mark, had + j, (2 * b + f) as u16);
+        base_slices::put(operation, had + j, i);
     }
     many
 }

@@ -1,11 +1,13 @@
 -- The table of last values with zeros for the first semaphores. Assumes nothing.
-use mathlib.Core.Path.{◌≡◌, refl, ap, ◌∙◌}
-use mathlib.Core.List.{List}
-use Prim.Native.Nat.{ℕ, zero, suc, ◌+◌, ◌≤◌, ◌<◌}
+use mathlib.Core.Path.{◌≡◌, refl, sym, ap, ◌∙◌}
+use mathlib.Core.List.{List, ◌++◌}
+use Prim.Native.Nat.{ℕ, zero, suc, ◌+◌, ◌<◌, min}
 use native.Mathlib.Nat.{not-suc-le-zero}
 use native.Mathlib.Omega.{arith}
 use lib.Dec.{ltb, eqb}
-use lib.ListN.{length, get_or, set, length-set, get_or-eq_default}
+use lib.ListN.{length, get_or, set, drop, replicate, length-set, get_or-eq_default}
+use Rattle.std.proofs.lemmas.List.{set_past}
+use Rattle.std.proofs.lemmas.List.Edits.{fill_more}
 use lib.Seq.{get_or-set_same, get_or-set_other}
 use borrow.Author.Tests.{ltb-true, ltb-false, eqb-true, eqb-false}
 use Rattle.base_lists.proofs.Tests.{by_cases}
@@ -30,11 +32,19 @@ cleared_at (suc n) last s l =
         by_cases (ltb n (length xs)) (λ t. get_or-set_same xs n 0 0 (ltb-true n (length xs) t))
         (λ f. get_or-eq_default (set xs n 0) 0 {n = n} (omega (arith, length-set xs n 0, ltb-false n (length xs) f)))
 
--- each turn of the loop clears one more
-module _ (last₀ : List ℕ) (s : ℕ) {last : List ℕ} where
-  pub cleared_more : last ≡ cleared s last₀ → {new : List ℕ} → new ≡ set last s 0 → new ≡ cleared (s + 1) last₀
-  unfolding cleared
-  cleared_more e n = let here : s + 1 ≡ suc s = omega arith in rw (n, here, e)
-
-  pub cleared_end : {n : ℕ} → s ≤ n → n ≤ s → last ≡ cleared s last₀ → last ≡ cleared n last₀
-  cleared_end {n} a b e = let here : s ≡ n = omega arith in e ∙ ap (λ (z : ℕ). cleared z last₀) here
+-- zeros in front, as many as there are places
+pub cleared_filled : (n : ℕ) (last : List ℕ) →
+    replicate (min n (length last)) 0 ++ drop (min n (length last)) last ≡ cleared n last
+unfolding cleared
+cleared_filled zero last = let e : min 0 (length last) ≡ 0 = omega arith in rw e refl
+cleared_filled (suc n) last =
+    by_cases (ltb n (length last))
+    (λ t. let l = ltb-true n (length last) t in
+    let e : min (suc n) (length last) ≡ n + 1 = omega arith in
+    let f : min n (length last) ≡ n = omega arith in
+    rw e (sym (fill_more n 0 last l) ∙ ap (λ (xs : List ℕ). set xs n 0) (rw f at (cleared_filled n last))))
+    (λ t. let l = ltb-false n (length last) t in
+    let e : min (suc n) (length last) ≡ length last = omega arith in
+    let f : min n (length last) ≡ length last = omega arith in
+    rw e ((rw f at (cleared_filled n last))
+    ∙ sym (set_past (cleared n last) n 0 (omega (arith, cleared_long n last)))))

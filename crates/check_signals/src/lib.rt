@@ -43,18 +43,15 @@ pub fn judge(
     clear(semaphores, last);
     let many = held(signals, ssem.len(), sval.len(), sop.len());
     let mut all = true;
-    let mut k = 0;
-    while k < many {
-        let s = base_numbers::u16_to_usize(ssem[k]);
-        let i = base_numbers::u16_to_usize(sop[k]);
-        let own = owned(owner, queue, s, i);
-        all = both(all, own);
+    for k in 0..many {
+        let s = usize::from(ssem[k]);
+        let i = usize::from(sop[k]);
+        all = all & owned(owner, queue, s, i);
         let value = sval[k];
-        if value <= base_slices::get64(last, s) {
+        if value <= base_slices::get_or(last, s, 0) {
             return Err(Reason::SignalNotHigher.at(i));
         }
-        base_slices::put64(last, s, value);
-        k += 1;
+        base_slices::put(last, s, value);
     }
     Ok(all)
 }
@@ -63,33 +60,21 @@ pub fn judge(
 fn owned(owner: &[u64], queue: &QueueColumn, s: usize, i: usize) -> bool
     ensures { result ≡ eqb (get_or owner.now s 0) (get_or queue.now i 0) }
 {
-    let by = base_slices::get16(queue, i);
-    base_slices::get64(owner, s) == by as u64
-}
-
-fn both(a: bool, b: bool) -> bool
-    ensures { result ≡ (a && b) }
-{
-    if a { b } else { false }
+    base_slices::get_or(owner, s, 0) == u64::from(base_slices::get_or(queue, i, 0))
 }
 
 // How many of the signals the columns hold.
+#[tactic(auto, unfolding(crate::specs::Walks::held_in))]
 fn held(signals: usize, ssem: usize, sval: usize, sop: usize) -> usize
     ensures { result ≡ held_in signals ssem sval sop }
 {
-    base_numbers::min_usize(
-        signals,
-        base_numbers::min_usize(ssem, base_numbers::min_usize(sval, sop)),
-    )
+    signals.min(ssem.min(sval.min(sop)))
 }
 
 // Zeros in the places of so many semaphores.
 fn clear(semaphores: usize, last: &mut [u64])
     ensures { last.new ≡ cleared semaphores last.old }
 {
-    let mut s = 0;
-    while s < semaphores {
-        base_slices::put64(last, s, 0);
-        s += 1;
-    }
+    let own = semaphores.min(last.len());
+    last[..own].fill(0);
 }

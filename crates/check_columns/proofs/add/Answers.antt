@@ -1,5 +1,5 @@
 -- `add` adds one operation to each column, where its parts are.
-use Rattle.std.proofs.Common.{refl, ap, ◌∙◌, ℕ, ◌%◌, set}
+use Rattle.std.proofs.Common.{refl, ap, ◌∙◌, ℕ, set}
 use Rattle.check_columns.proofs.Parts.{wait_semaphores_put, wait_values_put, signal_semaphores_put, signal_values_put}
 use Rattle.check_columns.proofs.Parts.{signal_operations_put, marks_put, mark_operations_put, signals_more}
 use Rattle.check_columns.proofs.Parts.{marks_more}
@@ -13,8 +13,7 @@ returns-clause-added c =
     let m = c.put_marks-m.ensures.many in
     λ _. record {
       queues_added = record {
-        stored = c.put16.ensures ∙
-            ap (λ (z : ℕ). set a.queue.now a.i (z % 65536)) c.u64_to_usize.ensures;
+        stored = c.put.ensures ∙ ap (λ (z : ℕ). set a.queue.now a.i z) c.low.ensures;
       };
       wait_semaphores_added = wait_semaphores_put _ 0 w s m a.i c.put_waits-w.ensures.semaphores;
       wait_values_added = wait_values_put _ 0 w s m a.i c.put_waits-w.ensures.values;

@@ -1,14 +1,14 @@
 -- `put_marks` stores buffers with kinds, and the operation, one after the other.
-use Rattle.check_columns.proofs.Putting.{putting_next, putting_end, small_is, code_is}
+use Rattle.std.proofs.Common.{refl}
+use Rattle.check_columns.proofs.Putting.{putting_next, putting_end}
 use Rattle.check_columns.proofs.put_marks.Goals as goal
 
 pub loop-j-preserved : goal.loop-j-preserved
 loop-j-preserved c =
     let l = c.loop-j.invariant in
     let on = c.loop-j-test.true in record {
-      marks = putting_next l.marks on c.put16.ensures
-          (code_is _ _ _ _ c.u64_to_usize-b.ensures c.u64_to_usize-f.ensures);
-      operations = putting_next l.operations on c.put16-in-loop-j.ensures (small_is _ c.requires.1);
+      marks = putting_next l.marks on c.put.ensures refl;
+      operations = putting_next l.operations on c.put-in-loop-j.ensures refl;
     }
 
 pub returns-clause-marks : goal.returns-clause-marks

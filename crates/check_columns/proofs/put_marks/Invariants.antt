@@ -1,5 +1,5 @@
 -- The loop's invariant: the marks before j stand in their columns.
-use Rattle.std.proofs.Common.{◌-◌, ◌+◌, ◌*◌, ◌%◌}
+use Rattle.std.proofs.Common.{◌+◌, ◌*◌, ◌%◌}
 use Rattle.check_columns.specs.Filling.{first_at, second_at}
 use Rattle.check_columns.proofs.Putting.{Putting}
 use Rattle.check_columns.proofs.put_marks.Given as goal
@@ -10,6 +10,3 @@ invariant-loop-j l = record {
       l.initial.mark l.mark l.j;
   operations : Putting (λ j. l.i) l.had l.many l.initial.operation l.operation l.j;
 }
-
-abbrev pub decreases-loop-j : goal.decreases-loop-j
-decreases-loop-j l = l.many - l.j

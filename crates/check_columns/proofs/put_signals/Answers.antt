@@ -1,15 +1,15 @@
 -- `put_signals` stores semaphores, values and the operation, one after the other.
-use Rattle.std.proofs.Common.{refl, ap, ℕ, ◌%◌}
-use Rattle.check_columns.proofs.Putting.{putting_next, putting_end, small_is}
+use Rattle.std.proofs.Common.{refl}
+use Rattle.check_columns.proofs.Putting.{putting_next, putting_end}
 use Rattle.check_columns.proofs.put_signals.Goals as goal
 
 pub loop-j-preserved : goal.loop-j-preserved
 loop-j-preserved c =
     let l = c.loop-j.invariant in
     let on = c.loop-j-test.true in record {
-      semaphores = putting_next l.semaphores on c.put16.ensures (ap (λ (z : ℕ). z % 65536) c.u64_to_usize.ensures);
-      values = putting_next l.values on c.put64.ensures refl;
-      operations = putting_next l.operations on c.put16-in-loop-j.ensures (small_is _ c.requires.1);
+      semaphores = putting_next l.semaphores on c.put.ensures c.low.ensures;
+      values = putting_next l.values on c.put-in-loop-j.ensures refl;
+      operations = putting_next l.operations on c.put-in-loop-j-2.ensures refl;
     }
 
 pub returns-clause-semaphores : goal.returns-clause-semaphores

@@ -1,5 +1,5 @@
 -- The loop's invariant: the signals before j stand in their columns.
-use Rattle.std.proofs.Common.{◌-◌, ◌%◌}
+use Rattle.std.proofs.Common.{◌%◌}
 use Rattle.check_columns.specs.Filling.{first_at, second_at}
 use Rattle.check_columns.proofs.Putting.{Putting}
 use Rattle.check_columns.proofs.put_signals.Given as goal
@@ -10,6 +10,3 @@ invariant-loop-j l = record {
   values : Putting (λ j. second_at l.window l.at j) l.had l.many l.initial.value l.value l.j;
   operations : Putting (λ j. l.i) l.had l.many l.initial.operation l.operation l.j;
 }
-
-abbrev pub decreases-loop-j : goal.decreases-loop-j
-decreases-loop-j l = l.many - l.j

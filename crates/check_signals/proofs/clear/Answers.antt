@@ -1,14 +1,13 @@
--- `check_signals::clear` sets zeros: after s turns those of the first s semaphores are there. Assumes nothing.
-use mathlib.Core.Path.{refl}
-use native.Mathlib.Omega.{arith}
-use Rattle.check_signals.specs.Walks.{cleared}
-use Rattle.check_signals.proofs.Clearing.{cleared_more}
+-- `check_signals::clear` fills as many places as there are. Assumes nothing.
+use Rattle.std.proofs.Common.{rules, ◌≡◌, ℕ, ◌++◌}
+use mathlib.Core.Path.{◌∙◌}
+use lib.ListN.{drop, replicate}
+use Rattle.check_signals.proofs.Clearing.{cleared_filled}
 use Rattle.check_signals.proofs.clear.Goals as goal
 
-pub loop-s-init : goal.loop-s-init
-unfolding cleared
-loop-s-init c = (omega arith, refl)
-
-pub loop-s-preserved : goal.loop-s-preserved
-loop-s-preserved c =
-    (omega arith, cleared_more _ _ c.loop-s.invariant.1 c.put64.ensures)
+pub returns : goal.returns
+returns c =
+    let own = c.min-own.result in
+    let last = c.args.last.now in
+    let filled : c.fill.new.self ++ drop own last ≡ replicate {A = ℕ} own 0 ++ drop own last = search rules in
+    filled ∙ rw c.min-own.ensures (cleared_filled c.args.semaphores last)

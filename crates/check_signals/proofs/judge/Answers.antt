@@ -26,11 +26,11 @@ loop-k-init c = (
   owned_none,
 )
 
-pub returns-then-value-get64 : goal.returns-then-value-get64
-returns-then-value-get64 c =
+pub returns-then-value-get_or : goal.returns-then-value-get_or
+returns-then-value-get_or c =
     let e = stops_found c.clear.ensures c.held-many.ensures
-    (signals_seven c.loop-k.invariant.1 c.loop-k-test.true c.u16_to_usize-s.ensures.0 refl
-    c.get64.ensures c.if-value-get64.true c.u16_to_usize-i.ensures.0) in
+    (signals_seven c.loop-k.invariant.1 c.loop-k-test.true c.from-s.ensures refl
+    c.get_or.ensures c.if-value-get_or.true c.from-i.ensures) in
     let t = refused_alike (tells (sym e.found)) (λ z. omega (arith, z)) in
     rw c.at.ensures (record {
       told = t;
@@ -40,16 +40,16 @@ returns-then-value-get64 c =
 
 pub loop-k-preserved : goal.loop-k-preserved
 loop-k-preserved c = (
-  ap length c.put64.ensures ∙ simp length-set c.loop-k.invariant.0,
-  signals_more c.loop-k.invariant.1 c.loop-k-test.true c.u16_to_usize-s.ensures.0 refl
-      c.get64.ensures c.if-value-get64.false c.put64.ensures,
+  ap length c.put.ensures ∙ simp length-set c.loop-k.invariant.0,
+  signals_more c.loop-k.invariant.1 c.loop-k-test.true c.from-s.ensures refl
+      c.get_or.ensures c.if-value-get_or.false c.put.ensures,
   c.loop-k.invariant.2,
   c.loop-k.invariant.3,
   c.loop-k.invariant.4,
   owned_more c.loop-k.invariant.5 c.loop-k-test.true
-      (owned_is _ _ _ _ _ _ _ c.u16_to_usize-s.ensures.0 c.u16_to_usize-i.ensures.0
-      c.owned-own.ensures)
-      c.both-all.ensures,
+      (owned_is _ _ _ _ _ _ _ c.from-s.ensures c.from-i.ensures
+      c.owned-all.ensures)
+      refl,
 )
 
 pub returns : goal.returns

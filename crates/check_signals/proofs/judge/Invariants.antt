@@ -1,7 +1,7 @@
 -- `check_signals::judge` walks the signals: the invariant is what is left of the walk, and of the look at owners.
 -- Assumes nothing.
 use mathlib.Core.Path.{◌≡◌}
-use Prim.Native.Nat.{◌-◌, ◌≤◌}
+use Prim.Native.Nat.{◌≤◌}
 use lib.ListN.{length}
 use Rattle.check_signals.proofs.Loops.{SignalsLeft}
 use Rattle.check_signals.proofs.Owners.{OwnedLeft}
@@ -12,6 +12,3 @@ invariant-loop-k l =
     (length l.last ≡ length l.initial.last) × SignalsLeft l.ssem l.sval l.sop l.many l.initial.last l.k l.last ×
     (l.many ≤ length l.ssem) ×
     (l.many ≤ length l.sval) × (l.many ≤ length l.sop) × OwnedLeft l.owner l.queue l.ssem l.sop l.many l.k l.all
-
-abbrev pub decreases-loop-k : goal.decreases-loop-k
-decreases-loop-k l = l.many - l.k
