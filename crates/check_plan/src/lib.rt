@@ -16,7 +16,9 @@ ghost use Rattle.check_columns.specs.Shown.{PlacesFor};
 ghost use Rattle.check_load.specs.Loading.{HeadKnown};
 ghost use Rattle.check_plan.specs.Counting.{SizesTold, CountsTold, opened_of};
 ghost use Rattle.check_plan.specs.Counting.{counts_of};
-ghost use Rattle.check_plan.specs.Opening.{ReadPlan, OpenedPlan, LentKept, LentLeft, lent};
+ghost use Rattle.check_plan.specs.Opening.{ReadPlan, OpenedPlan, LentKept, LentLeft, lent, Handed, GivenAt};
+ghost use Rattle.check_plan.specs.declared.PlanColumns.{PlanColumns};
+ghost use Rattle.check_plan.specs.declared.Opened.{Opened};
 
 use check_columns::{MarkColumn, QueueColumn, SignalColumn, SignalValues, WaitColumn};
 use check_load::Loaded;
@@ -63,6 +65,21 @@ pub struct Opened {
     pub counted: Counted,
     pub signals: usize,
     pub marks: usize,
+}
+
+// A plan in columns for those who ask further: the numbers before its operations; the queue of each operation; the
+// operation that each wait rests on, three places to an operation; the semaphore, the value and the operation of each
+// signal; the code and the operation of each mark.
+#[derive(Drop)]
+pub struct PlanColumns {
+    pub head: HeadNumbers,
+    pub queue: QueueColumn,
+    pub source: WaitColumn,
+    pub signal_semaphore: SignalColumn,
+    pub signal_value: SignalValues,
+    pub signal_operation: SignalColumn,
+    pub mark: MarkColumn,
+    pub mark_operation: MarkColumn,
 }
 
 // The counts of a stored plan, or the reader's refusal.
@@ -253,6 +270,44 @@ pub fn check_opened(
     judged(
         plan, h, head, queue, source, &mut wval, ssem, sval, sop, mark, mop, table, list,
     )
+}
+
+// The check in columns of its own, which are cleared before: f is handed the answer beside the counts, the columns and
+// the table, and gives the result.
+pub fn ask<R, F: FnOnce(Opened, &PlanColumns, &[u32]) -> R>(
+    plan: &[u8],
+    table: &mut [u32],
+    list: &mut [u32],
+    f: F,
+) -> R
+    requires { F.IsAlwaysCallable f }
+    ensures { (o : Opened) × (c : PlanColumns) ×
+        Handed plan.now o c table.old table.new list.old list.new × GivenAt F.FnOnce f o c table.new result }
+{
+    let mut c = PlanColumns {
+        head: [0; HEAD_NUMBERS],
+        queue: [0; MOST_OPERATIONS],
+        source: [0; WAIT_PLACES],
+        signal_semaphore: [0; SIGNAL_PLACES],
+        signal_value: [0; SIGNAL_PLACES],
+        signal_operation: [0; SIGNAL_PLACES],
+        mark: [0; MARK_PLACES],
+        mark_operation: [0; MARK_PLACES],
+    };
+    let o = check_opened(
+        plan,
+        &mut c.head,
+        &mut c.queue,
+        &mut c.source,
+        &mut c.signal_semaphore,
+        &mut c.signal_value,
+        &mut c.signal_operation,
+        &mut c.mark,
+        &mut c.mark_operation,
+        table,
+        list,
+    );
+    f(o, &c, table)
 }
 
 // For how many operations a column of queues and one of waits have places. A call tells the proof how long two lent
