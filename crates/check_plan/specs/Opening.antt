@@ -96,15 +96,15 @@ lent_of c =
     lent c.head c.queue c.source c.signal_semaphore c.signal_value c.signal_operation c.mark c.mark_operation
 
 -- R55, what those who ask further are handed: all that the check promises of what it was lent
-pub record Handed (bytes : List ℕ) (o : Opened) (c : PlanColumns) (table table_now list list_now : List ℕ) : Type 0
-    where
+pub record Handed (bytes : List ℕ) (o : Opened) (before : Lent) (c : PlanColumns)
+    (table table_now list list_now : List ℕ) : Type 0 where
   pub checked : Checked bytes (record { number = o.counted.number; place = o.counted.place; answer = 0 }) table
       table_now list list_now
   pub sizes : SizesTold bytes o.counted
   pub refused : ((scanned bytes).fault.number ≡ 0 → ⊥) → (o.signals ≡ 0) × (o.marks ≡ 0)
   pub read : (scanned bytes).fault.number ≡ 0 → ReadPlan (plan_in bytes) o (lent_of c)
   pub opened : o.counted.number ≡ 0 → OpenedPlan (plan_in bytes) o (lent_of c) table_now
-  pub left : LentLeft bytes o cleared (lent_of c)
+  pub left : LentLeft bytes o before (lent_of c)
 
 -- a call at an opened plan, its columns and a table may give the result
 abbrev pub GivenAt : {F R : Type 0} → Once F (Opened × (Bor PlanColumns × (Bor (List ℕ) × Unit {0}))) R → F →

@@ -16,7 +16,8 @@ ghost use Rattle.check_columns.specs.Shown.{PlacesFor};
 ghost use Rattle.check_load.specs.Loading.{HeadKnown};
 ghost use Rattle.check_plan.specs.Counting.{SizesTold, CountsTold, opened_of};
 ghost use Rattle.check_plan.specs.Counting.{counts_of};
-ghost use Rattle.check_plan.specs.Opening.{ReadPlan, OpenedPlan, LentKept, LentLeft, lent, Handed, GivenAt};
+ghost use Rattle.check_plan.specs.Opening.{ReadPlan, OpenedPlan, LentKept, LentLeft, lent};
+ghost use Rattle.check_plan.specs.Opening.{lent_of, cleared, Handed, GivenAt};
 ghost use Rattle.check_plan.specs.declared.PlanColumns.{PlanColumns};
 ghost use Rattle.check_plan.specs.declared.Opened.{Opened};
 
@@ -272,8 +273,47 @@ pub fn check_opened(
     )
 }
 
-// The check in columns of its own, which are cleared before: f is handed the answer beside the counts, the columns and
-// the table, and gives the result.
+impl PlanColumns {
+    // Columns of zeros.
+    #[inline(always)]
+    pub fn cleared() -> PlanColumns
+        ensures { lent_of result ≡ cleared }
+    {
+        PlanColumns {
+            head: [0; HEAD_NUMBERS],
+            queue: [0; MOST_OPERATIONS],
+            source: [0; WAIT_PLACES],
+            signal_semaphore: [0; SIGNAL_PLACES],
+            signal_value: [0; SIGNAL_PLACES],
+            signal_operation: [0; SIGNAL_PLACES],
+            mark: [0; MARK_PLACES],
+            mark_operation: [0; MARK_PLACES],
+        }
+    }
+
+    // The check as `check_opened` does it, in these columns.
+    #[inline(always)]
+    pub fn open(&mut self, plan: &[u8], table: &mut [u32], list: &mut [u32]) -> Opened
+        ensures { Handed plan.now result (lent_of self.old) self.new table.old table.new list.old list.new }
+    {
+        check_opened(
+            plan,
+            &mut self.head,
+            &mut self.queue,
+            &mut self.source,
+            &mut self.signal_semaphore,
+            &mut self.signal_value,
+            &mut self.signal_operation,
+            &mut self.mark,
+            &mut self.mark_operation,
+            table,
+            list,
+        )
+    }
+}
+
+// The check in columns of its own, which begin as zeros: f is handed the answer beside the counts, the columns and the
+// table, and gives the result.
 pub fn ask<R, F: FnOnce(Opened, &PlanColumns, &[u32]) -> R>(
     plan: &[u8],
     table: &mut [u32],
@@ -282,32 +322,11 @@ pub fn ask<R, F: FnOnce(Opened, &PlanColumns, &[u32]) -> R>(
 ) -> R
     requires { F.IsAlwaysCallable f }
     ensures { (o : Opened) × (c : PlanColumns) ×
-        Handed plan.now o c table.old table.new list.old list.new × GivenAt F.FnOnce f o c table.new result }
+        Handed plan.now o cleared c table.old table.new list.old list.new × GivenAt F.FnOnce f o c table.new result }
 {
-    let mut c = PlanColumns {
-        head: [0; HEAD_NUMBERS],
-        queue: [0; MOST_OPERATIONS],
-        source: [0; WAIT_PLACES],
-        signal_semaphore: [0; SIGNAL_PLACES],
-        signal_value: [0; SIGNAL_PLACES],
-        signal_operation: [0; SIGNAL_PLACES],
-        mark: [0; MARK_PLACES],
-        mark_operation: [0; MARK_PLACES],
-    };
-    let o = check_opened(
-        plan,
-        &mut c.head,
-        &mut c.queue,
-        &mut c.source,
-        &mut c.signal_semaphore,
-        &mut c.signal_value,
-        &mut c.signal_operation,
-        &mut c.mark,
-        &mut c.mark_operation,
-        table,
-        list,
-    );
-    f(o, &c, table)
+    let mut columns = PlanColumns::cleared();
+    let o = columns.open(plan, table, list);
+    f(o, &columns, table)
 }
 
 // For how many operations a column of queues and one of waits have places. A call tells the proof how long two lent
