@@ -1,9 +1,10 @@
 -- The verdict of the reuse question by the columns of a plan and its rows: by the last mark on the buffer alone.
 -- Assumes nothing: these are definitions.
-use Rattle.std.specs.Prelude.{◌≡◌, Bool, ◌&&◌, cond, List, ℕ, ◌/◌, ◌%◌, ◌≤◌, ◌<◌, ltb, eqb, length, get_or}
+use Rattle.std.specs.Prelude.{◌≡◌, Bool, false, ◌&&◌, cond, Some, None, List, ℕ, ◌/◌, ◌%◌, ◌≤◌, ◌<◌, ltb, eqb, length, get_or}
+use Rattle.std.specs.Prelude as given
 use Rattle.std.proofs.Math.Option.{Option, none, some}
-use Rattle.base_lists.specs.Lists.{highest_below, place_or}
-use Rattle.plan_format.specs.Sizes.{most_buffers, most_operations, no_operation}
+use Rattle.base_lists.specs.Lists.{highest_below}
+use Rattle.plan_format.specs.Sizes.{most_buffers, most_operations}
 use Rattle.plan_format.specs.Plan.{Plan, count, queues}
 use Rattle.plan_format.specs.Sound.{Sound}
 use Rattle.plan_order.specs.Holdings.{Placed, buffer_marks}
@@ -32,13 +33,15 @@ pub record QuestionGiven (p : Plan) (c : Counted) (marks : ℕ) (queue mark oper
   pub buffers_are : c.buffers ≡ length p.sizes
   pub shown : VerdictGiven p c.operations marks queue mark operation rows
 
--- R58: the queue's last operation, of n; 1,024 where there is none
-unfoldable pub last_shown : (queue : List ℕ) → (q n : ℕ) → ℕ
-last_shown queue q n = place_or no_operation (highest_below n (λ i. eqb (get_or queue i 0) q))
+-- R58: the queue's last operation, of n
+unfoldable pub last_shown : (queue : List ℕ) → (q n : ℕ) → Option ℕ
+last_shown queue q n = highest_below n (λ i. eqb (get_or queue i 0) q)
 
--- R58: i is seen by the queue with this last operation; a queue without operations sees none
-unfoldable pub seen : (queue rows : List ℕ) → (last i : ℕ) → Bool
-seen queue rows last i = ltb last no_operation && ordered queue rows i last
+-- R58: i is seen by the queue with this last operation; a queue without operations sees none, and one past 1,024 of
+-- them has no row
+unfoldable pub seen : (queue rows : List ℕ) → (last : Option ℕ) → (i : ℕ) → Bool
+seen queue rows none i = false
+seen queue rows (some last) i = ltb last most_operations && ordered queue rows i last
 
 -- the place of the last mark on the buffer, of n
 unfoldable pub last_marked : (mark : List ℕ) → (b n : ℕ) → Option ℕ
@@ -54,10 +57,10 @@ verdict_at f mark operation none = Fresh
 verdict_at f mark operation (some k) =
     verdict_after (eqb (get_or mark k 0 % mark_codes % 2) 1) (f (get_or operation k 0 % most_operations))
 
--- the operation of the last mark; 1,024 where there is none
-unfoldable pub marked_by : (operation : List ℕ) → (place : Option ℕ) → ℕ
-marked_by operation none = no_operation
-marked_by operation (some k) = get_or operation k 0 % most_operations
+-- the operation of the last mark
+unfoldable pub marked_by : (operation : List ℕ) → (place : Option ℕ) → given.Option ℕ
+marked_by operation none = None
+marked_by operation (some k) = Some (get_or operation k 0 % most_operations)
 
 -- both, by the place of the last mark, and by the columns
 unfoldable pub judged_at : (seen : ℕ → Bool) → (mark operation : List ℕ) → (place : Option ℕ) → Judged
@@ -71,4 +74,4 @@ judged_by queue mark operation rows q b n marks =
 -- of a plan that is shown: its verdict, and the operation of the last mark on the buffer, where there is one
 pub record JudgedRight (p : Plan) (q b : ℕ) (r : Judged) : Type 0 where
   pub verdict : r.verdict ≡ verdict p q b
-  pub operation : (m : Placed) → last_mark (buffer_marks p b) ≡ some m → (r.operation ≡ m.by) × (m.by < count p)
+  pub operation : (m : Placed) → last_mark (buffer_marks p b) ≡ some m → (r.operation ≡ Some m.by) × (m.by < count p)

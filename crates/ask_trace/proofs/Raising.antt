@@ -8,7 +8,7 @@ use native.Mathlib.Numerals.{add-one}
 use native.Mathlib.Omega.{arith}
 use lib.Dec.{ltb, eqb}
 use lib.ListN.{length, get_or, set, drop, replicate, length-set, length-append, length-replicate, get_or-append, get_or-eq_default}
-use lib.Seq.{ext_get_or, get_or-append_right, get_or-set_same, get_or-set_other, drop-cons, drop-length}
+use lib.Seq.{ext_get_or, drop-drop, get_or-append_right, get_or-set_same, get_or-set_other, drop-cons, drop-length}
 use borrow.Author.Tests.{eqb-true, eqb-false, eq-eqb, ne_eqb, ltb-true, ltb-false}
 use Rattle.base_lists.specs.Lists.{member, in_front}
 use Rattle.base_lists.proofs.Elements.{replicate_at}
@@ -56,7 +56,7 @@ module _ (counts old : List ℕ) (room : state_size ≤ length old) where
       now ≡ in_front (begun counts) old
   unfolding in_front
   begun_front e now h =
-      h ∙ ap (λ (l : List ℕ). counts ++ (replicate most_semaphores 0 ++ l)) (drop-drop most_queues most_semaphores old)
+      h ∙ ap (λ (l : List ℕ). counts ++ (replicate most_semaphores 0 ++ l)) (drop-drop most_semaphores most_queues old)
       ∙ sym (append_assoc counts (replicate most_semaphores 0) (drop state_size old))
       ∙ rw (begun_size, begun_is e) refl
 
