@@ -8,13 +8,17 @@ use Rattle.plan_format.specs.Sizes.{most_buffers, most_operations}
 use Rattle.plan_format.specs.Plan.{Plan, count, queues}
 use Rattle.plan_format.specs.Sound.{Sound}
 use Rattle.plan_order.specs.Holdings.{Placed, buffer_marks}
-use Rattle.plan_order.specs.Reuse.{last_mark, verdict}
+use Rattle.plan_format.specs.Stored.{Tells}
+use Rattle.plan_format.specs.declared.Told.{Told}
+use Rattle.plan_order.specs.Reuse.{last_mark, verdict, number_of, question_refusal}
 use Rattle.plan_order.specs.Meaning.{Forced}
 use Rattle.plan_order.specs.declared.Verdict.{Verdict}
 use Rattle.plan_order.specs.declared.Verdict.TheVariants.{Fresh, Reusable, Held, NotOrdered}
 use Rattle.check_columns.specs.Columns.{QueueColumn, MarkColumns, RowColumns}
 use Rattle.check_columns.specs.Shown.{mark_codes, ordered}
 use Rattle.check_plan.specs.declared.Counted.{Counted}
+use Rattle.check_plan.specs.declared.Opened.{Opened}
+use Rattle.check_plan.specs.Opening.{Lent}
 use Rattle.ask_reuse.specs.declared.Judged.{Judged}
 
 -- a sound plan without broken marks, shown by columns, and its rows
@@ -75,3 +79,11 @@ judged_by queue mark operation rows q b n marks =
 pub record JudgedRight (p : Plan) (q b : ℕ) (r : Judged) : Type 0 where
   pub verdict : r.verdict ≡ verdict p q b
   pub operation : (m : Placed) → last_mark (buffer_marks p b) ≡ some m → (r.operation ≡ Some m.by) × (m.by < count p)
+
+-- R57, what is handed back for an opened plan: the check's refusal, or what the question says of a plan that passes
+pub record AnswerGiven (q b : ℕ) (o : Opened) (c : Lent) (rows : List ℕ) (r : Told) : Type 0 where
+  pub refused : (o.counted.number ≡ 0 → ⊥) →
+      r ≡ record { number = o.counted.number; place = o.counted.place; answer = 0 }
+  pub answered : o.counted.number ≡ 0 → (p : Plan) →
+      QuestionGiven p o.counted o.marks c.queue c.mark c.mark_operation rows →
+      Tells (question_refusal p q b) (number_of (verdict p q b)) r

@@ -11,7 +11,8 @@ ghost use Rattle.plan_format.specs.Stored.{Tells};
 ghost use Rattle.plan_order.specs.Reuse.{verdict as verdict_of, number_of, question_refusal};
 ghost use Rattle.ask_reuse.specs.Reuse.{ReuseAsked};
 ghost use Rattle.ask_reuse.specs.ReusePass.{QuestionGiven, last_shown, last_marked, seen as is_seen};
-ghost use Rattle.ask_reuse.specs.ReusePass.{verdict_after, judged_at, judged_by, VerdictGiven, JudgedRight};
+ghost use Rattle.check_plan.specs.Opening.{lent_of};
+ghost use Rattle.ask_reuse.specs.ReusePass.{AnswerGiven, verdict_after, judged_at, judged_by, VerdictGiven, JudgedRight};
 
 use base_slices::get_or;
 use check_columns::{MARK_CODES, MarkColumn, QueueColumn};
@@ -45,11 +46,7 @@ pub fn reuse_question(
 
 // The question on an opened plan, by its counts, its columns and its rows in the table.
 fn asked(o: Opened, q: usize, b: usize, columns: &PlanColumns, table: &[u32]) -> Told
-    ensures refused { (o.counted.number ≡ 0 → ⊥) →
-        result ≡ record { number = o.counted.number; place = o.counted.place; answer = 0 } }
-    ensures answered { o.counted.number ≡ 0 → (p : Plan) →
-        QuestionGiven p o.counted o.marks columns.now.queue columns.now.mark columns.now.mark_operation table.now →
-        Tells (question_refusal p q b) (number_of (verdict_of p q b)) result }
+    ensures { AnswerGiven q b o (lent_of columns.now) table.now result }
 {
     if o.counted.number != 0 {
         return plan_format::forwarded(o.counted.number, o.counted.place);
