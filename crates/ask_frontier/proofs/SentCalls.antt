@@ -1,10 +1,13 @@
 -- What the code hands back where it returns, from what the check tells and leaves. Assumes nothing.
-use mathlib.Core.Path.{◌≡◌, refl, sym, ◌∙◌, subst}
+use mathlib.Core.Path.{◌≡◌, refl, sym, ap, ◌∙◌, subst}
 use mathlib.Core.Bool.{Bool, true, false, cond}
 use mathlib.Core.Logic.{◌⊎◌}
 use mathlib.Core.List.{List, []}
-use Prim.Native.Nat.{ℕ, ◌*◌, ◌≤◌, ◌<◌}
+use Prim.Native.Nat.{ℕ, ◌*◌, ◌≤◌, ◌<◌, min}
 use native.Mathlib.Omega.{arith}
+use lib.Dec.{eqb}
+use borrow.Author.Tests.{eqb-true, eqb-false}
+use Rattle.base_lists.proofs.Tests.{by_cases}
 use Rattle.frontier.specs.Frontiers.{pack, gathered}
 use Rattle.frontier.specs.declared.Frontier.{Frontier}
 use Rattle.plan_format.specs.Plan.{Plan, count}
@@ -15,11 +18,12 @@ use Rattle.plan_format.proofs.Judged.{zero_not_given, other_given}
 use Rattle.plan_order.specs.Promise.{Checked}
 use Rattle.check_plan.specs.declared.Counted.{Counted}
 use Rattle.check_plan.specs.declared.Opened.{Opened}
-use Rattle.check_plan.specs.Opening.{Lent, OpenedPlan}
+use Rattle.check_plan.specs.Opening.{Lent, OpenedPlan, Handed}
+use Rattle.check_plan.specs.declared.PlanColumns.{PlanColumns}
 use Rattle.ask_frontier.specs.declared.Sent.{Sent}
 use Rattle.ask_frontier.specs.Sent.{cut_to, sent_refusal, FrontierSays}
 use Rattle.ask_frontier.specs.SentMeaning.{FrontierRight}
-use Rattle.ask_frontier.specs.SentWalk.{SentGiven, SentTells, row_in}
+use Rattle.ask_frontier.specs.SentWalk.{SentGiven, SentTells, FrontierGiven, row_in}
 use Rattle.ask_frontier.proofs.SentOutcome.{no_operation, no_capacity, none_refused}
 use Rattle.ask_frontier.proofs.SentQuestion.{plan_said, asked_said, frontier_right}
 use Rattle.ask_frontier.proofs.SentWalk.{sent_found}
@@ -78,13 +82,27 @@ module _ {p : Plan} {k : Counted} {head table : List ℕ} (opened : SentGiven p 
     pub capacity_refused : {r : Sent} → (c < 1) ⊎ (16 < c) → r ≡ refused_as 15 0 → SentTells p j c r
     capacity_refused w e = asked_refused 15 0 (λ q. omega arith) (no_capacity p j c below w) e
 
-    pub frontier_sent : 1 ≤ c → c ≤ 16 → {f : Frontier} →
-        f ≡ cut_to c (gathered (row_in head table (16 * j) k.queues 0)) →
+    pub frontier_sent : 1 ≤ c → c ≤ 16 → {f : Frontier} {many : ℕ} → many ≡ min k.queues 16 →
+        f ≡ cut_to c (gathered (row_in head table (16 * j) many 0)) →
         SentTells p j c (record { number = 0; place = 0; frontier = f })
-    frontier_sent low high e =
+    frontier_sent low high {f} {many} many_is is =
         let r = none_refused p j c below low high in
+        let all : many ≡ k.queues = omega (arith, many_is, opened.queues_are, opened.sound.few_queues) in
+        let e : f ≡ cut_to c (gathered (row_in head table (16 * j) k.queues 0)) =
+        is ∙ ap (λ (n : ℕ). cut_to c (gathered (row_in head table (16 * j) n 0))) all in
         record {
           tells =
               record { number = sym r.0; place = sym r.1; answer_is = no_answer (given (sent_refusal p j c)) };
           frontier_is = rw (zero_not_given (sent_refusal p j c) r.0) (e ∙ sent_found opened j below c);
         }
+
+-- ---- an opened plan
+pub asked_of : {bs t x l y : List ℕ} (j c : ℕ) {o : Opened} {before : Lent} {columns : PlanColumns} →
+    Handed bs o before columns t x l y → {r : Sent} → FrontierGiven j c o.counted columns.head x r →
+    FrontierRight bs j c r t x l y
+asked_of j c {o} h {r} a =
+    by_cases (eqb o.counted.number 0)
+    (λ e. let passed = eqb-true o.counted.number 0 e in
+    then_answered o.counted j c h.checked r passed (a.answered passed _ (sent_given (h.opened passed))))
+    (λ e. let bad = eqb-false o.counted.number 0 e in
+    plan_refused o.counted j c h.checked r bad (a.refused bad))

@@ -26,6 +26,11 @@ pub record SentTells (p : Plan) (j capacity : ℕ) (r : Sent) : Type 0 where
   pub tells : Tells (sent_refusal p j capacity) 0 (told r)
   pub frontier_is : r.frontier ≡ cond (given (sent_refusal p j capacity)) (pack [] false) (sent p j capacity)
 
+-- R70, what is handed back for an opened plan: the check's refusal, or what the question says of a plan that passes
+pub record FrontierGiven (j capacity : ℕ) (c : Counted) (head table : List ℕ) (r : Sent) : Type 0 where
+  pub refused : (c.number ≡ 0 → ⊥) → r ≡ record { number = c.number; place = c.place; frontier = pack [] false }
+  pub answered : c.number ≡ 0 → (p : Plan) → SentGiven p c head table → SentTells p j capacity r
+
 -- the entries of so many queues from one on, of the row that begins at `first` in the table; the axes come after their
 -- count
 unfoldable pub row_in : (head table : List ℕ) → (first many start : ℕ) → List Entry

@@ -4,7 +4,9 @@ use mathlib.Core.List.{List}
 use Prim.Native.Nat.{ℕ, ◌≤◌, ◌<◌}
 use native.Mathlib.Omega.{arith}
 use lib.ListN.{length}
-use borrow.Author.Tests.{le-leb, lt-leb}
+use lib.Dec.{eqb}
+use borrow.Author.Tests.{le-leb, lt-leb, eqb-true, eqb-false}
+use Rattle.base_lists.proofs.Tests.{by_cases}
 use Rattle.plan_format.specs.Plan.{Plan, queues}
 use Rattle.plan_format.specs.Refusal.{refusal, none_given, given, or_refusal}
 use Rattle.plan_format.specs.Stored.{plan_in, Tells}
@@ -23,11 +25,12 @@ use Rattle.plan_order.proofs.LastFree.{passed_forced, five_same, unseen_free}
 use Rattle.plan_order.proofs.AsBefore.{judged_as_before}
 use Rattle.plan_order.proofs.QuestionMeaning.{question_means, question_passed, question_answered, question_left}
 use Rattle.plan_order.proofs.QuestionMeaning.{question_number, question_answer, question_no_answer, question_most}
-use Rattle.check_plan.specs.Opening.{Lent, OpenedPlan}
+use Rattle.check_plan.specs.Opening.{Lent, OpenedPlan, Handed, lent_of}
+use Rattle.check_plan.specs.declared.PlanColumns.{PlanColumns}
 use Rattle.check_plan.specs.declared.Counted.{Counted}
 use Rattle.check_plan.specs.declared.Opened.{Opened}
 use Rattle.ask_reuse.specs.Reuse.{ReuseAsked}
-use Rattle.ask_reuse.specs.ReusePass.{QuestionGiven}
+use Rattle.ask_reuse.specs.ReusePass.{QuestionGiven, AnswerGiven}
 
 -- ---- all that a caller gets
 -- the marks of a passed plan on one of its buffers are forced
@@ -159,3 +162,13 @@ module _ {p : Plan} {c : Counted} {marks : ℕ} {queue mark operation rows : Lis
           lt-leb (length p.sizes) b (omega (arith, opened.buffers_are)),
         )
         (record { number = refl; place = refl; answer_is = e })
+
+-- ---- an opened plan
+pub asked_of : {bs t x l y : List ℕ} (q b : ℕ) {o : Opened} {before : Lent} {c : PlanColumns} →
+    Handed bs o before c t x l y → {r : Told} → AnswerGiven q b o (lent_of c) x r → ReuseAsked bs q b r t x l y
+asked_of q b {o} h {r} a =
+    asked _ q b r _ _ _ _
+    (by_cases (eqb o.counted.number 0)
+    (λ e. let passed = eqb-true o.counted.number 0 e in
+    then_asked q b h.checked passed (a.answered passed _ (question_given (h.opened passed))))
+    (λ e. let bad = eqb-false o.counted.number 0 e in rw (a.refused bad) (plan_refused q b h.checked bad)))

@@ -1,111 +1,96 @@
 -- What one turn of each loop does. Assumes nothing.
-use mathlib.Core.Path.{◌≡◌, sym, ap, ◌∙◌}
+use mathlib.Core.Path.{◌≡◌, refl, sym, ap, ◌∙◌}
 use mathlib.Core.Bool.{Bool, true, false}
 use mathlib.Core.List.{List}
 use mathlib.Core.Option.{Option, none, some}
-use Prim.Native.Nat.{ℕ, suc, ◌+◌, ◌-◌, ◌*◌, ◌/◌, ◌%◌, ◌≤◌, ◌<◌}
-use native.Mathlib.Omega.{arith}
+use Rattle.std.specs.Prelude.{Some, None}
+use Prim.Native.Nat.{ℕ, suc, ◌+◌, ◌*◌, ◌/◌, ◌%◌, ◌≤◌, ◌<◌}
 use lib.Dec.{leb, eqb}
 use lib.ListN.{get_or}
-use borrow.Author.Tests.{eq-eqb, ne_eqb, lt-ltb, le-ltb}
-use Rattle.base_lists.specs.Lists.{highest_below, place_or}
-use Rattle.plan_format.specs.Sizes.{no_operation, most_operations}
-use Rattle.plan_order.specs.declared.Verdict.{Verdict}
-use Rattle.plan_order.specs.declared.Verdict.TheVariants.{Fresh}
+use native.Mathlib.Omega.{arith}
+use borrow.Author.Tests.{lt-ltb, le-ltb, eq-eqb, ne_eqb}
+use Rattle.base_lists.specs.Lists.{highest_below}
+use Rattle.plan_format.specs.Sizes.{most_operations}
 use Rattle.check_columns.specs.Shown.{mark_codes}
 use Rattle.check_columns.proofs.Ordered.{ordered_is}
+use Rattle.plan_order.specs.declared.Verdict.{Verdict}
+use Rattle.plan_order.specs.declared.Verdict.TheVariants.{Fresh}
 use Rattle.ask_reuse.specs.ReusePass.{last_shown, last_marked, seen, verdict_after, verdict_at}
 use Rattle.ask_reuse.specs.ReusePass.{marked_by, judged_at, judged_by}
 use Rattle.ask_reuse.specs.declared.Judged.{Judged}
 
--- ---- the highest that passes a test, from the last to the first: it is here, or it is lower
+-- ---- a search from the last to the first
 module _ (f : ℕ → Bool) where
-  highest_none : (i : ℕ) → i ≤ 0 → ◌≡◌ {A = Option ℕ} (highest_below i f) none
+  -- nothing passes from a place on
+  pub record Passed (n i : ℕ) : Type 0 where
+    pub lower : highest_below i f ≡ highest_below n f
+
+  pub passed_all : (n : ℕ) → Passed n n
+  passed_all n = record { lower = refl }
+
+  pub passed_more : {n i : ℕ} → Passed n i → (j : ℕ) → i ≡ suc j → f j ≡ false → Passed n j
   unfolding highest_below
-  highest_none i l = let z : i ≡ 0 = omega arith in rw z
+  passed_more p j e t = record { lower = rw (e, t) at p.lower }
 
-  highest_here : (i j : ℕ) → i ≡ suc j → f j ≡ true → highest_below i f ≡ some j
+  pub passed_here : {n i : ℕ} → Passed n i → (j : ℕ) → i ≡ suc j → f j ≡ true → highest_below n f ≡ some j
   unfolding highest_below
-  highest_here i j e t = rw (e, t)
+  passed_here p j e t = sym (rw (e, t) at p.lower)
 
-  highest_past : (i j : ℕ) → i ≡ suc j → f j ≡ false → highest_below j f ≡ highest_below i f
+  pub passed_none : {n i : ℕ} → Passed n i → i ≤ 0 → ◌≡◌ {A = Option ℕ} (highest_below n f) none
   unfolding highest_below
-  highest_past i j e t = rw (e, t)
+  passed_none {i} p l = let z : i ≡ 0 = omega arith in sym (rw z at p.lower)
 
--- ---- the queue's last operation
-module _ (queue : List ℕ) (q : ℕ) where
-  abbrev own : (i : ℕ) → Bool
-  own i = eqb (get_or queue i 0) q
+-- the operation is of the queue, and the mark is on the buffer
+abbrev pub own : (queue : List ℕ) → (q i : ℕ) → Bool
+own queue q i = eqb (get_or queue i 0) q
 
-  pub last_none : (i : ℕ) → i ≤ 0 → no_operation ≡ last_shown queue q i
-  unfolding last_shown place_or
-  last_none i l = rw (highest_none own i l)
-
-  pub last_here : (i x : ℕ) → 0 < i → x ≡ get_or queue (i - 1) 0 → x ≡ q → i - 1 ≡ last_shown queue q i
-  unfolding last_shown place_or
-  last_here i x l e h = rw (highest_here own i (i - 1) (omega arith) (eq-eqb (get_or queue (i - 1) 0) q (sym e ∙ h)))
-
-  pub last_past : (i x : ℕ) → 0 < i → x ≡ get_or queue (i - 1) 0 → (x ≡ q → ⊥) →
-      last_shown queue q (i - 1) ≡ last_shown queue q i
-  unfolding last_shown
-  last_past i x l e h =
-      ap (place_or no_operation)
-      (highest_past own i (i - 1) (omega arith) (ne_eqb (get_or queue (i - 1) 0) q (λ z. h (e ∙ z))))
+abbrev pub on_buffer : (mark : List ℕ) → (b k : ℕ) → Bool
+on_buffer mark b k = eqb (get_or mark k 0 % mark_codes / 2) b
 
 -- ---- whether an operation is seen
 module _ (queue rows : List ℕ) where
-  pub seen_none : (last i : ℕ) → no_operation ≤ last → false ≡ seen queue rows last i
+  pub seen_none : (o : Option ℕ) (i : ℕ) → ◌≡◌ {A = Option ℕ} o none → false ≡ seen queue rows o i
   unfolding seen
-  seen_none last i l = rw (le-ltb last no_operation l)
+  seen_none o i e = rw e
 
-  pub seen_some : (last i x a b : ℕ) → last < no_operation → x ≡ get_or queue i 0 →
+  pub seen_past : (o : Option ℕ) (last i : ℕ) → o ≡ some last → most_operations ≤ last → false ≡ seen queue rows o i
+  unfolding seen
+  seen_past o last i e l = rw (e, le-ltb last most_operations l)
+
+  pub seen_some : (o : Option ℕ) (last i x a b : ℕ) → o ≡ some last → last < most_operations → x ≡ get_or queue i 0 →
       a ≡ get_or rows (16 * i + x % 16) 0 →
       b ≡ get_or rows (16 * last + x % 16) 0 →
-      leb a b ≡ seen queue rows last i
+      leb a b ≡ seen queue rows o i
   unfolding seen
-  seen_some last i x a b l e f g = rw (lt-ltb last no_operation l) (ordered_is queue rows i last x a b e f g)
+  seen_some o last i x a b is l e f g = rw (is, lt-ltb last most_operations l) (ordered_is queue rows i last x a b e f g)
 
--- ---- the last mark on the buffer: that of the marks that are left, after `back` marks from the end
-pub record MarksLeft (mark : List ℕ) (b many back : ℕ) : Type 0 where
-  pub last : last_marked mark b (many - back) ≡ last_marked mark b many
-
-pub left_all : {mark : List ℕ} {b many : ℕ} → MarksLeft mark b many 0
-left_all {many} = let e : many - 0 ≡ many = omega arith in record { last = rw e }
-
-module _ {mark : List ℕ} {b many back : ℕ} (left : MarksLeft mark b many back) where
-  abbrev on_buffer : (k : ℕ) → Bool
-  on_buffer k = eqb (get_or mark k 0 % mark_codes / 2) b
-
-  pub left_none : (f : ℕ → Bool) (operation : List ℕ) → many ≤ back →
-      record { verdict = Fresh; operation = no_operation } ≡ judged_at f mark operation (last_marked mark b many)
+-- ---- the verdict by the last mark on the buffer, which is found from the end
+module _ (mark : List ℕ) (b : ℕ) {many k : ℕ} (left : Passed (on_buffer mark b) many k) where
+  pub left_none : (f : ℕ → Bool) (operation : List ℕ) → k ≤ 0 →
+      record { verdict = Fresh; operation = None } ≡ judged_at f mark operation (last_marked mark b many)
   unfolding last_marked verdict_at marked_by judged_at
-  left_none f operation l = rw (← left.last, highest_none on_buffer (many - back) (omega arith))
+  left_none f operation l = rw (passed_none (on_buffer mark b) left l)
 
-  module _ (more : back < many) {m : ℕ} (m_is : m ≡ get_or mark (many - (back + 1)) 0 % mark_codes) where
+  module _ (j : ℕ) (j_is : k ≡ suc j) {m : ℕ} (m_is : m ≡ get_or mark j 0 % mark_codes) where
     -- a mark on another buffer
-    pub left_other : (m / 2 ≡ b → ⊥) → MarksLeft mark b many (back + 1)
-    unfolding last_marked
+    pub left_other : (m / 2 ≡ b → ⊥) → Passed (on_buffer mark b) many j
     left_other h =
-        let other : on_buffer (many - (back + 1)) ≡ false =
-        ap (λ (z : ℕ). eqb (z / 2) b) (sym m_is) ∙ ne_eqb (m / 2) b h in
-        record { last = highest_past on_buffer (many - back) (many - (back + 1)) (omega arith) other ∙ left.last }
+        passed_more (on_buffer mark b) left j j_is
+        (ap (λ (z : ℕ). eqb (z / 2) b) (sym m_is) ∙ ne_eqb (m / 2) b h)
 
     -- a mark on the buffer
     pub left_own : (f : ℕ → Bool) (operation : List ℕ) {i : ℕ} {s : Bool} {v : Verdict} → m / 2 ≡ b →
-        i ≡ get_or operation (many - (back + 1)) 0 % most_operations → s ≡ f i → v ≡ verdict_after (eqb (m % 2) 1) s →
-        record { verdict = v; operation = i } ≡ judged_at f mark operation (last_marked mark b many)
+        i ≡ get_or operation j 0 % most_operations → s ≡ f i → v ≡ verdict_after (eqb (m % 2) 1) s →
+        record { verdict = v; operation = Some i } ≡ judged_at f mark operation (last_marked mark b many)
     unfolding last_marked verdict_at marked_by judged_at
     left_own f operation h i_is s_is v_is =
-        let own : on_buffer (many - (back + 1)) ≡ true =
-        ap (λ (z : ℕ). eqb (z / 2) b) (sym m_is) ∙ eq-eqb (m / 2) b h in
-        let here = highest_here on_buffer (many - back) (many - (back + 1)) (omega arith) own in
-        rw (v_is, ← left.last, here, ← m_is, ← i_is, ← s_is)
+        let here = passed_here (on_buffer mark b) left j j_is
+        (ap (λ (z : ℕ). eqb (z / 2) b) (sym m_is) ∙ eq-eqb (m / 2) b h) in
+        rw (v_is, here, ← m_is, ← i_is, ← s_is)
 
 -- ---- all of it
-pub judged_is : (queue mark operation rows : List ℕ) (q b n marks : ℕ) {last : ℕ} {r : Judged} →
-    last ≡ last_shown queue q n →
-    r ≡ judged_at (seen queue rows last) mark operation (last_marked mark b marks) →
+pub judged_is : (queue mark operation rows : List ℕ) (q b n marks : ℕ) {r : Judged} →
+    r ≡ judged_at (seen queue rows (last_shown queue q n)) mark operation (last_marked mark b marks) →
     r ≡ judged_by queue mark operation rows q b n marks
 unfolding judged_by
-judged_is queue mark operation rows q b n marks last_is e =
-    e ∙ ap (λ (z : ℕ). judged_at (seen queue rows z) mark operation (last_marked mark b marks)) last_is
+judged_is queue mark operation rows q b n marks e = e

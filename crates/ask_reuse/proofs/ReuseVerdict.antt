@@ -2,6 +2,7 @@
 use mathlib.Core.Path.{◌≡◌, refl, sym, ap, ◌∙◌, subst}
 use mathlib.Core.Bool.{Bool}
 use mathlib.Core.List.{List, [], ◌∷◌, ◌++◌, append-nil}
+use Rattle.std.specs.Prelude.{Some}
 use mathlib.Core.Option.{Option, none, some}
 use Prim.Native.Nat.{ℕ, zero, suc, ◌/◌, ◌%◌, ◌<◌}
 use native.Mathlib.Nat.{zero-add}
@@ -9,11 +10,11 @@ use native.Mathlib.Omega.{arith}
 use lib.Dec.{eqb}
 use lib.ListN.{length, get_or}
 use borrow.Author.Tests.{lt-ltb}
-use Rattle.base_lists.specs.Lists.{tabulate_from, highest_below, place_or}
+use Rattle.base_lists.specs.Lists.{tabulate_from, highest_below}
 use Rattle.base_lists.proofs.Tests.{by_cases, by_option}
 use Rattle.base_lists.proofs.Searches.{highest_some, highest_same}
 use Rattle.base_lists.proofs.Tables.{tabulate_last}
-use Rattle.plan_format.specs.Sizes.{no_operation, most_operations}
+use Rattle.plan_format.specs.Sizes.{most_operations}
 use Rattle.plan_format.specs.Plan.{Plan, count, op}
 use Rattle.plan_order.specs.Holdings.{Placed, is_free, buffer_marks}
 use Rattle.plan_order.specs.Reuse.{last_on, seen_by, last_mark, verdict_on, verdict}
@@ -32,24 +33,23 @@ use Rattle.ask_reuse.specs.declared.Judged.{Judged}
 
 -- ---- the queue's last operation
 last_of : (p : Plan) (queue : List ℕ) (q : ℕ) → QueueColumn p queue →
-    last_shown queue q (count p) ≡ place_or no_operation (last_on p q)
+    last_shown queue q (count p) ≡ last_on p q
 unfolding last_shown last_on QueueColumn
 last_of p queue q shown =
-    ap (λ (o : Option ℕ). place_or no_operation o)
-    (highest_same (count p) (λ i. eqb (get_or queue i 0) q) (λ i. eqb (op p i).queue q)
-    (λ i l. ap (λ (z : ℕ). eqb z q) (shown i l)))
+    highest_same (count p) (λ i. eqb (get_or queue i 0) q) (λ i. eqb (op p i).queue q)
+    (λ i l. ap (λ (z : ℕ). eqb z q) (shown i l))
 
 module _ {p : Plan} {n marks : ℕ} {queue mark operation rows : List ℕ}
     (shown : VerdictGiven p n marks queue mark operation rows) where
   seen_right : (q i : ℕ) → i < count p →
-      seen queue rows (place_or no_operation (last_on p q)) i ≡ seen_by p (last_on p q) i
-  unfolding seen seen_by place_or last_on
+      seen queue rows (last_on p q) i ≡ seen_by p (last_on p q) i
+  unfolding seen seen_by last_on
   seen_right q i l =
       by_option (last_on p q) (λ e. rw e)
       (λ j e. let inside : j < count p = (highest_some (count p) (λ i. eqb (op p i).queue q) j e).inside in
       rw (
         e,
-        lt-ltb j no_operation (omega (arith, shown.sound.few_operations)),
+        lt-ltb j most_operations (omega (arith, shown.sound.few_operations)),
         ordered_right p shown.sound queue rows shown.queues_shown shown.rows_shown i j l inside,
       ))
 
@@ -98,10 +98,10 @@ module _ (mark operation : List ℕ) where
   verdict_placed f none = refl
   verdict_placed f (some k) = refl
 
-  operation_placed : (o : Option ℕ) (m : Placed) → placed_at o ≡ some m → marked_by operation o ≡ m.by
+  operation_placed : (o : Option ℕ) (m : Placed) → placed_at o ≡ some m → marked_by operation o ≡ Some m.by
   unfolding placed_at marked_by shown
   operation_placed none m e = absurd (let z : ◌≡◌ {A = ℕ} 0 1 = cc in omega arith)
-  operation_placed (some k) m e = let same : place (shown k) ≡ m = cc in ap (λ (z : Placed). z.by) same
+  operation_placed (some k) m e = let same : place (shown k) ≡ m = cc in ap (λ (z : Placed). Some z.by) same
 
 -- ---- the verdict by columns and rows
 at_same : (f g : ℕ → Bool) (mark operation : List ℕ) (b n : ℕ) →
@@ -136,8 +136,8 @@ module _ {p : Plan} {n marks : ℕ} {queue mark operation rows : List ℕ}
       let sees : ℕ → Bool = seen_by p (last_on p q) in
       let last_right = ap (last_shown queue q) (sym shown.many) ∙ last_of p queue q shown.queues_shown in
       ap (λ (z : Judged). z.verdict) e
-      ∙ ap (λ (z : ℕ). verdict_at (seen queue rows z) mark operation (last_marked mark b marks)) last_right
-      ∙ at_same (seen queue rows (place_or no_operation (last_on p q))) sees mark operation b marks
+      ∙ ap (λ (z : Option ℕ). verdict_at (seen queue rows z) mark operation (last_marked mark b marks)) last_right
+      ∙ at_same (seen queue rows (last_on p q)) sees mark operation b marks
       (λ k l. seen_right shown q (get_or operation k 0 % most_operations) (by_inside k l))
       ∙ sym (verdict_placed mark operation sees (last_marked mark b marks))
       ∙ ap (by_last sees) (sym (last_are b))
@@ -145,28 +145,28 @@ module _ {p : Plan} {n marks : ℕ} {queue mark operation rows : List ℕ}
 
   -- the operation of the last mark
   operation_is : (q b : ℕ) {r : Judged} → r ≡ judged_by queue mark operation rows q b n marks → (m : Placed) →
-      last_mark (buffer_marks p b) ≡ some m → r.operation ≡ m.by
+      last_mark (buffer_marks p b) ≡ some m → r.operation ≡ Some m.by
   unfolding judged_by judged_at
   operation_is q b e m last =
       ap (λ (z : Judged). z.operation) e ∙
       operation_placed mark operation (last_marked mark b marks) m (sym (last_are b) ∙ last)
 
-  operation_inside : (q b : ℕ) {r : Judged} → r ≡ judged_by queue mark operation rows q b n marks → (m : Placed) →
-      last_mark (buffer_marks p b) ≡ some m → r.operation < count p
-  unfolding judged_by judged_at marked_by last_marked placed_at
-  operation_inside q b e m last =
+  operation_inside : (b : ℕ) (m : Placed) → last_mark (buffer_marks p b) ≡ some m → m.by < count p
+  unfolding last_marked placed_at shown
+  operation_inside b m last =
       by_option (last_marked mark b marks)
       (λ nowhere. let z : ◌≡◌ {A = Option Placed} none (some m) =
       sym (ap (placed_at mark operation) nowhere) ∙ sym (last_are b) ∙ last in
       absurd (let y : ◌≡◌ {A = ℕ} 0 1 = cc in omega arith))
       (λ k is. let inside = (highest_some marks (λ k. eqb (get_or mark k 0 % mark_codes / 2) b) k is).inside in
-      subst (λ (z : ℕ). z < count p)
-      (sym (ap (λ (z : Judged). z.operation) e ∙ ap (marked_by operation) is)) (by_inside k inside))
+      let placed : some (place (mark_of (get_or mark k 0 % mark_codes) (get_or operation k 0 % most_operations))) ≡
+      some m = sym (ap (placed_at mark operation) is) ∙ sym (last_are b) ∙ last in
+      let same : place (mark_of (get_or mark k 0 % mark_codes) (get_or operation k 0 % most_operations)) ≡ m = cc in
+      subst (λ (z : ℕ). z < count p) (ap (λ (z : Placed). z.by) same) (by_inside k inside))
 
   pub judged_right : (q b : ℕ) → b < length p.sizes → {r : Judged} →
       r ≡ judged_by queue mark operation rows q b n marks → JudgedRight p q b r
   judged_right q b known e = record {
     verdict = verdict_is q b known e;
-    operation = λ m last. let is = operation_is q b e m last in
-        (is, subst (λ (z : ℕ). z < count p) is (operation_inside q b e m last));
+    operation = λ m last. (operation_is q b e m last, operation_inside b m last);
   }

@@ -6,7 +6,11 @@ use mathlib.Core.List.{List}
 use mathlib.Core.Option.{Option, some}
 use Prim.Native.Nat.{ℕ, ◌%◌, ◌≤◌, ◌<◌}
 use native.Mathlib.Omega.{arith}
+use lib.Dec.{eqb}
 use lib.ListN.{length, get_or}
+use borrow.Author.Tests.{eqb-true, eqb-false}
+use Rattle.std.specs.Prelude.{unwrap_or}
+use Rattle.std.specs.Prelude as words
 use Rattle.base_lists.specs.Lists.{lowest_below}
 use Rattle.base_lists.proofs.Tests.{by_cases, by_option}
 use Rattle.base_lists.proofs.Searches.{lowest_some, lowest_same}
@@ -37,14 +41,15 @@ use Rattle.plan_suggest.proofs.QuestionMeaning.{twelve_is, thirteen_is, then_sig
 use Rattle.plan_suggest.proofs.Promises.{suggest_right}
 use Rattle.check_columns.specs.Shown.{ordered}
 use Rattle.check_columns.proofs.Ordered.{ordered_right}
-use Rattle.check_plan.specs.Opening.{Lent, OpenedPlan}
+use Rattle.check_plan.specs.Opening.{Lent, OpenedPlan, Handed, lent_of}
+use Rattle.check_plan.specs.declared.PlanColumns.{PlanColumns}
 use Rattle.check_plan.specs.declared.Opened.{Opened}
 use Rattle.ask_reuse.specs.ReusePass.{VerdictGiven, JudgedRight}
 use Rattle.ask_reuse.specs.declared.Judged.{Judged}
 use Rattle.ask_reuse.proofs.ReuseAsked.{question_given}
 use Rattle.ask_suggest.specs.declared.Suggested.{Suggested}
 use Rattle.ask_suggest.specs.SuggestPass.{told, suggested, suggested_by, suggested_of, SuggestGiven, first_after}
-use Rattle.ask_suggest.specs.SuggestPass.{at_signal}
+use Rattle.ask_suggest.specs.SuggestPass.{at_signal, AdviceGiven}
 
 -- ---- a plan that passes, opened
 pub suggest_given : {p : Plan} {o : Opened} {c : Lent} {table : List ℕ} → OpenedPlan p o c table →
@@ -107,9 +112,9 @@ module _ {p : Plan} {o : Opened} {queue ssem sval sop mark mop rows : List ℕ}
         held e is = is ∙ sym (by_verdict Held e)
 
       -- ---- under verdict 3
-      module _ (not_ordered : j.verdict ≡ NotOrdered) where
+      module _ (not_ordered : j.verdict ≡ NotOrdered) {i : ℕ} (i_is : i ≡ unwrap_or j.operation 0) where
         abbrev there : Option ℕ
-        there = first_after queue rows sop j.operation o.signals
+        there = first_after queue rows sop i o.signals
 
         decided : LastDecides p q b
         decided =
@@ -117,21 +122,21 @@ module _ {p : Plan} {o : Opened} {queue ssem sval sop mark mop rows : List ℕ}
 
         -- one comparison of two rows tells whether a signal frees
         one_test : (k : ℕ) → k < length (plan_signals p) → frees p q b (wait_for p k) ≡
-            ordered queue rows (j.operation % most_operations) (get_or sop k 0 % most_operations)
+            ordered queue rows (i % most_operations) (get_or sop k 0 % most_operations)
         one_test k l =
             let few = shown.sound.few_operations in
             let w = place_signal p k l in
             let after = (at p k).operation in
             let inside = signal_inside p after (at p k).position w.0 in
             let last = (judged known_buffer shown).operation decided.free decided.last in
-            let free = last.0 in
-            let low : j.operation < count p = omega (arith, free, last.1) in
-            let x : j.operation % most_operations ≡ j.operation = omega (arith, low, few) in
+            let free : i ≡ decided.free.by = i_is ∙ ap (λ (z : words.Option ℕ). unwrap_or z 0) last.0 in
+            let low : i < count p = omega (arith, free, last.1) in
+            let x : i % most_operations ≡ i = omega (arith, low, few) in
             let shown_there = given_plan.signals_shown.operations k (omega (arith, given_plan.signals_shown.all)) in
             let y : get_or sop k 0 % most_operations ≡ after = omega (arith, shown_there, inside, few) in
             decided.decides k l
             ∙ ap (λ (z : ℕ). at_or_before p z after) (sym free)
-            ∙ sym (ordered_right p shown.sound queue rows shown.queues_shown shown.rows_shown j.operation
+            ∙ sym (ordered_right p shown.sound queue rows shown.queues_shown shown.rows_shown i
             after low inside)
             ∙ ap₂ (λ (i k : ℕ). ordered queue rows i k) (sym x) (sym y)
 
@@ -139,9 +144,9 @@ module _ {p : Plan} {o : Opened} {queue ssem sval sop mark mop rows : List ℕ}
         unfolding first_freeing first_after
         first_is =
             lowest_same (length (plan_signals p)) (λ k. frees p q b (wait_for p k))
-            (λ k. ordered queue rows (j.operation % most_operations) (get_or sop k 0 % most_operations)) one_test
+            (λ k. ordered queue rows (i % most_operations) (get_or sop k 0 % most_operations)) one_test
             ∙ ap (λ (n : ℕ). lowest_below n
-            (λ k. ordered queue rows (j.operation % most_operations) (get_or sop k 0 % most_operations)))
+            (λ k. ordered queue rows (i % most_operations) (get_or sop k 0 % most_operations)))
             (sym given_plan.signals_shown.all)
 
         signal_is : (k : ℕ) → there ≡ some k →
@@ -149,7 +154,7 @@ module _ {p : Plan} {o : Opened} {queue ssem sval sop mark mop rows : List ℕ}
         unfolding first_after wait_for
         signal_is k e =
             let inside = (lowest_some o.signals
-            (λ k. ordered queue rows (j.operation % most_operations) (get_or sop k 0 % most_operations)) k e).inside in
+            (λ k. ordered queue rows (i % most_operations) (get_or sop k 0 % most_operations)) k e).inside in
             ap₂ (λ (s v : ℕ). Wait s v) (given_plan.signals_shown.semaphores k inside)
             (given_plan.signals_shown.values k inside)
 
@@ -233,3 +238,13 @@ module _ {bs : List ℕ} (q b : ℕ) {n i : ℕ} {t x l y : List ℕ}
   pub then_asked : n ≡ 0 → {r : Suggested} → r ≡ suggested_of plan q b →
       SuggestRight bs q b (told r) r.advice t x l y
   then_asked z {r} e = suggest_right bs q b (told r) r.advice t x l y (passed_says z e)
+
+-- ---- an opened plan
+pub asked_of : {bs t x l y : List ℕ} (q b : ℕ) {o : Opened} {before : Lent} {c : PlanColumns} →
+    Handed bs o before c t x l y → {r : Suggested} → AdviceGiven q b o (lent_of c) x r →
+    SuggestRight bs q b (told r) r.advice t x l y
+asked_of q b {o} h a =
+    by_cases (eqb o.counted.number 0)
+    (λ e. let passed = eqb-true o.counted.number 0 e in
+    then_asked q b h.checked passed (a.answered passed _ (suggest_given (h.opened passed))))
+    (λ e. let bad = eqb-false o.counted.number 0 e in plan_refused q b h.checked bad (a.refused bad))

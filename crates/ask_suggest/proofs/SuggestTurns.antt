@@ -9,7 +9,7 @@ use lib.Dec.{leb}
 use lib.ListN.{get_or}
 use borrow.Author.Tests.{le-leb, lt-leb}
 use borrow.Author.Count.{below_none, below_more}
-use Rattle.base_lists.specs.Lists.{lowest_below, place_or}
+use Rattle.base_lists.specs.Lists.{lowest_below}
 use Rattle.base_lists.proofs.Tests.{by_option, clash}
 use Rattle.base_lists.proofs.Searches.{lowest_some, lowest_is}
 use Rattle.plan_format.specs.Sizes.{most_operations, row_width}
@@ -56,43 +56,26 @@ module _ (queue rows sop : List ℕ) (i : ℕ) where
         none_before = below_more _ _ past.none_before (after_is ∙ lt-leb own other l);
       }
 
-      pub past_here : (n : ℕ) → k < n → own ≤ other → k ≡ place_or n (first_after queue rows sop i n)
-      unfolding first_after place_or
+      pub past_here : (n : ℕ) → k < n → own ≤ other → first_after queue rows sop i n ≡ some k
+      unfolding first_after
       past_here n inside l =
-          rw (lowest_is n (after queue rows sop i) k
-          (record { inside = inside; passes = after_is ∙ le-leb own other l; lower = past.none_before }))
+          lowest_is n (after queue rows sop i) k
+          (record { inside = inside; passes = after_is ∙ le-leb own other l; lower = past.none_before })
 
-    pub past_end : (n : ℕ) → n ≤ k → n ≡ place_or n (first_after queue rows sop i n)
-    unfolding first_after place_or
+    pub past_end : (n : ℕ) → n ≤ k → ◌≡◌ {A = Option ℕ} (first_after queue rows sop i n) none
+    unfolding first_after
     past_end n l =
-        by_option (lowest_below n (after queue rows sop i)) (λ e. rw e)
+        by_option (lowest_below n (after queue rows sop i)) (λ e. e)
         (λ m e. let w = lowest_some n (after queue rows sop i) m e in
         clash (after queue rows sop i m) w.passes (past.none_before m (omega (arith, w.inside))))
 
--- ---- the place that was found, and what is handed back for it
-module _ (queue rows sop : List ℕ) (i n : ℕ) {k : ℕ} (k_is : k ≡ place_or n (first_after queue rows sop i n)) where
-  abbrev found : Option ℕ
-  found = first_after queue rows sop i n
+-- ---- what is handed back for the place that was found
+module _ (ssem sval : List ℕ) (b : ℕ) (found : Option ℕ) {r : Suggested} where
+  pub without_signal : ◌≡◌ {A = Option ℕ} found none → r ≡ suggested 19 b NoneNeeded → r ≡ at_signal ssem sval b found
+  unfolding at_signal
+  without_signal h e = rw h e
 
-  nowhere : n ≤ k → ◌≡◌ {A = Option ℕ} found none
-  unfolding first_after place_or
-  nowhere l =
-      by_option found (λ e. e)
-      (λ m e. let here : k ≡ m = k_is ∙ ap (place_or n) e in
-      absurd (omega (arith, (lowest_some n (after queue rows sop i) m e).inside)))
-
-  somewhere : k < n → found ≡ some k
-  unfolding place_or
-  somewhere l =
-      by_option found (λ e. absurd (let here : k ≡ n = k_is ∙ ap (place_or n) e in omega arith))
-      (λ m e. let here : k ≡ m = k_is ∙ ap (place_or n) e in e ∙ ap some (sym here))
-
-  module _ (ssem sval : List ℕ) (b : ℕ) {r : Suggested} where
-    pub without_signal : r ≡ suggested 19 b NoneNeeded → n ≤ k → r ≡ at_signal ssem sval b found
-    unfolding at_signal
-    without_signal e l = rw (nowhere l) e
-
-    pub one_signal : {s v : ℕ} → s ≡ get_or ssem k 0 → v ≡ get_or sval k 0 → r ≡ suggested 0 0 (Wait s v) → k < n →
-        r ≡ at_signal ssem sval b found
-    unfolding at_signal
-    one_signal f g e l = rw (somewhere l, ← f, ← g) e
+  pub one_signal : {s v k : ℕ} → found ≡ some k → s ≡ get_or ssem k 0 → v ≡ get_or sval k 0 →
+      r ≡ suggested 0 0 (Wait s v) → r ≡ at_signal ssem sval b found
+  unfolding at_signal
+  one_signal h f g e = rw (h, ← f, ← g) e

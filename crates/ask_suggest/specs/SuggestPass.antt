@@ -1,6 +1,6 @@
 -- The question for a wait by the columns of a plan and its rows: under verdict 3 by the operation of the last free.
 -- Assumes nothing: these are definitions.
-use Rattle.std.specs.Prelude.{List, ℕ, ◌%◌, get_or}
+use Rattle.std.specs.Prelude.{◌≡◌, List, ℕ, ◌%◌, get_or}
 use Rattle.std.proofs.Math.Option.{Option, none, some}
 use Rattle.base_lists.specs.Lists.{lowest_below}
 use Rattle.plan_format.specs.Sizes.{most_operations}
@@ -14,6 +14,7 @@ use Rattle.plan_suggest.specs.Suggest.{advice, suggest_refusal, advised_by}
 use Rattle.check_columns.specs.Columns.{SignalColumns}
 use Rattle.check_columns.specs.Shown.{ordered}
 use Rattle.check_plan.specs.declared.Opened.{Opened}
+use Rattle.check_plan.specs.Opening.{Lent}
 use Rattle.ask_reuse.specs.ReusePass.{QuestionGiven}
 use Rattle.ask_suggest.specs.declared.Suggested.{Suggested}
 
@@ -45,3 +46,10 @@ first_after queue rows sop i n =
 unfoldable pub at_signal : (ssem sval : List ℕ) → (b : ℕ) → (signal : Option ℕ) → Suggested
 at_signal ssem sval b none = suggested 19 b NoneNeeded
 at_signal ssem sval b (some k) = suggested 0 0 (Wait (get_or ssem k 0) (get_or sval k 0))
+
+-- R90, what is handed back for an opened plan: the check's refusal, or what the question says of a plan that passes
+pub record AdviceGiven (q b : ℕ) (o : Opened) (c : Lent) (rows : List ℕ) (r : Suggested) : Type 0 where
+  pub refused : (o.counted.number ≡ 0 → ⊥) → r ≡ suggested o.counted.number o.counted.place NoneNeeded
+  pub answered : o.counted.number ≡ 0 → (p : Plan) →
+      SuggestGiven p o c.queue c.signal_semaphore c.signal_value c.signal_operation c.mark c.mark_operation rows →
+      r ≡ suggested_of p q b

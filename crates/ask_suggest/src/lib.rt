@@ -2,19 +2,18 @@
 // leaves in the table.
 #![tactic(auto)]
 
-ghost use Rattle.std.specs.Prelude.{◌≡◌};
+ghost use Rattle.std.specs.Prelude.{◌≡◌, MatchOption};
+ghost use Rattle.std.proofs.Math.Option.{none, some};
 ghost use Rattle.plan_format.specs.Plan.{Plan};
 ghost use Rattle.plan_suggest.specs.Promise.{SuggestRight};
-ghost use Rattle.base_lists.specs.Lists.{place_or};
+ghost use Rattle.check_plan.specs.Opening.{lent_of};
 ghost use Rattle.plan_suggest.specs.declared.Advice.TheVariants.{NoneNeeded};
 ghost use Rattle.ask_suggest.specs.SuggestPass.{told, suggested, suggested_of, SuggestGiven, first_after};
-ghost use Rattle.ask_suggest.specs.SuggestPass.{at_signal};
+ghost use Rattle.ask_suggest.specs.SuggestPass.{at_signal, AdviceGiven};
 
-use check_columns::{MarkColumn, QueueColumn, SignalColumn, SignalValues};
-use check_plan::Opened;
-use plan_format::limits::{
-    HEAD_NUMBERS, MARK_PLACES, MOST_OPERATIONS, ROW_WIDTH, SIGNAL_PLACES, WAIT_PLACES,
-};
+use base_slices::get_or;
+use check_plan::{Opened, PlanColumns};
+use plan_format::limits::{MOST_OPERATIONS, ROW_WIDTH};
 use plan_order::Verdict;
 use plan_suggest::Advice;
 
@@ -38,60 +37,27 @@ pub fn suggest_question(
     ensures { SuggestRight plan.now queue buffer (told result) result.advice table.old
         table.new list.old list.new }
 {
-    let mut head = [0u64; HEAD_NUMBERS];
-    let mut queues = [0u16; MOST_OPERATIONS];
-    let mut source = [0u16; WAIT_PLACES];
-    let mut ssem = [0u16; SIGNAL_PLACES];
-    let mut sval = [0u64; SIGNAL_PLACES];
-    let mut sop = [0u16; SIGNAL_PLACES];
-    let mut mark = [0u16; MARK_PLACES];
-    let mut mop = [0u16; MARK_PLACES];
-    let o = check_plan::check_opened(
-        plan,
-        &mut head,
-        &mut queues,
-        &mut source,
-        &mut ssem,
-        &mut sval,
-        &mut sop,
-        &mut mark,
-        &mut mop,
-        table,
-        list,
-    );
+    check_plan::ask(plan, table, list, |o, columns, rows| {
+        asked(o, queue as usize, buffer as usize, columns, rows)
+    })
+}
+
+// The question on an opened plan, by its counts, its columns and its rows in the table.
+fn asked(o: Opened, q: usize, b: usize, columns: &PlanColumns, table: &[u32]) -> Suggested
+    ensures { AdviceGiven q b o (lent_of columns.now) table.now result }
+{
     if o.counted.number != 0 {
         return refused(o.counted.number, o.counted.place);
     }
-    answer(
-        o,
-        queue as usize,
-        buffer as usize,
-        &queues,
-        &ssem,
-        &sval,
-        &sop,
-        &mark,
-        &mop,
-        table,
-    )
+    answer(o, q, b, columns, table)
 }
 
-// The question on a plan that passes, by its counts, its columns and its rows in the table.
-fn answer(
-    o: Opened,
-    q: usize,
-    b: usize,
-    queue: &QueueColumn,
-    ssem: &SignalColumn,
-    sval: &SignalValues,
-    sop: &SignalColumn,
-    mark: &MarkColumn,
-    mop: &MarkColumn,
-    table: &[u32],
-) -> Suggested
+// The same of a plan that passes.
+fn answer(o: Opened, q: usize, b: usize, columns: &PlanColumns, table: &[u32]) -> Suggested
     ensures { (p : Plan) →
-        SuggestGiven p o queue.now ssem.now sval.now sop.now
-        mark.now mop.now table.now → result ≡ suggested_of p q b }
+        SuggestGiven p o columns.now.queue columns.now.signal_semaphore columns.now.signal_value
+        columns.now.signal_operation columns.now.mark columns.now.mark_operation table.now →
+        result ≡ suggested_of p q b }
 {
     let c = o.counted;
     if c.queues <= q {
@@ -100,57 +66,55 @@ fn answer(
     if c.buffers <= b {
         return refused(13, b as u64);
     }
-    let j = ask_reuse::judge(q, b, c.operations, o.marks, queue, mark, mop, table);
+    let j = ask_reuse::judge(
+        q,
+        b,
+        c.operations,
+        o.marks,
+        &columns.queue,
+        &columns.mark,
+        &columns.mark_operation,
+        table,
+    );
     let v = j.verdict;
     match v {
         Verdict::Fresh => advised(Advice::NoneNeeded),
         Verdict::Reusable => advised(Advice::NoneNeeded),
         Verdict::Held => advised(Advice::NoneWouldHelp),
-        Verdict::NotOrdered => by_signals(b, j.operation, o.signals, queue, ssem, sval, sop, table),
+        Verdict::NotOrdered => by_signals(b, j.operation.unwrap_or(0), o.signals, columns, table),
     }
 }
 
 // Under verdict 3: the wait for the first signal of the operation of the last free, or of one after it; 19 where there
 // is none.
-fn by_signals(
-    b: usize,
-    i: usize,
-    signals: usize,
-    queue: &[u16],
-    ssem: &[u16],
-    sval: &[u64],
-    sop: &[u16],
-    table: &[u32],
-) -> Suggested
-    ensures { result ≡ at_signal ssem.now sval.now b
-        (first_after queue.now table.now sop.now i signals) }
+fn by_signals(b: usize, i: usize, signals: usize, columns: &PlanColumns, table: &[u32]) -> Suggested
+    ensures { result ≡ at_signal columns.now.signal_semaphore columns.now.signal_value b
+        (first_after columns.now.queue table.now columns.now.signal_operation i signals) }
 {
-    let k = freeing(i, signals, queue, sop, table);
-    if signals <= k {
+    let Some(k) = freeing(i, signals, columns, table) else {
         return refused(19, b as u64);
-    }
-    advised(Advice::Wait(base_slices::get16(ssem, k), base_slices::get64(sval, k)))
+    };
+    let semaphore = usize::from(get_or(&columns.signal_semaphore, k, 0));
+    advised(Advice::Wait(semaphore, get_or(&columns.signal_value, k, 0)))
 }
 
-// The first signal of operation i or of one after it, by the column of i's queue in their rows; `signals` where there
-// is none.
-fn freeing(i: usize, signals: usize, queue: &[u16], sop: &[u16], table: &[u32]) -> usize
-    ensures { result ≡ place_or signals
-        (first_after queue.now table.now sop.now i signals) }
+// The first signal of operation i or of one after it, by the column of i's queue in their rows.
+fn freeing(i: usize, signals: usize, columns: &PlanColumns, table: &[u32]) -> Option<usize>
+    ensures { MatchOption result
+        (first_after columns.now.queue table.now columns.now.signal_operation i signals ≡ none)
+        (λ k. first_after columns.now.queue table.now columns.now.signal_operation i signals ≡ some k) }
 {
     let free = i % MOST_OPERATIONS;
-    let q = base_slices::get16(queue, free) % ROW_WIDTH;
-    let own = base_slices::get32(table, ROW_WIDTH * free + q);
-    let mut k: usize = 0;
-    while k < signals {
-        let j = base_slices::get16(sop, k) % MOST_OPERATIONS;
-        let other = base_slices::get32(table, ROW_WIDTH * j + q);
+    let q = usize::from(get_or(&columns.queue, free, 0)) % ROW_WIDTH;
+    let own = get_or(table, ROW_WIDTH * free + q, 0);
+    for k in 0..signals {
+        let j = usize::from(get_or(&columns.signal_operation, k, 0)) % MOST_OPERATIONS;
+        let other = get_or(table, ROW_WIDTH * j + q, 0);
         if own <= other {
-            return k;
+            return Some(k);
         }
-        k += 1;
     }
-    signals
+    None
 }
 
 // A refusal at a place, with nothing advised.

@@ -1,18 +1,19 @@
 -- One pass over the signals raises each semaphore to the highest value that was signalled. Assumes nothing.
 use mathlib.Core.Path.{◌≡◌, refl, sym, ap, ◌∙◌, subst}
 use mathlib.Core.Bool.{Bool, true, false, ◌&&◌, cond, and-true, and-false}
-use mathlib.Core.List.{List}
+use mathlib.Core.List.{List, ◌++◌, append_assoc}
 use Prim.Native.Nat.{ℕ, zero, suc, ◌+◌, ◌-◌, ◌%◌, ◌≤◌, ◌<◌, max}
 use native.Mathlib.Nat.{mod-eq_of_lt, zero-add, mod-lt}
 use native.Mathlib.Numerals.{add-one}
 use native.Mathlib.Omega.{arith}
 use lib.Dec.{ltb, eqb}
-use lib.ListN.{length, get_or, set, take, drop, length-set, get_or-eq_default}
-use lib.Seq.{ext_get_or, get_or-set_same, get_or-set_other, drop-cons, drop-length}
+use lib.ListN.{length, get_or, set, drop, replicate, length-set, length-append, length-replicate, get_or-append, get_or-eq_default}
+use lib.Seq.{ext_get_or, drop-drop, get_or-append_right, get_or-set_same, get_or-set_other, drop-cons, drop-length}
 use borrow.Author.Tests.{eqb-true, eqb-false, eq-eqb, ne_eqb, ltb-true, ltb-false}
 use Rattle.base_lists.specs.Lists.{member, in_front}
+use Rattle.base_lists.proofs.Elements.{replicate_at}
 use Rattle.base_lists.proofs.Tests.{by_cases}
-use Rattle.base_lists.proofs.Fronts.{front_none, front_all, front_more, front_length, front_at, front_past}
+use Rattle.base_lists.proofs.Fronts.{front_length, front_at, front_past}
 use Rattle.base_lists.proofs.Tables.{tabulate_length, tabulate_at}
 use Rattle.plan_format.specs.Sizes.{most_queues, most_semaphores, state_size}
 use Rattle.plan_format.specs.Plan.{Plan, count}
@@ -26,20 +27,7 @@ use Rattle.ask_trace.specs.Walk.{ran_at}
 use Rattle.ask_trace.specs.Raising.{begun, higher, raised_by, raised_from}
 use Rattle.ask_trace.proofs.Columns.{TraceGiven, ran_right}
 
--- ---- turns of the code
-pub higher_yes : (st : List ℕ) (at v old : ℕ) → old ≡ get_or st at 0 → old < v → set st at v ≡ higher st at v
-unfolding higher
-higher_yes st at v old e l = ap (set st at) (let m : v ≡ max (get_or st at 0) v = omega arith in m)
-
-pub higher_no : (st : List ℕ) (at v old : ℕ) → old ≡ get_or st at 0 → v ≤ old → set st at old ≡ higher st at v
-unfolding higher
-higher_no st at v old e l = ap (set st at) (let m : old ≡ max (get_or st at 0) v = omega arith in m)
-
 -- ---- the counts and zeros
-pub record Beginning (counts old : List ℕ) (i : ℕ) (st : List ℕ) : Type 0 where
-  pub inside : i ≤ state_size
-  pub stored : st ≡ in_front (take i (begun counts)) old
-
 module _ (counts old : List ℕ) (room : state_size ≤ length old) where
   begun_size : length (begun counts) ≡ state_size
   unfolding begun
@@ -50,21 +38,27 @@ module _ (counts old : List ℕ) (room : state_size ≤ length old) where
   begun_at i l = tabulate_at (λ i. get_or counts i 0) state_size 0 i 0 l ∙
       ap (λ (z : ℕ). get_or counts z 0) (zero-add i)
 
-  pub beginning_none : Beginning counts old 0 old
-  beginning_none = record { inside = omega arith; stored = sym (front_none (begun counts) old) }
+  -- the counts, and zeros after them
+  pub begun_is : length counts ≡ most_queues → begun counts ≡ counts ++ replicate most_semaphores 0
+  begun_is e =
+      let zeros : List ℕ = replicate most_semaphores 0 in
+      ext_get_or 0 (begun counts) (counts ++ zeros)
+      (begun_size ∙ omega (arith, e, length-append counts zeros, length-replicate {A = ℕ} most_semaphores 0))
+      (λ i l. begun_at i (omega (arith, l, begun_size))
+      ∙ by_cases (ltb i most_queues)
+      (λ t. sym (get_or-append counts zeros 0 i (omega (arith, e, ltb-true i most_queues t))))
+      (λ f. get_or-eq_default counts 0 (omega (arith, e, ltb-false i most_queues f))
+      ∙ sym (replicate_at most_semaphores 0 (i - length counts))
+      ∙ sym (get_or-append_right counts zeros i 0 (omega (arith, e, ltb-false i most_queues f)))))
 
-  pub beginning_more : (i x : ℕ) (st now : List ℕ) → Beginning counts old i st → i < state_size →
-      x ≡ get_or counts i 0 →
-      now ≡ set st i x → Beginning counts old (i + 1) now
-  beginning_more i x st now b l e f = record {
-    inside = omega arith;
-    stored = f ∙ rw (b.stored, e, ← begun_at i l)
-        (front_more (begun counts) old i 0 (omega (arith, begun_size)) (omega arith));
-  }
-
-  pub beginning_end : (i : ℕ) (st : List ℕ) → Beginning counts old i st → state_size ≤ i →
-      st ≡ in_front (begun counts) old
-  beginning_end i st b l = b.stored ∙ front_all (begun counts) old i (omega (arith, begun_size))
+  pub begun_front : length counts ≡ most_queues → (now : List ℕ) →
+      now ≡ counts ++ (replicate most_semaphores 0 ++ drop most_semaphores (drop most_queues old)) →
+      now ≡ in_front (begun counts) old
+  unfolding in_front
+  begun_front e now h =
+      h ∙ ap (λ (l : List ℕ). counts ++ (replicate most_semaphores 0 ++ l)) (drop-drop most_semaphores most_queues old)
+      ∙ sym (append_assoc counts (replicate most_semaphores 0) (drop state_size old))
+      ∙ rw (begun_size, begun_is e) refl
 
   pub begun_long : length (in_front (begun counts) old) ≡ length old
   begun_long = front_length (begun counts) old (omega (arith, begun_size))

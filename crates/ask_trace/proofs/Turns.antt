@@ -10,7 +10,7 @@ use native.Mathlib.Omega.{arith}
 use lib.Dec.{ltb, leb, eqb}
 use lib.ListN.{length, get_or, set, take, drop}
 use borrow.Author.Tests.{ltb-true, ltb-false, le-leb, lt-leb, lt-ltb, le-ltb, eq-eqb, ne_eqb}
-use Rattle.base_lists.specs.Lists.{lowest_below, place_or, tabulate_from}
+use Rattle.base_lists.specs.Lists.{tabulate_from}
 use Rattle.base_lists.proofs.Tests.{by_cases, by_option, clash}
 use Rattle.base_lists.proofs.Searches.{lowest_is, lowest_some}
 use Rattle.plan_format.specs.Sizes.{most_operations, most_waits, row_width, step_bytes, no_operation}
@@ -27,17 +27,13 @@ use Rattle.ask_trace.specs.Walk.{
   ran_at,
   wait_unmet_at,
   wait_unmet,
+  first_unmet,
   judged_shown,
   counts_after,
   walk_from,
 }
 
 -- ---- two bytes
-pub byte_past : (bs : List ℕ) (at : ℕ) → length bs ≤ at → 0 ≡ get_or bs at 0
-byte_past [] at l = refl
-byte_past (b ∷ bs) zero l = absurd (omega arith)
-byte_past (b ∷ bs) (suc at) l = byte_past bs at (le_of_suc-le-suc l)
-
 pub word_is : (bs : List ℕ) (at a b : ℕ) → a ≡ get_or bs at 0 → b ≡ get_or bs (at + 1) 0 →
     a + 256 * b ≡ value (take 2 (drop at bs))
 word_is bs at a b e f = rw (e, f, add-one at) (sym (two_bytes_are bs at))
@@ -88,20 +84,17 @@ module _ (queue source rows counts : List ℕ) where
   -- ---- the first of three waits
   pub unmet_at : (j k : ℕ) → k < most_waits → wait_unmet queue source rows counts j k ≡ true →
       ((i : ℕ) → i < k → wait_unmet queue source rows counts j i ≡ false) →
-      k ≡ place_or most_waits (lowest_below most_waits (wait_unmet queue source rows counts j))
-  unfolding place_or
+      first_unmet queue source rows counts j ≡ some k
   unmet_at j k l t h =
-      let e = lowest_is most_waits (wait_unmet queue source rows counts j) k
-      (record { inside = l; passes = t; lower = h }) in
-      rw e
+      lowest_is most_waits (wait_unmet queue source rows counts j) k
+      (record { inside = l; passes = t; lower = h })
 
-  pub unmet_nowhere : (j k : ℕ) → most_waits ≤ k → ((i : ℕ) → i < k → wait_unmet queue source rows counts j i ≡ false) →
-      most_waits ≡ place_or most_waits (lowest_below most_waits (wait_unmet queue source rows counts j))
-  unfolding place_or
-  unmet_nowhere j k l h =
-      by_option (lowest_below most_waits (wait_unmet queue source rows counts j)) (λ e. rw e)
+  pub unmet_nowhere : (j : ℕ) → ((i : ℕ) → i < most_waits → wait_unmet queue source rows counts j i ≡ false) →
+      ◌≡◌ {A = Option ℕ} (first_unmet queue source rows counts j) none
+  unmet_nowhere j h =
+      by_option (first_unmet queue source rows counts j) (λ e. e)
       (λ i e. let w = lowest_some most_waits (wait_unmet queue source rows counts j) i e in
-      clash (wait_unmet queue source rows counts j i) w.passes (h i (omega (arith, w.inside))))
+      clash (wait_unmet queue source rows counts j i) w.passes (h i w.inside))
 
   -- ---- one step
   module _ (n j : ℕ) where
@@ -127,9 +120,7 @@ module _ (queue source rows counts : List ℕ) where
           )
 
       pub judge_waits : get_or counts q 0 < x → x - get_or counts q 0 ≤ 1 →
-          of_wait j (lowest_below most_waits (λ k. wait_unmet queue source rows counts j k)) ≡
-          judged_shown n queue source
-          rows counts j
+          of_wait j (first_unmet queue source rows counts j) ≡ judged_shown n queue source rows counts j
       unfolding judged_shown ran_at
       judge_waits a l =
           rw (
@@ -140,20 +131,13 @@ module _ (queue source rows counts : List ℕ) where
             le-ltb (suc (get_or counts q 0)) x (omega arith),
           )
 
-  pub none_found : (j k : ℕ) → k ≡ place_or most_waits
-      (lowest_below most_waits (λ k. wait_unmet queue source rows counts j k)) → most_waits ≤ k →
-      Unfinished ≡ of_wait j (lowest_below most_waits (λ k. wait_unmet queue source rows counts j k))
-  unfolding of_wait place_or
-  none_found j k e l =
-      by_option (lowest_below most_waits (λ k. wait_unmet queue source rows counts j k)) (λ n. rw n)
-      (λ i s. let w = lowest_some most_waits (λ k. wait_unmet queue source rows counts j k) i s in
-      let e' : k ≡ i = rw s at e in absurd (omega (arith, w.inside)))
+pub none_found : (j : ℕ) (o : Option ℕ) → ◌≡◌ {A = Option ℕ} o none → Unfinished ≡ of_wait j o
+unfolding of_wait
+none_found j o e = rw e
 
-pub wait_found : (j k : ℕ) (o : Option ℕ) → k ≡ place_or most_waits o → k < most_waits →
-    WaitNotMet (record { operation = j; wait = k }) ≡ of_wait j o
-unfolding of_wait place_or
-wait_found j k none e l = absurd (omega arith)
-wait_found j k (some i) e l = ap (λ (z : ℕ). WaitNotMet (record { operation = j; wait = z })) e
+pub wait_found : (j k : ℕ) (o : Option ℕ) → o ≡ some k → WaitNotMet (record { operation = j; wait = k }) ≡ of_wait j o
+unfolding of_wait
+wait_found j k o e = rw e
 
 pub ended_full : (n k : ℕ) → k ≡ n → Full ≡ at_end n k
 unfolding at_end
@@ -182,10 +166,13 @@ module _ (n : ℕ) (queue source rows trace : List ℕ) where
   next_step k l = let e : step_count trace - k ≡ suc (step_count trace - (k + 1)) = omega arith in rw (e, add-one k)
 
   module _ (counts : List ℕ) (k : ℕ) (w : Walking counts k) where
-    pub walking_end : step_count trace ≤ k → (f : Followed) → f ≡ at_end n k →
-        traced k counts f ≡ walk_from n queue source rows no_counts 0 (trace_steps trace)
+    pub walking_end : step_count trace ≤ k → (m : ℕ) → m ≡ step_count trace → (f : Followed) → f ≡ at_end n m →
+        traced m counts f ≡ walk_from n queue source rows no_counts 0 (trace_steps trace)
     unfolding walk_from tabulate_from
-    walking_end l f e = let z : step_count trace - k ≡ 0 = omega arith in rw e (rw z at w.rest)
+    walking_end l m many f e =
+        let z : step_count trace - k ≡ 0 = omega arith in
+        let same : m ≡ k = omega (arith, many, l, w.inside) in
+        rw (e, same) (rw z at w.rest)
 
     module _ (j : ℕ) (f : Followed) (l : k < step_count trace) (j_is : j ≡ step_at trace k)
         (f_is : f ≡ judged_shown n queue source rows counts j) where

@@ -1,6 +1,7 @@
 -- A trace walked over the columns of a plan and its rows; `counts` is how many operations of each queue have run.
 -- Positions are cut to their bits, which changes none in range. Assumes nothing: these are definitions.
 use Rattle.std.specs.Prelude.{Bool, ◌&&◌, not, cond, List, [], ◌∷◌, ℕ, suc, ◌+◌, ◌*◌, ◌%◌, ltb, leb, get_or, set}
+use Rattle.std.proofs.Math.Option.{Option}
 use Rattle.base_lists.specs.Lists.{lowest_below}
 use Rattle.plan_format.specs.Sizes.{most_queues, most_operations, most_waits, row_width, no_operation}
 use Rattle.plan_trace.specs.declared.Followed.{Followed}
@@ -33,13 +34,17 @@ unfoldable pub wait_unmet : (queue source rows counts : List ℕ) → (j k : ℕ
 wait_unmet queue source rows counts j k =
     wait_unmet_at queue source rows counts (most_waits * (j % most_operations) + k)
 
+-- R81: the first of an operation's waits that is not met
+abbrev pub first_unmet : (queue source rows counts : List ℕ) → (j : ℕ) → Option ℕ
+first_unmet queue source rows counts j = lowest_below most_waits (λ k. wait_unmet queue source rows counts j k)
+
 -- R81: the rule that a step breaks
 unfoldable pub judged_shown : (n : ℕ) → (queue source rows counts : List ℕ) → (j : ℕ) → Followed
 judged_shown n queue source rows counts j =
     cond (leb n j) (Unknown j)
     (cond (ran_at queue rows counts j) (Repeated j)
     (cond (ltb (suc (count_of queue counts j)) (own_entry queue rows j)) (NotFirst j)
-    (of_wait j (lowest_below most_waits (λ k. wait_unmet queue source rows counts j k)))))
+    (of_wait j (first_unmet queue source rows counts j))))
 
 -- the queue's count after the next of its operations is that operation's own entry
 unfoldable pub counts_after : (queue rows counts : List ℕ) → (j : ℕ) → List ℕ

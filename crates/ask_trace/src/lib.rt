@@ -11,12 +11,9 @@ ghost use Rattle.plan_trace.specs.Promise.{TraceRight};
 ghost use Rattle.check_plan.specs.Counting.{SizesTold};
 ghost use Rattle.ask_trace.specs.Answer.{told, first_refusal, answer_by, state_by, counted_as};
 
-use check_columns::{QueueColumn, SignalColumn, SignalValues, WaitColumn};
-use check_plan::{Counted, Opened};
+use check_plan::{Counted, Opened, PlanColumns};
 use plan_format::Told;
-use plan_format::limits::{
-    HEAD_NUMBERS, MARK_PLACES, MOST_OPERATIONS, MOST_QUEUES, SIGNAL_PLACES, STATE_SIZE, WAIT_PLACES,
-};
+use plan_format::limits::{MOST_QUEUES, STATE_SIZE};
 use plan_trace::{Followed, Traced};
 
 // What was traced, beside the counts of the plan; or a refusal and its place, and nothing traced.
@@ -40,46 +37,25 @@ pub fn trace_question(
         state.new }
     ensures sizes { SizesTold plan.now result.counted }
 {
-    let mut head = [0u64; HEAD_NUMBERS];
-    let mut queues = [0u16; MOST_OPERATIONS];
-    let mut source = [0u16; WAIT_PLACES];
-    let mut ssem = [0u16; SIGNAL_PLACES];
-    let mut sval = [0u64; SIGNAL_PLACES];
-    let mut sop = [0u16; SIGNAL_PLACES];
-    let mut mark = [0u16; MARK_PLACES];
-    let mut mop = [0u16; MARK_PLACES];
-    let o = check_plan::check_opened(
-        plan,
-        &mut head,
-        &mut queues,
-        &mut source,
-        &mut ssem,
-        &mut sval,
-        &mut sop,
-        &mut mark,
-        &mut mop,
-        table,
-        list,
-    );
-    answer(o, trace, &queues, &source, &ssem, &sval, &sop, table, state)
+    // Of a closure that `check_plan::ask` calls a proof knows what it gives, and not what it leaves in the state.
+    let mut columns = PlanColumns::cleared();
+    let o = columns.open(plan, table, list);
+    answer(o, trace, &columns, table, state)
 }
 
 // The question on an opened plan, by its counts, its columns and its rows in the table.
 fn answer(
     o: Opened,
     trace: &[u8],
-    queue: &QueueColumn,
-    source: &WaitColumn,
-    ssem: &SignalColumn,
-    sval: &SignalValues,
-    sop: &SignalColumn,
+    columns: &PlanColumns,
     table: &[u32],
     state: &mut [u64],
 ) -> TraceTold
-    ensures handed { result ≡ answer_by o queue.now source.now table.now
+    ensures handed { result ≡ answer_by o columns.now.queue columns.now.source table.now
         trace.now (length state.old) }
     ensures left { state.new ≡
-        state_by o queue.now source.now ssem.now sval.now sop.now
+        state_by o columns.now.queue columns.now.source columns.now.signal_semaphore
+        columns.now.signal_value columns.now.signal_operation
         table.now trace.now state.old }
 {
     let f = refusal(o.counted, state.len(), trace);
@@ -90,9 +66,9 @@ fn answer(
             traced: nothing(),
         };
     }
-    let traced = steps::walk(o.counted.operations, queue, source, table, trace);
+    let traced = steps::walk(o.counted.operations, columns, table, trace);
     let counts = traced.state;
-    state::tell(o.signals, queue, ssem, sval, sop, table, &counts, state);
+    state::tell(o.signals, columns, table, &counts, state);
     TraceTold { counted, traced }
 }
 

@@ -1,96 +1,79 @@
 // The state after a part of a run: the counts of the queues, then one pass over the signals of what has run.
-ghost use Rattle.std.specs.Prelude.{◌≡◌, List, ℕ, ◌≤◌, length, take};
+ghost use Rattle.std.specs.Prelude.{◌≡◌, ◌≤◌, ◌++◌, length, drop, replicate};
 ghost use Rattle.base_lists.specs.Lists.{in_front};
-ghost use Rattle.plan_format.specs.Sizes.{most_queues, state_size};
+ghost use Rattle.plan_format.specs.Sizes.{most_queues, most_semaphores, state_size};
 ghost use Rattle.ask_trace.specs.Raising.{begun, higher as higher_to, raised_by, raised_from};
 
 use crate::steps;
-use plan_format::limits::{MOST_QUEUES, MOST_SEMAPHORES, STATE_SIZE};
+use base_slices::{get_or, put};
+use check_plan::PlanColumns;
+use plan_format::limits::{MOST_QUEUES, MOST_SEMAPHORES};
 use plan_trace::QueueCounts;
 
 // The counts, then the highest value signalled on each semaphore, over the front of a list.
 pub(crate) fn tell(
     signals: usize,
-    queue: &[u16],
-    ssem: &[u16],
-    sval: &[u64],
-    sop: &[u16],
+    columns: &PlanColumns,
     table: &[u32],
     counts: &QueueCounts,
     state: &mut [u64],
 )
     requires { state_size ≤ length state.old }
     ensures { state.new ≡
-        raised_from queue.now table.now counts.now ssem.now
-        sval.now sop.now signals 0
+        raised_from columns.now.queue table.now counts.now columns.now.signal_semaphore
+        columns.now.signal_value columns.now.signal_operation signals 0
         (in_front (begun counts.now) state.old) }
 {
     begin(counts, state);
-    let mut k: usize = 0;
-    while k < signals {
-        raise(queue, ssem, sval, sop, table, counts, k, state);
-        k += 1;
+    for k in 0..signals {
+        raise(columns, table, counts, k, state);
     }
 }
 
 // The counts of the queues, then zeros.
-fn begin(counts: &[u64], state: &mut [u64])
-    requires { (length counts.now ≡ most_queues) × (state_size ≤ length state.old) }
-    ensures { state.new ≡ in_front (begun counts.now) state.old }
+fn begin(counts: &QueueCounts, state: &mut [u64])
+    requires { state_size ≤ length state.old }
+    ensures { state.new ≡ counts.now ++
+        (replicate most_semaphores 0 ++ drop most_semaphores (drop most_queues state.old)) }
 {
-    let mut i: usize = 0;
-    while i < MOST_QUEUES {
-        state[i] = counts[i];
-        i += 1;
-    }
-    clear(state);
+    let (queues, rest) = state.split_at_mut(MOST_QUEUES);
+    queues.copy_from_slice(counts);
+    clear(rest, MOST_SEMAPHORES);
 }
 
-// Zeros after the counts.
-fn clear(state: &mut [u64])
-    requires { state_size ≤ length state.old }
-    ensures { (counts old : List ℕ) → length counts ≡ most_queues → state_size ≤ length old →
-        state.old ≡ in_front (take most_queues (begun counts)) old →
-        state.new ≡ in_front (begun counts) old }
+// Zeros in front.
+fn clear(rest: &mut [u64], many: usize)
+    requires { many ≤ length rest.old }
+    ensures { rest.new ≡ replicate many 0 ++ drop many rest.old }
 {
-    let mut i: usize = MOST_QUEUES;
-    while i < STATE_SIZE {
-        state[i] = 0;
-        i += 1;
-    }
+    rest[..many].fill(0);
 }
 
 // Raises a semaphore by the k-th signal, if its operation has run.
+#[tactic(auto, unfolding(crate::specs::Raising::raised_by))]
 fn raise(
-    queue: &[u16],
-    ssem: &[u16],
-    sval: &[u64],
-    sop: &[u16],
+    columns: &PlanColumns,
     table: &[u32],
     counts: &QueueCounts,
     k: usize,
     state: &mut [u64],
 )
     ensures { state.new ≡
-        raised_by queue.now table.now counts.now ssem.now
-        sval.now sop.now k state.old }
+        raised_by columns.now.queue table.now counts.now columns.now.signal_semaphore
+        columns.now.signal_value columns.now.signal_operation k state.old }
 {
-    let i = base_slices::get16(sop, k);
-    let s = base_slices::get16(ssem, k) % MOST_SEMAPHORES;
-    let v = base_slices::get64(sval, k);
-    if steps::has_run(queue, table, counts, i) {
+    let i = usize::from(get_or(&columns.signal_operation, k, 0));
+    let s = usize::from(get_or(&columns.signal_semaphore, k, 0)) % MOST_SEMAPHORES;
+    let v = get_or(&columns.signal_value, k, 0);
+    if steps::has_run(columns, table, counts, i) {
         higher(state, MOST_QUEUES + s, v);
     }
 }
 
 // Raises a number to another.
+#[tactic(auto, unfolding(crate::specs::Raising::higher))]
 fn higher(state: &mut [u64], at: usize, v: u64)
     ensures { state.new ≡ higher_to state.old at v }
 {
-    let old = base_slices::get64(state, at);
-    if old < v {
-        base_slices::put64(state, at, v);
-    } else {
-        base_slices::put64(state, at, old);
-    }
+    put(state, at, get_or(state, at, 0).max(v));
 }

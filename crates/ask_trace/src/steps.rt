@@ -1,15 +1,17 @@
 // A trace walked over the columns of a plan and its rows: each step is judged by the counts of the queues. An
 // operation's own entry of its row is its epoch: the operation has run if that is at most its queue's count, and at one
 // more it is next.
-ghost use Rattle.std.specs.Prelude.{◌≡◌, cond, ◌<◌, ◌≤◌, get_or, take, drop};
-ghost use Rattle.base_lists.specs.Lists.{lowest_below, place_or};
-ghost use Rattle.plan_format.specs.Sizes.{most_queues, most_waits, step_bytes, most_steps, trace_bytes};
+ghost use Rattle.std.specs.Prelude.{◌≡◌, cond, ◌<◌, ◌≤◌, take, drop, MatchOption};
+ghost use Rattle.std.proofs.Math.Option.{none, some};
+ghost use Rattle.plan_format.specs.Sizes.{most_queues, step_bytes, most_steps, trace_bytes};
 ghost use Rattle.plan_format.specs.Grammar.{value};
 ghost use Rattle.plan_trace.specs.Trace.{trace_formed, trace_steps, departs as is_departure, at_end};
 ghost use Rattle.plan_trace.specs.State.{no_counts};
-ghost use Rattle.ask_trace.specs.Walk.{place_of, own_entry, ran_at, wait_unmet_at, wait_unmet, judged_shown};
+ghost use Rattle.ask_trace.specs.Walk.{place_of, own_entry, ran_at, wait_unmet_at, first_unmet, judged_shown};
 ghost use Rattle.ask_trace.specs.Walk.{walk_from};
 
+use base_slices::get_or;
+use check_plan::PlanColumns;
 use plan_format::limits::{
     MOST_OPERATIONS, MOST_QUEUES, MOST_WAITS, NO_OPERATION, ROW_WIDTH, STEP_BYTES,
 };
@@ -17,16 +19,15 @@ use plan_trace::{Followed, QueueCounts, Traced, Unmet};
 
 // The walk from the first step on, over a plan of n operations. After n steps that depart nowhere, the next one
 // departs.
-pub(crate) fn walk(n: usize, queue: &[u16], source: &[u16], table: &[u32], trace: &[u8]) -> Traced
-    ensures { result ≡ walk_from n queue.now source.now table.now no_counts 0
+pub(crate) fn walk(n: usize, columns: &PlanColumns, table: &[u32], trace: &[u8]) -> Traced
+    ensures { result ≡ walk_from n columns.now.queue columns.now.source table.now no_counts 0
         (trace_steps trace.now) }
 {
     let mut counts = [0u64; MOST_QUEUES];
     let many = word(trace, 0);
-    let mut k: usize = 0;
-    while k < many {
+    for k in 0..many {
         let j = word(trace, STEP_BYTES + STEP_BYTES * k);
-        let f = judge(n, queue, source, table, &counts, j);
+        let f = judge(n, columns, table, &counts, j);
         if departs(f) {
             return Traced {
                 step: k,
@@ -34,74 +35,69 @@ pub(crate) fn walk(n: usize, queue: &[u16], source: &[u16], table: &[u32], trace
                 followed: f,
             };
         }
-        counts[place(queue, j)] = own(queue, table, j);
-        k += 1;
+        counts[place(columns, j)] = own(columns, table, j);
     }
     Traced {
-        step: k,
+        step: many,
         state: counts,
-        followed: end(n, k),
+        followed: end(n, many),
     }
 }
 
 // Which rule the step breaks; Unfinished if none.
 fn judge(
     n: usize,
-    queue: &[u16],
-    source: &[u16],
+    columns: &PlanColumns,
     table: &[u32],
     counts: &QueueCounts,
     j: usize,
 ) -> Followed
-    ensures { result ≡ judged_shown n queue.now source.now table.now
+    ensures { result ≡ judged_shown n columns.now.queue columns.now.source table.now
         counts.now j }
 {
     if n <= j {
         return Followed::Unknown(j);
     }
-    let entry = own(queue, table, j);
-    let count = counts[place(queue, j)];
+    let entry = own(columns, table, j);
+    let count = counts[place(columns, j)];
     if entry <= count {
         return Followed::Repeated(j);
     }
     if 1 < entry - count {
         return Followed::NotFirst(j);
     }
-    let k = unmet(queue, source, table, counts, j);
-    if k < MOST_WAITS {
-        return Followed::WaitNotMet(Unmet {
+    match unmet(columns, table, counts, j) {
+        Some(k) => Followed::WaitNotMet(Unmet {
             operation: j,
             wait: k,
-        });
+        }),
+        None => Followed::Unfinished,
     }
-    Followed::Unfinished
 }
 
-// The first of an operation's waits that is not met; 3 if each is.
-fn unmet(queue: &[u16], source: &[u16], table: &[u32], counts: &QueueCounts, j: usize) -> usize
-    ensures { result ≡
-        place_or most_waits (lowest_below most_waits
-        (wait_unmet queue.now source.now table.now counts.now j)) }
+// The first of an operation's waits that is not met.
+fn unmet(columns: &PlanColumns, table: &[u32], counts: &QueueCounts, j: usize) -> Option<usize>
+    ensures { MatchOption result
+        (first_unmet columns.now.queue columns.now.source table.now counts.now j ≡ none)
+        (λ k. first_unmet columns.now.queue columns.now.source table.now counts.now j ≡ some k) }
 {
     let first = MOST_WAITS * (j % MOST_OPERATIONS);
-    let mut k: usize = 0;
-    while k < MOST_WAITS {
-        if holds(queue, source, table, counts, first + k) {
-            return k;
+    for k in 0..MOST_WAITS {
+        if holds(columns, table, counts, first + k) {
+            return Some(k);
         }
-        k += 1;
     }
-    MOST_WAITS
+    None
 }
 
 // Whether the wait at a place rests on an operation that has not run. One comparison of numbers says so, since a wait
 // that rests on none has a number past every operation: no branch depends on whether there is a wait.
-fn holds(queue: &[u16], source: &[u16], table: &[u32], counts: &QueueCounts, at: usize) -> bool
-    ensures { result ≡ wait_unmet_at queue.now source.now table.now
+fn holds(columns: &PlanColumns, table: &[u32], counts: &QueueCounts, at: usize) -> bool
+    ensures { result ≡ wait_unmet_at columns.now.queue columns.now.source table.now
         counts.now at }
 {
-    let i = base_slices::get16(source, at);
-    let ran = has_run(queue, table, counts, i);
+    let i = usize::from(get_or(&columns.source, at, 0));
+    let ran = has_run(columns, table, counts, i);
     i / NO_OPERATION < unless(ran)
 }
 
@@ -113,40 +109,41 @@ fn unless(so: bool) -> usize
 }
 
 // Whether an operation has run: its own entry is at most its queue's count.
-pub(crate) fn has_run(queue: &[u16], table: &[u32], counts: &QueueCounts, i: usize) -> bool
-    ensures { result ≡ ran_at queue.now table.now counts.now i }
+#[tactic(auto, unfolding(crate::specs::Walk::ran_at, crate::specs::Walk::count_of))]
+pub(crate) fn has_run(
+    columns: &PlanColumns,
+    table: &[u32],
+    counts: &QueueCounts,
+    i: usize,
+) -> bool
+    ensures { result ≡ ran_at columns.now.queue table.now counts.now i }
 {
-    let entry = own(queue, table, i);
-    let count = counts[place(queue, i)];
-    entry <= count
+    own(columns, table, i) <= counts[place(columns, i)]
 }
 
 // The queue of an operation.
-fn place(queue: &[u16], j: usize) -> usize
-    ensures { (result ≡ place_of queue.now j) × (result < most_queues) }
+#[tactic(auto, unfolding(crate::specs::Walk::place_of))]
+fn place(columns: &PlanColumns, j: usize) -> usize
+    ensures { (result ≡ place_of columns.now.queue j) × (result < most_queues) }
 {
-    base_slices::get16(queue, j % MOST_OPERATIONS) % MOST_QUEUES
+    usize::from(get_or(&columns.queue, j % MOST_OPERATIONS, 0)) % MOST_QUEUES
 }
 
 // The own entry of an operation's row.
-fn own(queue: &[u16], table: &[u32], j: usize) -> u64
-    ensures { result ≡ own_entry queue.now table.now j }
+#[tactic(auto, unfolding(crate::specs::Walk::own_entry))]
+fn own(columns: &PlanColumns, table: &[u32], j: usize) -> u64
+    ensures { result ≡ own_entry columns.now.queue table.now j }
 {
-    base_slices::get32(table, ROW_WIDTH * (j % MOST_OPERATIONS) + place(queue, j)) as u64
+    let at = ROW_WIDTH * (j % MOST_OPERATIONS) + place(columns, j);
+    u64::from(get_or(table, at, 0))
 }
 
 // Whether the case names a broken rule.
+#[tactic(auto, unfolding(plan_trace::specs::Trace::departs))]
 fn departs(f: Followed) -> bool
     ensures { result ≡ is_departure f }
 {
-    match f {
-        Followed::Full => false,
-        Followed::Unfinished => false,
-        Followed::Unknown(_) => true,
-        Followed::Repeated(_) => true,
-        Followed::NotFirst(_) => true,
-        Followed::WaitNotMet(_) => true,
-    }
+    !matches!(f, Followed::Full | Followed::Unfinished)
 }
 
 // A trace that is a run is full if it has as many steps as the plan has operations.
@@ -164,26 +161,14 @@ fn end(n: usize, k: usize) -> Followed
 pub(crate) fn formed(trace: &[u8]) -> bool
     ensures { result ≡ trace_formed trace.now }
 {
-    if trace.len() < STEP_BYTES {
-        return false;
-    }
-    trace.len() == STEP_BYTES + STEP_BYTES * word(trace, 0)
+    STEP_BYTES <= trace.len() && trace.len() == STEP_BYTES + STEP_BYTES * word(trace, 0)
 }
 
 // The number in two bytes from a place on; bytes past the end count as 0.
+#[tactic(auto, using(crate::proofs::Turns::word_is))]
 fn word(bytes: &[u8], at: usize) -> usize
     requires { at ≤ trace_bytes }
     ensures { (result ≡ value (take step_bytes (drop at bytes.now))) × (result ≤ most_steps) }
 {
-    byte(bytes, at) + 256 * byte(bytes, at + 1)
-}
-
-fn byte(bytes: &[u8], at: usize) -> usize
-    ensures { (result ≡ get_or bytes.now at 0) × (result < 256) }
-{
-    if at < bytes.len() {
-        base_numbers::u8_to_usize(bytes[at])
-    } else {
-        0
-    }
+    usize::from(get_or(bytes, at, 0)) + 256 * usize::from(get_or(bytes, at + 1, 0))
 }

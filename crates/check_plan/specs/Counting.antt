@@ -6,13 +6,6 @@ use Rattle.check_load.specs.Loading.{Sizes}
 use Rattle.check_plan.specs.declared.Counted.{Counted}
 use Rattle.check_plan.specs.declared.Opened.{Opened}
 
--- for how many operations columns are made, where a plan has no more
-abbrev pub small_room : ℕ
-small_room = 64
-
-abbrev pub middle_room : ℕ
-middle_room = 256
-
 -- the counts of queues, semaphores, buffers and operations, each 0 where the reader refuses the plan
 abbrev pub SizesTold : (bytes : List ℕ) → Counted → Type 0
 SizesTold bytes r = Sizes bytes r.queues r.semaphores r.buffers r.operations

@@ -1,15 +1,21 @@
 -- The opened plan: what the check hands on to those who ask further. Assumes nothing: these are definitions.
-use Rattle.std.specs.Prelude.{◌≡◌, List, [], ℕ, ◌*◌, ◌<◌, length}
+use Rattle.std.specs.Prelude.{◌≡◌, List, [], ℕ, ◌*◌, ◌<◌, length, replicate}
+use Rattle.std.specs.Fn.{FnOnceReturns, Once}
+use denote.Ref.{Bor}
 use Rattle.base_lists.specs.Lists.{in_front}
 use Rattle.plan_format.specs.Limits.{Limits}
 use Rattle.plan_format.specs.Plan.{Plan, count, queues}
 use Rattle.plan_format.specs.Sound.{Sound, rules_refusal}
-use Rattle.plan_format.specs.Stored.{scanned}
+use Rattle.plan_format.specs.Stored.{scanned, plan_in}
 use Rattle.plan_order.specs.Check.{order_refusal}
 use Rattle.check_columns.specs.Columns.{Columns, columns, HeadColumn, QueueColumn, SignalColumns, MarkColumns}
 use Rattle.check_columns.specs.Columns.{SourceColumn, RowColumns}
 use Rattle.check_load.specs.Loading.{KeptPast, head_got, head_operations}
+use Rattle.plan_format.specs.Sizes.{head_numbers, most_operations, wait_places, signal_places, mark_places}
+use Rattle.plan_order.specs.Promise.{Checked}
+use Rattle.check_plan.specs.Counting.{SizesTold}
 use Rattle.check_plan.specs.declared.Opened.{Opened}
+use Rattle.check_plan.specs.declared.PlanColumns.{PlanColumns}
 
 -- what is lent to the check for those who ask further: the numbers before the operations, the queue of each operation,
 -- the operation that each wait rests on, the semaphore, the value and the operation of each signal, the code and the
@@ -76,3 +82,32 @@ pub record LentKept (bytes : List ℕ) (n : ℕ) (o : Opened) (c c' : Lent) : Ty
 pub record LentLeft (bytes : List ℕ) (o : Opened) (c c' : Lent) : Type 0 where
   pub head_is : c'.head ≡ in_front (head_got bytes) c.head
   pub kept : LentKept bytes (head_operations bytes) o c c'
+
+-- ---- columns that the check owns
+-- as they are lent to the check: cleared before it, and after it
+abbrev pub cleared : Lent
+cleared =
+    lent (replicate head_numbers 0) (replicate most_operations 0) (replicate wait_places 0)
+    (replicate signal_places 0) (replicate signal_places 0) (replicate signal_places 0) (replicate mark_places 0)
+    (replicate mark_places 0)
+
+abbrev pub lent_of : PlanColumns → Lent
+lent_of c =
+    lent c.head c.queue c.source c.signal_semaphore c.signal_value c.signal_operation c.mark c.mark_operation
+
+-- R55, what those who ask further are handed: all that the check promises of what it was lent
+pub record Handed (bytes : List ℕ) (o : Opened) (before : Lent) (c : PlanColumns)
+    (table table_now list list_now : List ℕ) : Type 0 where
+  pub checked : Checked bytes (record { number = o.counted.number; place = o.counted.place; answer = 0 }) table
+      table_now list list_now
+  pub sizes : SizesTold bytes o.counted
+  pub refused : ((scanned bytes).fault.number ≡ 0 → ⊥) → (o.signals ≡ 0) × (o.marks ≡ 0)
+  pub read : (scanned bytes).fault.number ≡ 0 → ReadPlan (plan_in bytes) o (lent_of c)
+  pub opened : o.counted.number ≡ 0 → OpenedPlan (plan_in bytes) o (lent_of c) table_now
+  pub left : LentLeft bytes o before (lent_of c)
+
+-- a call at an opened plan, its columns and a table may give the result
+abbrev pub GivenAt : {F R : Type 0} → Once F (Opened × (Bor PlanColumns × (Bor (List ℕ) × Unit {0}))) R → F →
+    Opened → PlanColumns → (table : List ℕ) → (result : R) → Type 0
+GivenAt g f o c t r =
+    (p : Bor PlanColumns) × (q : Bor (List ℕ)) × FnOnceReturns g f (o, (p, (q, tt))) r × (p.now ≡ c) × (q.now ≡ t)

@@ -5,8 +5,9 @@
 
 mod load;
 
-ghost use Rattle.std.specs.Prelude.{◌≡◌, false, ◌/◌, ◌≤◌, min, length};
-ghost use Rattle.plan_format.specs.Sizes.{most_waits};
+ghost use Rattle.std.specs.Prelude.{◌≡◌, false, ◌*◌, ◌/◌, ◌≤◌, min, length};
+ghost use Rattle.plan_format.specs.Sizes.{most_waits, most_signals, most_marks};
+ghost use Rattle.plan_format.specs.Sizes.{wait_places, signal_places, mark_places};
 ghost use Rattle.plan_format.specs.Form.{is_second};
 ghost use Rattle.plan_format.specs.Stored.{scanned, plan_in};
 ghost use Rattle.plan_order.specs.Promise.{Checked};
@@ -14,9 +15,12 @@ ghost use Rattle.check_columns.specs.Columns.{columns};
 ghost use Rattle.check_columns.specs.Shown.{PlacesFor};
 ghost use Rattle.check_load.specs.Loading.{HeadKnown};
 ghost use Rattle.plan_format.specs.Told.{told_as};
-ghost use Rattle.check_plan.specs.Counting.{small_room, middle_room, SizesTold, CountsTold, opened_of};
+ghost use Rattle.check_plan.specs.Counting.{SizesTold, CountsTold, opened_of};
 ghost use Rattle.check_plan.specs.Counting.{counts_of};
 ghost use Rattle.check_plan.specs.Opening.{ReadPlan, OpenedPlan, LentKept, LentLeft, lent};
+ghost use Rattle.check_plan.specs.Opening.{lent_of, cleared, Handed, GivenAt};
+ghost use Rattle.check_plan.specs.declared.PlanColumns.{PlanColumns};
+ghost use Rattle.check_plan.specs.declared.Opened.{Opened};
 
 use check_columns::{MarkColumn, QueueColumn, SignalColumn, SignalValues, WaitColumn};
 use check_load::Loaded;
@@ -31,6 +35,19 @@ use stored_numbers::{FIRST_HEAD_NUMBERS, FirstHeadNumbers, Head};
 const SMALL_ROOM: usize = 64;
 
 const MIDDLE_ROOM: usize = 256;
+
+// Places for the waits, the signals and the marks of that many operations.
+const SMALL_WAITS: usize = MOST_WAITS * SMALL_ROOM;
+
+const SMALL_SIGNALS: usize = MOST_SIGNALS * SMALL_ROOM;
+
+const SMALL_MARKS: usize = MOST_MARKS * SMALL_ROOM;
+
+const MIDDLE_WAITS: usize = MOST_WAITS * MIDDLE_ROOM;
+
+const MIDDLE_SIGNALS: usize = MOST_SIGNALS * MIDDLE_ROOM;
+
+const MIDDLE_MARKS: usize = MOST_MARKS * MIDDLE_ROOM;
 
 // How many queues, semaphores, buffers and operations a plan has; or a refusal and its place beside them. Each is 0
 // where the reader refuses the plan.
@@ -50,6 +67,21 @@ pub struct Opened {
     pub counted: Counted,
     pub signals: usize,
     pub marks: usize,
+}
+
+// A plan in columns for those who ask further: the numbers before its operations; the queue of each operation; the
+// operation that each wait rests on, three places to an operation; the semaphore, the value and the operation of each
+// signal; the code and the operation of each mark.
+#[derive(Drop)]
+pub struct PlanColumns {
+    pub head: HeadNumbers,
+    pub queue: QueueColumn,
+    pub source: WaitColumn,
+    pub signal_semaphore: SignalColumn,
+    pub signal_value: SignalValues,
+    pub signal_operation: SignalColumn,
+    pub mark: MarkColumn,
+    pub mark_operation: MarkColumn,
 }
 
 // The counts of a stored plan, or the reader's refusal.
@@ -131,12 +163,12 @@ fn by_room(
 {
     let many = h.operations as usize;
     if many <= SMALL_ROOM {
-        return small(plan, h, head, table, list);
+        return in_columns::<SMALL_WAITS, SMALL_SIGNALS, SMALL_MARKS>(plan, h, head, table, list);
     }
     if many <= MIDDLE_ROOM {
-        return middle(plan, h, head, table, list);
+        return in_columns::<MIDDLE_WAITS, MIDDLE_SIGNALS, MIDDLE_MARKS>(plan, h, head, table, list);
     }
-    large(plan, h, head, table, list)
+    in_columns::<WAIT_PLACES, SIGNAL_PLACES, MARK_PLACES>(plan, h, head, table, list)
 }
 
 // Of a plan in the second form, in columns for as many operations as a plan can have.
@@ -150,106 +182,33 @@ fn in_second_form(plan: &[u8], table: &mut [u32], list: &mut [u32]) -> Counted
     if h.number != 0 {
         return with_counts(load::refused(h.number, h.at), h.number, h.at as u64);
     }
-    in_large_room(plan, h, &head, table, list)
+    in_columns::<WAIT_PLACES, SIGNAL_PLACES, MARK_PLACES>(plan, h, &head, table, list)
 }
 
-// The same once the head is read.
-fn in_large_room(
+// With columns for so many waits, signals and marks.
+fn in_columns<const WAITS: usize, const SIGNALS: usize, const MARKS: usize>(
     plan: &[u8],
     h: Head,
-    head: &HeadNumbers,
+    head: &[u64],
     table: &mut [u32],
     list: &mut [u32],
 ) -> Counted
-    requires { HeadKnown plan.now h head.now × (h.number ≡ 0) }
-    ensures checked { Checked plan.now (record { number = result.number; place = result.place; answer = 0 })
-        table.old table.new list.old list.new }
-    ensures sizes { SizesTold plan.now result }
-{
-    large(plan, h, head, table, list)
-}
-
-// With columns for 64 operations.
-fn small(plan: &[u8], h: Head, head: &[u64], table: &mut [u32], list: &mut [u32]) -> Counted
-    requires { HeadKnown plan.now h head.now × (h.number ≡ 0) × (h.operations ≤ small_room) }
+    requires known { HeadKnown plan.now h head.now × (h.number ≡ 0) }
+    requires room { (most_waits * h.operations ≤ WAITS) × (most_signals * h.operations ≤ SIGNALS) ×
+        (most_marks * h.operations ≤ MARKS) }
+    requires within { (WAITS ≤ wait_places) × (SIGNALS ≤ signal_places) × (MARKS ≤ mark_places) }
     ensures checked { Checked plan.now (record { number = result.number; place = result.place; answer = 0 })
         table.old table.new list.old list.new }
     ensures sizes { SizesTold plan.now result }
 {
     let mut queue = [0u16; MOST_OPERATIONS];
     let mut source = [0u16; WAIT_PLACES];
-    let mut wval = [0u64; MOST_WAITS * SMALL_ROOM];
-    let mut ssem = [0u16; MOST_SIGNALS * SMALL_ROOM];
-    let mut sval = [0u64; MOST_SIGNALS * SMALL_ROOM];
-    let mut sop = [0u16; MOST_SIGNALS * SMALL_ROOM];
-    let mut mark = [0u16; MOST_MARKS * SMALL_ROOM];
-    let mut mop = [0u16; MOST_MARKS * SMALL_ROOM];
-    let o = judged(
-        plan,
-        h,
-        head,
-        &mut queue,
-        &mut source,
-        &mut wval,
-        &mut ssem,
-        &mut sval,
-        &mut sop,
-        &mut mark,
-        &mut mop,
-        table,
-        list,
-    );
-    o.counted
-}
-
-// With columns for 256 operations.
-fn middle(plan: &[u8], h: Head, head: &[u64], table: &mut [u32], list: &mut [u32]) -> Counted
-    requires { HeadKnown plan.now h head.now × (h.number ≡ 0) × (h.operations ≤ middle_room) }
-    ensures checked { Checked plan.now (record { number = result.number; place = result.place; answer = 0 })
-        table.old table.new list.old list.new }
-    ensures sizes { SizesTold plan.now result }
-{
-    let mut queue = [0u16; MOST_OPERATIONS];
-    let mut source = [0u16; WAIT_PLACES];
-    let mut wval = [0u64; MOST_WAITS * MIDDLE_ROOM];
-    let mut ssem = [0u16; MOST_SIGNALS * MIDDLE_ROOM];
-    let mut sval = [0u64; MOST_SIGNALS * MIDDLE_ROOM];
-    let mut sop = [0u16; MOST_SIGNALS * MIDDLE_ROOM];
-    let mut mark = [0u16; MOST_MARKS * MIDDLE_ROOM];
-    let mut mop = [0u16; MOST_MARKS * MIDDLE_ROOM];
-    let o = judged(
-        plan,
-        h,
-        head,
-        &mut queue,
-        &mut source,
-        &mut wval,
-        &mut ssem,
-        &mut sval,
-        &mut sop,
-        &mut mark,
-        &mut mop,
-        table,
-        list,
-    );
-    o.counted
-}
-
-// With columns for as many operations as a plan can have.
-fn large(plan: &[u8], h: Head, head: &[u64], table: &mut [u32], list: &mut [u32]) -> Counted
-    requires { HeadKnown plan.now h head.now × (h.number ≡ 0) }
-    ensures checked { Checked plan.now (record { number = result.number; place = result.place; answer = 0 })
-        table.old table.new list.old list.new }
-    ensures sizes { SizesTold plan.now result }
-{
-    let mut queue = [0u16; MOST_OPERATIONS];
-    let mut source = [0u16; WAIT_PLACES];
-    let mut wval = [0u64; WAIT_PLACES];
-    let mut ssem = [0u16; SIGNAL_PLACES];
-    let mut sval = [0u64; SIGNAL_PLACES];
-    let mut sop = [0u16; SIGNAL_PLACES];
-    let mut mark = [0u16; MARK_PLACES];
-    let mut mop = [0u16; MARK_PLACES];
+    let mut wval = [0u64; WAITS];
+    let mut ssem = [0u16; SIGNALS];
+    let mut sval = [0u64; SIGNALS];
+    let mut sop = [0u16; SIGNALS];
+    let mut mark = [0u16; MARKS];
+    let mut mop = [0u16; MARKS];
     let o = judged(
         plan,
         h,
@@ -315,12 +274,68 @@ pub fn check_opened(
     )
 }
 
+impl PlanColumns {
+    // Columns of zeros.
+    #[inline(always)]
+    pub fn cleared() -> PlanColumns
+        ensures { lent_of result ≡ cleared }
+    {
+        PlanColumns {
+            head: [0; HEAD_NUMBERS],
+            queue: [0; MOST_OPERATIONS],
+            source: [0; WAIT_PLACES],
+            signal_semaphore: [0; SIGNAL_PLACES],
+            signal_value: [0; SIGNAL_PLACES],
+            signal_operation: [0; SIGNAL_PLACES],
+            mark: [0; MARK_PLACES],
+            mark_operation: [0; MARK_PLACES],
+        }
+    }
+
+    // The check as `check_opened` does it, in these columns.
+    #[inline(always)]
+    pub fn open(&mut self, plan: &[u8], table: &mut [u32], list: &mut [u32]) -> Opened
+        ensures { Handed plan.now result (lent_of self.old) self.new table.old table.new list.old list.new }
+    {
+        check_opened(
+            plan,
+            &mut self.head,
+            &mut self.queue,
+            &mut self.source,
+            &mut self.signal_semaphore,
+            &mut self.signal_value,
+            &mut self.signal_operation,
+            &mut self.mark,
+            &mut self.mark_operation,
+            table,
+            list,
+        )
+    }
+}
+
+// The check in columns of its own, which begin as zeros: f is handed the answer beside the counts, the columns and the
+// table, and gives the result.
+pub fn ask<R, F: FnOnce(Opened, &PlanColumns, &[u32]) -> R>(
+    plan: &[u8],
+    table: &mut [u32],
+    list: &mut [u32],
+    f: F,
+) -> R
+    requires { F.IsAlwaysCallable f }
+    ensures { (o : Opened) × (c : PlanColumns) ×
+        Handed plan.now o cleared c table.old table.new list.old list.new × GivenAt F.FnOnce f o c table.new result }
+{
+    let mut columns = PlanColumns::cleared();
+    let o = columns.open(plan, table, list);
+    f(o, &columns, table)
+}
+
 // For how many operations a column of queues and one of waits have places. A call tells the proof how long two lent
 // arrays are.
 fn places(queue: &[u16], source: &[u16]) -> usize
     ensures { result ≡ min (length queue.now) (length source.now / most_waits) }
 {
-    base_numbers::min_usize(queue.len(), source.len() / MOST_WAITS)
+    queue.len().min(source.len() / MOST_WAITS)
 }
 
 // The check of a plan whose head is read, in columns with places for its operations.

@@ -19,4 +19,4 @@ returns-then-capacity-gt-MOST c =
 pub returns : goal.returns
 returns c =
     λ p o. frontier_sent o _ _ c.if-c-j.false c.if-capacity-lt-LEAST.false
-    c.if-capacity-gt-MOST.false c.send-frontier.ensures
+    c.if-capacity-gt-MOST.false c.min.ensures c.send-frontier.ensures

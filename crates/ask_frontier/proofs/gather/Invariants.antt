@@ -1,9 +1,9 @@
 -- `gather` meets its contract. The loop's invariant: the axes that are left, raised on what is gathered, give what all
--- give on the empty frontier. The measure is how many are left. Assumes nothing.
+-- give on the empty frontier. Assumes nothing.
 use mathlib.Core.Path.{◌≡◌}
 use mathlib.Core.Bool.{false}
 use mathlib.Core.List.{[]}
-use Prim.Native.Nat.{◌-◌, ◌≤◌}
+use Prim.Native.Nat.{◌*◌}
 use Rattle.frontier.specs.Frontiers.{pack}
 use Rattle.frontier.proofs.Raising.{raises}
 use Rattle.ask_frontier.proofs.SentWalk.{left_from}
@@ -11,9 +11,5 @@ use Rattle.ask_frontier.proofs.gather.Given as goal
 
 abbrev pub invariant-loop-q : goal.invariant-loop-q
 invariant-loop-q l =
-    (l.q ≤ l.queues) ×
-    (raises (left_from l.head l.table l.first l.queues l.q) l.f ≡ raises (left_from l.head l.table l.first l.queues 0)
-    (pack [] false))
-
-abbrev pub decreases-loop-q : goal.decreases-loop-q
-decreases-loop-q l = l.queues - l.q
+    raises (left_from l.head l.table (16 * l.operation) l.queues l.q) l.f ≡
+    raises (left_from l.head l.table (16 * l.operation) l.queues 0) (pack [] false)

@@ -4,5 +4,5 @@ use Rattle.ask_frontier.proofs.send.Goals as goal
 
 pub returns : goal.returns
 returns c =
-    cut_merged _ _ _ _ _ _ _ _ c.requires.0 c.requires.2 c.requires.3
-    c.gather-whole.ensures c.empty.ensures c.merge-merged.ensures.answers
+    cut_merged _ _ _ _ _ _ _ _ c.requires.0 c.requires.1 c.requires.2
+    c.gather-whole.ensures c.empty.ensures c.merge.ensures.answers

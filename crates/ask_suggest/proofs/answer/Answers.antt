@@ -31,4 +31,4 @@ pub returns-in-NotOrdered : goal.returns-in-NotOrdered
 returns-in-NotOrdered c =
     λ p o. by_signal o _ _ c.if-c-q.false c.if-c-b.false
     (c.judge-j.ensures.of_plans p)
-    c.in-NotOrdered.is c.by_signals.ensures
+    c.in-NotOrdered.is c.unwrap_or.ensures c.by_signals.ensures

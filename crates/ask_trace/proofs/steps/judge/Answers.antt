@@ -8,26 +8,21 @@ returns-then-n-j c = judge_unknown _ _ _ _ _ _ c.if-n-j.true
 
 pub returns-then-entry-count : goal.returns-then-entry-count
 returns-then-entry-count c =
-    judge_repeated _ _ _ _ _ _ _ _ c.if-n-j.false
-    c.place.ensures.0
-    c.own-entry.ensures c.if-entry-count.true
+    judge_repeated _ _ _ _ _ _ _ _ c.if-n-j.false c.place.ensures.0 c.own-entry.ensures c.if-entry-count.true
 
 pub returns-then-entry-count-gt1 : goal.returns-then-entry-count-gt1
 returns-then-entry-count-gt1 c =
-    judge_late _ _ _ _ _ _ _ _ c.if-n-j.false
-    c.place.ensures.0
-    c.own-entry.ensures c.if-entry-count.false c.if-entry-count-gt1.true
+    judge_late _ _ _ _ _ _ _ _ c.if-n-j.false c.place.ensures.0 c.own-entry.ensures c.if-entry-count.false
+    c.if-entry-count-gt1.true
 
-pub returns-then-k-lt-MOST_WAITS : goal.returns-then-k-lt-MOST_WAITS
-returns-then-k-lt-MOST_WAITS c =
-    wait_found _ _ _ c.unmet-k.ensures c.if-k-lt-MOST_WAITS.true
-    ∙ judge_waits _ _ _ _ _ _ _ _ c.if-n-j.false
-    c.place.ensures.0 c.own-entry.ensures c.if-entry-count.false
+pub returns-in-Some : goal.returns-in-Some
+returns-in-Some c =
+    wait_found _ _ _ (rw c.in-Some.is at c.unmet.ensures)
+    ∙ judge_waits _ _ _ _ _ _ _ _ c.if-n-j.false c.place.ensures.0 c.own-entry.ensures c.if-entry-count.false
     c.if-entry-count-gt1.false
 
-pub returns : goal.returns
-returns c =
-    none_found _ _ _ _ _ _ c.unmet-k.ensures c.if-k-lt-MOST_WAITS.false
-    ∙ judge_waits _ _ _ _ _ _ _ _ c.if-n-j.false
-    c.place.ensures.0 c.own-entry.ensures c.if-entry-count.false
+pub returns-in-None : goal.returns-in-None
+returns-in-None c =
+    none_found _ _ (rw c.in-None.is at c.unmet.ensures)
+    ∙ judge_waits _ _ _ _ _ _ _ _ c.if-n-j.false c.place.ensures.0 c.own-entry.ensures c.if-entry-count.false
     c.if-entry-count-gt1.false

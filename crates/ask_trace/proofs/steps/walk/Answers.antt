@@ -32,4 +32,4 @@ loop-k-preserved c = (
 pub returns : goal.returns
 returns c =
     walking_end _ _ _ _ _ _ _ c.loop-k.invariant.2 (omega (arith, c.loop-k-test.false, c.loop-k.invariant.0)) _
-    c.end.ensures
+    c.loop-k.invariant.0 _ c.end.ensures
