@@ -10,8 +10,8 @@ use lib.ListN.{length}
 use borrow.Author.Tests.{leb-true, leb-false, le-leb, eqb-true, eqb-false, eq-eqb}
 use Rattle.base_lists.proofs.Tests.{by_cases, clash, and_left, and_right}
 use Rattle.frontier.specs.declared.Frontier.{Frontier}
-use Rattle.frontier_slots.specs.declared.Lookup.{Lookup}
-use Rattle.frontier_slots.specs.declared.Lookup.TheVariants.{Listed, Absent}
+use Rattle.std.specs.Prelude.{Option}
+use Rattle.std.specs.Prelude.{Some, None}
 use Rattle.frontier.specs.declared.Dominance.{Dominance}
 use Rattle.frontier.specs.declared.Dominance.TheVariants.{Yes, No, Unknown, Refused}
 use Rattle.frontier_slots.specs.declared.Entry.{Entry}
@@ -43,15 +43,15 @@ module _ (f g : Frontier) where
   judged_answer p q v w = p ∙ ap (λ b. answer b f.tainted g.tainted) q ∙ judged_both v w
 
 -- REACHED is at least in every axis; not reached is below in some
-met_at_least : (l : Lookup) (n : ℕ) → met l n ≡ true → n ≤ epoch_of l
+met_at_least : (l : Option ℕ) (n : ℕ) → met l n ≡ true → n ≤ epoch_of l
 unfolding met epoch_of
-met_at_least (Listed e) n t = leb-true n e t
-met_at_least Absent n t = clash false t refl
+met_at_least (Some e) n t = leb-true n e t
+met_at_least None n t = clash false t refl
 
-met_not : (l : Lookup) (n : ℕ) → 0 < n → met l n ≡ false → epoch_of l < n
+met_not : (l : Option ℕ) (n : ℕ) → 0 < n → met l n ≡ false → epoch_of l < n
 unfolding met epoch_of
-met_not (Listed e) n h t = leb-false n e t
-met_not Absent n h t = h
+met_not (Some e) n h t = leb-false n e t
+met_not None n h t = h
 
 pub reached_over : (xs ys : List Entry) → reached xs ys ≡ true → Over (epoch_at xs) (epoch_at ys)
 unfolding reached

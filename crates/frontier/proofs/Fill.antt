@@ -121,7 +121,6 @@ module _ (from row : List ℕ) where
 
 -- CLEARED
 all_zero_by : (row : List ℕ) → ((k : ℕ) → get_or row k 0 ≡ 0) → all_zero row ≡ true
-unfolding all_zero
 all_zero_by [] h = refl
 all_zero_by (x ∷ row) h =
     and_both (eqb x 0) (all_zero row) (eq-eqb x 0 (h 0)) (all_zero_by row (λ k. h (suc k)))

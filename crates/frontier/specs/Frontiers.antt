@@ -5,8 +5,8 @@ use Rattle.std.specs.Prelude.{length, replicate}
 use Rattle.axis_search.specs.Halving.{searched}
 use Rattle.frontier.specs.declared.Frontier.{Frontier}
 use Rattle.frontier.specs.declared.Merged.{Merged}
-use Rattle.frontier_slots.specs.declared.Lookup.{Lookup}
-use Rattle.frontier_slots.specs.declared.Lookup.TheVariants.{Listed, Absent}
+use Rattle.std.specs.Prelude.{Option}
+use Rattle.std.specs.Prelude.{Some, None}
 use Rattle.frontier.specs.declared.Dominance.{Dominance}
 use Rattle.frontier.specs.declared.Dominance.TheVariants.{Yes, No, Unknown, Refused}
 use Rattle.frontier_slots.specs.declared.Entry.{Entry}
@@ -17,7 +17,7 @@ unfoldable pub entries : Frontier → List Entry
 entries f = slots f.axes f.epochs f.len 0
 
 -- R60, lookup: what is in the slot that the search by halving finds
-unfoldable pub looked_up : (f : Frontier) → (axis : ℕ) → Lookup
+unfoldable pub looked_up : (f : Frontier) → (axis : ℕ) → Option ℕ
 looked_up f axis = lookup_at f.epochs (searched f.axes axis f.len).at
 
 -- R59, form: what a frontier is that is not refused by 14 (R50)
@@ -73,9 +73,9 @@ unfoldable pub raise : Frontier → (axis epoch capacity : ℕ) → Merged
 raise f a e capacity = merge f (pack (one_entry a e) false) capacity
 
 -- R68: an entry is reached if its axis is listed with at least its epoch; R60: not if it is absent
-unfoldable pub met : Lookup → (epoch : ℕ) → Bool
-met (Listed e) n = leb n e
-met Absent n = false
+unfoldable pub met : Option ℕ → (epoch : ℕ) → Bool
+met (Some e) n = leb n e
+met None n = false
 
 -- R68: every entry is reached
 unfoldable pub reached : (xs ys : List Entry) → Bool

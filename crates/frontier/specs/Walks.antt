@@ -2,13 +2,12 @@
 use Rattle.std.specs.Prelude.{◌≡◌, Bool, true, false, cond, List, [], ◌∷◌, ◌++◌, ℕ, ◌≤◌, ◌<◌, ltb, leb, length}
 use Rattle.std.specs.Prelude.{get_or, take, replicate}
 use Rattle.frontier.specs.declared.Frontier.{Frontier}
-use Rattle.frontier_slots.specs.declared.Lookup.TheVariants.{Listed}
+use Rattle.std.specs.Prelude.{Option, Some, option_map}
 use Rattle.frontier.specs.declared.Merged.{Merged}
-use Rattle.frontier_slots.specs.declared.Found.{Found}
 use Rattle.frontier.specs.declared.lent.Filled.{Filled}
 use Rattle.frontier_slots.specs.declared.Entry.{Entry}
 use Rattle.frontier_slots.specs.Entries.{most_entries, most_of_two, rising_from, find}
-use Rattle.frontier_slots.specs.Slots.{slot, slots, rest}
+use Rattle.frontier_slots.specs.Slots.{slots, rest}
 use Rattle.frontier.specs.Frontiers.{entries, well_formed, capable}
 
 -- the frontier of lent slots
@@ -20,12 +19,12 @@ unfoldable pub skip_below : (axis : ℕ) → List Entry → List Entry
 skip_below a [] = []
 skip_below a (x ∷ xs) = cond (ltb x.axis a) (skip_below a xs) (x ∷ xs)
 
--- the lookup of an axis from a slot on, and where it ended: of rising slots it gives what is listed from there on; of
--- any others, anything that it gives is in the slot where it ended
-pub record FoundFrom (axes epochs : List ℕ) (len from axis : ℕ) (r : Found) : Type 0 where
-  pub found : rising_from 0 (slots axes epochs len 0) ≡ true → r.answer ≡ find axis (rest axes epochs len from)
-  pub in_slot : (epoch : ℕ) → r.answer ≡ Listed epoch →
-      (r.at < len) × (slot axes epochs r.at ≡ record { axis = axis; epoch = epoch })
+-- the slot of an axis from a slot on: of rising slots it has what is listed from there on; of any others, if it is
+-- found, it is a slot of the axis
+pub record SlotFrom (axes epochs : List ℕ) (len from axis : ℕ) (r : Option ℕ) : Type 0 where
+  pub found : rising_from 0 (slots axes epochs len 0) ≡ true →
+      option_map (λ i. get_or epochs i 0) r ≡ find axis (rest axes epochs len from)
+  pub of_axis : (i : ℕ) → r ≡ Some i → (i < len) × (get_or axes i 0 ≡ axis)
 
 -- the next axis of a union is that of xs: ys has none, or none that is smaller
 unfoldable pub leads : (xs ys : List Entry) → Bool

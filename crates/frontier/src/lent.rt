@@ -9,25 +9,24 @@ use crate::cuts::clear;
 use crate::search::dominance_of;
 use crate::unions::{merged, raised};
 use crate::{Dominance, Frontier};
-use frontier_slots::{Lookup, lookup_by_halving};
+use frontier_slots::lookup_by_halving;
 
 // Room for the axes or the epochs of a union.
 pub type Room = [u64; Frontier::BOTH];
 
 // A merge's number, and the length and taint of the frontier that it leaves in front of the room.
-#[derive(Clone, Copy)]
+#[derive(Clone, Copy, Debug, PartialEq, Eq, Hash)]
 pub struct Filled {
     pub number: u32,
     pub len: usize,
     pub tainted: bool,
 }
 
-// R60: what lent slots say of an axis, which is listed or absent.
-pub fn lookup<'a>(axes: &'a [u64], epochs: &'a [u64], len: usize, axis: u64) -> Lookup
+// R60: what lent slots say of an axis, its epoch where it is listed.
+pub fn lookup<'a>(axes: &'a [u64], epochs: &'a [u64], len: usize, axis: u64) -> Option<u64>
     ensures { Looked (of_slots axes.now epochs.now len false) axis result }
 {
-    let found = lookup_by_halving(axes, epochs, len, axis);
-    found.answer
+    lookup_by_halving(axes, epochs, len, axis).epoch
 }
 
 // R61 to R63: the larger epoch of each axis of x and y, cut to the capacity.

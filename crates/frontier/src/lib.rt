@@ -14,12 +14,12 @@ ghost use Rattle.frontier.specs.Walks.{left_number};
 
 use cuts::{clear, first_slots};
 use form::judged;
-use frontier_slots::{Lookup, formed, lookup_by_halving};
+use frontier_slots::formed;
 use unions::join_one;
 
 // Slot i holds the entry (axes[i], epochs[i]) for i below len; the slots past len are zero. A tainted frontier may have
 // lost entries.
-#[derive(Clone, Copy)]
+#[derive(Clone, Copy, Debug, PartialEq, Eq, Hash)]
 pub struct Frontier {
     pub axes: [u64; Frontier::SLOTS],
     pub epochs: [u64; Frontier::SLOTS],
@@ -29,14 +29,14 @@ pub struct Frontier {
 
 // A merge's number and frontier: empty and untainted where the number is a refusal's. The frontier comes first, so
 // that it is copied in whole words.
-#[derive(Clone, Copy)]
+#[derive(Clone, Copy, Debug, PartialEq, Eq, Hash)]
 pub struct Merged {
     pub frontier: Frontier,
     pub number: u32,
 }
 
 // Whether one frontier dominates another, or the refusal's number.
-#[derive(Clone, Copy)]
+#[derive(Clone, Copy, Debug, PartialEq, Eq, Hash)]
 pub enum Dominance {
     Yes,
     No,
@@ -57,6 +57,7 @@ impl Frontier {
     pub const BOTH: usize = 2 * Self::SLOTS;
 
     // The empty untainted frontier.
+    #[tactic(auto, unfolding(crate::specs::Frontiers::pack))]
     pub fn empty() -> Self
         ensures { result ≡ pack [] false }
     {
@@ -75,8 +76,8 @@ impl Frontier {
         formed(&self.axes, &self.epochs, self.len)
     }
 
-    // R60: what the frontier says of an axis, which is listed or absent.
-    pub fn lookup(self, axis: u64) -> Lookup
+    // R60: what the frontier says of an axis, its epoch where it is listed.
+    pub fn lookup(self, axis: u64) -> Option<u64>
         ensures { Looked self axis result }
     {
         lent::lookup(&self.axes, &self.epochs, self.len, axis)
@@ -129,11 +130,8 @@ impl Frontier {
             };
         }
         if len <= capacity as usize {
-            let found = lookup_by_halving(&self.axes, &self.epochs, len, axis);
-            let answer = found.answer;
-            if let Lookup::Listed(old) = answer {
-                let at = found.at;
-                self.epochs[at] = base_numbers::max_u64(old, epoch);
+            if let Some(at) = axis_search::search(&self.axes, len, axis).at {
+                self.epochs[at] = self.epochs[at].max(epoch);
                 return Merged {
                     number: 0,
                     frontier: self,

@@ -10,11 +10,11 @@ use crate::Frontier;
 use crate::cuts::{bound_of, copy, trim};
 use crate::form::judged;
 use crate::lent::Filled;
-use crate::search::lookup_from;
-use frontier_slots::{Lookup, formed, lookup_by_halving};
+use crate::search::slot_from;
+use frontier_slots::formed;
 
 // The next entry of a union, and where each side goes on.
-#[derive(Clone, Copy)]
+#[derive(Clone, Copy, Debug, PartialEq, Eq, Hash)]
 pub struct Step {
     pub axis: u64,
     pub epoch: u64,
@@ -64,9 +64,7 @@ fn leading<'a>(
 {
     let axis = xa[i];
     let epoch = xe[i];
-    let found = lookup_from(ya, ye, yn, j, axis);
-    let answer = found.answer;
-    let Lookup::Listed(other) = answer else {
+    let Some(at) = slot_from(ya, yn, j, axis) else {
         return Step {
             axis,
             epoch,
@@ -76,7 +74,7 @@ fn leading<'a>(
     };
     Step {
         axis,
-        epoch: base_numbers::max_u64(epoch, other),
+        epoch: epoch.max(ye[at]),
         left: i + 1,
         right: j + 1,
     }
@@ -300,13 +298,10 @@ pub fn raised<'a>(
         return refused(number);
     }
     if xn <= capacity as usize {
-        let found = lookup_by_halving(xa, xe, xn, axis);
-        let answer = found.answer;
-        if let Lookup::Listed(old) = answer {
-            let at = found.at;
+        if let Some(at) = axis_search::search(xa, xn, axis).at {
             copy(xa, axes);
             copy(xe, epochs);
-            epochs[at] = base_numbers::max_u64(old, epoch);
+            epochs[at] = xe[at].max(epoch);
             return Filled {
                 number: 0,
                 len: xn,

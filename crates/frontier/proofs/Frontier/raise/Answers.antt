@@ -1,31 +1,21 @@
 -- `raise` meets its contract: refused, stored in the axis's slot, or joined with one entry. Assumes nothing.
-use Rattle.std.proofs.Common.{◌<◌, sym, ap, ◌∙◌, arith}
+use Rattle.std.proofs.Common.{◌≡◌, ◌<◌, get_or, sym, ap, ◌∙◌, arith}
 use Rattle.frontier.specs.declared.Frontier.{Frontier}
 use Rattle.frontier.specs.declared.Merged.{Merged}
 use Rattle.frontier_slots.specs.Entries.{most_entries}
 use Rattle.frontier.specs.Frontiers.{refusal}
-use Rattle.frontier.specs.Walks.{left_number, FoundFrom}
-use Rattle.frontier.proofs.Lookups.{halved_from}
+use Rattle.frontier.specs.Walks.{left_number}
 use Rattle.frontier.proofs.Meaning.{raise_all}
-use Rattle.frontier.proofs.Raise.{raise_refused, raise_joins, raise_stored}
+use Rattle.frontier.proofs.Raise.{raise_refused, raise_stored}
 use Rattle.frontier.proofs.Frontier.raise.Goals as goal
-use Rattle.frontier.proofs.Frontier.raise.Goals.{In-Listed}
+use Rattle.frontier.proofs.Frontier.raise.Goals.{In-Some}
 
--- the axis is listed, and where
-in_slot : (c : In-Listed) →
-    FoundFrom c.args.self.axes c.args.self.epochs c.args.self.len 0 c.args.axis c.lookup_by_halving-found.result
-unfolding left_number
-in_slot c =
-    let f = raise_joins c.args.self c.args.axis c.args.epoch c.args.capacity _ c.judged-number.ensures
-    c.if-number-ne0.false in
-    halved_from _ _ _ _ f.0.0 f.0.2 c.lookup_by_halving-found.ensures
+-- the slot is of the axis
+listed : (c : In-Some) → (c.in-Some.at < c.args.self.len) × (get_or c.args.self.axes c.in-Some.at 0 ≡ c.args.axis)
+listed c = let w = c.search.ensures.means.of_axis _ c.in-Some.is in (w.0, w.3)
 
-listed : (c : In-Listed) → c.lookup_by_halving-found.result.at < most_entries
-unfolding left_number
-listed c =
-    let f = raise_joins c.args.self c.args.axis c.args.epoch c.args.capacity _ c.judged-number.ensures
-    c.if-number-ne0.false in
-    omega (arith, ((in_slot c).in_slot _ c.in-Listed.is).0, f.0.0)
+below : (c : In-Some) → c.in-Some.at < most_entries
+below c = let w = c.search.ensures.means.of_axis _ c.in-Some.is in omega (arith, w.0, w.1)
 
 pub returns-then-number-ne0 : goal.returns-then-number-ne0
 unfolding left_number refusal
@@ -37,17 +27,25 @@ returns-then-number-ne0 c =
 
 pub offset_bounds-self-at : goal.offset_bounds-self-at
 offset_bounds-self-at c =
-    record { fits = omega (arith, listed (goal.at.offset_bounds-self-at c).In-Listed) }
+    record { fits = omega (arith, below (goal.at.offset_bounds-self-at c).In-Some) }
 
 pub bounds-self-at : goal.bounds-self-at
-bounds-self-at c = listed (goal.at.bounds-self-at c).In-Listed
+bounds-self-at c = below (goal.at.bounds-self-at c).In-Some
 
-pub returns-in-Listed : goal.returns-in-Listed
+pub offset_bounds-self-at-in-Some : goal.offset_bounds-self-at-in-Some
+offset_bounds-self-at-in-Some c =
+    record { fits = omega (arith, below (goal.at.offset_bounds-self-at-in-Some c).In-Some) }
+
+pub bounds-self-at-in-Some : goal.bounds-self-at-in-Some
+bounds-self-at-in-Some c = below (goal.at.bounds-self-at-in-Some c).In-Some
+
+pub returns-in-Some : goal.returns-in-Some
 unfolding left_number
-returns-in-Listed c =
+returns-in-Some c =
+    let l = (goal.at.returns-in-Some c).In-Some in
     let w = raise_all _ _ _ _ _
-    (raise_stored c.args.self _ _ _ _ c.judged-number.ensures c.if-number-ne0.false _ _ _
-    (in_slot (goal.at.returns-in-Listed c).In-Listed) c.in-Listed.is c.max_u64.ensures c.if-len-capacity.true) in
+    (raise_stored c.args.self _ _ _ _ c.judged-number.ensures c.if-number-ne0.false _ _
+    (listed l).0 (listed l).1 c.max.ensures c.if-len-capacity.true) in
     record { answers = w.0; right = w.1 }
 
 pub with_one-requires : goal.with_one-requires
