@@ -5,10 +5,8 @@ use Rattle.std.specs.Prelude.{length}
 use Rattle.axis_search.specs.Halving.{most_reads, Range, searched, Halves}
 use Rattle.frontier.specs.declared.Frontier.{Frontier}
 use Rattle.frontier.specs.declared.Merged.{Merged}
-use Rattle.std.specs.Prelude.{Option}
-use Rattle.std.specs.Prelude.{Some, None}
-use Rattle.frontier.specs.declared.Dominance.{Dominance}
-use Rattle.frontier.specs.declared.Dominance.TheVariants.{Yes, No, Unknown}
+use Rattle.std.specs.Prelude.{Option, Some, None}
+use Rattle.frontier.specs.Frontiers.{Verdict, Yes, No, Unknown}
 use Rattle.frontier_slots.specs.declared.Entry.{Entry}
 use Rattle.frontier_slots.specs.Entries.{most_entries, find, values_of, epochs_under, union, exceeding}
 use Rattle.frontier_slots.specs.Slots.{slot}
@@ -107,7 +105,7 @@ pub record RaiseRight (f : Frontier) (axis epoch capacity : ℕ) (r : Merged) : 
 
 -- R68: yes, every completion of f dominates every completion of g; no, none does; unknown, there are completions of
 -- both kinds
-pub record DominanceMeans (f g : Frontier) (r : Dominance) : Type 0 where
+pub record DominanceMeans (f g : Frontier) (r : Verdict) : Type 0 where
   pub number : (number_of r).number ≡ dominance_number f g
   pub if_yes : r ≡ Yes → (full other : ℕ → ℕ) → Completion f full → Completion g other → Over full other
   pub if_no : r ≡ No → (full other : ℕ → ℕ) → Completion f full → Completion g other → Over full other → ⊥

@@ -2,13 +2,14 @@
 use Rattle.std.specs.Prelude.{◌≡◌, Bool, true, false, cond, List, [], ◌∷◌, ◌++◌, ℕ, ◌≤◌, ◌<◌, ltb, leb, length}
 use Rattle.std.specs.Prelude.{get_or, take, replicate}
 use Rattle.frontier.specs.declared.Frontier.{Frontier}
-use Rattle.std.specs.Prelude.{Option, Some, option_map}
+use Rattle.std.specs.Prelude.{Option, Some, option_map, Result, Ok, Err}
 use Rattle.frontier.specs.declared.Merged.{Merged}
 use Rattle.frontier.specs.declared.lent.Filled.{Filled}
+use Rattle.frontier.specs.declared.Unfit.{Unfit}
 use Rattle.frontier_slots.specs.declared.Entry.{Entry}
 use Rattle.frontier_slots.specs.Entries.{most_entries, most_of_two, rising_from, find}
 use Rattle.frontier_slots.specs.Slots.{slots, rest}
-use Rattle.frontier.specs.Frontiers.{entries, well_formed, capable}
+use Rattle.frontier.specs.Frontiers.{entries, well_formed, capable, number_of_unfit}
 
 -- the frontier of lent slots
 abbrev pub of_slots : (axes epochs : List ℕ) → (len : ℕ) → (tainted : Bool) → Frontier
@@ -42,8 +43,19 @@ left_number f capacity = cond (capable capacity) (cond (well_formed f) 0 14) 15
 abbrev pub AllRoom : (axes epochs : List ℕ) → Type 0
 AllRoom axes epochs = (length axes ≡ most_of_two) × (length epochs ≡ most_of_two)
 
+-- a number, and the length and taint of what is left there
+pub record Laid : Type 0 where
+  pub number : ℕ
+  pub len : ℕ
+  pub tainted : Bool
+
+-- R67: by the result of a call: beside a refusal nothing is left
+abbrev pub laid : Result Filled Unfit → Laid
+laid (Ok f) = record { number = 0; len = f.len; tainted = f.tainted }
+laid (Err e) = record { number = number_of_unfit e; len = 0; tainted = false }
+
 -- what is left there, with a number beside it, is a merge's answer; nothing is said of what comes after the entries
-pub record LeftInRoom (m : Merged) (r : Filled) (axes epochs : List ℕ) : Type 0 where
+pub record LeftInRoom (m : Merged) (r : Laid) (axes epochs : List ℕ) : Type 0 where
   pub room : AllRoom axes epochs
   pub number : r.number ≡ m.number
   pub tainted : r.tainted ≡ m.frontier.tainted
@@ -65,13 +77,13 @@ abbrev pub in_room : List ℕ → List ℕ
 in_room row = row ++ replicate most_entries 0
 
 -- a merge's answer, left in the room with number, length and taint beside it
-abbrev pub Fills : Merged → Filled → (axes epochs : List ℕ) → Type 0
+abbrev pub Fills : Merged → Laid → (axes epochs : List ℕ) → Type 0
 Fills m r axes epochs =
     (r ≡ record { number = m.number; len = m.frontier.len; tainted = m.frontier.tainted })
     × (axes ≡ in_room m.frontier.axes) × (epochs ≡ in_room m.frontier.epochs)
 
 -- what a caller reads there
-abbrev pub filled : Filled → (axes epochs : List ℕ) → Merged
+abbrev pub filled : Laid → (axes epochs : List ℕ) → Merged
 filled r axes epochs = record {
   number = r.number;
   frontier = of_slots (take most_entries axes) (take most_entries epochs) r.len r.tainted;

@@ -3,11 +3,11 @@ ghost use Rattle.std.specs.Prelude.{◌≡◌, ◌&&◌, true, cond, List, ℕ, 
 ghost use Rattle.std.specs.Prelude.{length, get_or};
 ghost use Rattle.frontier_slots.specs.Entries.{most_entries, rising_from};
 ghost use Rattle.frontier_slots.specs.Slots.{slots};
-ghost use Rattle.frontier.specs.Frontiers.{reached, answer, dominance};
+ghost use Rattle.frontier.specs.Frontiers.{reached, answer, dominance, verdict};
 ghost use Rattle.frontier_slots.specs.Slots.{rest, AllSlots};
 ghost use Rattle.frontier.specs.Walks.{of_slots, skip_below, SlotFrom};
 
-use crate::Dominance;
+use crate::{Dominance, Unfit};
 use frontier_slots::formed;
 
 // The first slot from `from` on whose axis is not below the one sought, or the length.
@@ -79,7 +79,7 @@ fn reaches<'a>(
 // All reached is yes, unless the other lost entries; not all reached is no, unless this one did.
 #[tactic(auto, unfolding(crate::specs::Frontiers::answer))]
 fn answer_of(reached: bool, tainted: bool, other: bool) -> Dominance
-    ensures { result ≡ answer reached tainted other }
+    ensures { verdict (Ok result) ≡ answer reached tainted other }
 {
     match (reached, tainted, other) {
         (true, _, false) => Dominance::Yes,
@@ -88,7 +88,7 @@ fn answer_of(reached: bool, tainted: bool, other: bool) -> Dominance
     }
 }
 
-// Whether x dominates y: 14 for x, then for y; else by what is reached and the taints.
+// Whether x dominates y: refused if x is not well-formed, then if y is not; else by what is reached and the taints.
 pub fn dominance_of<'a>(
     xa: &'a [u64],
     xe: &'a [u64],
@@ -98,15 +98,15 @@ pub fn dominance_of<'a>(
     ye: &'a [u64],
     yn: usize,
     yt: bool,
-) -> Dominance
-    ensures { result ≡ dominance (of_slots xa.now xe.now xn xt)
+) -> Result<Dominance, Unfit>
+    ensures { verdict result ≡ dominance (of_slots xa.now xe.now xn xt)
         (of_slots ya.now ye.now yn yt) }
 {
     if !formed(xa, xe, xn) {
-        return Dominance::Refused(14);
+        return Err(Unfit::Form);
     }
     if !formed(ya, ye, yn) {
-        return Dominance::Refused(14);
+        return Err(Unfit::Form);
     }
-    answer_of(reaches(xa, xe, xn, ya, ye, yn), xt, yt)
+    Ok(answer_of(reaches(xa, xe, xn, ya, ye, yn), xt, yt))
 }
