@@ -16,7 +16,7 @@ use Rattle.frontier.specs.Frontiers.{entries, well_formed, pack, merge, reached,
 use Rattle.frontier.specs.Meaning.{epoch_of, epoch_at, Completion}
 use Rattle.frontier.specs.declared.Frontier.{Frontier}
 use Rattle.std.specs.Prelude.{Option, Some, None}
-use Rattle.frontier.specs.declared.Dominance.TheVariants.{Yes, No}
+use Rattle.frontier.specs.Frontiers.{Yes, No}
 use Rattle.frontier.proofs.Sorted.{Sorted}
 use Rattle.frontier.proofs.Cut.{sorted_cut, cut_length, cut_whole, find_cut, epoch_cut}
 use Rattle.frontier.proofs.Associate.{cut_fills}

@@ -6,7 +6,7 @@ use Rattle.frontier.specs.Frontiers.{entries, well_formed, pack, merge, dominanc
 use Rattle.frontier.specs.Meaning.{Completion, epoch_at, listed_if}
 use Rattle.frontier.specs.declared.Frontier.{Frontier}
 use Rattle.std.specs.Prelude.{Some}
-use Rattle.frontier.specs.declared.Dominance.TheVariants.{Yes, No}
+use Rattle.frontier.specs.Frontiers.{Yes, No}
 use Rattle.plan_format.specs.Plan.{Plan, count, queues}
 use Rattle.plan_format.specs.Refusal.{Refusal}
 use Rattle.plan_format.specs.RefusalNumbers.{NoneOr, sent_numbers, sent_gives}
