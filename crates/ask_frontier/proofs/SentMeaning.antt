@@ -15,9 +15,8 @@ use Rattle.frontier_slots.specs.Entries.{find, cut}
 use Rattle.frontier.specs.Frontiers.{entries, well_formed, pack, merge, reached, answer, dominance}
 use Rattle.frontier.specs.Meaning.{epoch_of, epoch_at, Completion}
 use Rattle.frontier.specs.declared.Frontier.{Frontier}
-use Rattle.frontier_slots.specs.declared.Lookup.{Lookup}
-use Rattle.frontier_slots.specs.declared.Lookup.TheVariants.{Listed, Absent}
-use Rattle.frontier.specs.declared.Dominance.TheVariants.{Yes, No}
+use Rattle.std.specs.Prelude.{Option, Some, None}
+use Rattle.frontier.specs.Frontiers.{Yes, No}
 use Rattle.frontier.proofs.Sorted.{Sorted}
 use Rattle.frontier.proofs.Cut.{sorted_cut, cut_length, cut_whole, find_cut, epoch_cut}
 use Rattle.frontier.proofs.Associate.{cut_fills}
@@ -33,21 +32,21 @@ use Rattle.ask_frontier.specs.SentMeaning.{InRow, RowMap, SentMeans}
 use Rattle.ask_frontier.proofs.SentRows.{by_axis, entries_map, map_same, over_order, order_over}
 
 -- ---- a lookup and its epoch
-listed_epoch : (l : Lookup) (e : ℕ) → l ≡ Listed e → epoch_of l ≡ e
+listed_epoch : (l : Option ℕ) (e : ℕ) → l ≡ Some e → epoch_of l ≡ e
 unfolding epoch_of
 listed_epoch l e q = ap epoch_of q
 
-epoch_listed : (l : Lookup) (e : ℕ) → 0 < e → epoch_of l ≡ e → l ≡ Listed e
+epoch_listed : (l : Option ℕ) (e : ℕ) → 0 < e → epoch_of l ≡ e → l ≡ Some e
 unfolding epoch_of
-epoch_listed (Listed d) e h q = ap Listed q
-epoch_listed Absent e h q = absurd (omega arith)
+epoch_listed (Some d) e h q = ap (λ (n : ℕ). Some n) q
+epoch_listed None e h q = absurd (omega arith)
 
-listed_above : (b a e : ℕ) (xs : List Entry) → Sorted b xs → find a xs ≡ Listed e → 0 < e
+listed_above : (b a e : ℕ) (xs : List Entry) → Sorted b xs → find a xs ≡ Some e → 0 < e
 unfolding find
 listed_above b a e [] s q = let z : ◌≡◌ {A = ℕ} 0 1 = cc in omega arith
 listed_above b a e (x ∷ xs) s q =
     by_cases (eqb x.axis a)
-    (λ t. let same : Listed x.epoch ≡ Listed e = rw t at q in let k : x.epoch ≡ e = cc in omega (arith, s.1))
+    (λ t. let same : Some x.epoch ≡ Some e = rw t at q in let k : x.epoch ≡ e = cc in omega (arith, s.1))
     (λ t. listed_above (suc x.axis) a e xs s.2 (rw t at q))
 
 module _ (p : Plan) (sound : Sound p) where
@@ -63,7 +62,7 @@ module _ (p : Plan) (sound : Sound p) where
       omega (arith, gathered_length (row_entries p j), tabulate_length entry_of (queues p) 0, sound.few_queues)
 
   listed_right : (j axis e : ℕ) →
-      (find axis (sent_entries p j) ≡ Listed e) ↔ ((0 < e) × ((q : ℕ) × InRow p j axis e q))
+      (find axis (sent_entries p j) ≡ Some e) ↔ ((0 < e) × ((q : ℕ) × InRow p j axis e q))
   unfolding epoch_at
   listed_right j axis e =
       let es = sent_entries p j in

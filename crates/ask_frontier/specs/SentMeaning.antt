@@ -5,8 +5,8 @@ use Rattle.frontier_slots.specs.Entries.{most_entries, find, exceeding}
 use Rattle.frontier.specs.Frontiers.{entries, well_formed, pack, merge, dominance}
 use Rattle.frontier.specs.Meaning.{Completion, epoch_at, listed_if}
 use Rattle.frontier.specs.declared.Frontier.{Frontier}
-use Rattle.frontier_slots.specs.declared.Lookup.TheVariants.{Listed}
-use Rattle.frontier.specs.declared.Dominance.TheVariants.{Yes, No}
+use Rattle.std.specs.Prelude.{Some}
+use Rattle.frontier.specs.Frontiers.{Yes, No}
 use Rattle.plan_format.specs.Plan.{Plan, count, queues}
 use Rattle.plan_format.specs.Refusal.{Refusal}
 use Rattle.plan_format.specs.RefusalNumbers.{NoneOr, sent_numbers, sent_gives}
@@ -33,7 +33,7 @@ pub record RowMap (p : Plan) (j : ℕ) (full : ℕ → ℕ) : Type 0 where
 pub record SentMeans (p : Plan) (j capacity : ℕ) (f : Frontier) : Type 0 where
   pub formed : well_formed f ≡ true
   -- R69, before the cut: an entry for each number above 0 in the row
-  pub listed : (axis e : ℕ) → (find axis (sent_entries p j) ≡ Listed e) ↔ ((0 < e) × ((q : ℕ) × InRow p j axis e q))
+  pub listed : (axis e : ℕ) → (find axis (sent_entries p j) ≡ Some e) ↔ ((0 < e) × ((q : ℕ) × InRow p j axis e q))
   -- R70, the cut: that of a merge of the whole with the empty frontier. An entry stays exactly if fewer than the
   -- capacity exceed it, and as many stay as it holds
   pub as_merged : merge (sent p j most_entries) (pack [] false) capacity ≡ record { number = 0; frontier = f }

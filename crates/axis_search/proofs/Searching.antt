@@ -2,13 +2,14 @@
 use mathlib.Core.Path.{◌≡◌, refl, sym, ◌∙◌, subst}
 use mathlib.Core.Bool.{cond}
 use mathlib.Core.List.{List}
+use Rattle.std.specs.Prelude.{Some, None}
 use Prim.Native.Nat.{ℕ, zero, suc, ◌+◌, ◌-◌, ◌/◌, ◌%◌, ◌*◌, ◌≤◌, ◌<◌}
 use native.Mathlib.Omega.{arith}
 use lib.Dec.{ltb}
 use lib.ListN.{length, get_or}
 use borrow.Author.Tests.{eq-eqb, ne_eqb, le-leb}
 use Rattle.base_lists.proofs.Tests.{by_cases}
-use Rattle.axis_search.specs.Halving.{most_slots, no_slot, Range, middle, narrowed, search_from}
+use Rattle.axis_search.specs.Halving.{most_slots, Range, middle, narrowed, search_from}
 use Rattle.axis_search.specs.Halving.{searched}
 
 -- the search goes on from here as the whole: so many turns are enough for those in question
@@ -49,7 +50,7 @@ module _ {axes : List ℕ} {axis len : ℕ} where
   }
 
   module _ {low many read : ℕ} (s : Searching axes axis len low many read) where
-    pub searching_end : many ≤ 0 → record { at = no_slot; read = read } ≡ searched axes axis len
+    pub searching_end : many ≤ 0 → record { at = None; read = read } ≡ searched axes axis len
     unfolding search_from
     searching_end l = by s.turns s.rest
       where
@@ -57,7 +58,7 @@ module _ {axes : List ℕ} {axis len : ℕ} where
         z = omega arith
 
         by : (t : ℕ) → search_from axes axis t read (record { low = low; many = many }) ≡ searched axes axis len →
-            record { at = no_slot; read = read } ≡ searched axes axis len
+            record { at = None; read = read } ≡ searched axes axis len
         by zero e = e
         by (suc t) e = rw (eq-eqb many 0 z) at e
 
@@ -69,7 +70,7 @@ module _ {axes : List ℕ} {axis len : ℕ} where
       here = subst (λ (t : ℕ). search_from axes axis t read (record { low = low; many = many })
           ≡ searched axes axis len) turn.1 s.rest
 
-      pub searching_found : x ≡ axis → record { at = low + many / 2; read = read + 1 } ≡ searched axes axis len
+      pub searching_found : x ≡ axis → record { at = Some (low + many / 2); read = read + 1 } ≡ searched axes axis len
       unfolding search_from middle
       searching_found e =
           rw (ne_eqb many 0 (λ z. omega arith), eq-eqb (get_or axes (low + many / 2) 0) axis (sym x_is ∙ e)) at here

@@ -1,6 +1,6 @@
 -- R60: a search by halving among rising axes, with the slots that it reads. Assumes nothing: these are definitions.
 use Rattle.std.specs.Prelude.{◌≡◌, cond, ◌&&◌, List, ℕ, zero, suc, ◌+◌, ◌-◌, ◌/◌, ◌*◌, ◌≤◌, ◌<◌, ltb, leb, eqb}
-use Rattle.std.specs.Prelude.{length, get_or}
+use Rattle.std.specs.Prelude.{length, get_or, Some, None}
 use Rattle.axis_search.specs.declared.Slot.{Slot}
 
 -- the most slots that are searched, and the most that are read of so many
@@ -9,10 +9,6 @@ most_slots = 16
 
 abbrev pub most_reads : ℕ
 most_reads = 5
-
--- in place of a slot: there is none of the axis
-abbrev pub no_slot : ℕ
-no_slot = most_slots
 
 -- the slots in question: so many from `low` on
 pub record Range : Type 0 where
@@ -31,10 +27,10 @@ narrowed axes axis r =
 
 -- the slot found, and how many were read when so many were read before; at most `turns` more are
 unfoldable pub search_from : (axes : List ℕ) → (axis turns read : ℕ) → Range → Slot
-search_from axes axis zero read r = record { at = no_slot; read = read }
+search_from axes axis zero read r = record { at = None; read = read }
 search_from axes axis (suc turns) read r =
-    cond (eqb r.many 0) (record { at = no_slot; read = read })
-    (cond (eqb (get_or axes (middle r) 0) axis) (record { at = middle r; read = read + 1 })
+    cond (eqb r.many 0) (record { at = None; read = read })
+    (cond (eqb (get_or axes (middle r) 0) axis) (record { at = Some (middle r); read = read + 1 })
     (search_from axes axis turns (read + 1) (narrowed axes axis r)))
 
 -- the search of the first `len` slots, with a turn for each; of more than sixteen, or of more than there are, none is
@@ -42,7 +38,7 @@ search_from axes axis (suc turns) read r =
 unfoldable pub searched : (axes : List ℕ) → (axis len : ℕ) → Slot
 searched axes axis len =
     cond (leb len most_slots && leb len (length axes))
-    (search_from axes axis len 0 (record { low = 0; many = len })) (record { at = no_slot; read = 0 })
+    (search_from axes axis len 0 (record { low = 0; many = len })) (record { at = None; read = 0 })
 
 -- WHAT IT MEANS
 
@@ -65,9 +61,9 @@ pub record Halves (axes : List ℕ) (axis : ℕ) (r : Range) : Type 0 where
 -- axis. Of rising axes: each read halves those in question, and a slot of the axis is found exactly if there is one
 pub record Halving (axes : List ℕ) (axis len : ℕ) (r : Slot) : Type 0 where
   pub few : r.read ≤ most_reads
-  pub of_axis : r.at < no_slot → (r.at < len) × (len ≤ most_slots) × (len ≤ length axes)
-      × (get_or axes r.at 0 ≡ axis)
+  pub of_axis : (at : ℕ) → r.at ≡ Some at → (at < len) × (len ≤ most_slots) × (len ≤ length axes)
+      × (get_or axes at 0 ≡ axis)
   pub halves : Rise axes len → (range : Range) → 0 < range.many → range.low + range.many ≤ len →
       Halves axes axis range
   pub finds : Rise axes len → len ≤ most_slots → len ≤ length axes → (i : ℕ) → i < len → get_or axes i 0 ≡ axis →
-      r.at ≡ i
+      r.at ≡ Some i

@@ -7,13 +7,10 @@ ghost use Rattle.axis_search.specs.Halving.{most_slots, searched, Halving};
 // The most slots that are searched.
 pub const SLOTS: usize = 16;
 
-// In place of a slot, where there is none of the axis.
-pub const NO_SLOT: usize = SLOTS;
-
 // The slot of an axis, or none; and how many slots were read.
-#[derive(Clone, Copy)]
+#[derive(Clone, Copy, Debug, PartialEq, Eq, Hash)]
 pub struct Slot {
-    pub at: usize,
+    pub at: Option<usize>,
     pub read: usize,
 }
 
@@ -23,22 +20,13 @@ pub fn search(axes: &[u64], len: usize, axis: u64) -> Slot
     ensures answers { result ≡ searched axes.now axis len }
     ensures means { Halving axes.now axis len result }
 {
-    if SLOTS < len {
-        return Slot {
-            at: NO_SLOT,
-            read: 0,
-        };
-    }
-    if axes.len() < len {
-        return Slot {
-            at: NO_SLOT,
-            read: 0,
-        };
+    if SLOTS < len || axes.len() < len {
+        return Slot { at: None, read: 0 };
     }
     halve(axes, len, axis)
 }
 
-// A number, or 0.
+// A number, or 0. Written as a choice at the call, it is a branch once compiled.
 fn only_if(test: bool, n: usize) -> usize
     ensures answers { result ≡ cond test n 0 }
     ensures bounded { result ≤ n }
@@ -51,6 +39,7 @@ fn only_if(test: bool, n: usize) -> usize
 
 // The slot in the middle of those in question is read, until it is of the axis or none is left. What a slot leaves in
 // question is added and taken away, not chosen: the compiler makes a branch of a choice, which no processor foresees.
+// The loop counts by hand: a search by halving walks no sequence.
 fn halve(axes: &[u64], len: usize, axis: u64) -> Slot
     requires { (len ≤ most_slots) × (len ≤ length axes.now) }
     ensures { result ≡ searched axes.now axis len }
@@ -64,10 +53,10 @@ fn halve(axes: &[u64], len: usize, axis: u64) -> Slot
         let x = axes[at];
         read += 1;
         if x == axis {
-            return Slot { at, read };
+            return Slot { at: Some(at), read };
         }
         low = low + only_if(x < axis, half + 1);
         many = half - only_if(x < axis, 1 - many % 2);
     }
-    Slot { at: NO_SLOT, read }
+    Slot { at: None, read }
 }

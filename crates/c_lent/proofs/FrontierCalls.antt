@@ -5,8 +5,7 @@ use mathlib.Core.List.{List}
 use Prim.Native.Nat.{ℕ}
 use Rattle.plan_format.specs.declared.Told.{Told}
 use Rattle.frontier.specs.declared.Merged.{Merged}
-use Rattle.frontier_slots.specs.declared.Lookup.{Lookup}
-use Rattle.frontier_slots.specs.declared.Lookup.TheVariants.{Listed, Absent}
+use Rattle.std.specs.Prelude.{Option, Some, None}
 use Rattle.frontier.specs.declared.Dominance.{Dominance}
 use Rattle.frontier.specs.Frontiers.{well_formed, pack, capable, one_entry, merge, raise, dominance, looked_up}
 use Rattle.frontier.specs.Meaning.{epoch_of, Looked, MergeRight, RaiseRight, DominanceMeans}
@@ -87,10 +86,10 @@ module _ (left right : List ℕ) (told : List ℕ) where
       )
 
 -- an answer that was told and stored is read back
-lookup_back : (r : Lookup) (told epoch : List ℕ) → LookupSays r told epoch → lookup_of told epoch ≡ r
+lookup_back : (r : Option ℕ) (told epoch : List ℕ) → LookupSays r told epoch → lookup_of told epoch ≡ r
 unfolding listed_value epoch_of lookup_of
-lookup_back (Listed e) told epoch s = rw (s.0, s.1)
-lookup_back Absent told epoch s = rw s.0
+lookup_back (Some e) told epoch s = rw (s.0, s.1)
+lookup_back None told epoch s = rw s.0
 
 module _ (numbers : List ℕ) (axis : ℕ) (told epoch : List ℕ) where
   pub lookup_answered : LookupSays (looked_up (frontier_of numbers) axis) told epoch →

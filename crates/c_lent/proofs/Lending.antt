@@ -10,8 +10,7 @@ use lib.Seq.{length-take-le}
 use Rattle.frontier.specs.declared.Frontier.{Frontier}
 use Rattle.frontier.specs.declared.Merged.{Merged}
 use Rattle.frontier.specs.declared.lent.Filled.{Filled}
-use Rattle.frontier_slots.specs.declared.Lookup.{Lookup}
-use Rattle.frontier_slots.specs.declared.Lookup.TheVariants.{Listed, Absent}
+use Rattle.std.specs.Prelude.{Option, Some, None}
 use Rattle.frontier.specs.declared.Dominance.{Dominance}
 use Rattle.frontier_slots.specs.Entries.{most_entries}
 use Rattle.frontier.specs.Frontiers.{well_formed, merge, raise, dominance, looked_up}
@@ -73,19 +72,19 @@ pub dominance_lent : (left right : List ℕ) (xn yn : ℕ) (r : Dominance) → L
     r ≡ dominance (slots_of left xn) (slots_of right yn) → r ≡ dominance (frontier_of left) (frontier_of right)
 dominance_lent left right xn yn r p q e = rw (← lent_slots left xn p, ← lent_slots right yn q) e
 
-pub lookup_lent : (ns : List ℕ) (len axis : ℕ) (r : Lookup) → LengthIs ns len →
+pub lookup_lent : (ns : List ℕ) (len axis : ℕ) (r : Option ℕ) → LengthIs ns len →
     r ≡ looked_up (of_slots (take most_entries ns) (take most_entries (drop epochs_at ns)) len false) axis →
     r ≡ looked_up (frontier_of ns) axis
 unfolding looked_up
 lookup_lent ns len axis r p e = rw (← lent_slots ns len p) e
 
 -- what is told of an absent axis, and of a listed one
-pub absent_says : (q r : Lookup) (told : List ℕ) → r ≡ q → r ≡ Absent →
+pub absent_says : (q r : Option ℕ) (told : List ℕ) → r ≡ q → r ≡ None →
     told_of told ≡ record { number = 0; place = 0; answer = 0 } → LookupSays q told (0 ∷ [])
 unfolding listed_value epoch_of
 absent_says q r told e a t = rw (← e, a) (t, refl)
 
-pub listed_says : (q r : Lookup) (told : List ℕ) (epoch : ℕ) → r ≡ q → r ≡ Listed epoch →
+pub listed_says : (q r : Option ℕ) (told : List ℕ) (epoch : ℕ) → r ≡ q → r ≡ Some epoch →
     told_of told ≡ record { number = 0; place = 0; answer = 1 } → LookupSays q told (epoch ∷ [])
 unfolding listed_value epoch_of
 listed_says q r told epoch e a t = rw (← e, a) (t, refl)

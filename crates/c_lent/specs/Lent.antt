@@ -5,8 +5,7 @@ use Rattle.std.specs.Prelude.{get_or, take, drop}
 use Rattle.plan_format.specs.declared.Told.{Told}
 use Rattle.frontier.specs.declared.Frontier.{Frontier}
 use Rattle.frontier.specs.declared.Merged.{Merged}
-use Rattle.frontier_slots.specs.declared.Lookup.{Lookup}
-use Rattle.frontier_slots.specs.declared.Lookup.TheVariants.{Listed, Absent}
+use Rattle.std.specs.Prelude.{Option, Some, None}
 use Rattle.frontier.specs.declared.Dominance.{Dominance}
 use Rattle.frontier.specs.declared.Dominance.TheVariants.{Yes, No, Unknown, Refused}
 use Rattle.frontier_slots.specs.Entries.{most_entries}
@@ -58,17 +57,17 @@ Handed number place f told frontier =
 
 -- ---- LOOKUP
 -- R77: 1 for a listed axis, 0 for an absent one, which is never told by its epoch alone
-unfoldable pub listed_value : Lookup → ℕ
-listed_value (Listed e) = 1
-listed_value Absent = 0
+unfoldable pub listed_value : Option ℕ → ℕ
+listed_value (Some e) = 1
+listed_value None = 0
 
-abbrev pub LookupSays : Lookup → (told epoch : List ℕ) → Type 0
+abbrev pub LookupSays : Option ℕ → (told epoch : List ℕ) → Type 0
 LookupSays r told epoch =
     (told_of told ≡ record { number = 0; place = 0; answer = listed_value r }) × (epoch ≡ epoch_of r ∷ [])
 
 -- what a caller reads there
-unfoldable pub lookup_of : (told epoch : List ℕ) → Lookup
-lookup_of told epoch = cond (eqb (told_of told).answer 0) Absent (Listed (get_or epoch 0 0))
+unfoldable pub lookup_of : (told epoch : List ℕ) → Option ℕ
+lookup_of told epoch = cond (eqb (told_of told).answer 0) None (Some (get_or epoch 0 0))
 
 -- ---- MERGE AND RAISE
 -- a merge's number, and the numbers of its frontier

@@ -14,7 +14,6 @@ ghost use Rattle.c_lent.specs.Lent.{list_of, oversized, Handed, MergeStored, Mer
 ghost use Rattle.c_lent.specs.Lent.{OversizedRefused, dominance_told, dominance_of, LookupSays, lookup_of};
 
 use frontier::{Dominance, Frontier, lent};
-use frontier_slots::Lookup;
 use plan_format::Told;
 
 // Where the numbers of a frontier are: the axes come first, then the epochs, the length and the taint.
@@ -31,6 +30,7 @@ pub const NUMBERS: usize = TAINT + 1;
 const OVER_LONG: usize = Frontier::SLOTS + 1;
 
 // The number and the value of an answer of dominance.
+#[tactic(auto, unfolding(frontier::specs::Frontiers::number_of))]
 fn dominance(r: Dominance) -> Told
     ensures { result ≡ dominance_told r }
 {
@@ -59,11 +59,7 @@ fn put_row(row: &[u64], at: usize, numbers: &mut [u64])
     requires { (length row.now ≡ most_entries) × (at + most_entries ≤ length numbers.old) }
     ensures { numbers.new ≡ sets numbers.old at row.now }
 {
-    let mut i: usize = 0;
-    while i < Frontier::SLOTS {
-        numbers[at + i] = row[i];
-        i += 1;
-    }
+    numbers[at..at + Frontier::SLOTS].copy_from_slice(row);
 }
 
 // The numbers of a frontier, by its slots, length and taint.
@@ -235,7 +231,7 @@ pub fn cundvrest_dominates<'a>(
 }
 
 // What a lent frontier says of an axis.
-fn lookup_numbers(numbers: &[u64], axis: u64) -> Lookup
+fn lookup_numbers(numbers: &[u64], axis: u64) -> Option<u64>
     requires { length numbers.now ≡ frontier_numbers }
     ensures { result ≡ looked_up (frontier_of numbers.now) axis }
 {
@@ -256,8 +252,7 @@ pub fn cundvrest_lookup(
     ensures means { Looked (frontier_of frontier.now) axis
         (lookup_of told.new epoch.new) }
 {
-    let r = lookup_numbers(frontier, axis);
-    let Lookup::Listed(listed) = r else {
+    let Some(listed) = lookup_numbers(frontier, axis) else {
         *epoch = [0];
         c_told::tell(plan_format::answered(0), told);
         return;

@@ -11,8 +11,8 @@ use lib.Dec.{ltb, leb, eqb}
 use lib.ListN.{length}
 use borrow.Author.Tests.{ltb-true, ltb-false, leb-true, leb-false, lt-ltb, le-ltb, eqb-true}
 use Rattle.base_lists.proofs.Tests.{by_cases, clash, is_true, is_false, either}
-use Rattle.frontier_slots.specs.declared.Lookup.{Lookup}
-use Rattle.frontier_slots.specs.declared.Lookup.TheVariants.{Listed, Absent}
+use Rattle.std.specs.Prelude.{Option}
+use Rattle.std.specs.Prelude.{Some, None}
 use Rattle.base_lists.specs.Lists.{filter}
 use Rattle.frontier_slots.specs.declared.Entry.{Entry}
 use Rattle.frontier_slots.specs.Entries.{find, put, union, exceeds, exceeding, cut}
@@ -84,11 +84,11 @@ cut_above c b xs h =
     )))
 
 -- THE EPOCHS ABOVE A BOUND
-epoch_if : (f : Entry → Bool) (a : ℕ) (l : Lookup) →
+epoch_if : (f : Entry → Bool) (a : ℕ) (l : Option ℕ) →
     epoch_of (listed_if f a l) ≡ cond (f (record { axis = a; epoch = epoch_of l })) (epoch_of l) 0
 unfolding epoch_of listed_if
-epoch_if f a (Listed e) = by_cases (f (record { axis = a; epoch = e })) (λ t. rw t) (λ t. rw t)
-epoch_if f a Absent = by_cases (f (record { axis = a; epoch = 0 })) (λ t. rw t) (λ t. rw t)
+epoch_if f a (Some e) = by_cases (f (record { axis = a; epoch = e })) (λ t. rw t) (λ t. rw t)
+epoch_if f a None = by_cases (f (record { axis = a; epoch = 0 })) (λ t. rw t) (λ t. rw t)
 
 epoch_kept : (f : Entry → Bool) (xs : List Entry) → Sorted 0 xs → (a : ℕ) →
     epoch_at (filter f xs) a ≡ cond (f (record { axis = a; epoch = epoch_at xs a })) (epoch_at xs a) 0

@@ -11,8 +11,8 @@ use lib.Dec.{ltb, eqb}
 use lib.ListN.{length}
 use borrow.Author.Tests.{ltb-true, lt-ltb, eqb-true, ne_eqb}
 use Rattle.base_lists.proofs.Tests.{by_cases, either}
-use Rattle.frontier_slots.specs.declared.Lookup.{Lookup}
-use Rattle.frontier_slots.specs.declared.Lookup.TheVariants.{Listed, Absent}
+use Rattle.std.specs.Prelude.{Option}
+use Rattle.std.specs.Prelude.{Some, None}
 use Rattle.base_lists.specs.Lists.{filter}
 use Rattle.frontier_slots.specs.declared.Entry.{Entry}
 use Rattle.frontier_slots.specs.Entries.{find, exceeds, exceeding, cut}
@@ -49,7 +49,7 @@ sorted_keep f b (x ∷ xs) s =
     by_cases (f x) (λ t. rw t (s.0, s.1, sorted_keep f (suc x.axis) xs s.2))
     (λ t. rw t (lower (suc x.axis) b (filter f xs) (omega arith) (sorted_keep f (suc x.axis) xs s.2)))
 
-pub find_below : (b a : ℕ) (xs : List Entry) → Sorted b xs → a < b → find a xs ≡ Absent
+pub find_below : (b a : ℕ) (xs : List Entry) → Sorted b xs → a < b → find a xs ≡ None
 unfolding find
 find_below b a [] s h = refl
 find_below b a (x ∷ xs) s h =
@@ -68,10 +68,10 @@ find_keep f b a (x ∷ xs) s =
     (λ t. rw t (by_cases (f x) (λ k. rw (k, t) (find_keep f (suc x.axis) a xs s.2))
     (λ k. rw k (find_keep f (suc x.axis) a xs s.2))))
 
-epoch_if : (f : Entry → Bool) (a : ℕ) (l : Lookup) → epoch_of (listed_if f a l) ≤ epoch_of l
+epoch_if : (f : Entry → Bool) (a : ℕ) (l : Option ℕ) → epoch_of (listed_if f a l) ≤ epoch_of l
 unfolding epoch_of listed_if
-epoch_if f a (Listed e) = by_cases (f (record { axis = a; epoch = e })) (λ t. rw t (le_refl e)) (λ t. rw t zero-le)
-epoch_if f a Absent = zero-le
+epoch_if f a (Some e) = by_cases (f (record { axis = a; epoch = e })) (λ t. rw t (le_refl e)) (λ t. rw t zero-le)
+epoch_if f a None = zero-le
 
 pub epoch_keep : (f : Entry → Bool) (b a : ℕ) (xs : List Entry) → Sorted b xs → epoch_at (filter f xs) a ≤ epoch_at xs a
 unfolding epoch_at

@@ -10,10 +10,10 @@ use lib.ListN.{length}
 use borrow.Author.Tests.{leb-true, leb-false, le-leb, eqb-true, eqb-false, eq-eqb}
 use Rattle.base_lists.proofs.Tests.{by_cases, clash, and_left, and_right}
 use Rattle.frontier.specs.declared.Frontier.{Frontier}
-use Rattle.frontier_slots.specs.declared.Lookup.{Lookup}
-use Rattle.frontier_slots.specs.declared.Lookup.TheVariants.{Listed, Absent}
-use Rattle.frontier.specs.declared.Dominance.{Dominance}
-use Rattle.frontier.specs.declared.Dominance.TheVariants.{Yes, No, Unknown, Refused}
+use Rattle.std.specs.Prelude.{Option}
+use Rattle.std.specs.Prelude.{Some, None}
+use Rattle.frontier.specs.Frontiers.{Verdict}
+use Rattle.frontier.specs.Frontiers.{Yes, No, Unknown, Refused}
 use Rattle.frontier_slots.specs.declared.Entry.{Entry}
 use Rattle.frontier_slots.specs.Entries.{most_entries, find}
 use Rattle.frontier.specs.Frontiers.{entries, well_formed, met, reached, answer, dominance_number, dominance}
@@ -38,20 +38,20 @@ module _ (f g : Frontier) where
   unfolding dominance dominance_number
   judged_both e q = rw (e, q)
 
-  pub judged_answer : {r : Dominance} {all : Bool} → r ≡ answer all f.tainted g.tainted →
+  pub judged_answer : {r : Verdict} {all : Bool} → r ≡ answer all f.tainted g.tainted →
       all ≡ reached (entries f) (entries g) → well_formed f ≡ true → well_formed g ≡ true → r ≡ dominance f g
   judged_answer p q v w = p ∙ ap (λ b. answer b f.tainted g.tainted) q ∙ judged_both v w
 
 -- REACHED is at least in every axis; not reached is below in some
-met_at_least : (l : Lookup) (n : ℕ) → met l n ≡ true → n ≤ epoch_of l
+met_at_least : (l : Option ℕ) (n : ℕ) → met l n ≡ true → n ≤ epoch_of l
 unfolding met epoch_of
-met_at_least (Listed e) n t = leb-true n e t
-met_at_least Absent n t = clash false t refl
+met_at_least (Some e) n t = leb-true n e t
+met_at_least None n t = clash false t refl
 
-met_not : (l : Lookup) (n : ℕ) → 0 < n → met l n ≡ false → epoch_of l < n
+met_not : (l : Option ℕ) (n : ℕ) → 0 < n → met l n ≡ false → epoch_of l < n
 unfolding met epoch_of
-met_not (Listed e) n h t = leb-false n e t
-met_not Absent n h t = h
+met_not (Some e) n h t = leb-false n e t
+met_not None n h t = h
 
 pub reached_over : (xs ys : List Entry) → reached xs ys ≡ true → Over (epoch_at xs) (epoch_at ys)
 unfolding reached
@@ -132,13 +132,13 @@ unfolding one_at
 one_here k = rw (eq-eqb k k refl)
 
 -- the answers are told apart
-code : Dominance → ℕ
+code : Verdict → ℕ
 code Yes = 0
 code No = 1
 code Unknown = 2
 code (Refused n) = 3
 
-apart {ℓ} : {A : Type ℓ} (d e : Dominance) → d ≡ e → (code d ≡ code e → ⊥) → A
+apart {ℓ} : {A : Type ℓ} (d e : Verdict) → d ≡ e → (code d ≡ code e → ⊥) → A
 apart d e q n = absurd (n (ap code q))
 
 module _ (f g : Frontier) where
@@ -218,7 +218,7 @@ module _ (f g : Frontier) where
     );
   }
 
-  pub dominance_means : (r : Dominance) → r ≡ dominance f g → DominanceMeans f g r
+  pub dominance_means : (r : Verdict) → r ≡ dominance f g → DominanceMeans f g r
   unfolding dominance_number
   dominance_means r e =
       by_cases (well_formed f)
@@ -230,5 +230,5 @@ module _ (f g : Frontier) where
       (λ p. rw (e ∙ sym (judged_left f g p)) (refused_means 14 (rw p)))
 
   -- the equation, and what it means
-  pub dominates_all : (r : Dominance) → r ≡ dominance f g → (r ≡ dominance f g) × DominanceMeans f g r
+  pub dominates_all : (r : Verdict) → r ≡ dominance f g → (r ≡ dominance f g) × DominanceMeans f g r
   dominates_all r e = (e, dominance_means r e)

@@ -14,7 +14,10 @@ use Rattle.base_lists.specs.Lists.{tabulate_from}
 use Rattle.base_lists.proofs.Tests.{by_cases, and_both}
 use Rattle.frontier.specs.declared.Frontier.{Frontier}
 use Rattle.frontier.specs.declared.Merged.{Merged}
-use Rattle.frontier.specs.declared.lent.Filled.{Filled}
+use Rattle.frontier.specs.declared.Unfit.{Unfit}
+use Rattle.frontier.specs.declared.Unfit.TheVariants.{Form, Capacity}
+use Rattle.frontier.specs.Frontiers.{number_of_unfit}
+use Rattle.frontier.specs.Walks.{Laid}
 use Rattle.frontier_slots.specs.Entries.{most_entries, most_of_two}
 use Rattle.frontier_slots.specs.Slots.{slot, slots, all_zero}
 use Rattle.frontier.specs.Frontiers.{entries, well_formed, pack, refusal}
@@ -25,12 +28,12 @@ use Rattle.frontier.proofs.Pack.{formed, repack, zeros, pack_entries, entries_pa
 use Rattle.frontier.proofs.Merge.{entries_length}
 
 -- LEFT IN THE ROOM
-pub left_same : {m new : Merged} {r : Filled} {axes epochs : List ℕ} → m ≡ new → LeftInRoom m r axes epochs →
+pub left_same : {m new : Merged} {r : Laid} {axes epochs : List ℕ} → m ≡ new → LeftInRoom m r axes epochs →
     LeftInRoom new r axes epochs
 left_same {m} {new} {r} {axes} {epochs} e w = subst (λ (z : Merged). LeftInRoom z r axes epochs) e w
 
 -- a refusal leaves no entry
-pub left_refused : (m : Merged) (n : ℕ) (r : Filled) (axes epochs : List ℕ) → refusal n ≡ m → AllRoom axes epochs →
+pub left_refused : (m : Merged) (n : ℕ) (r : Laid) (axes epochs : List ℕ) → refusal n ≡ m → AllRoom axes epochs →
     r ≡ record { number = n; len = 0; tainted = false } → LeftInRoom m r axes epochs
 left_refused m n r axes epochs e w q = left_same e (rw q (record {
   room = w;
@@ -121,7 +124,6 @@ module _ (from row : List ℕ) where
 
 -- CLEARED
 all_zero_by : (row : List ℕ) → ((k : ℕ) → get_or row k 0 ≡ 0) → all_zero row ≡ true
-unfolding all_zero
 all_zero_by [] h = refl
 all_zero_by (x ∷ row) h =
     and_both (eqb x 0) (all_zero row) (eq-eqb x 0 (h 0)) (all_zero_by row (λ k. h (suc k)))
@@ -142,7 +144,7 @@ room_row n row front l h z e =
     past_long : length (drop most_entries row) ≡ most_entries
     past_long = length-drop most_entries row ∙ (rw l refl)
 
-module _ (m : Merged) (r : Filled) (axes epochs new_axes new_epochs : List ℕ) (f : well_formed m.frontier ≡ true)
+module _ (m : Merged) (r : Laid) (axes epochs new_axes new_epochs : List ℕ) (f : well_formed m.frontier ≡ true)
     (w : LeftInRoom m r axes epochs) (ca : Cleared r.len axes new_axes) (ce : Cleared r.len epochs new_epochs)
   where
     same_length : r.len ≡ m.frontier.len
@@ -178,7 +180,7 @@ module _ (m : Merged) (r : Filled) (axes epochs new_axes new_epochs : List ℕ) 
     )
 
 -- what is read of the room is the answer
-pub filled_right : (m : Merged) (r : Filled) (axes epochs : List ℕ) → well_formed m.frontier ≡ true →
+pub filled_right : (m : Merged) (r : Laid) (axes epochs : List ℕ) → well_formed m.frontier ≡ true →
     Fills m r axes epochs → filled r axes epochs ≡ m
 filled_right m r axes epochs f w =
     let g = formed m.frontier f in
@@ -191,16 +193,21 @@ filled_right m r axes epochs f w =
     ) refl
 
 -- and so is a struct that is made of its first slots
-pub held_right : (m : Merged) (r : Filled) (axes epochs firsts lasts : List ℕ) → well_formed m.frontier ≡ true →
+pub held_right : (m : Merged) (r : Laid) (axes epochs firsts lasts : List ℕ) → well_formed m.frontier ≡ true →
     Fills m r axes epochs → firsts ≡ take most_entries axes → lasts ≡ take most_entries epochs →
     record { number = r.number; frontier = of_slots firsts lasts r.len r.tainted } ≡ m
 held_right m r axes epochs firsts lasts f w p q = rw (p, q) (filled_right m r axes epochs f w)
 
 -- the room is as long as before
-pub fills_room : (m : Merged) (r : Filled) (axes epochs : List ℕ) → well_formed m.frontier ≡ true →
+pub fills_room : (m : Merged) (r : Laid) (axes epochs : List ℕ) → well_formed m.frontier ≡ true →
     Fills m r axes epochs → AllRoom axes epochs
 fills_room m r axes epochs f w =
     let g = formed m.frontier f in (
       rw (w.1, length-append) (omega (arith, g.sixteen_axes)),
       rw (w.2, length-append) (omega (arith, g.sixteen_epochs)),
     )
+
+-- a refusal has a number
+pub not_zero : (e : Unfit) → number_of_unfit e ≡ 0 → ⊥
+not_zero Form e = omega arith
+not_zero Capacity e = omega arith

@@ -10,7 +10,7 @@ use lib.ListN.{length, get_or, set, length-set}
 use borrow.Author.Tests.{eqb-true, eqb-false, ltb-true, ltb-false, leb-true, leb-false, le-leb, lt-ltb}
 use Rattle.base_lists.specs.Lists.{filter}
 use Rattle.base_lists.proofs.Tests.{by_cases, clash}
-use Rattle.frontier_slots.specs.declared.Lookup.TheVariants.{Listed, Absent}
+use Rattle.std.specs.Prelude.{Some, None}
 use Rattle.frontier_slots.specs.declared.Entry.{Entry}
 use Rattle.frontier_slots.specs.Entries.{most_entries, most_of_two, rising_from, find, union, cut}
 use Rattle.frontier_slots.specs.Slots.{slot, slots}
@@ -22,7 +22,7 @@ use Rattle.frontier.proofs.Sorted.{union_both}
 use Rattle.frontier_slots.proofs.Slots.{rest_all, rest_more, rest_none}
 use Rattle.frontier.proofs.Slots.{sorted_rest, slots_put, slots_length}
 use Rattle.frontier.proofs.Cut.{find_below}
-use Rattle.frontier.proofs.Lookups.{absent_listed, same_epoch}
+use Rattle.std.proofs.lemmas.Option.{none-some, same_Some}
 use Rattle.frontier.proofs.Pack.{entries_pack}
 use Rattle.frontier.proofs.Merge.{joined_whole}
 
@@ -47,11 +47,11 @@ module _ (xa xe : List ℕ) (xn i : ℕ) where
       by_cases (ltb i xn) (λ l. ltb-true i xn l) (λ l. clash t e (q ∙ sym (leads_none ys (ltb-false i xn l))))
 
   -- and so does one that lists an axis
-  pub listed_some : (a e : ℕ) → Listed e ≡ find a (rest xa xe xn i) → i < xn
+  pub listed_some : (a e : ℕ) → Some e ≡ find a (rest xa xe xn i) → i < xn
   unfolding find
   listed_some a e q =
       by_cases (ltb i xn) (λ t. ltb-true i xn t)
-      (λ t. absent_listed (sym (rw (rest_none xa xe xn i (ltb-false i xn t)) at q)))
+      (λ t. absurd (none-some _ (sym (rw (rest_none xa xe xn i (ltb-false i xn t)) at q))))
 
 -- where one side does not lead, the other does, if anything is left
 leads_other : (xs ys : List Entry) → 0 < length xs + length ys → leads xs ys ≡ false → leads ys xs ≡ true
@@ -63,11 +63,11 @@ leads_other (x ∷ xs) (y ∷ ys) h e = le-leb y.axis x.axis (omega (arith, leb-
 
 -- an axis that leads and is absent on the other side lies below all of that side
 absent_below : (b : ℕ) (x : Entry) (xs ys : List Entry) → Sorted b ys → leads (x ∷ xs) ys ≡ true →
-    Absent ≡ find x.axis ys → Sorted (suc x.axis) ys
+    None ≡ find x.axis ys → Sorted (suc x.axis) ys
 unfolding leads find
 absent_below b x xs [] s l e = tt
 absent_below b x xs (y ∷ ys) s l e = (
-  by_cases (eqb y.axis x.axis) (λ t. absent_listed (rw t at e))
+  by_cases (eqb y.axis x.axis) (λ t. absurd (none-some _ (rw t at e)))
       (λ t. omega (arith, leb-true x.axis y.axis l, eqb-false y.axis x.axis t)),
   s.1,
   s.2,
@@ -75,14 +75,14 @@ absent_below b x xs (y ∷ ys) s l e = (
 
 -- and one that is listed there is its first
 listed_first : (b e : ℕ) (x : Entry) (xs : List Entry) (y : Entry) (ys : List Entry) → Sorted b (y ∷ ys) →
-    leads (x ∷ xs) (y ∷ ys) ≡ true → Listed e ≡ find x.axis (y ∷ ys) → (y.axis ≡ x.axis) × (e ≡ y.epoch)
+    leads (x ∷ xs) (y ∷ ys) ≡ true → Some e ≡ find x.axis (y ∷ ys) → (y.axis ≡ x.axis) × (e ≡ y.epoch)
 unfolding leads find
 listed_first b e x xs y ys s l q =
     by_cases (eqb y.axis x.axis)
-    (λ t. (eqb-true y.axis x.axis t, same_epoch (rw t at q)))
-    (λ t. absent_listed (sym
+    (λ t. (eqb-true y.axis x.axis t, same_Some _ _ (rw t at q)))
+    (λ t. absurd (none-some _ (sym
     (find_below (suc y.axis) x.axis ys s.2 (omega (arith, leb-true x.axis y.axis l)))
-    ∙ sym (rw t at q)))
+    ∙ sym (rw t at q))))
 
 -- TWO FRONTIERS: x from slot i on and y from slot j on
 module _ (xa xe ya ye : List ℕ) (xn yn i j : ℕ) (rx : rising_from 0 (slots xa xe xn 0) ≡ true)
@@ -98,7 +98,7 @@ module _ (xa xe ya ye : List ℕ) (xn yn i j : ℕ) (rx : rising_from 0 (slots x
   right_at h = rw (rest_more ya ye yn j h) at (right_from (omega arith))
 
   pub next_absent : i < xn → j ≤ yn → leads (rest xa xe xn i) (rest ya ye yn j) ≡ true →
-      Absent ≡ find (get_or xa i 0) (rest ya ye yn j) →
+      None ≡ find (get_or xa i 0) (rest ya ye yn j) →
       union (rest xa xe xn i) (rest ya ye yn j) ≡ slot xa xe i ∷ union (rest xa xe xn (i + 1)) (rest ya ye yn j)
   unfolding slot
   next_absent h l m e =
@@ -108,7 +108,7 @@ module _ (xa xe ya ye : List ℕ) (xn yn i j : ℕ) (rx : rising_from 0 (slots x
       (rw (rest_more xa xe xn i h) at m) e))
 
   pub next_listed : (e m : ℕ) → m ≡ max (get_or xe i 0) e → i < xn → j < yn →
-      leads (rest xa xe xn i) (rest ya ye yn j) ≡ true → Listed e ≡ find (get_or xa i 0) (rest ya ye yn j) →
+      leads (rest xa xe xn i) (rest ya ye yn j) ≡ true → Some e ≡ find (get_or xa i 0) (rest ya ye yn j) →
       union (rest xa xe xn i) (rest ya ye yn j) ≡ record { axis = get_or xa i 0; epoch = m } ∷ union
       (rest xa xe xn (i + 1)) (rest ya ye yn (j + 1))
   unfolding slot

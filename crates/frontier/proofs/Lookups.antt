@@ -1,7 +1,7 @@
 -- The lookup of an axis: from a slot on it gives what is listed there, and of a whole frontier what `Looked` promises.
 -- Assumes nothing.
 use mathlib.Core.Path.{◌≡◌, refl, sym, ap, ◌∙◌}
-use mathlib.Core.Bool.{true, false, ◌&&◌}
+use mathlib.Core.Bool.{true, ◌&&◌, cond}
 use mathlib.Core.List.{List, [], ◌∷◌}
 use Prim.Native.Nat.{ℕ, zero, suc, ◌+◌, ◌≤◌, ◌<◌}
 use native.Mathlib.Nat.{le_refl}
@@ -9,34 +9,28 @@ use native.Mathlib.Numerals.{add-one}
 use native.Mathlib.Omega.{arith}
 use lib.Dec.{ltb, eqb}
 use lib.ListN.{length, get_or}
-use borrow.Author.Tests.{ltb-true, ltb-false, eqb-true, eqb-false, eq-eqb, ne_eqb}
+use borrow.Author.Tests.{ltb-true, ltb-false, eqb-true, eqb-false, eq-eqb, ne_eqb, lt-ltb}
 use Rattle.base_lists.specs.Lists.{tabulate_from}
-use Rattle.base_lists.proofs.Tests.{by_cases, and_left}
+use Rattle.base_lists.proofs.Tests.{by_cases}
 use Rattle.axis_search.specs.Halving.{Rise, Halving, searched}
 use Rattle.axis_search.proofs.Halves.{searched_means, five_read}
 use Rattle.frontier.specs.declared.Frontier.{Frontier}
-use Rattle.frontier_slots.specs.declared.Lookup.{Lookup}
-use Rattle.frontier_slots.specs.declared.Lookup.TheVariants.{Listed, Absent}
-use Rattle.frontier_slots.specs.declared.Found.{Found}
+use Rattle.std.specs.Prelude.{Option}
+use Rattle.std.specs.Prelude.{Some, None}
+use Rattle.std.proofs.lemmas.Option.{none-some, same_Some}
 use Rattle.frontier_slots.specs.declared.Entry.{Entry}
 use Rattle.frontier_slots.specs.Entries.{most_entries, find, values_of, epochs_under}
 use Rattle.frontier_slots.specs.Slots.{slot, slots, lookup_at}
 use Rattle.frontier.specs.Frontiers.{entries, well_formed, looked_up}
 use Rattle.frontier.specs.Meaning.{Looked}
-use Rattle.frontier_slots.specs.Slots.{rest, floor, found_by_halving, AllSlots}
-use Rattle.frontier.specs.Walks.{skip_below, FoundFrom}
+use Rattle.frontier_slots.specs.Slots.{rest, floor, AllSlots}
+use Rattle.frontier.specs.Walks.{skip_below, SlotFrom}
 use Rattle.frontier.proofs.Sorted.{Sorted, sorted, same_entry}
 use Rattle.frontier.proofs.Cut.{find_below}
 use Rattle.frontier_slots.proofs.Slots.{rest_all, rest_more, rest_none}
 use Rattle.frontier.proofs.Slots.{sorted_rest}
 use Rattle.frontier.proofs.Steps.{skip_more, skip_stop, skip_none}
 use Rattle.frontier.proofs.Pack.{formed, sorted_entries, all_slots}
-
-pub absent_listed : {A : Type 0} {e : ℕ} → Absent ≡ Listed e → A
-absent_listed q = let z : ◌≡◌ {A = ℕ} 0 1 = cc in absurd (omega arith)
-
-pub same_epoch : {e k : ℕ} → Listed e ≡ Listed k → e ≡ k
-same_epoch q = cc
 
 -- AMONG RISING ENTRIES
 -- what is passed over is not of the axis
@@ -86,38 +80,49 @@ module _ (xs es : List ℕ) (n from axis at : ℕ) (c : Came xs es n from axis a
   sought : find axis (rest xs es n at) ≡ find axis (rest xs es n from)
   sought = ap (find axis) c.past ∙ find_skip axis (rest xs es n from)
 
-  pub lookup_none : n ≤ at → FoundFrom xs es n from axis (record { answer = Absent; at = at })
-  lookup_none h = record {
+  none_left : n ≤ at → SlotFrom xs es n from axis None
+  none_left h = record {
     found = λ r. none h ∙ sought;
-    in_slot = λ e q. absent_listed q;
+    of_axis = λ i q. absurd (none-some i q);
   }
     where
-      none : n ≤ at → Absent ≡ find axis (rest xs es n at)
+      none : n ≤ at → None ≡ find axis (rest xs es n at)
       none h = unfold find in (rw (rest_none xs es n at h))
 
-  pub lookup_here : at < n → get_or xs at 0 ≡ axis →
-      FoundFrom xs es n from axis (record { answer = Listed (get_or es at 0); at = at })
-  lookup_here h e = record {
+  of_this : at < n → get_or xs at 0 ≡ axis → SlotFrom xs es n from axis (Some at)
+  of_this h e = record {
     found = λ r. here h e ∙ sought;
-    in_slot = λ k q. (h, unfold slot in (same_entry e (same_epoch q)));
+    of_axis = λ i q. let s = same_Some at i q in rw (← s) (h, e);
   }
     where
-      here : at < n → get_or xs at 0 ≡ axis → Listed (get_or es at 0) ≡ find axis (rest xs es n at)
+      here : at < n → get_or xs at 0 ≡ axis → Some (get_or es at 0) ≡ find axis (rest xs es n at)
       here h e = unfold find slot in (rw (rest_more xs es n at h, eq-eqb (get_or xs at 0) axis e))
 
-  pub lookup_other : at < n → (get_or xs at 0 ≡ axis → ⊥) →
-      FoundFrom xs es n from axis (record { answer = Absent; at = at })
-  lookup_other l e = record {
+  of_other : at < n → (get_or xs at 0 ≡ axis → ⊥) → SlotFrom xs es n from axis None
+  of_other l e = record {
     found = λ r. sym (past (sorted_rest xs es n at (omega arith) (sorted 0 (slots xs es n 0) r))) ∙ sought;
-    in_slot = λ k q. absent_listed q;
+    of_axis = λ i q. absurd (none-some i q);
   }
     where
-      past : Sorted (floor xs at) (rest xs es n at) → find axis (rest xs es n at) ≡ Absent
+      past : Sorted (floor xs at) (rest xs es n at) → find axis (rest xs es n at) ≡ None
       past s =
           let t = rw (rest_more xs es n at l) at s in
           unfold slot in (rw (rest_more xs es n at l)
           (find_below (get_or xs at 0) axis (slot xs es at ∷ rest xs es n (at + 1)) (le_refl (get_or xs at 0), t.1, t.2)
           (omega (arith, c.stops l))))
+
+  -- the slot that the search came to, if it is of the axis
+  came_to : SlotFrom xs es n from axis (cond (ltb at n && eqb (get_or xs at 0) axis) (Some at) None)
+  came_to =
+      by_cases (ltb at n)
+      (λ t. by_cases (eqb (get_or xs at 0) axis)
+      (λ u. rw (t, u) (of_this (ltb-true at n t) (eqb-true (get_or xs at 0) axis u)))
+      (λ u. rw (t, u) (of_other (ltb-true at n t) (eqb-false (get_or xs at 0) axis u))))
+      (λ t. rw t (none_left (ltb-false at n t)))
+
+  pub slot_is : (r : Option ℕ) → r ≡ cond (ltb at n && eqb (get_or xs at 0) axis) (Some at) None →
+      SlotFrom xs es n from axis r
+  slot_is r e = rw e came_to
 
 -- OF A WHOLE FRONTIER
 under_none : (b a : ℕ) (xs : List Entry) → Sorted b xs → a < b → epochs_under a xs ≡ []
@@ -136,15 +141,15 @@ found_exactly b a (x ∷ xs) s =
 
 -- BY HALVING
 -- an answer that is not listed is absent
-absent_by : (r : Lookup) → ((e : ℕ) → r ≡ Listed e → ⊥) → Absent ≡ r
-absent_by (Listed e) h = absurd (h e refl)
-absent_by Absent h = refl
+absent_by : (r : Option ℕ) → ((e : ℕ) → r ≡ Some e → ⊥) → None ≡ r
+absent_by (Some e) h = absurd (h e refl)
+absent_by None h = refl
 
 -- what is found is in a slot
-find_slot : (xs es : List ℕ) (a e n i : ℕ) → find a (tabulate_from n i (slot xs es)) ≡ Listed e →
+find_slot : (xs es : List ℕ) (a e n i : ℕ) → find a (tabulate_from n i (slot xs es)) ≡ Some e →
     (k : ℕ) × (k < i + n) × (get_or xs k 0 ≡ a)
 unfolding find tabulate_from slot
-find_slot xs es a e zero i q = absent_listed q
+find_slot xs es a e zero i q = absurd (none-some _ q)
 find_slot xs es a e (suc n) i q =
     by_cases (eqb (get_or xs i 0) a) (λ t. (i, omega arith, eqb-true (get_or xs i 0) a t))
     (λ t. let w = find_slot xs es a e n (suc i) (rw t at q) in (w.0, omega (arith, w.1), w.2))
@@ -164,64 +169,55 @@ module _ (xs es : List ℕ) (n : ℕ) (s : Sorted 0 (slots xs es n 0)) where
       next = unfold floor in (slot_above (suc k) l)
 
   -- a slot of the axis has what is found
-  find_at : (a i : ℕ) → i < n → get_or xs i 0 ≡ a → find a (slots xs es n 0) ≡ Listed (get_or es i 0)
+  find_at : (a i : ℕ) → i < n → get_or xs i 0 ≡ a → find a (slots xs es n 0) ≡ Some (get_or es i 0)
   find_at a i h e = sym (find_ahead xs es n s a i (omega arith) (omega (arith, slot_above i h))) ∙ here
     where
-      here : find a (rest xs es n i) ≡ Listed (get_or es i 0)
+      here : find a (rest xs es n i) ≡ Some (get_or es i 0)
       here = unfold find slot in (rw (rest_more xs es n i h, eq-eqb (get_or xs i 0) a e))
 
 module _ (axes epochs : List ℕ) (len axis : ℕ) where
   means : Halving axes axis len (searched axes axis len)
   means = searched_means axes axis len refl
 
-  abbrev at : ℕ
-  at = (searched axes axis len).at
-
   -- anything that it gives is in the slot that the search gave
-  looked_slot : (e : ℕ) → lookup_at epochs at ≡ Listed e →
-      (at < len) × (len ≤ most_entries) × (slot axes epochs at ≡ record { axis = axis; epoch = e })
+  looked_slot : (e : ℕ) → lookup_at epochs (searched axes axis len).at ≡ Some e →
+      (i : ℕ) × (i < len) × (len ≤ most_entries) × (slot axes epochs i ≡ record { axis = axis; epoch = e })
   unfolding lookup_at slot
-  looked_slot e =
-      by_cases (ltb at most_entries && ltb at (length epochs))
-      (λ t. rw t (λ q. let w = means.of_axis (ltb-true at most_entries (and_left (ltb at most_entries) _ t)) in
-      (w.0, w.1, same_entry w.3 (same_epoch q))))
-      (λ f. rw f (λ q. absent_listed q))
+  looked_slot e = by (searched axes axis len).at means.of_axis
+    where
+      by : (at : Option ℕ) → ((i : ℕ) → at ≡ Some i → (i < len) × (len ≤ most_entries) × (len ≤ length axes)
+          × (get_or axes i 0 ≡ axis)) → lookup_at epochs at ≡ Some e →
+          (i : ℕ) × (i < len) × (len ≤ most_entries) × (slot axes epochs i ≡ record { axis = axis; epoch = e })
+      by None h q = absurd (none-some e q)
+      by (Some i) h q =
+          by_cases (ltb i (length epochs))
+          (λ t. let w = h i refl in (i, w.0, w.1, same_entry w.3 (same_Some (get_or epochs i 0) e (rw t at q))))
+          (λ f. absurd (none-some e (rw f at q)))
 
   looked_found : len ≤ most_entries → AllSlots axes epochs → Sorted 0 (slots axes epochs len 0) →
-      lookup_at epochs at ≡ find axis (slots axes epochs len 0)
-  looked_found l a s =
-      by_cases (ltb at most_entries) some none
+      lookup_at epochs (searched axes axis len).at ≡ find axis (slots axes epochs len 0)
+  unfolding lookup_at
+  looked_found l a s = by (searched axes axis len).at means.of_axis (means.finds (axes_rise axes epochs len s) l long)
     where
-      some : ltb at most_entries ≡ true → lookup_at epochs at ≡ find axis (slots axes epochs len 0)
-      some t =
-          let w = means.of_axis (ltb-true at most_entries t) in
-          unfold lookup_at in (rw (a.1, t) (sym (find_at axes epochs len s axis at w.0 w.3)))
+      long : len ≤ length axes
+      long = omega (arith, a.0)
 
-      slot_of : (e : ℕ) → find axis (slots axes epochs len 0) ≡ Listed e →
+      slot_of : (e : ℕ) → find axis (slots axes epochs len 0) ≡ Some e →
           (k : ℕ) × (k < 0 + len) × (get_or axes k 0 ≡ axis)
       slot_of e q = unfold slots in (find_slot axes epochs axis e len 0 q)
 
-      none : ltb at most_entries ≡ false → lookup_at epochs at ≡ find axis (slots axes epochs len 0)
-      none t = unfold lookup_at in (rw t (absent_by (find axis (slots axes epochs len 0))
-          (λ e q. let k = slot_of e q in
-          omega (
-            arith,
-            ltb-false at most_entries t,
-            means.finds (axes_rise axes epochs len s) l (omega (arith, a.0)) k.0 (omega (arith, k.1)) k.2,
-            k.1,
-          ))))
-
-  -- as the lookup from the first slot on
-  pub halved_from : len ≤ most_entries → AllSlots axes epochs → {r : Found} →
-      r ≡ found_by_halving axes epochs len axis → FoundFrom axes epochs len 0 axis r
-  halved_from l a e = unfold found_by_halving in (rw e (record {
-    found = λ s. looked_found l a (sorted 0 (slots axes epochs len 0) s)
-        ∙ ap (find axis) (sym (rest_all axes epochs len));
-    in_slot = λ k q. let w = looked_slot k q in (w.0, w.2);
-  }))
+      by : (at : Option ℕ) → ((i : ℕ) → at ≡ Some i → (i < len) × (len ≤ most_entries) × (len ≤ length axes)
+          × (get_or axes i 0 ≡ axis)) → ((i : ℕ) → i < len → get_or axes i 0 ≡ axis → at ≡ Some i) →
+          lookup_at epochs at ≡ find axis (slots axes epochs len 0)
+      by (Some i) h k =
+          let w = h i refl in
+          let inside : i < length epochs = omega (arith, w.0, a.1) in
+          rw (lt-ltb i (length epochs) inside) (sym (find_at axes epochs len s axis i w.0 w.3))
+      by None h k = absent_by (find axis (slots axes epochs len 0))
+          (λ e q. let j = slot_of e q in none-some j.0 (k j.0 (omega (arith, j.1)) j.2))
 
 -- R60: of a frontier
-pub looked : (f : Frontier) (axis : ℕ) (r : Lookup) → r ≡ looked_up f axis → Looked f axis r
+pub looked : (f : Frontier) (axis : ℕ) (r : Option ℕ) → r ≡ looked_up f axis → Looked f axis r
 unfolding looked_up
 looked f axis r e = rw e (record {
   by_halving = refl;
@@ -230,8 +226,7 @@ looked f axis r e = rw e (record {
   exactly = λ v. ap values_of (right v) ∙ found_exactly 0 axis (entries f) (sorted_entries f v);
   halves = λ v. (means f.axes f.epochs f.len axis).halves (axes_rise f.axes f.epochs f.len
       (unfold entries in (sorted_entries f v)));
-  in_a_slot = λ k q. let w = looked_slot f.axes f.epochs f.len axis k q in
-      ((searched f.axes axis f.len).at, w.0, w.1, w.2);
+  in_a_slot = looked_slot f.axes f.epochs f.len axis;
 })
   where
     right : well_formed f ≡ true →

@@ -39,14 +39,12 @@ tabulate_row (suc n) (x ∷ row) h =
     (λ l. x ∷ l) (tabulate_shift n 0 (λ k. get_or (x ∷ row) k 0) ∙ tabulate_row n row (le_of_suc-le-suc h))
 
 pub zeros : (row : List ℕ) → all_zero row ≡ true → row ≡ replicate (length row) 0
-unfolding all_zero
 zeros [] e = refl
 zeros (x ∷ row) e =
     ap₂ {C = List ℕ} (λ y l. y ∷ l) (eqb-true x 0 (and_left (eqb x 0) (all_zero row) e))
     (zeros row (and_right (eqb x 0) (all_zero row) e))
 
 pub all_zero_replicate : (n : ℕ) → all_zero (replicate n 0) ≡ true
-unfolding all_zero
 all_zero_replicate zero = refl
 all_zero_replicate (suc n) = all_zero_replicate n
 

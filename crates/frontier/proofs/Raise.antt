@@ -14,15 +14,13 @@ use Rattle.base_lists.specs.Lists.{tabulate_from}
 use Rattle.base_lists.proofs.Tests.{by_cases}
 use Rattle.frontier.specs.declared.Frontier.{Frontier}
 use Rattle.frontier.specs.declared.Merged.{Merged}
-use Rattle.frontier_slots.specs.declared.Lookup.TheVariants.{Listed}
-use Rattle.frontier_slots.specs.declared.Found.{Found}
 use Rattle.frontier_slots.specs.declared.Entry.{Entry}
 use Rattle.frontier_slots.specs.Entries.{most_entries, rising_from, put, union}
 use Rattle.frontier_slots.specs.Slots.{slot, slots}
 use Rattle.frontier.specs.Frontiers.{entries, well_formed, pack, refusal, handed, joined}
 use Rattle.frontier.specs.Frontiers.{one_entry, raise}
 use Rattle.frontier_slots.specs.Slots.{rest, AllSlots}
-use Rattle.frontier.specs.Walks.{FoundFrom, left_number}
+use Rattle.frontier.specs.Walks.{left_number}
 use Rattle.frontier.proofs.Sorted.{Sorted, rising, same_entry, put_same, put_past, union_commutes, union_none}
 use Rattle.frontier_slots.proofs.Slots.{rest_all, rest_more}
 use Rattle.frontier.proofs.Slots.{tabulate_same, slots_length}
@@ -141,38 +139,36 @@ module _ (f : Frontier) (x e c : ℕ) (n : ℕ) (p : n ≡ left_number f c) wher
         untainted = unfold pack in (or-false f.tainted)
 
     -- the axis is listed, and the capacity holds every entry
-    pub raise_stored : (r : Found) (old m : ℕ) → FoundFrom f.axes f.epochs f.len 0 x r →
-        r.answer ≡ Listed old → m ≡ max old e → f.len ≤ c →
+    pub raise_stored : (i m : ℕ) → i < f.len → get_or f.axes i 0 ≡ x → m ≡ max (get_or f.epochs i 0) e →
+        f.len ≤ c →
         handed (record {
           axes = f.axes;
-          epochs = set f.epochs r.at m;
+          epochs = set f.epochs i m;
           len = f.len;
           tainted = f.tainted;
         }) ≡ raise f x e c
-    raise_stored r old m w q g h =
+    raise_stored i m below of_axis g h =
         raise_joined _ (ap handed (packed
         ∙ sym (joined_whole (entries f) (one_entry x e) f.tainted c
-        (omega (arith, ap length same, slots_length f.axes (set f.epochs r.at m) f.len 0)))))
+        (omega (arith, ap length same, slots_length f.axes (set f.epochs i m) f.len 0)))))
       where
         v : Formed f
         v = formed f left.left
 
-        at : (r.at < f.len) × (slot f.axes f.epochs r.at ≡ record { axis = x; epoch = old })
-        at = w.in_slot old q
-
-        same : slots f.axes (set f.epochs r.at m) f.len 0 ≡ union (entries f) (one_entry x e)
+        same : slots f.axes (set f.epochs i m) f.len 0 ≡ union (entries f) (one_entry x e)
         same = unfold entries in
-            (stored_entries f.axes f.epochs f.len r.at x e old m at.0
-            (omega (arith, at.0, v.short, v.sixteen_epochs)) at.1 (omega arith) (sorted_entries f left.left))
+            (stored_entries f.axes f.epochs f.len i x e (get_or f.epochs i 0) m below
+            (omega (arith, below, v.short, v.sixteen_epochs)) (unfold slot in (same_entry of_axis refl)) (omega (arith, g))
+            (sorted_entries f left.left))
 
         packed : record {
           axes = f.axes;
-          epochs = set f.epochs r.at m;
+          epochs = set f.epochs i m;
           len = f.len;
           tainted = f.tainted;
         } ≡ pack (union (entries f) (one_entry x e)) f.tainted
         packed =
-            repack f.axes (set f.epochs r.at m) f.len f.tainted v.short v.sixteen_axes
-            (length-set f.epochs r.at m ∙ v.sixteen_epochs) v.zero_axes
-            (rw (drop-set-lt f.len f.epochs r.at m at.0) v.zero_epochs)
+            repack f.axes (set f.epochs i m) f.len f.tainted v.short v.sixteen_axes
+            (length-set f.epochs i m ∙ v.sixteen_epochs) v.zero_axes
+            (rw (drop-set-lt f.len f.epochs i m below) v.zero_epochs)
             ∙ ap (λ l. pack l f.tainted) same

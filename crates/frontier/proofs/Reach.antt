@@ -9,14 +9,14 @@ use native.Mathlib.Numerals.{add-one}
 use native.Mathlib.Omega.{arith}
 use lib.ListN.{get_or}
 use borrow.Author.Tests.{le-leb, lt-leb}
-use Rattle.frontier_slots.specs.declared.Lookup.TheVariants.{Listed, Absent}
-use Rattle.frontier_slots.specs.declared.Found.{Found}
+use Rattle.std.specs.Prelude.{Some, None}
+use Rattle.std.specs.Prelude.{Option, option_map}
 use Rattle.frontier_slots.specs.declared.Entry.{Entry}
 use Rattle.frontier_slots.specs.Entries.{rising_from, find}
 use Rattle.frontier_slots.specs.Slots.{slot, slots}
 use Rattle.frontier.specs.Frontiers.{met, reached}
 use Rattle.frontier_slots.specs.Slots.{rest, floor}
-use Rattle.frontier.specs.Walks.{FoundFrom}
+use Rattle.frontier.specs.Walks.{SlotFrom}
 use Rattle.frontier.proofs.Sorted.{Sorted, sorted}
 use Rattle.frontier_slots.proofs.Slots.{rest_all, rest_more, rest_none}
 use Rattle.frontier.proofs.Slots.{sorted_rest}
@@ -24,15 +24,15 @@ use Rattle.frontier.proofs.Lookups.{find_ahead}
 
 -- ONE ENTRY OF THE RIGHT
 module _ (X : List Entry) (ya ye : List ℕ) (yn j : ℕ) (l : j < yn) where
-  reached_absent : find (get_or ya j 0) X ≡ Absent → reached X (rest ya ye yn j) ≡ false
+  reached_absent : find (get_or ya j 0) X ≡ None → reached X (rest ya ye yn j) ≡ false
   unfolding reached met slot
   reached_absent e = rw (rest_more ya ye yn j l, e)
 
-  reached_short : (k : ℕ) → find (get_or ya j 0) X ≡ Listed k → k < get_or ye j 0 → reached X (rest ya ye yn j) ≡ false
+  reached_short : (k : ℕ) → find (get_or ya j 0) X ≡ Some k → k < get_or ye j 0 → reached X (rest ya ye yn j) ≡ false
   unfolding reached met slot
   reached_short k e h = rw (rest_more ya ye yn j l, e, lt-leb (get_or ye j 0) k h)
 
-  reached_more : (k : ℕ) → find (get_or ya j 0) X ≡ Listed k → get_or ye j 0 ≤ k →
+  reached_more : (k : ℕ) → find (get_or ya j 0) X ≡ Some k → get_or ye j 0 ≤ k →
       reached X (rest ya ye yn j) ≡ reached X (rest ya ye yn (j + 1))
   unfolding reached met slot
   reached_more k e h = rw (rest_more ya ye yn j l, e, le-leb (get_or ye j 0) k h)
@@ -57,34 +57,38 @@ reach_none xa xe ya ye xn yn = record {
 -- the lookup of y's next axis from slot i of x on
 module _ (xa xe ya ye : List ℕ) (xn yn i j : ℕ) (rx : rising_from 0 (slots xa xe xn 0) ≡ true)
     (ry : rising_from 0 (slots ya ye yn 0) ≡ true)
-    (w : Reach xa xe ya ye xn yn i j) (l : j < yn) (r : Found) (f : FoundFrom xa xe xn i (get_or ya j 0) r) where
+    (w : Reach xa xe ya ye xn yn i j) (l : j < yn) (r : Option ℕ) (f : SlotFrom xa xe xn i (get_or ya j 0) r) where
   right_at : Sorted (floor ya j) (slot ya ye j ∷ rest ya ye yn (j + 1))
   right_at = rw (rest_more ya ye yn j l) at (sorted_rest ya ye yn j w.right_in (sorted 0 (slots ya ye yn 0) ry))
 
-  looked : find (get_or ya j 0) (slots xa xe xn 0) ≡ r.answer
+  looked : find (get_or ya j 0) (slots xa xe xn 0) ≡ option_map (λ i. get_or xe i 0) r
   unfolding slot
   looked =
       sym (find_ahead xa xe xn (sorted 0 (slots xa xe xn 0) rx) (get_or ya j 0) i w.left_in
       (omega (arith, w.level, right_at.0)))
       ∙ sym (f.found rx)
 
-  pub reach_absent : r.answer ≡ Absent → false ≡ reached (slots xa xe xn 0) (slots ya ye yn 0)
-  reach_absent e = sym (reached_absent (slots xa xe xn 0) ya ye yn j l (looked ∙ e)) ∙ w.same
+  pub reach_absent : r ≡ None → false ≡ reached (slots xa xe xn 0) (slots ya ye yn 0)
+  reach_absent e =
+      sym (reached_absent (slots xa xe xn 0) ya ye yn j l (looked ∙ ap (option_map (λ i. get_or xe i 0)) e)) ∙ w.same
 
-  pub reach_short : (e : ℕ) → r.answer ≡ Listed e → e < get_or ye j 0 →
-      false ≡ reached (slots xa xe xn 0) (slots ya ye yn 0)
-  reach_short e q h = sym (reached_short (slots xa xe xn 0) ya ye yn j l e (looked ∙ q) h) ∙ w.same
+  module _ (k : ℕ) (q : r ≡ Some k) where
+    listed : find (get_or ya j 0) (slots xa xe xn 0) ≡ Some (get_or xe k 0)
+    listed = looked ∙ ap (option_map (λ i. get_or xe i 0)) q
 
-  pub reach_more : (e : ℕ) → r.answer ≡ Listed e → get_or ye j 0 ≤ e → Reach xa xe ya ye xn yn (r.at + 1) (j + 1)
-  reach_more e q h = record {
-    left_in = omega (arith, (f.in_slot e q).0);
-    right_in = omega arith;
-    same = sym (reached_more (slots xa xe xn 0) ya ye yn j l e (looked ∙ q) h) ∙ w.same;
-    level = rw (add-one r.at, add-one j) (past (f.in_slot e q).1);
-  }
-    where
-      past : slot xa xe r.at ≡ record { axis = get_or ya j 0; epoch = e } → floor xa (suc r.at) ≤ floor ya (suc j)
-      past s = unfold floor slot in (omega (arith, ap (λ (x : Entry). x.axis) s))
+    pub reach_short : get_or xe k 0 < get_or ye j 0 → false ≡ reached (slots xa xe xn 0) (slots ya ye yn 0)
+    reach_short h = sym (reached_short (slots xa xe xn 0) ya ye yn j l (get_or xe k 0) listed h) ∙ w.same
+
+    pub reach_more : get_or ye j 0 ≤ get_or xe k 0 → Reach xa xe ya ye xn yn (k + 1) (j + 1)
+    reach_more h = record {
+      left_in = omega (arith, (f.of_axis k q).0);
+      right_in = omega arith;
+      same = sym (reached_more (slots xa xe xn 0) ya ye yn j l (get_or xe k 0) listed h) ∙ w.same;
+      level = rw (add-one k, add-one j) past;
+    }
+      where
+        past : floor xa (suc k) ≤ floor ya (suc j)
+        past = unfold floor in (omega (arith, (f.of_axis k q).1))
 
 pub reach_end : (xa xe ya ye : List ℕ) (xn yn i j : ℕ) → Reach xa xe ya ye xn yn i j → yn ≤ j →
     true ≡ reached (slots xa xe xn 0) (slots ya ye yn 0)

@@ -81,7 +81,6 @@ rest_past xs es len n i a e h =
 
 -- THE FIRST SLOTS
 zero_take : (m : ℕ) (row : List ℕ) → all_zero row ≡ true → all_zero (take m row) ≡ true
-unfolding all_zero
 zero_take zero row z = refl
 zero_take (suc m) [] z = refl
 zero_take (suc m) (x ∷ row) z =
@@ -89,7 +88,6 @@ zero_take (suc m) (x ∷ row) z =
     (zero_take m row (and_right (eqb x 0) (all_zero row) z))
 
 pub zero_first : (m n : ℕ) (row : List ℕ) → all_zero (drop n row) ≡ true → all_zero (drop n (take m row)) ≡ true
-unfolding all_zero
 zero_first m zero row z = zero_take m row z
 zero_first zero (suc n) row z = refl
 zero_first (suc m) (suc n) [] z = refl

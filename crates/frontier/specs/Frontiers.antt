@@ -5,10 +5,11 @@ use Rattle.std.specs.Prelude.{length, replicate}
 use Rattle.axis_search.specs.Halving.{searched}
 use Rattle.frontier.specs.declared.Frontier.{Frontier}
 use Rattle.frontier.specs.declared.Merged.{Merged}
-use Rattle.frontier_slots.specs.declared.Lookup.{Lookup}
-use Rattle.frontier_slots.specs.declared.Lookup.TheVariants.{Listed, Absent}
+use Rattle.std.specs.Prelude.{Option, Some, None, Result, Ok, Err}
 use Rattle.frontier.specs.declared.Dominance.{Dominance}
-use Rattle.frontier.specs.declared.Dominance.TheVariants.{Yes, No, Unknown, Refused}
+use Rattle.frontier.specs.declared.Dominance.TheVariants as told
+use Rattle.frontier.specs.declared.Unfit.{Unfit}
+use Rattle.frontier.specs.declared.Unfit.TheVariants.{Form, Capacity}
 use Rattle.frontier_slots.specs.declared.Entry.{Entry}
 use Rattle.frontier_slots.specs.Entries.{most_entries, find, union, cut}
 use Rattle.frontier_slots.specs.Slots.{slots, slots_formed, lookup_at}
@@ -17,7 +18,7 @@ unfoldable pub entries : Frontier → List Entry
 entries f = slots f.axes f.epochs f.len 0
 
 -- R60, lookup: what is in the slot that the search by halving finds
-unfoldable pub looked_up : (f : Frontier) → (axis : ℕ) → Lookup
+unfoldable pub looked_up : (f : Frontier) → (axis : ℕ) → Option ℕ
 looked_up f axis = lookup_at f.epochs (searched f.axes axis f.len).at
 
 -- R59, form: what a frontier is that is not refused by 14 (R50)
@@ -73,17 +74,40 @@ unfoldable pub raise : Frontier → (axis epoch capacity : ℕ) → Merged
 raise f a e capacity = merge f (pack (one_entry a e) false) capacity
 
 -- R68: an entry is reached if its axis is listed with at least its epoch; R60: not if it is absent
-unfoldable pub met : Lookup → (epoch : ℕ) → Bool
-met (Listed e) n = leb n e
-met Absent n = false
+unfoldable pub met : Option ℕ → (epoch : ℕ) → Bool
+met (Some e) n = leb n e
+met None n = false
 
 -- R68: every entry is reached
 unfoldable pub reached : (xs ys : List Entry) → Bool
 reached xs [] = true
 reached xs (y ∷ ys) = met (find y.axis xs) y.epoch && reached xs ys
 
+-- R50, R51: the number of each reason, and of a result
+abbrev pub number_of_unfit : Unfit → ℕ
+number_of_unfit Form = 14
+number_of_unfit Capacity = 15
+
+abbrev pub number_by : {A : Type 0} → Result A Unfit → ℕ
+number_by (Ok x) = 0
+number_by (Err e) = number_of_unfit e
+
+-- R68: what is said of dominance, a refusal's number among it
+pub data Verdict : Type 0 where
+  Yes : Verdict
+  No : Verdict
+  Unknown : Verdict
+  Refused : (number : ℕ) → Verdict
+
+-- by the result of a call
+abbrev pub verdict : Result Dominance Unfit → Verdict
+verdict (Ok told.Yes) = Yes
+verdict (Ok told.No) = No
+verdict (Ok told.Unknown) = Unknown
+verdict (Err e) = Refused (number_of_unfit e)
+
 -- R68, dominance: where all is reached the taint of g decides, else the taint of f
-unfoldable pub answer : (all_reached f_tainted g_tainted : Bool) → Dominance
+unfoldable pub answer : (all_reached f_tainted g_tainted : Bool) → Verdict
 answer true f_tainted false = Yes
 answer true f_tainted true = Unknown
 answer false false g_tainted = No
@@ -93,7 +117,7 @@ answer false true g_tainted = Unknown
 unfoldable pub dominance_number : (f g : Frontier) → ℕ
 dominance_number f g = cond (well_formed f) (cond (well_formed g) 0 14) 14
 
-unfoldable pub dominance : (f g : Frontier) → Dominance
+unfoldable pub dominance : (f g : Frontier) → Verdict
 dominance f g =
     cond (eqb (dominance_number f g) 0) (answer (reached (entries f) (entries g)) f.tainted g.tainted)
     (Refused (dominance_number f g))
@@ -103,7 +127,7 @@ pub record Numbers : Type 0 where
   pub number : ℕ
   pub value : ℕ
 
-unfoldable pub number_of : Dominance → Numbers
+unfoldable pub number_of : Verdict → Numbers
 number_of No = record { number = 0; value = 0 }
 number_of Yes = record { number = 0; value = 1 }
 number_of Unknown = record { number = 0; value = 2 }

@@ -5,10 +5,8 @@ use Rattle.std.specs.Prelude.{length}
 use Rattle.axis_search.specs.Halving.{most_reads, Range, searched, Halves}
 use Rattle.frontier.specs.declared.Frontier.{Frontier}
 use Rattle.frontier.specs.declared.Merged.{Merged}
-use Rattle.frontier_slots.specs.declared.Lookup.{Lookup}
-use Rattle.frontier_slots.specs.declared.Lookup.TheVariants.{Listed, Absent}
-use Rattle.frontier.specs.declared.Dominance.{Dominance}
-use Rattle.frontier.specs.declared.Dominance.TheVariants.{Yes, No, Unknown}
+use Rattle.std.specs.Prelude.{Option, Some, None}
+use Rattle.frontier.specs.Frontiers.{Verdict, Yes, No, Unknown}
 use Rattle.frontier_slots.specs.declared.Entry.{Entry}
 use Rattle.frontier_slots.specs.Entries.{most_entries, find, values_of, epochs_under, union, exceeding}
 use Rattle.frontier_slots.specs.Slots.{slot}
@@ -18,9 +16,9 @@ use Rattle.frontier.specs.Frontiers.{number_of, looked_up}
 -- COMPLETIONS
 
 -- the epoch of a lookup: an absent axis is at 0, below every entry's epoch
-unfoldable pub epoch_of : Lookup → ℕ
-epoch_of (Listed e) = e
-epoch_of Absent = 0
+unfoldable pub epoch_of : Option ℕ → ℕ
+epoch_of (Some e) = e
+epoch_of None = 0
 
 unfoldable pub epoch_at : List Entry → (axis : ℕ) → ℕ
 epoch_at xs a = epoch_of (find a xs)
@@ -47,22 +45,22 @@ Small f g full = (axis : ℕ) →
 -- each slot that is read leaves at most half of those in question, with every slot of the axis; of any other, which the
 -- rules leave unspecified, it gives, if anything, what is in a slot below the length, and nothing where that is over
 -- sixteen
-pub record Looked (f : Frontier) (axis : ℕ) (r : Lookup) : Type 0 where
+pub record Looked (f : Frontier) (axis : ℕ) (r : Option ℕ) : Type 0 where
   pub by_halving : r ≡ looked_up f axis
   pub few_read : (searched f.axes axis f.len).read ≤ most_reads
   pub found : well_formed f ≡ true → r ≡ find axis (entries f)
   pub exactly : well_formed f ≡ true → values_of r ≡ epochs_under axis (entries f)
   pub halves : well_formed f ≡ true → (range : Range) → 0 < range.many → range.low + range.many ≤ f.len →
       Halves f.axes axis range
-  pub in_a_slot : (epoch : ℕ) → r ≡ Listed epoch → (i : ℕ) × (i < f.len) × (f.len ≤ most_entries)
+  pub in_a_slot : (epoch : ℕ) → r ≡ Some epoch → (i : ℕ) × (i < f.len) × (f.len ≤ most_entries)
       × (slot f.axes f.epochs i ≡ record { axis = axis; epoch = epoch })
 
 -- MERGE AND RAISE
 
 -- a found entry that passes a test
-unfoldable pub listed_if : (Entry → Bool) → (axis : ℕ) → Lookup → Lookup
-listed_if f a (Listed e) = cond (f (record { axis = a; epoch = e })) (Listed e) Absent
-listed_if f a Absent = Absent
+unfoldable pub listed_if : (Entry → Bool) → (axis : ℕ) → Option ℕ → Option ℕ
+listed_if f a (Some e) = cond (f (record { axis = a; epoch = e })) (Some e) None
+listed_if f a None = None
 
 abbrev pub both : (f g : Frontier) → List Entry
 both f g = union (entries f) (entries g)
@@ -107,7 +105,7 @@ pub record RaiseRight (f : Frontier) (axis epoch capacity : ℕ) (r : Merged) : 
 
 -- R68: yes, every completion of f dominates every completion of g; no, none does; unknown, there are completions of
 -- both kinds
-pub record DominanceMeans (f g : Frontier) (r : Dominance) : Type 0 where
+pub record DominanceMeans (f g : Frontier) (r : Verdict) : Type 0 where
   pub number : (number_of r).number ≡ dominance_number f g
   pub if_yes : r ≡ Yes → (full other : ℕ → ℕ) → Completion f full → Completion g other → Over full other
   pub if_no : r ≡ No → (full other : ℕ → ℕ) → Completion f full → Completion g other → Over full other → ⊥

@@ -15,11 +15,7 @@ pub fn first_slots(row: &Room) -> [u64; Frontier::SLOTS]
     ensures { result ≡ take most_entries row.now }
 {
     let mut first = [0u64; Frontier::SLOTS];
-    let mut i: usize = 0;
-    while i < Frontier::SLOTS {
-        first[i] = row[i];
-        i += 1;
-    }
+    first.copy_from_slice(&row[..Frontier::SLOTS]);
     first
 }
 
@@ -29,11 +25,9 @@ fn count_above<'a>(axes: &'a [u64], epochs: &'a [u64], len: usize, bound: Entry)
     ensures { result ≡ exceeding bound (slots axes.now epochs.now len 0) }
 {
     let mut n: usize = 0;
-    let mut i: usize = 0;
-    while i < len {
+    for i in 0..len {
         let axis = axes[i];
         let epoch = epochs[i];
-        i += 1;
         if !exceeds(Entry { axis, epoch }, bound) {
             continue;
         }
@@ -63,12 +57,10 @@ fn least<'a>(axes: &'a [u64], epochs: &'a [u64], len: usize) -> Entry
         axis: axes[0],
         epoch: epochs[0],
     };
-    let mut i: usize = 1;
-    while i < len {
+    for i in 1..len {
         let axis = axes[i];
         let epoch = epochs[i];
         best = lesser(best, Entry { axis, epoch });
-        i += 1;
     }
     best
 }
@@ -87,15 +79,13 @@ pub fn bound_of<'a>(axes: &'a [u64], epochs: &'a [u64], len: usize, capacity: us
     }
     let mut lost = Entry { axis: 0, epoch: 0 };
     let mut kept = Entry {
-        axis: 18446744073709551615,
-        epoch: 18446744073709551615,
+        axis: u64::MAX,
+        epoch: u64::MAX,
     };
-    let mut i: usize = 0;
-    while i < len {
+    for i in 0..len {
         let axis = axes[i];
         let epoch = epochs[i];
         let entry = Entry { axis, epoch };
-        i += 1;
         if !exceeds(entry, lost) {
             continue;
         }
@@ -104,9 +94,9 @@ pub fn bound_of<'a>(axes: &'a [u64], epochs: &'a [u64], len: usize, capacity: us
         }
         if count_above(axes, epochs, len, entry) < capacity {
             kept = entry;
-        } else {
-            lost = entry;
+            continue;
         }
+        lost = entry;
     }
     lost
 }
@@ -131,14 +121,12 @@ pub fn trim(axes: &mut [u64], epochs: &mut [u64], len: usize, bound: Entry) -> u
         filter (λ x. exceeds x bound) (slots axes.old epochs.old len 0)) }
 {
     let mut n: usize = 0;
-    let mut i: usize = 0;
-    while i < len {
+    for i in 0..len {
         let axis = axes[i];
         let epoch = epochs[i];
         axes[n] = axis;
         epochs[n] = epoch;
         n = after(n, exceeds(Entry { axis, epoch }, bound));
-        i += 1;
     }
     n
 }
@@ -148,10 +136,8 @@ pub fn clear(row: &mut [u64], from: usize)
     requires { length row.old ≡ most_of_two }
     ensures { Cleared from row.old row.new }
 {
-    let mut i = from;
-    while i < Frontier::BOTH {
+    for i in from..Frontier::BOTH {
         row[i] = 0;
-        i += 1;
     }
 }
 
@@ -160,9 +146,5 @@ pub fn copy(from: &[u64], row: &mut [u64])
     requires { (length from.now ≡ most_entries) × (length row.old ≡ most_of_two) }
     ensures { Copied from.now row.new }
 {
-    let mut i: usize = 0;
-    while i < Frontier::SLOTS {
-        row[i] = from[i];
-        i += 1;
-    }
+    row[..Frontier::SLOTS].copy_from_slice(from);
 }

@@ -1,33 +1,32 @@
 // Frontiers where they are lent, each by its slots, length and taint: nothing is copied to be judged, and what comes of
 // a merge is left in lent room.
 ghost use Rattle.std.specs.Prelude.{◌≡◌, false};
-ghost use Rattle.frontier.specs.Frontiers.{merge, raise, dominance};
+ghost use Rattle.frontier.specs.Frontiers.{merge, raise, dominance, verdict};
 ghost use Rattle.frontier.specs.Meaning.{Looked, MergeRight, RaiseRight, DominanceMeans};
-ghost use Rattle.frontier.specs.Walks.{of_slots, filled, Fills};
+ghost use Rattle.frontier.specs.Walks.{of_slots, laid, filled, Fills};
 
 use crate::cuts::clear;
+use crate::form::left;
 use crate::search::dominance_of;
 use crate::unions::{merged, raised};
-use crate::{Dominance, Frontier};
-use frontier_slots::{Lookup, lookup_by_halving};
+use crate::{Dominance, Frontier, Unfit};
+use frontier_slots::lookup_by_halving;
 
 // Room for the axes or the epochs of a union.
 pub type Room = [u64; Frontier::BOTH];
 
-// A merge's number, and the length and taint of the frontier that it leaves in front of the room.
-#[derive(Clone, Copy)]
+// The length and taint of the frontier that a merge leaves in front of the room.
+#[derive(Clone, Copy, Debug, PartialEq, Eq, Hash)]
 pub struct Filled {
-    pub number: u32,
     pub len: usize,
     pub tainted: bool,
 }
 
-// R60: what lent slots say of an axis, which is listed or absent.
-pub fn lookup<'a>(axes: &'a [u64], epochs: &'a [u64], len: usize, axis: u64) -> Lookup
+// R60: what lent slots say of an axis, its epoch where it is listed.
+pub fn lookup<'a>(axes: &'a [u64], epochs: &'a [u64], len: usize, axis: u64) -> Option<u64>
     ensures { Looked (of_slots axes.now epochs.now len false) axis result }
 {
-    let found = lookup_by_halving(axes, epochs, len, axis);
-    found.answer
+    lookup_by_halving(axes, epochs, len, axis).epoch
 }
 
 // R61 to R63: the larger epoch of each axis of x and y, cut to the capacity.
@@ -43,16 +42,17 @@ pub fn merge<'a>(
     capacity: u32,
     axes: &mut Room,
     epochs: &mut Room,
-) -> Filled
+) -> Result<Filled, Unfit>
     ensures answers { Fills (merge (of_slots xa.now xe.now xn xt)
-        (of_slots ya.now ye.now yn yt) capacity) result axes.new epochs.new }
+        (of_slots ya.now ye.now yn yt) capacity) (laid result) axes.new epochs.new }
     ensures right { MergeRight (of_slots xa.now xe.now xn xt)
         (of_slots ya.now ye.now yn yt) capacity
-        (filled result axes.new epochs.new) }
+        (filled (laid result) axes.new epochs.new) }
 {
     let r = merged(xa, xe, xn, xt, ya, ye, yn, yt, capacity, axes, epochs);
-    clear(axes, r.len);
-    clear(epochs, r.len);
+    let len = left(r).len;
+    clear(axes, len);
+    clear(epochs, len);
     r
 }
 
@@ -67,15 +67,16 @@ pub fn raise<'a>(
     capacity: u32,
     axes: &mut Room,
     epochs: &mut Room,
-) -> Filled
-    ensures answers { Fills (raise (of_slots xa.now xe.now xn xt) axis epoch capacity) result
+) -> Result<Filled, Unfit>
+    ensures answers { Fills (raise (of_slots xa.now xe.now xn xt) axis epoch capacity) (laid result)
         axes.new epochs.new }
     ensures right { RaiseRight (of_slots xa.now xe.now xn xt) axis epoch capacity
-        (filled result axes.new epochs.new) }
+        (filled (laid result) axes.new epochs.new) }
 {
     let r = raised(xa, xe, xn, xt, axis, epoch, capacity, axes, epochs);
-    clear(axes, r.len);
-    clear(epochs, r.len);
+    let len = left(r).len;
+    clear(axes, len);
+    clear(epochs, len);
     r
 }
 
@@ -89,11 +90,11 @@ pub fn dominates<'a>(
     ye: &'a [u64],
     yn: usize,
     yt: bool,
-) -> Dominance
-    ensures answers { result ≡ dominance (of_slots xa.now xe.now xn xt)
+) -> Result<Dominance, Unfit>
+    ensures answers { verdict result ≡ dominance (of_slots xa.now xe.now xn xt)
         (of_slots ya.now ye.now yn yt) }
     ensures means { DominanceMeans (of_slots xa.now xe.now xn xt)
-        (of_slots ya.now ye.now yn yt) result }
+        (of_slots ya.now ye.now yn yt) (verdict result) }
 {
     dominance_of(xa, xe, xn, xt, ya, ye, yn, yt)
 }

@@ -9,17 +9,18 @@ mod unions;
 
 ghost use Rattle.std.specs.Prelude.{◌≡◌, false, []};
 ghost use Rattle.frontier.specs.Frontiers.{well_formed, pack, merge, raise, dominance};
+ghost use Rattle.frontier.specs.Frontiers.{number_of_unfit, verdict};
 ghost use Rattle.frontier.specs.Meaning.{Looked, MergeRight, RaiseRight, DominanceMeans};
 ghost use Rattle.frontier.specs.Walks.{left_number};
 
 use cuts::{clear, first_slots};
-use form::judged;
-use frontier_slots::{Lookup, formed, lookup_by_halving};
+use form::{judged, left, number};
+use frontier_slots::formed;
 use unions::join_one;
 
 // Slot i holds the entry (axes[i], epochs[i]) for i below len; the slots past len are zero. A tainted frontier may have
 // lost entries.
-#[derive(Clone, Copy)]
+#[derive(Clone, Copy, Debug, PartialEq, Eq, Hash)]
 pub struct Frontier {
     pub axes: [u64; Frontier::SLOTS],
     pub epochs: [u64; Frontier::SLOTS],
@@ -28,20 +29,36 @@ pub struct Frontier {
 }
 
 // A merge's number and frontier: empty and untainted where the number is a refusal's. The frontier comes first, so
-// that it is copied in whole words.
-#[derive(Clone, Copy)]
+// that it is copied in whole words. A `Result` of a frontier has a tag in front, and was slower for that: two calls that
+// copy the frontier, and 272 bytes cleared beside a refusal.
+#[derive(Clone, Copy, Debug, PartialEq, Eq, Hash)]
 pub struct Merged {
     pub frontier: Frontier,
     pub number: u32,
 }
 
-// Whether one frontier dominates another, or the refusal's number.
-#[derive(Clone, Copy)]
+// Why frontiers are refused. Its value is the number of the refusal.
+#[derive(Clone, Copy, Debug, PartialEq, Eq, Hash)]
+pub enum Unfit {
+    Form = 14,
+    Capacity = 15,
+}
+
+impl Unfit {
+    // The number of the refusal.
+    pub fn number(self) -> u32
+        ensures { result ≡ number_of_unfit self }
+    {
+        self as u32
+    }
+}
+
+// Whether one frontier dominates another.
+#[derive(Clone, Copy, Debug, PartialEq, Eq, Hash)]
 pub enum Dominance {
     Yes,
     No,
     Unknown,
-    Refused(u32),
 }
 
 impl Frontier {
@@ -57,6 +74,7 @@ impl Frontier {
     pub const BOTH: usize = 2 * Self::SLOTS;
 
     // The empty untainted frontier.
+    #[tactic(auto, unfolding(crate::specs::Frontiers::pack))]
     pub fn empty() -> Self
         ensures { result ≡ pack [] false }
     {
@@ -75,8 +93,8 @@ impl Frontier {
         formed(&self.axes, &self.epochs, self.len)
     }
 
-    // R60: what the frontier says of an axis, which is listed or absent.
-    pub fn lookup(self, axis: u64) -> Lookup
+    // R60: what the frontier says of an axis, its epoch where it is listed.
+    pub fn lookup(self, axis: u64) -> Option<u64>
         ensures { Looked self axis result }
     {
         lent::lookup(&self.axes, &self.epochs, self.len, axis)
@@ -102,14 +120,15 @@ impl Frontier {
             &mut axes,
             &mut epochs,
         );
+        let left = left(r);
         let frontier = Self {
             axes: first_slots(&axes),
             epochs: first_slots(&epochs),
-            len: r.len,
-            tainted: r.tainted,
+            len: left.len,
+            tainted: left.tainted,
         };
         Merged {
-            number: r.number,
+            number: number(r),
             frontier,
         }
     }
@@ -121,19 +140,15 @@ impl Frontier {
         ensures right { RaiseRight self axis epoch capacity result }
     {
         let len = self.len;
-        let number = judged(&self.axes, &self.epochs, len, capacity);
-        if number != 0 {
+        if let Err(unfit) = judged(&self.axes, &self.epochs, len, capacity) {
             return Merged {
-                number,
+                number: unfit.number(),
                 frontier: Self::empty(),
             };
         }
         if len <= capacity as usize {
-            let found = lookup_by_halving(&self.axes, &self.epochs, len, axis);
-            let answer = found.answer;
-            if let Lookup::Listed(old) = answer {
-                let at = found.at;
-                self.epochs[at] = base_numbers::max_u64(old, epoch);
+            if let Some(at) = axis_search::search(&self.axes, len, axis).at {
+                self.epochs[at] = self.epochs[at].max(epoch);
                 return Merged {
                     number: 0,
                     frontier: self,
@@ -144,9 +159,9 @@ impl Frontier {
     }
 
     // R68: whether every entry of the other is reached, as far as the taints let it be known.
-    pub fn dominates(self, other: Self) -> Dominance
-        ensures answers { result ≡ dominance self other }
-        ensures means { DominanceMeans self other result }
+    pub fn dominates(self, other: Self) -> Result<Dominance, Unfit>
+        ensures answers { verdict result ≡ dominance self other }
+        ensures means { DominanceMeans self other (verdict result) }
     {
         lent::dominates(
             &self.axes,
@@ -188,7 +203,7 @@ fn with_one(f: Frontier, axis: u64, epoch: u64, capacity: u32) -> Merged
         tainted: r.tainted,
     };
     Merged {
-        number: r.number,
+        number: 0,
         frontier,
     }
 }

@@ -1,13 +1,14 @@
 // The lookup of an axis among lent slots, and what of one frontier another reaches.
-ghost use Rattle.std.specs.Prelude.{◌≡◌, true, List, ℕ, ◌≤◌, ◌<◌, length, get_or};
+ghost use Rattle.std.specs.Prelude.{◌≡◌, ◌&&◌, true, cond, List, ℕ, ◌≤◌, ◌<◌, ltb, eqb};
+ghost use Rattle.std.specs.Prelude.{length, get_or};
 ghost use Rattle.frontier_slots.specs.Entries.{most_entries, rising_from};
 ghost use Rattle.frontier_slots.specs.Slots.{slots};
-ghost use Rattle.frontier.specs.Frontiers.{reached, answer, dominance};
+ghost use Rattle.frontier.specs.Frontiers.{reached, answer, dominance, verdict};
 ghost use Rattle.frontier_slots.specs.Slots.{rest, AllSlots};
-ghost use Rattle.frontier.specs.Walks.{of_slots, skip_below, FoundFrom};
+ghost use Rattle.frontier.specs.Walks.{of_slots, skip_below, SlotFrom};
 
-use crate::{Dominance, Frontier};
-use frontier_slots::{Found, Lookup, formed};
+use crate::{Dominance, Unfit};
+use frontier_slots::formed;
 
 // The first slot from `from` on whose axis is not below the one sought, or the length.
 fn seek(axes: &[u64], len: usize, from: usize, axis: u64) -> usize
@@ -15,46 +16,35 @@ fn seek(axes: &[u64], len: usize, from: usize, axis: u64) -> usize
     ensures { (result ≤ len) × (result < len → axis ≤ get_or axes.now result 0) × ((es : List ℕ) →
         rest axes.now es len result ≡ skip_below axis (rest axes.now es len from)) }
 {
-    let mut i = from;
-    while i < len {
+    for i in from..len {
         if axis <= axes[i] {
             return i;
         }
-        i += 1;
     }
-    i
+    len
 }
 
-// The lookup of an axis among the slots from `from` on: listed with its epoch, or absent. Slot `from` is looked at
-// before the search, since a walk over two frontiers mostly finds the axis there.
-pub fn lookup_from<'a>(
-    axes: &'a [u64],
-    epochs: &'a [u64],
-    len: usize,
-    from: usize,
-    axis: u64,
-) -> Found
-    requires { (from ≤ len) × (len ≤ most_entries) × AllSlots axes.now epochs.now }
-    ensures { FoundFrom axes.now epochs.now len from axis result }
+// A slot, if it is of the axis.
+fn slot_at(axes: &[u64], len: usize, at: usize, axis: u64) -> Option<usize>
+    requires { (len ≤ most_entries) × (length axes.now ≡ most_entries) }
+    ensures { result ≡ cond (ltb at len && eqb (get_or axes.now at 0) axis) (Some at) None }
 {
-    let mut at = from;
-    if from < len {
-        if axes[from] < axis {
-            at = seek(axes, len, from + 1, axis);
-        }
+    if at < len && axes[at] == axis {
+        return Some(at);
     }
-    if at < len {
-        if axes[at] == axis {
-            return Found {
-                answer: Lookup::Listed(epochs[at]),
-                at,
-            };
-        }
+    None
+}
+
+// The slot of an axis among those from `from` on, or none. Slot `from` is looked at before the search, since a walk
+// over two frontiers mostly finds the axis there.
+pub fn slot_from(axes: &[u64], len: usize, from: usize, axis: u64) -> Option<usize>
+    requires { (from ≤ len) × (len ≤ most_entries) × (length axes.now ≡ most_entries) }
+    ensures { (es : List ℕ) → SlotFrom axes.now es len from axis result }
+{
+    if from < len && axes[from] < axis {
+        return slot_at(axes, len, seek(axes, len, from + 1, axis), axis);
     }
-    Found {
-        answer: Lookup::Absent,
-        at,
-    }
+    slot_at(axes, len, from, axis)
 }
 
 // Every entry of y is reached by x. An axis that x lacks is not.
@@ -74,39 +64,31 @@ fn reaches<'a>(
         (slots ya.now ye.now yn 0) }
 {
     let mut i: usize = 0;
-    let mut j: usize = 0;
-    while j < yn {
-        let found = lookup_from(xa, xe, xn, i, ya[j]);
-        let answer = found.answer;
-        let Lookup::Listed(epoch) = answer else {
+    for j in 0..yn {
+        let Some(at) = slot_from(xa, xn, i, ya[j]) else {
             return false;
         };
-        if epoch < ye[j] {
+        if xe[at] < ye[j] {
             return false;
         }
-        i = found.at + 1;
-        j += 1;
+        i = at + 1;
     }
     true
 }
 
 // All reached is yes, unless the other lost entries; not all reached is no, unless this one did.
+#[tactic(auto, unfolding(crate::specs::Frontiers::answer))]
 fn answer_of(reached: bool, tainted: bool, other: bool) -> Dominance
-    ensures { result ≡ answer reached tainted other }
+    ensures { verdict (Ok result) ≡ answer reached tainted other }
 {
-    if reached {
-        if other {
-            return Dominance::Unknown;
-        }
-        return Dominance::Yes;
+    match (reached, tainted, other) {
+        (true, _, false) => Dominance::Yes,
+        (false, false, _) => Dominance::No,
+        _ => Dominance::Unknown,
     }
-    if tainted {
-        return Dominance::Unknown;
-    }
-    Dominance::No
 }
 
-// Whether x dominates y: 14 for x, then for y; else by what is reached and the taints.
+// Whether x dominates y: refused if x is not well-formed, then if y is not; else by what is reached and the taints.
 pub fn dominance_of<'a>(
     xa: &'a [u64],
     xe: &'a [u64],
@@ -116,15 +98,15 @@ pub fn dominance_of<'a>(
     ye: &'a [u64],
     yn: usize,
     yt: bool,
-) -> Dominance
-    ensures { result ≡ dominance (of_slots xa.now xe.now xn xt)
+) -> Result<Dominance, Unfit>
+    ensures { verdict result ≡ dominance (of_slots xa.now xe.now xn xt)
         (of_slots ya.now ye.now yn yt) }
 {
     if !formed(xa, xe, xn) {
-        return Dominance::Refused(14);
+        return Err(Unfit::Form);
     }
     if !formed(ya, ye, yn) {
-        return Dominance::Refused(14);
+        return Err(Unfit::Form);
     }
-    answer_of(reaches(xa, xe, xn, ya, ye, yn), xt, yt)
+    Ok(answer_of(reaches(xa, xe, xn, ya, ye, yn), xt, yt))
 }

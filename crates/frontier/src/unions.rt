@@ -4,17 +4,17 @@ ghost use Rattle.frontier_slots.specs.Entries.{most_entries, most_of_two, rising
 ghost use Rattle.frontier_slots.specs.Slots.{slots};
 ghost use Rattle.frontier.specs.Frontiers.{handed, joined, one_entry, merge, raise};
 ghost use Rattle.frontier_slots.specs.Slots.{rest, AllSlots};
-ghost use Rattle.frontier.specs.Walks.{of_slots, leads, AllRoom, LeftInRoom};
+ghost use Rattle.frontier.specs.Walks.{of_slots, leads, AllRoom, laid, LeftInRoom};
 
-use crate::Frontier;
 use crate::cuts::{bound_of, copy, trim};
 use crate::form::judged;
 use crate::lent::Filled;
-use crate::search::lookup_from;
-use frontier_slots::{Lookup, formed, lookup_by_halving};
+use crate::search::slot_from;
+use crate::{Frontier, Unfit};
+use frontier_slots::formed;
 
 // The next entry of a union, and where each side goes on.
-#[derive(Clone, Copy)]
+#[derive(Clone, Copy, Debug, PartialEq, Eq, Hash)]
 pub struct Step {
     pub axis: u64,
     pub epoch: u64,
@@ -64,9 +64,7 @@ fn leading<'a>(
 {
     let axis = xa[i];
     let epoch = xe[i];
-    let found = lookup_from(ya, ye, yn, j, axis);
-    let answer = found.answer;
-    let Lookup::Listed(other) = answer else {
+    let Some(at) = slot_from(ya, yn, j, axis) else {
         return Step {
             axis,
             epoch,
@@ -76,7 +74,7 @@ fn leading<'a>(
     };
     Step {
         axis,
-        epoch: base_numbers::max_u64(epoch, other),
+        epoch: epoch.max(ye[at]),
         left: i + 1,
         right: j + 1,
     }
@@ -171,24 +169,16 @@ fn join<'a>(
     requires le_capacity { (1 ≤ capacity) × (capacity ≤ most_entries) }
     requires all_room { AllRoom axes.old epochs.old }
     ensures { LeftInRoom (handed (joined (slots xa.now xe.now xn 0)
-        (slots ya.now ye.now yn 0) tainted capacity)) result axes.new
+        (slots ya.now ye.now yn 0) tainted capacity)) (laid (Ok result)) axes.new
         epochs.new }
 {
     let n = unite(xa, xe, xn, ya, ye, yn, axes, epochs);
     if n <= capacity {
-        return Filled {
-            number: 0,
-            len: n,
-            tainted,
-        };
+        return Filled { len: n, tainted };
     }
     let bound = bound_of(axes, epochs, n, capacity);
     let len = trim(axes, epochs, n, bound);
-    Filled {
-        number: 0,
-        len,
-        tainted: true,
-    }
+    Filled { len, tainted: true }
 }
 
 // The union of x and one entry, cut to a capacity, in front of the room. An entry of epoch 0 is none.
@@ -208,7 +198,7 @@ pub fn join_one<'a>(
     requires le_capacity { (1 ≤ capacity) × (capacity ≤ most_entries) }
     requires all_room { AllRoom axes.old epochs.old }
     ensures { LeftInRoom (handed (joined (slots xa.now xe.now xn 0)
-        (one_entry axis epoch) xt capacity)) result axes.new epochs.new }
+        (one_entry axis epoch) xt capacity)) (laid (Ok result)) axes.new epochs.new }
 {
     let mut ya = [0u64; Frontier::SLOTS];
     let mut ye = [0u64; Frontier::SLOTS];
@@ -228,18 +218,7 @@ pub fn join_one<'a>(
     )
 }
 
-// A refusal leaves no entry.
-fn refused(number: u32) -> Filled
-    ensures { result ≡ record { number = number; len = 0; tainted = false } }
-{
-    Filled {
-        number,
-        len: 0,
-        tainted: false,
-    }
-}
-
-// The merge of x and y in front of the room: 15, then 14 for x, then for y; else their union, cut to the capacity.
+// The merge of x and y in front of the room: the capacity is judged, then x, then y; else their union, cut to the capacity.
 pub fn merged<'a>(
     xa: &'a [u64],
     xe: &'a [u64],
@@ -252,19 +231,16 @@ pub fn merged<'a>(
     capacity: u32,
     axes: &mut [u64],
     epochs: &mut [u64],
-) -> Filled
+) -> Result<Filled, Unfit>
     requires { AllRoom axes.old epochs.old }
     ensures { LeftInRoom (merge (of_slots xa.now xe.now xn xt)
-        (of_slots ya.now ye.now yn yt) capacity) result axes.new epochs.new }
+        (of_slots ya.now ye.now yn yt) capacity) (laid result) axes.new epochs.new }
 {
-    let number = judged(xa, xe, xn, capacity);
-    if number != 0 {
-        return refused(number);
-    }
+    judged(xa, xe, xn, capacity)?;
     if !formed(ya, ye, yn) {
-        return refused(14);
+        return Err(Unfit::Form);
     }
-    join(
+    Ok(join(
         xa,
         xe,
         xn,
@@ -275,7 +251,7 @@ pub fn merged<'a>(
         xt | yt,
         axes,
         epochs,
-    )
+    ))
 }
 
 // The raise of an axis of x in front of the room. Where the axis is listed and the capacity holds every entry, that is
@@ -290,29 +266,22 @@ pub fn raised<'a>(
     capacity: u32,
     axes: &mut [u64],
     epochs: &mut [u64],
-) -> Filled
+) -> Result<Filled, Unfit>
     requires { AllRoom axes.old epochs.old }
-    ensures { LeftInRoom (raise (of_slots xa.now xe.now xn xt) axis epoch capacity) result
+    ensures { LeftInRoom (raise (of_slots xa.now xe.now xn xt) axis epoch capacity) (laid result)
         axes.new epochs.new }
 {
-    let number = judged(xa, xe, xn, capacity);
-    if number != 0 {
-        return refused(number);
-    }
+    judged(xa, xe, xn, capacity)?;
     if xn <= capacity as usize {
-        let found = lookup_by_halving(xa, xe, xn, axis);
-        let answer = found.answer;
-        if let Lookup::Listed(old) = answer {
-            let at = found.at;
+        if let Some(at) = axis_search::search(xa, xn, axis).at {
             copy(xa, axes);
             copy(xe, epochs);
-            epochs[at] = base_numbers::max_u64(old, epoch);
-            return Filled {
-                number: 0,
+            epochs[at] = xe[at].max(epoch);
+            return Ok(Filled {
                 len: xn,
                 tainted: xt,
-            };
+            });
         }
     }
-    join_one(xa, xe, xn, xt, axis, epoch, capacity as usize, axes, epochs)
+    Ok(join_one(xa, xe, xn, xt, axis, epoch, capacity as usize, axes, epochs))
 }

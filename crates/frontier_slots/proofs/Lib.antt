@@ -1,5 +1,3 @@
 pub mod Slots
 pub mod Steps
 pub mod Form
-pub mod Halved
-pub mod Kept

@@ -1,11 +1,10 @@
 -- Lists of entries (axis, epoch): their form, lookup, union with the larger epoch, and the cut to a capacity. Assumes
 -- nothing: these are definitions.
 use Rattle.std.specs.Prelude.{Bool, true, ◌&&◌, ◌||◌, cond, List, [], ◌∷◌, ℕ, suc, ◌+◌, ◌*◌, max, ltb, leb, eqb}
+use Rattle.std.specs.Prelude.{Option, Some, None}
 use Rattle.base_lists.specs.Lists.{filter}
 use Rattle.axis_search.specs.Halving.{most_slots}
 pub use Rattle.frontier_slots.specs.declared.Entry.{Entry}
-use Rattle.frontier_slots.specs.declared.Lookup.{Lookup}
-use Rattle.frontier_slots.specs.declared.Lookup.TheVariants.{Listed, Absent}
 
 -- R59, R51: the most entries of a frontier: it has as many slots, and no capacity is larger
 abbrev pub most_entries : ℕ
@@ -21,14 +20,14 @@ rising_from least [] = true
 rising_from least (x ∷ xs) = leb least x.axis && (ltb 0 x.epoch && rising_from (suc x.axis) xs)
 
 -- R60, absent: the epoch that the axis is listed with, or that it is absent
-unfoldable pub find : (axis : ℕ) → List Entry → Lookup
-find a [] = Absent
-find a (x ∷ xs) = cond (eqb x.axis a) (Listed x.epoch) (find a xs)
+unfoldable pub find : (axis : ℕ) → List Entry → Option ℕ
+find a [] = None
+find a (x ∷ xs) = cond (eqb x.axis a) (Some x.epoch) (find a xs)
 
 -- the values of a lookup: the epoch, if there is one
-unfoldable pub values_of : Lookup → List ℕ
-values_of (Listed e) = e ∷ []
-values_of Absent = []
+unfoldable pub values_of : Option ℕ → List ℕ
+values_of (Some e) = e ∷ []
+values_of None = []
 
 -- every epoch that is listed under an axis
 unfoldable pub epochs_under : (axis : ℕ) → List Entry → List ℕ

@@ -1,11 +1,10 @@
 -- Lent slots: the entries that they hold, their form, and the lookup of an axis. Assumes nothing: these are
 -- definitions.
-use Rattle.std.specs.Prelude.{◌≡◌, Bool, true, ◌&&◌, cond, List, [], ◌∷◌, ℕ, zero, suc, ◌-◌, ltb, leb, eqb, length}
-use Rattle.std.specs.Prelude.{get_or, drop}
+use Rattle.std.specs.Prelude.{◌≡◌, Bool, ◌&&◌, cond, List, ℕ, zero, suc, ◌-◌, ltb, leb, eqb, length}
+use Rattle.std.specs.Prelude.{get_or, drop, Option, Some, None, ◌==◌}
+use Rattle.std.specs.List.{list_all}
 use Rattle.base_lists.specs.Lists.{tabulate_from}
 use Rattle.axis_search.specs.Halving.{searched}
-use Rattle.frontier_slots.specs.declared.Lookup.{Lookup}
-use Rattle.frontier_slots.specs.declared.Lookup.TheVariants.{Listed, Absent}
 use Rattle.frontier_slots.specs.declared.Found.{Found}
 use Rattle.frontier_slots.specs.Entries.{Entry, most_entries, rising_from}
 
@@ -36,9 +35,8 @@ floor axes (suc i) = suc (get_or axes i 0)
 unfoldable pub placed : (axes epochs : List ℕ) → (i : ℕ) → Bool
 placed axes epochs i = leb (floor axes i) (get_or axes i 0) && ltb 0 (get_or epochs i 0)
 
-unfoldable pub all_zero : List ℕ → Bool
-all_zero [] = true
-all_zero (x ∷ xs) = eqb x 0 && all_zero xs
+abbrev pub all_zero : List ℕ → Bool
+all_zero xs = list_all (λ x. x == 0) xs
 
 -- R59: sixteen slots, and zero from the length on
 unfoldable pub row_formed : (len : ℕ) → List ℕ → Bool
@@ -53,10 +51,11 @@ slots_formed axes epochs len =
 -- LOOKUP
 
 -- R60: what a slot says of its axis: its epoch, or nothing where there is no such slot
-unfoldable pub lookup_at : (epochs : List ℕ) → (at : ℕ) → Lookup
-lookup_at epochs at = cond (ltb at most_entries && ltb at (length epochs)) (Listed (get_or epochs at 0)) Absent
+unfoldable pub lookup_at : (epochs : List ℕ) → (at : Option ℕ) → Option ℕ
+lookup_at epochs (Some at) = cond (ltb at (length epochs)) (Some (get_or epochs at 0)) None
+lookup_at epochs None = None
 
 -- R60: what is in the slot that the search by halving finds, and the slot that it gave
 unfoldable pub found_by_halving : (axes epochs : List ℕ) → (len axis : ℕ) → Found
 found_by_halving axes epochs len axis =
-    record { answer = lookup_at epochs (searched axes axis len).at; at = (searched axes axis len).at }
+    record { epoch = lookup_at epochs (searched axes axis len).at; at = (searched axes axis len).at }

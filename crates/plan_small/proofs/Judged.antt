@@ -32,7 +32,7 @@ use Rattle.plan_order.specs.Holdings.{broken}
 use Rattle.plan_order.specs.Handovers.{last_signaller, handover, handovers_from, handovers, out_of_turn, disordered}
 use Rattle.plan_order.specs.Check.{room_refusal, refused_at, order_refusal, outcome, or_then, check_outcome}
 use Rattle.frontier_slots.specs.Entries.{rising_from, find, put, union, exceeds, exceeding, cut}
-use Rattle.frontier_slots.specs.Slots.{slot, slots, all_zero, row_formed, slots_formed}
+use Rattle.frontier_slots.specs.Slots.{slot, slots, row_formed, slots_formed}
 use Rattle.frontier.specs.Frontiers.{entries, pack, joined}
 use Rattle.frontier.specs.Frontiers.{merge_number, merge, met as entry_met, reached as all_reached}
 use Rattle.frontier.specs.Frontiers.{answer as dominance_answer, dominance_number, dominance}
@@ -64,7 +64,7 @@ unfolding flatten or_else checked asked entry t12 t13 section at use_of free_of 
     missing placed marks_of marks_from buffer_marks is_free freed_by free_after use_asks later_asks asks_from asks
     asked_of met all_asks has_broken broken last_signaller handover handovers_from handovers out_of_turn disordered
     room_refusal refused_at order_refusal outcome or_then check_outcome rising_from find put union exceeds exceeding cut
-    slot slots entries all_zero row_formed slots_formed pack joined merge_number merge entry_met all_reached
+    slot slots entries row_formed slots_formed pack joined merge_number merge entry_met all_reached
     dominance_answer dominance_number dominance at_wide second_head second_plan write_answer second_plans second_refused
     other_leads second_positions with_semaphores written_forms numbers spell_field spell_by second_form list_form
     form_by is_second listed spelled lone waits_for_0 least_values written_for_0

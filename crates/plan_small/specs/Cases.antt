@@ -6,8 +6,8 @@ use Rattle.frontier_slots.specs.declared.Entry.{Entry}
 use Rattle.frontier.specs.Frontiers.{pack, merge, dominance}
 use Rattle.frontier.specs.declared.Frontier.{Frontier}
 use Rattle.frontier.specs.declared.Merged.{Merged}
-use Rattle.frontier.specs.declared.Dominance.{Dominance}
-use Rattle.frontier.specs.declared.Dominance.TheVariants.{No, Unknown}
+use Rattle.frontier.specs.Frontiers.{Verdict}
+use Rattle.frontier.specs.Frontiers.{No, Unknown}
 use Rattle.plan_format.specs.Refusal.{given}
 use Rattle.plan_format.specs.Grammar.{digits}
 use Rattle.plan_format.specs.Stored.{plan_in, listed, spelled}
@@ -61,7 +61,7 @@ pub data Answer : Type 0 where
   refused : (number place : ℕ) → Answer
   written : (bytes : List ℕ) → Answer
   merged : Merged → Answer
-  dominates : Dominance → Answer
+  dominates : Verdict → Answer
 
 -- rows of few columns, filled up with zeros to sixteen
 unfoldable pub wide : List (List ℕ) → List ℕ

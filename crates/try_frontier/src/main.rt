@@ -6,7 +6,6 @@ ghost use Rattle.frontier.specs.Frontiers.{merge, raise};
 ghost use Rattle.frontier_in_place.specs.InPlace.{Changed};
 
 use frontier::{Frontier, Merged};
-use frontier_slots::Lookup;
 
 fn text(rt: &impl Print, words: &[u8]) {
     let _ = rt.write_all(words);
@@ -27,20 +26,18 @@ fn entries<'a>(
     axes: &'a [u64; Frontier::SLOTS],
     epochs: &'a [u64; Frontier::SLOTS],
 ) {
-    let mut i: usize = 0;
-    while i < Frontier::SLOTS {
+    for i in 0..Frontier::SLOTS {
         if epochs[i] != 0 {
             number(rt, axes[i]);
             text(rt, b":");
             digits(rt, epochs[i]);
         }
-        i += 1;
     }
 }
 
 // The number of a change in place, and the frontier that is stored then: its length and its entries.
 fn show(rt: &impl Print, m: Merged) {
-    number(rt, base_numbers::u32_to_u64(m.number));
+    number(rt, u64::from(m.number));
     let f = m.frontier;
     if f.tainted {
         text(rt, b" tainted");
@@ -83,8 +80,8 @@ fn two(axis: u64, epoch: u64, later: u64, last: u64, len: usize) -> Frontier {
     f
 }
 
-fn say(rt: &impl Print, answer: Lookup) {
-    if let Lookup::Listed(epoch) = answer {
+fn say(rt: &impl Print, answer: Option<u64>) {
+    if let Some(epoch) = answer {
         number(rt, epoch);
     } else {
         text(rt, b" absent");
@@ -94,10 +91,8 @@ fn say(rt: &impl Print, answer: Lookup) {
 // Whether a frontier is well formed, and what it then says of axes 0 to 4.
 fn ask(rt: &impl Print, f: Frontier) {
     if f.well_formed() {
-        let mut axis: u64 = 0;
-        while axis < 5 {
+        for axis in 0..5 {
             say(rt, f.lookup(axis));
-            axis += 1;
         }
     } else {
         text(rt, b" badly formed");
@@ -124,8 +119,8 @@ fn forms(rt: &impl Print) {
 fn search(rt: &impl Print, len: usize, axis: u64) {
     let axes = [1u64, 2, 3, 4, 5, 6, 7, 8, 9, 10, 11, 12, 13, 14, 15, 16, 17];
     let found = axis_search::search(&axes, len, axis);
-    if found.at < axis_search::NO_SLOT {
-        number(rt, found.at as u64);
+    if let Some(at) = found.at {
+        number(rt, at as u64);
     } else {
         text(rt, b" none");
     }
@@ -175,10 +170,8 @@ fn merges(rt: &impl Print) {
 }
 
 fn row(rt: &impl Print, row: &[u32]) {
-    let mut i: usize = 0;
-    while i < row.len() {
-        number(rt, base_numbers::u32_to_u64(row[i]));
-        i += 1;
+    for &x in row {
+        number(rt, u64::from(x));
     }
     text(rt, b"\n");
 }

@@ -8,7 +8,7 @@ pub returns-in_default : goal.returns-in_default
 returns-in_default c =
     let all =
     lookup_answered _ _ _ _
-    (absent_says _ _ _ c.lookup_numbers-r.ensures c.in_default.is
+    (absent_says _ _ _ c.lookup_numbers.ensures c.in_default.is
     (c.tell.ensures ∙ c.answered.ensures)) in
     record {
       says = all.0;
@@ -18,7 +18,7 @@ returns-in_default c =
 pub returns : goal.returns
 returns c =
     let all =
-    lookup_answered _ _ _ _ (listed_says _ _ _ _ c.lookup_numbers-r.ensures c.in-Listed.is
+    lookup_answered _ _ _ _ (listed_says _ _ _ _ c.lookup_numbers.ensures c.in-Some.is
     (c.tell-2.ensures ∙ c.answered-2.ensures)) in
     record {
       says = all.0;

@@ -1,58 +1,67 @@
 -- `raise` meets its contract: refused, stored in the axis's slot, or joined with one entry. Assumes nothing.
-use Rattle.std.proofs.Common.{◌<◌, sym, ap, ◌∙◌, arith}
+use Rattle.std.proofs.Common.{◌≡◌, ◌<◌, get_or, sym, ap, ap₂, ◌∙◌, arith, ℕ, refl, Result, Ok, Err}
+use Rattle.std.specs.Bool.{⊤}
 use Rattle.frontier.specs.declared.Frontier.{Frontier}
 use Rattle.frontier.specs.declared.Merged.{Merged}
 use Rattle.frontier_slots.specs.Entries.{most_entries}
-use Rattle.frontier.specs.Frontiers.{refusal}
-use Rattle.frontier.specs.Walks.{left_number, FoundFrom}
-use Rattle.frontier.proofs.Lookups.{halved_from}
+use Rattle.frontier.specs.Frontiers.{refusal, number_by}
+use Rattle.frontier.specs.declared.Unfit.{Unfit}
+use Rattle.frontier.proofs.Fill.{not_zero}
+use Rattle.frontier.specs.Walks.{left_number}
 use Rattle.frontier.proofs.Meaning.{raise_all}
-use Rattle.frontier.proofs.Raise.{raise_refused, raise_joins, raise_stored}
+use Rattle.frontier.proofs.Raise.{raise_refused, raise_stored}
 use Rattle.frontier.proofs.Frontier.raise.Goals as goal
-use Rattle.frontier.proofs.Frontier.raise.Goals.{In-Listed}
+use Rattle.frontier.proofs.Frontier.raise.Goals.{In-Some, In_default}
 
--- the axis is listed, and where
-in_slot : (c : In-Listed) →
-    FoundFrom c.args.self.axes c.args.self.epochs c.args.self.len 0 c.args.axis c.lookup_by_halving-found.result
-unfolding left_number
-in_slot c =
-    let f = raise_joins c.args.self c.args.axis c.args.epoch c.args.capacity _ c.judged-number.ensures
-    c.if-number-ne0.false in
-    halved_from _ _ _ _ f.0.0 f.0.2 c.lookup_by_halving-found.ensures
+-- the slot is of the axis
+listed : (c : In-Some) → (c.in-Some.at < c.args.self.len) × (get_or c.args.self.axes c.in-Some.at 0 ≡ c.args.axis)
+listed c = let w = c.search.ensures.means.of_axis _ c.in-Some.is in (w.0, w.3)
 
-listed : (c : In-Listed) → c.lookup_by_halving-found.result.at < most_entries
-unfolding left_number
-listed c =
-    let f = raise_joins c.args.self c.args.axis c.args.epoch c.args.capacity _ c.judged-number.ensures
-    c.if-number-ne0.false in
-    omega (arith, ((in_slot c).in_slot _ c.in-Listed.is).0, f.0.0)
+below : (c : In-Some) → c.in-Some.at < most_entries
+below c = let w = c.search.ensures.means.of_axis _ c.in-Some.is in omega (arith, w.0, w.1)
 
-pub returns-then-number-ne0 : goal.returns-then-number-ne0
+-- what the judgement tells, where it is no refusal
+fits : (c : In_default) → number_by c.judged.result ≡ 0
+fits c = by c.judged.result c.in_default.not-Err
+  where
+    by : (r : Result ⊤ Unfit) → ((e : Unfit) → r ≡ Err e → ⊥) → number_by r ≡ 0
+    by (Ok x) h = refl
+    by (Err e) h = absurd (h e refl)
+
+pub returns-in-Err : goal.returns-in-Err
 unfolding left_number refusal
-returns-then-number-ne0 c =
+returns-in-Err c =
     let w = raise_all _ _ _ _ _
-    (ap {B = Merged} (λ (f : Frontier). record { number = c.judged-number.result; frontier = f }) c.empty.ensures
-    ∙ raise_refused c.args.self _ _ _ _ c.judged-number.ensures c.if-number-ne0.true) in
+    (ap₂ {C = Merged} (λ (n : ℕ) (f : Frontier). record { number = n; frontier = f }) c.number.ensures c.empty.ensures
+    ∙ raise_refused c.args.self _ _ _ _ (sym (ap number_by c.in-Err.is) ∙ c.judged.ensures) (not_zero _)) in
     record { answers = w.0; right = w.1 }
 
 pub offset_bounds-self-at : goal.offset_bounds-self-at
 offset_bounds-self-at c =
-    record { fits = omega (arith, listed (goal.at.offset_bounds-self-at c).In-Listed) }
+    record { fits = omega (arith, below (goal.at.offset_bounds-self-at c).In-Some) }
 
 pub bounds-self-at : goal.bounds-self-at
-bounds-self-at c = listed (goal.at.bounds-self-at c).In-Listed
+bounds-self-at c = below (goal.at.bounds-self-at c).In-Some
 
-pub returns-in-Listed : goal.returns-in-Listed
+pub offset_bounds-self-at-in-Some : goal.offset_bounds-self-at-in-Some
+offset_bounds-self-at-in-Some c =
+    record { fits = omega (arith, below (goal.at.offset_bounds-self-at-in-Some c).In-Some) }
+
+pub bounds-self-at-in-Some : goal.bounds-self-at-in-Some
+bounds-self-at-in-Some c = below (goal.at.bounds-self-at-in-Some c).In-Some
+
+pub returns-in-Some : goal.returns-in-Some
 unfolding left_number
-returns-in-Listed c =
+returns-in-Some c =
+    let l = (goal.at.returns-in-Some c).In-Some in
     let w = raise_all _ _ _ _ _
-    (raise_stored c.args.self _ _ _ _ c.judged-number.ensures c.if-number-ne0.false _ _ _
-    (in_slot (goal.at.returns-in-Listed c).In-Listed) c.in-Listed.is c.max_u64.ensures c.if-len-capacity.true) in
+    (raise_stored c.args.self _ _ _ _ c.judged.ensures (fits (goal.at.returns-in-Some c).In_default) _ _
+    (listed l).0 (listed l).1 c.max.ensures c.if-len-capacity.true) in
     record { answers = w.0; right = w.1 }
 
 pub with_one-requires : goal.with_one-requires
 unfolding left_number
-with_one-requires c = sym c.judged-number.ensures ∙ c.if-number-ne0.false
+with_one-requires c = sym c.judged.ensures ∙ fits (goal.at.with_one-requires c).In_default
 
 pub returns : goal.returns
 returns c = let w = raise_all _ _ _ _ _ c.with_one.ensures in record { answers = w.0; right = w.1 }

@@ -7,27 +7,25 @@ use Rattle.frontier.proofs.Trim.{count_none, count_more, count_skip, count_end}
 use Rattle.frontier.proofs.cuts.count_above.Goals as goal
 
 pub loop-i-init : goal.loop-i-init
-loop-i-init c = (search rules, search rules, count_none _ _ _ _)
+loop-i-init c = (search rules, count_none _ _ _ _)
 
 pub loop-i-preserved-then-not-exceeds : goal.loop-i-preserved-then-not-exceeds
 unfolding slot
 loop-i-preserved-then-not-exceeds c = (
   search rules,
-  search rules,
   count_skip _ _ _ _ _ _ c.loop-i-test.true
       (sym c.exceeds.ensures ∙ c.if-not-exceeds.true)
-      c.loop-i.invariant.2,
+      c.loop-i.invariant.1,
 )
 
 pub loop-i-preserved : goal.loop-i-preserved
 unfolding slot
 loop-i-preserved c = (
   search rules,
-  search rules,
   count_more _ _ _ _ _ _ c.loop-i-test.true
       (sym c.exceeds.ensures ∙ c.if-not-exceeds.false)
-      c.loop-i.invariant.2,
+      c.loop-i.invariant.1,
 )
 
 pub returns : goal.returns
-returns c = count_end _ _ _ _ _ _ c.loop-i-test.false c.loop-i.invariant.2
+returns c = count_end _ _ _ _ _ _ c.loop-i-test.false c.loop-i.invariant.1

@@ -8,4 +8,4 @@ use Rattle.frontier.proofs.lent.lookup.Goals as goal
 
 pub returns : goal.returns
 unfolding found_by_halving looked_up
-returns c = looked _ _ _ (ap (λ (r : Found). r.answer) c.lookup_by_halving-found.ensures)
+returns c = looked _ _ _ (ap (λ (r : Found). r.epoch) c.lookup_by_halving.ensures)
