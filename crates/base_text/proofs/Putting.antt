@@ -117,16 +117,11 @@ join_more (suc n) i f =
     ∙ sym (append_assoc (f i) (join_from n (suc i) f) (f (suc i + n)))
     ∙ ap (λ (k : ℕ). (f i ++ join_from n (suc i) f) ++ f k) (omega arith)
 
-pub puts_join :
-    (f : ℕ → List ℕ) (i : ℕ) {o x y : List ℕ} {a e g : ℕ} →
-    Puts (join_from i 0 f) o a x e → Puts (f i) x e y g → Puts (join_from (i + 1) 0 f) o a y g
-puts_join f i {o} {x} {y} {a} {e} {g} p q =
-    rw (add-one, join_more i 0 f) (puts_both p (subst (λ (k : ℕ). Puts (f k) x e y g) (omega arith) q))
-
-pub puts_joined :
-    (f : ℕ → List ℕ) {n i : ℕ} {o x : List ℕ} {a e : ℕ} → i ≡ n → Puts (join_from i 0 f) o a x e →
-    Puts (join_from n 0 f) o a x e
-puts_joined f h p = rw h at p
+pub adds_join :
+    (f : ℕ → List ℕ) (i : ℕ) {a b c : Text} → Adds (join_from i 0 f) a b → Adds (f i) b c →
+    Adds (join_from (i + 1) 0 f) a c
+adds_join f i {b = b} {c = c} p q =
+    rw (add-one, join_more i 0 f) (adds_both p (subst (λ (k : ℕ). Adds (f k) b c) (omega arith) q))
 
 -- ---- a refusal's line or an answer
 
