@@ -1,82 +1,51 @@
-// Numbers in decimal, as arguments and in the text that `write` reads.
+// Numbers in decimal, as arguments and in the text that `write` reads. The library's own reading of a number takes a
+// sign, so the digits are read here.
 #![tactic(auto)]
 
 ghost use Rattle.std.specs.Prelude.{◌≡◌};
 ghost use Rattle.base_decimal.specs.Decimal.{digit_value, more_of, word_of};
 
-// A number as its digits come: its value, or that it is of 2^64 or more.
-#[derive(Clone, Copy)]
-pub struct Digits {
-    pub value: u64,
-    pub large: bool,
+// Why a word is no number within its limit.
+#[derive(Clone, Copy, Debug, PartialEq, Eq, Hash)]
+pub enum NoNumber {
+    TooLarge,
+    NotDecimal,
 }
 
-// What a word is: a number, one over its limit, or no number.
-#[derive(Clone, Copy)]
-pub enum Word {
-    Number(u64),
-    Large,
-    Other,
-}
-
-// The value of a digit; 10 for a byte that is none.
-pub fn digit(b: u8) -> u8
+// The value of a digit; none for any other byte.
+pub fn digit(b: u8) -> Option<u8>
     ensures { result ≡ digit_value b }
 {
-    if b < b'0' {
-        return 10;
+    match b {
+        b'0'..=b'9' => Some(b - b'0'),
+        _ => None,
     }
-    if b > b'9' {
-        return 10;
-    }
-    b - b'0'
 }
 
-// One digit more.
-pub fn more(d: Digits, unit: u8) -> Digits
-    ensures { result ≡ more_of d unit }
+// One digit more after those of a value; none where they give 2^64 or more.
+pub fn more(value: Option<u64>, unit: u8) -> Option<u64>
+    ensures { result ≡ more_of value unit }
 {
-    if d.large {
-        return d;
-    }
-    let last = unit as u64;
-    if d.value > (u64::MAX - last) / 10 {
-        return Digits {
-            value: 0,
-            large: true,
-        };
-    }
-    Digits {
-        value: 10 * d.value + last,
-        large: false,
-    }
+    let tens = value?.checked_mul(10)?;
+    tens.checked_add(u64::from(unit))
 }
 
-// A word as a number of at most `limit`.
-pub fn of_word(text: &[u8], limit: u64) -> Word
+// A word as a number of at most `limit`. A word of other bytes than digits is not decimal, however large its digits are.
+pub fn of_word(text: &[u8], limit: u64) -> Result<u64, NoNumber>
     ensures { result ≡ word_of limit text.now }
 {
-    if text.len() == 0 {
-        return Word::Other;
+    if text.is_empty() {
+        return Err(NoNumber::NotDecimal);
     }
-    let mut d = Digits {
-        value: 0,
-        large: false,
-    };
-    let mut i = 0;
-    while i < text.len() {
-        let unit = digit(text[i]);
-        if unit > 9 {
-            return Word::Other;
-        }
-        d = more(d, unit);
-        i += 1;
+    let mut digits = Some(0);
+    for &b in text {
+        let Some(unit) = digit(b) else {
+            return Err(NoNumber::NotDecimal);
+        };
+        digits = more(digits, unit);
     }
-    if d.large {
-        return Word::Large;
+    match digits {
+        Some(value) if value <= limit => Ok(value),
+        _ => Err(NoNumber::TooLarge),
     }
-    if d.value > limit {
-        return Word::Large;
-    }
-    Word::Number(d.value)
 }

@@ -1,16 +1,18 @@
 -- Text put in lent room: nothing, a byte, one text after another, and the numbers of a list. Assumes nothing.
 use mathlib.Core.Path.{◌≡◌, refl, ap, sym, subst, ◌∙◌}
-use mathlib.Core.List.{List, [], ◌∷◌, ◌++◌, append-nil, append_assoc}
+use mathlib.Core.List.{List, [], ◌∷◌, ◌++◌, map, append-nil, append_assoc}
+use Rattle.std.proofs.lemmas.List.{map-append}
 use Prim.Native.Nat.{ℕ, zero, suc, ◌+◌, ◌<◌, ◌≤◌, min, max}
 use native.Mathlib.Omega.{arith}
 use native.Mathlib.Numerals.{add-one}
 use lib.Dec.{ltb}
 use borrow.Author.Tests.{ltb-true, ltb-false, eq-eqb, ne_eqb}
 use lib.ListN.{length, set, take, get_or, length-set, length-append}
-use lib.Seq.{set_out, take-suc, take_all}
+use lib.Seq.{set_out, take-suc}
 use Rattle.base_lists.specs.Lists.{join_from}
 use Rattle.base_lists.proofs.Tests.{by_cases}
-use Rattle.base_text.specs.Text.{put, Puts, after_blank, blanked, refused_text, or_refused}
+use Rattle.base_text.specs.Text.{put, Puts, Adds, after_blank, blanked, refused_text, or_refused}
+use Rattle.base_text.specs.declared.Text.{Text}
 
 pub put_length : (t : List ℕ) (a : ℕ) (o : List ℕ) → length (put t a o) ≡ length o
 unfolding put
@@ -59,15 +61,25 @@ puts_byte o a b h = record { room_is = refl; end_is = omega arith }
 pub puts_full : (o : List ℕ) (a b : ℕ) → length o ≤ a → Puts (b ∷ []) o a o a
 puts_full o a b h = record { room_is = sym (put_out (b ∷ []) a o h); end_is = omega arith }
 
--- one more byte of a text
-pub puts_more :
-    (t : List ℕ) (i : ℕ) {o x y : List ℕ} {a e f : ℕ} → i < length t → Puts (take i t) o a x e →
-    Puts (get_or t i 0 ∷ []) x e y f → Puts (take (i + 1) t) o a y f
-puts_more t i h p q = rw (add-one, take-suc t i 0 h) (puts_both p q)
+-- ---- the same of a room and how much of it is text
 
--- a whole text
-pub puts_whole : (t : List ℕ) (i : ℕ) {o x : List ℕ} {a e : ℕ} → length t ≤ i → Puts (take i t) o a x e → Puts t o a x e
-puts_whole t i h p = rw (take_all i t h) at p
+pub adds_none : (t : Text) → Adds [] t t
+adds_none t = record { puts = puts_none _ _; same_room = refl }
+
+pub adds_both : {s t : List ℕ} {a b c : Text} → Adds s a b → Adds t b c → Adds (s ++ t) a c
+adds_both p q = record { puts = puts_both p.puts q.puts; same_room = q.same_room ∙ p.same_room }
+
+-- one more byte of a text
+pub adds_more :
+    (t : List ℕ) (i : ℕ) {a b c : Text} → i < length t → Adds (take i t) a b → Adds (get_or t i 0 ∷ []) b c →
+    Adds (take (i + 1) t) a c
+adds_more t i h p q = rw (add-one, take-suc t i 0 h) (adds_both p q)
+
+-- text put in a room from its start on
+pub lent :
+    {t o x : List ℕ} {e : ℕ} {a b : Text} → a.room.now ≡ o → a.len ≡ 0 → Adds t a b → b.room.now ≡ x → b.len ≡ e →
+    Puts t o 0 x e
+lent r n p w l = rw (r, n, w, l) at p.puts
 
 blanked_append : (s t : List ℕ) → blanked (s ++ t) ≡ blanked s ++ blanked t
 unfolding blanked
@@ -79,18 +91,18 @@ unfolding blanked
 blanked_one n = append-nil (after_blank n)
 
 -- one more number of a list
-pub puts_number :
-    (t : List ℕ) (i : ℕ) {o x y : List ℕ} {a e f : ℕ} → i < length t →
-    Puts (blanked (take i t)) o a x e → Puts (after_blank (get_or t i 0)) x e y f →
-    Puts (blanked (take (i + 1) t)) o a y f
-puts_number t i h p q =
-    rw (add-one, take-suc t i 0 h, blanked_append (take i t) (get_or t i 0 ∷ []), blanked_one (get_or t i 0))
-    (puts_both p q)
-
--- a whole list
-pub puts_list : (t : List ℕ) (i : ℕ) {o x : List ℕ} {a e : ℕ} → length t ≤ i → Puts (blanked (take i t)) o a x e →
-    Puts (blanked t) o a x e
-puts_list t i h p = rw (take_all i t h) at p
+pub adds_number :
+    {A : Type 0} (f : A → ℕ) (t : List A) (i : ℕ) (x : A) {a b c : Text} → i < length t →
+    Adds (blanked (map f (take i t))) a b → Adds (after_blank (f (get_or t i x))) b c →
+    Adds (blanked (map f (take (i + 1) t))) a c
+adds_number f t i x h p q =
+    rw (
+      add-one,
+      take-suc t i x h,
+      map-append f (take i t) (get_or t i x ∷ []),
+      blanked_append (map f (take i t)) (f (get_or t i x) ∷ []),
+      blanked_one (f (get_or t i x)),
+    ) (adds_both p q)
 
 pub puts_length : {t o x : List ℕ} {a e : ℕ} → Puts t o a x e → length x ≡ length o
 puts_length {t} {o} {a = a} p = ap length p.room_is ∙ put_length t a o
@@ -105,16 +117,11 @@ join_more (suc n) i f =
     ∙ sym (append_assoc (f i) (join_from n (suc i) f) (f (suc i + n)))
     ∙ ap (λ (k : ℕ). (f i ++ join_from n (suc i) f) ++ f k) (omega arith)
 
-pub puts_join :
-    (f : ℕ → List ℕ) (i : ℕ) {o x y : List ℕ} {a e g : ℕ} →
-    Puts (join_from i 0 f) o a x e → Puts (f i) x e y g → Puts (join_from (i + 1) 0 f) o a y g
-puts_join f i {o} {x} {y} {a} {e} {g} p q =
-    rw (add-one, join_more i 0 f) (puts_both p (subst (λ (k : ℕ). Puts (f k) x e y g) (omega arith) q))
-
-pub puts_joined :
-    (f : ℕ → List ℕ) {n i : ℕ} {o x : List ℕ} {a e : ℕ} → i ≡ n → Puts (join_from i 0 f) o a x e →
-    Puts (join_from n 0 f) o a x e
-puts_joined f h p = rw h at p
+pub adds_join :
+    (f : ℕ → List ℕ) (i : ℕ) {a b c : Text} → Adds (join_from i 0 f) a b → Adds (f i) b c →
+    Adds (join_from (i + 1) 0 f) a c
+adds_join f i {b = b} {c = c} p q =
+    rw (add-one, join_more i 0 f) (adds_both p (subst (λ (k : ℕ). Adds (f k) b c) (omega arith) q))
 
 -- ---- a refusal's line or an answer
 

@@ -1,11 +1,12 @@
 -- The digits that the kit spells are the fewest that hold the number; lists of numbers with blanks between. Assumes
 -- nothing.
 use mathlib.Core.Path.{◌≡◌, refl, ap}
-use mathlib.Core.List.{List, [], ◌∷◌, ◌++◌}
+use mathlib.Core.List.{List, [], ◌∷◌, ◌++◌, map}
+use Rattle.std.proofs.lemmas.List.{map-id}
 use Prim.Native.Nat.{ℕ, zero, suc, ◌*◌, ◌^◌, ◌/◌, ◌%◌, ◌<◌, ◌≤◌}
 use native.Mathlib.Omega.{arith}
 use native.Mathlib.Nat.{pow-suc}
-use lib.ListN.{length, drop, get_or}
+use lib.ListN.{length}
 use borrow.Author.Tests.{lt-ltb, le-ltb}
 use Rattle.io.specs.Digits.{hex_digit_ascii, last_digits, IsDigitCount}
 use Rattle.base_text.specs.Text.{decimal, decimal_by, blanked, spaced}
@@ -48,7 +49,5 @@ unfolding spaced
 spaced_none [] h = refl
 spaced_none (n ∷ ns) h = absurd (omega arith)
 
-pub spaced_some : (ns : List ℕ) → 0 < length ns → spaced ns ≡ decimal (get_or ns 0 0) ++ blanked (drop 1 ns)
-unfolding spaced
-spaced_some [] h = absurd (omega arith)
-spaced_some (n ∷ ns) h = refl
+pub blanked_each : (ns : List ℕ) → blanked (map (λ (n : ℕ). n) ns) ≡ blanked ns
+blanked_each ns = ap blanked (map-id ns)

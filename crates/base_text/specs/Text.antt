@@ -3,6 +3,7 @@ use Rattle.std.specs.Prelude.{◌≡◌, cond, List, [], ◌∷◌, ◌++◌, �
 use Rattle.std.specs.Prelude.{set}
 use Rattle.io.specs.Digits.{hex_digit_ascii}
 use Rattle.base_text.specs.Ascii.{ascii}
+use Rattle.base_text.specs.declared.Text.{Text}
 
 -- a text's bytes from a place of the room on; what is past its end is left out
 unfoldable pub put : (text : List ℕ) → (at : ℕ) → (room : List ℕ) → List ℕ
@@ -13,6 +14,11 @@ put (b ∷ text) at o = put text (suc at) (set o at b)
 pub record Puts (text room : List ℕ) (at : ℕ) (room_now : List ℕ) (end : ℕ) : Type 0 where
   pub room_is : room_now ≡ put text at room
   pub end_is : end ≡ max at (min (at + length text) (length room))
+
+-- the same of a room and how much of it is text; the room stays the one that was lent
+pub record Adds (text : List ℕ) (old new : Text) : Type 0 where
+  pub puts : Puts text old.room.now old.len new.room.now new.len
+  pub same_room : new.room.ghost_name ≡ old.room.ghost_name
 
 -- the fewest decimal digits that hold a number, the most significant first; as many as the fuel at most
 unfoldable pub decimal_by : (fuel n : ℕ) → List ℕ

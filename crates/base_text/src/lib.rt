@@ -1,104 +1,121 @@
-// Text made in lent room, of which the first `at` bytes are taken. What goes past the end of the room is left out. Each
-// function hands back where its text ends.
+// Text made in lent room.
 #![tactic(auto)]
 
-ghost use Rattle.std.specs.Prelude.{[], ◌∷◌, take};
-ghost use Rattle.base_text.specs.Text.{Puts, decimal, after_blank, blanked, spaced, refused_text};
+ghost use Rattle.std.specs.Prelude.{◌≡◌, [], ◌∷◌, map, ℕ};
+ghost use Rattle.base_text.specs.Text.{Puts, Adds, decimal, after_blank, blanked, spaced, refused_text};
 
-// One byte.
-pub fn byte(out: &mut [u8], at: usize, b: u8) -> usize
-    ensures { Puts (b ∷ []) out.old at out.new result }
-{
-    if at < out.len() {
-        out[at] = b;
-        return at + 1;
+// A number that text shows in decimal.
+pub trait Number: Copy {
+    ghost value: { Self → ℕ };
+
+    fn wide(self) -> u64
+        ensures { result ≡ value self };
+}
+
+impl Number for u32 {
+    ghost value = { λ n. n };
+
+    fn wide(self) -> u64 {
+        u64::from(self)
     }
-    at
 }
 
-// Bytes as they are.
-pub fn words(out: &mut [u8], at: usize, text: &[u8]) -> usize
-    ensures { Puts text.now out.old at out.new result }
-{
-    let mut end = at;
-    let mut i = 0;
-    while i < text.len() {
-        end = byte(out, end, text[i]);
-        i += 1;
+impl Number for u64 {
+    ghost value = { λ n. n };
+
+    fn wide(self) -> u64 {
+        self
     }
-    end
 }
 
-// A number in decimal.
-pub fn number(out: &mut [u8], at: usize, n: u64) -> usize
-    ensures { Puts (decimal n) out.old at out.new result }
-{
-    let mut digits = [0u8; 20];
-    let k = io::decimal(n, &mut digits);
-    words(out, at, &digits[..k])
+// The room that is lent, and how many of its first bytes are text. What goes past the end of the room is left out.
+#[derive(Drop)]
+pub struct Text<'a> {
+    room: &'a mut [u8],
+    len: usize,
 }
 
-// A number in decimal after a blank.
-pub fn next(out: &mut [u8], at: usize, n: u64) -> usize
-    ensures { Puts (after_blank n) out.old at out.new result }
-{
-    let end = byte(out, at, b' ');
-    number(out, end, n)
-}
-
-// Numbers, each after a blank.
-pub fn list(out: &mut [u8], at: usize, numbers: &[u32]) -> usize
-    ensures { Puts (blanked numbers.now) out.old at out.new result }
-{
-    let mut end = at;
-    let mut i = 0;
-    while i < numbers.len() {
-        end = next(out, end, base_numbers::u32_to_u64(numbers[i]));
-        i += 1;
+impl<'a> Text<'a> {
+    // No text yet.
+    pub fn new(room: &'a mut [u8]) -> Text<'a>
+        ensures same_room { result.room.ghost_name ≡ room.entry.ghost_name }
+        ensures room_is { result.room.now ≡ room.old }
+        ensures none { result.len ≡ 0 }
+    {
+        Text { room, len: 0 }
     }
-    end
-}
 
-// The same of long numbers.
-fn long_list(out: &mut [u8], at: usize, numbers: &[u64]) -> usize
-    ensures { Puts (blanked numbers.now) out.old at out.new result }
-{
-    let mut end = at;
-    let mut i = 0;
-    while i < numbers.len() {
-        end = next(out, end, numbers[i]);
-        i += 1;
+    // How many bytes there are.
+    pub fn len(&self) -> usize
+        ensures { result ≡ self.now.len }
+    {
+        self.len
     }
-    end
-}
 
-// Long numbers with a blank between.
-fn spaced_list(out: &mut [u8], at: usize, numbers: &[u64]) -> usize
-    ensures { Puts (spaced numbers.now) out.old at out.new result }
-{
-    if numbers.len() == 0 {
-        return at;
+    // One byte.
+    pub fn byte(&mut self, b: u8)
+        ensures { Adds (b ∷ []) self.old self.new }
+    {
+        if self.len < self.room.len() {
+            self.room[self.len] = b;
+            self.len += 1;
+        }
     }
-    let first = number(out, at, numbers[0]);
-    long_list(out, first, &numbers[1..])
-}
 
-// The first n of long numbers, with a blank between.
-pub fn line(out: &mut [u8], at: usize, numbers: &[u64], n: usize) -> usize
-    ensures { Puts (spaced (take n numbers.now)) out.old at out.new result }
-{
-    if n < numbers.len() {
-        return spaced_list(out, at, &numbers[..n]);
+    // Bytes as they are.
+    pub fn words(&mut self, text: &[u8])
+        ensures { Adds text.now self.old self.new }
+    {
+        for &b in text {
+            self.byte(b);
+        }
     }
-    spaced_list(out, at, numbers)
+
+    // A number in decimal.
+    pub fn number(&mut self, n: u64)
+        ensures { Adds (decimal n) self.old self.new }
+    {
+        let mut digits = [0u8; 20];
+        let k = io::decimal(n, &mut digits);
+        self.words(&digits[..k]);
+    }
+
+    // A number in decimal after a blank.
+    pub fn next(&mut self, n: u64)
+        ensures { Adds (after_blank n) self.old self.new }
+    {
+        self.byte(b' ');
+        self.number(n);
+    }
+
+    // Numbers, each after a blank.
+    pub fn list<T: Number>(&mut self, numbers: &[T])
+        ensures { Adds (blanked (map T.value numbers.now)) self.old self.new }
+    {
+        for n in numbers {
+            self.next(n.wide());
+        }
+    }
+
+    // Numbers with a blank between.
+    pub fn line(&mut self, numbers: &[u64])
+        ensures { Adds (spaced numbers.now) self.old self.new }
+    {
+        if let Some((first, rest)) = numbers.split_first() {
+            self.number(*first);
+            self.list(rest);
+        }
+    }
 }
 
 // R73: one line, `refused N P`.
 pub fn refused(out: &mut [u8], number: u32, place: u64) -> usize
     ensures { Puts (refused_text number place) out.old 0 out.new result }
 {
-    let word = words(out, 0, b"refused");
-    let numbered = next(out, word, number as u64);
-    let placed = next(out, numbered, place);
-    byte(out, placed, b'\n')
+    let mut text = Text::new(out);
+    text.words(b"refused");
+    text.next(u64::from(number));
+    text.next(place);
+    text.byte(b'\n');
+    text.len()
 }

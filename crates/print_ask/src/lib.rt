@@ -1,12 +1,14 @@
 // R74, what is printed for a question on a plan, as text in lent room; the text's length is handed back.
 #![tactic(auto)]
 
+ghost use Rattle.std.specs.Prelude.{◌≡◌};
 ghost use Rattle.base_lists.specs.Lists.{join_from};
-ghost use Rattle.base_text.specs.Text.{Puts, or_refused};
+ghost use Rattle.base_text.specs.Text.{Puts, Adds, or_refused};
 ghost use Rattle.print_ask.specs.Questions.{verdict_name, verdict_text, whole_words, entry_of, entry_text};
 ghost use Rattle.print_ask.specs.Questions.{frontier_text, ReusePrinted, FrontierPrinted};
 
 use ask_frontier::Sent;
+use base_text::Text;
 use plan_format::Told;
 use plan_format::limits::{LIST_NUMBERS, TABLE_NUMBERS};
 
@@ -28,26 +30,25 @@ fn judged(out: &mut [u8], told: Told) -> usize
     if told.number != 0 {
         return base_text::refused(out, told.number, told.place);
     }
-    let word = base_text::words(out, 0, b"verdict");
-    let number = base_text::next(out, word, told.answer);
-    let name = verdict(out, number, told.answer);
-    base_text::byte(out, name, b'\n')
+    let mut text = Text::new(out);
+    text.words(b"verdict");
+    text.next(told.answer);
+    text.words(verdict(told.answer));
+    text.byte(b'\n');
+    text.len()
 }
 
 // The name of a verdict's number, after a blank.
-fn verdict(out: &mut [u8], at: usize, number: u64) -> usize
-    ensures { Puts (verdict_name number) out.old at out.new result }
+#[tactic(auto, unfolding(crate::specs::Questions::verdict_name))]
+fn verdict(number: u64) -> &'static [u8]
+    ensures { result.now ≡ verdict_name number }
 {
-    if number == 0 {
-        return base_text::words(out, at, b" fresh");
+    match number {
+        0 => b" fresh",
+        1 => b" reusable",
+        2 => b" held",
+        _ => b" not-ordered",
     }
-    if number == 1 {
-        return base_text::words(out, at, b" reusable");
-    }
-    if number == 2 {
-        return base_text::words(out, at, b" held");
-    }
-    base_text::words(out, at, b" not-ordered")
 }
 
 // The frontier sent out for an operation.
@@ -69,47 +70,39 @@ fn entered(out: &mut [u8], sent: Sent) -> usize
         return base_text::refused(out, sent.number, sent.place);
     }
     let f = sent.frontier;
-    let axes = f.axes;
-    let epochs = f.epochs;
-    let word = whole(out, f.tainted);
-    let listed = entries(out, word, &axes, &epochs, f.len);
-    base_text::byte(out, listed, b'\n')
+    let mut text = Text::new(out);
+    text.words(whole(f.tainted));
+    entries(&mut text, &f.axes, &f.epochs, f.len);
+    text.byte(b'\n');
+    text.len()
 }
 
 // `frontier`, and whether it is whole.
-fn whole(out: &mut [u8], tainted: bool) -> usize
-    ensures { Puts (whole_words tainted) out.old 0 out.new result }
+#[tactic(auto, unfolding(crate::specs::Questions::whole_words))]
+fn whole(tainted: bool) -> &'static [u8]
+    ensures { result.now ≡ whole_words tainted }
 {
     if tainted {
-        return base_text::words(out, 0, b"frontier tainted");
+        b"frontier tainted"
+    } else {
+        b"frontier whole"
     }
-    base_text::words(out, 0, b"frontier whole")
 }
 
 // The first n entries, AXIS:EPOCH, each after a blank.
-fn entries(out: &mut [u8], at: usize, axes: &[u64], epochs: &[u64], n: usize) -> usize
-    ensures { Puts (join_from n 0 (entry_text axes.now epochs.now)) out.old
-        at out.new result }
+fn entries(text: &mut Text, axes: &[u64], epochs: &[u64], n: usize)
+    ensures { Adds (join_from n 0 (entry_text axes.now epochs.now)) text.old text.new }
 {
-    let mut end = at;
-    let mut i = 0;
-    while i < n {
-        end = entry(
-            out,
-            end,
-            base_slices::get64(axes, i),
-            base_slices::get64(epochs, i),
-        );
-        i += 1;
+    for i in 0..n {
+        entry(text, base_slices::get_or(axes, i, 0), base_slices::get_or(epochs, i, 0));
     }
-    end
 }
 
 // AXIS:EPOCH after a blank.
-fn entry(out: &mut [u8], at: usize, axis: u64, epoch: u64) -> usize
-    ensures { Puts (entry_of axis epoch) out.old at out.new result }
+fn entry(text: &mut Text, axis: u64, epoch: u64)
+    ensures { Adds (entry_of axis epoch) text.old text.new }
 {
-    let name = base_text::next(out, at, axis);
-    let colon = base_text::byte(out, name, b':');
-    base_text::number(out, colon, epoch)
+    text.next(axis);
+    text.byte(b':');
+    text.number(epoch);
 }

@@ -3,7 +3,8 @@
 use mathlib.Core.Path.{◌≡◌, ap, sym, ◌∙◌}
 use mathlib.Core.Bool.{true, false}
 use mathlib.Core.List.{List, [], ◌∷◌, ◌++◌, append_assoc}
-use Prim.Native.Nat.{ℕ, suc, ◌+◌, ◌≤◌}
+use Prim.Native.Nat.{ℕ, suc, ◌+◌, ◌≤◌, min}
+use Rattle.std.proofs.lemmas.List.{take_min}
 use native.Mathlib.Omega.{arith}
 use native.Mathlib.Nat.{add-zero, zero-add}
 use lib.ListN.{length, set, take, drop, length-set, take-append-drop}
@@ -21,6 +22,10 @@ use Rattle.plan_format.proofs.RoomMeaning.{room_for_none}
 use Rattle.plan_format.proofs.Sizes.{scanned_sizes}
 use Rattle.base_text.specs.Text.{put, Puts, spaced, refused_text}
 use Rattle.print_stored.specs.Texts.{read_text, write_text}
+
+-- the first n elements, or all where there are fewer
+pub first_of : {m : ℕ} (n : ℕ) (xs : List ℕ) → m ≡ min n (length xs) → take m xs ≡ take n xs
+first_of n xs e = rw e (take_min n xs)
 
 -- ---- the reader: a room that is long enough is never refused
 

@@ -5,6 +5,7 @@ ghost use Rattle.std.specs.Prelude.{length, take};
 ghost use Rattle.base_text.specs.Text.{Puts};
 ghost use Rattle.print_stored.specs.Texts.{read_text, write_text};
 
+use base_text::Text;
 use plan_format::limits::PLAN_NUMBERS;
 
 // The numbers of a plan, on one line.
@@ -16,30 +17,20 @@ pub fn read(plan: &[u8], out: &mut [u8]) -> usize
     if told.number != 0 {
         return base_text::refused(out, told.number, told.place);
     }
-    let many = told.answer as usize;
-    let line = base_text::line(out, 0, &numbers, many);
-    base_text::byte(out, line, b'\n')
+    let many = (told.answer as usize).min(numbers.len());
+    let mut text = Text::new(out);
+    text.line(&numbers[..many]);
+    text.byte(b'\n');
+    text.len()
 }
 
-// The stored plan of the first n numbers.
+// The stored plan of the first n numbers, or of all where there are fewer.
 pub fn write(numbers: &[u64], n: usize, out: &mut [u8]) -> usize
     ensures { Puts (write_text (take n numbers.now) (length out.old)) out.old 0
         out.new result }
 {
-    if n < numbers.len() {
-        return written(&numbers[..n], out);
+    match stored_write::write_plan(&numbers[..n.min(numbers.len())], out) {
+        Ok(length) => length as usize,
+        Err(refusal) => base_text::refused(out, refusal.reason.number(), refusal.place),
     }
-    written(numbers, out)
-}
-
-// The stored plan of all numbers.
-fn written(numbers: &[u64], out: &mut [u8]) -> usize
-    ensures { Puts (write_text numbers.now (length out.old)) out.old 0
-        out.new result }
-{
-    let told = plan_format::as_told(stored_write::write_plan(numbers, out));
-    if told.number != 0 {
-        return base_text::refused(out, told.number, told.place);
-    }
-    told.answer as usize
 }

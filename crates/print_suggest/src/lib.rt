@@ -1,10 +1,11 @@
 // R91, what is printed for the question for a wait, as text in lent room; the text's length is handed back.
 #![tactic(auto)]
 
-ghost use Rattle.base_text.specs.Text.{Puts, or_refused};
+ghost use Rattle.base_text.specs.Text.{Puts, Adds, or_refused};
 ghost use Rattle.print_suggest.specs.Printed.{advice_words, advice_text, SuggestPrinted};
 
 use ask_suggest::Suggested;
+use base_text::Text;
 use plan_format::limits::{LIST_NUMBERS, TABLE_NUMBERS};
 use plan_suggest::Advice;
 
@@ -26,22 +27,23 @@ fn line(out: &mut [u8], s: Suggested) -> usize
     if s.number != 0 {
         return base_text::refused(out, s.number, s.place);
     }
-    let a = s.advice;
-    let said = advice(out, a);
-    base_text::byte(out, said, b'\n')
+    let mut text = Text::new(out);
+    advice(&mut text, s.advice);
+    text.byte(b'\n');
+    text.len()
 }
 
 // What is advised.
-fn advice(out: &mut [u8], a: Advice) -> usize
-    ensures { Puts (advice_words a) out.old 0 out.new result }
+fn advice(text: &mut Text, a: Advice)
+    ensures { Adds (advice_words a) text.old text.new }
 {
     match a {
-        Advice::NoneNeeded => base_text::words(out, 0, b"wait none-needed"),
+        Advice::NoneNeeded => text.words(b"wait none-needed"),
         Advice::Wait(semaphore, value) => {
-            let word = base_text::words(out, 0, b"wait");
-            let named = base_text::next(out, word, semaphore as u64);
-            base_text::next(out, named, value)
+            text.words(b"wait");
+            text.next(semaphore as u64);
+            text.next(value);
         }
-        Advice::NoneWouldHelp => base_text::words(out, 0, b"wait none-would-help"),
+        Advice::NoneWouldHelp => text.words(b"wait none-would-help"),
     }
 }

@@ -3,10 +3,11 @@
 
 ghost use Rattle.std.specs.Prelude.{◌≡◌, length};
 ghost use Rattle.plan_format.specs.Sizes.{state_size};
-ghost use Rattle.base_text.specs.Text.{Puts, or_refused};
+ghost use Rattle.base_text.specs.Text.{Puts, Adds, or_refused};
 ghost use Rattle.print_trace.specs.Printed.{numbers_text, departs_text, followed_text, trace_text, TracePrinted};
 
 use ask_trace::TraceTold;
+use base_text::Text;
 use plan_format::limits::{LIST_NUMBERS, MOST_QUEUES, STATE_SIZE, TABLE_NUMBERS};
 use plan_trace::Followed;
 
@@ -33,54 +34,51 @@ fn answered(out: &mut [u8], told: TraceTold, state: &[u64]) -> usize
         return base_text::refused(out, c.number, c.place);
     }
     let traced = told.traced;
-    let followed = traced.followed;
-    let first = line(out, traced.step, followed);
-    let word = base_text::words(out, first, b"\nqueues");
-    let queues = numbers(out, word, &state[..MOST_QUEUES], c.queues);
-    let second = base_text::words(out, queues, b"\nsemaphores");
-    let semaphores = numbers(out, second, &state[MOST_QUEUES..], c.semaphores);
-    base_text::byte(out, semaphores, b'\n')
+    let mut text = Text::new(out);
+    line(&mut text, traced.step, traced.followed);
+    text.words(b"\nqueues");
+    numbers(&mut text, &state[..MOST_QUEUES], c.queues);
+    text.words(b"\nsemaphores");
+    numbers(&mut text, &state[MOST_QUEUES..], c.semaphores);
+    text.byte(b'\n');
+    text.len()
 }
 
 // What was followed.
-fn line(out: &mut [u8], step: usize, f: Followed) -> usize
-    ensures { Puts (followed_text step f) out.old 0 out.new result }
+fn line(text: &mut Text, step: usize, f: Followed)
+    ensures { Adds (followed_text step f) text.old text.new }
 {
     match f {
-        Followed::Full => base_text::words(out, 0, b"trace full"),
+        Followed::Full => text.words(b"trace full"),
         Followed::Unfinished => {
-            let word = base_text::words(out, 0, b"trace unfinished");
-            base_text::next(out, word, step as u64)
+            text.words(b"trace unfinished");
+            text.next(step as u64);
         }
-        Followed::Unknown(i) => departs(out, step, b" unknown", i),
-        Followed::Repeated(i) => departs(out, step, b" repeated", i),
-        Followed::NotFirst(i) => departs(out, step, b" not-first", i),
+        Followed::Unknown(i) => departs(text, step, b" unknown", i),
+        Followed::Repeated(i) => departs(text, step, b" repeated", i),
+        Followed::NotFirst(i) => departs(text, step, b" not-first", i),
         Followed::WaitNotMet(u) => {
-            let operation = departs(out, step, b" wait-not-met", u.operation);
-            base_text::next(out, operation, u.wait as u64)
+            departs(text, step, b" wait-not-met", u.operation);
+            text.next(u.wait as u64);
         }
     }
 }
 
 // The step that departs, the rule that it breaks, and its operation.
-fn departs(out: &mut [u8], step: usize, rule: &[u8], operation: usize) -> usize
-    ensures { Puts (departs_text step rule.now operation) out.old 0 out.new result }
+fn departs(text: &mut Text, step: usize, rule: &[u8], operation: usize)
+    ensures { Adds (departs_text step rule.now operation) text.old text.new }
 {
-    let word = base_text::words(out, 0, b"trace departs");
-    let number = base_text::next(out, word, step as u64);
-    let named = base_text::words(out, number, rule);
-    base_text::next(out, named, operation as u64)
+    text.words(b"trace departs");
+    text.next(step as u64);
+    text.words(rule);
+    text.next(operation as u64);
 }
 
-// The first n numbers of a list, each after a blank.
-fn numbers(out: &mut [u8], at: usize, list: &[u64], n: usize) -> usize
-    ensures { Puts (numbers_text list.now n) out.old at out.new result }
+// The first n numbers of a list, each after a blank; 0 past its end.
+fn numbers(text: &mut Text, list: &[u64], n: usize)
+    ensures { Adds (numbers_text list.now n) text.old text.new }
 {
-    let mut end = at;
-    let mut i = 0;
-    while i < n {
-        end = base_text::next(out, end, base_slices::get64(list, i));
-        i += 1;
+    for i in 0..n {
+        text.next(base_slices::get_or(list, i, 0));
     }
-    end
 }

@@ -1,19 +1,13 @@
 -- `digit` meets its contract.
-use Rattle.base_decimal.specs.Decimal.{digit_value}
-use native.Mathlib.Omega.{arith}
-use borrow.Author.Tests.{lt-ltb, le-ltb, le-leb, lt-leb}
+use Rattle.std.proofs.Common.{arith}
+use Rattle.base_decimal.proofs.Decimals.{value_below, value_above, value_inside}
 use Rattle.base_decimal.proofs.digit.Goals as goal
 
-pub returns-then-b-lt48 : goal.returns-then-b-lt48
-unfolding digit_value
-returns-then-b-lt48 c = rw (lt-ltb c.args.b 48 c.if-b-lt48.true)
+pub returns-in-48-to-57 : goal.returns-in-48-to-57
+returns-in-48-to-57 c = value_inside c.args.b (omega arith) (omega arith)
 
-pub returns-then-b-gt57 : goal.returns-then-b-gt57
-unfolding digit_value
-returns-then-b-gt57 c =
-    rw (le-ltb c.args.b 48 (omega arith), lt-leb c.args.b 57 c.if-b-gt57.true)
+pub returns-in_default : goal.returns-in_default
+returns-in_default c = value_below c.args.b (omega arith)
 
-pub returns : goal.returns
-unfolding digit_value
-returns c =
-    rw (le-ltb c.args.b 48 (omega arith), le-leb c.args.b 57 (omega arith))
+pub returns-in_default-2 : goal.returns-in_default-2
+returns-in_default-2 c = value_above c.args.b (omega arith)

@@ -1,17 +1,19 @@
 -- `more` meets its contract.
-use native.Mathlib.Omega.{arith}
-use Rattle.base_decimal.proofs.Decimals.{stays, passes, grows}
+use Rattle.std.proofs.Common.{◌∙◌}
+use Rattle.base_decimal.specs.Decimal.{more_of}
+use Rattle.base_decimal.proofs.Decimals.{more_past, more_sum}
 use Rattle.base_decimal.proofs.more.Goals as goal
 
-pub returns-then-d : goal.returns-then-d
-returns-then-d c = stays c.args.d _ c.if-d.true
+pub returns-in_err-value : goal.returns-in_err-value
+unfolding more_of
+returns-in_err-value c = rw c.in_err-value.was c.from_residual.ensures
 
-pub returns-then-d-last : goal.returns-then-d-last
-returns-then-d-last c =
-    passes c.args.d c.args.unit
-    c.if-d.false (omega arith)
+pub returns-in_err-tens : goal.returns-in_err-tens
+returns-in_err-tens c =
+    rw c.in_ok-value.was
+    (c.from_residual-in_err-tens.ensures ∙ more_past _ _ c.in_err-tens.ensures)
 
 pub returns : goal.returns
 returns c =
-    grows c.args.d c.args.unit
-    c.if-d.false (omega arith) (omega arith)
+    rw c.in_ok-value.was
+    (more_sum _ _ c.checked_add.result c.in_ok-tens.ensures.1 c.from.ensures c.checked_add.ensures)

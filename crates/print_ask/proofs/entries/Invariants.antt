@@ -1,13 +1,8 @@
 -- `entries` meets its contract: the first entries have been put.
-use Rattle.print_ask.specs.Questions.{entry_text}
-use Rattle.base_text.specs.Text.{Puts}
 use Rattle.base_lists.specs.Lists.{join_from}
-use Prim.Native.Nat.{◌-◌, ◌≤◌}
+use Rattle.base_text.specs.Text.{Adds}
+use Rattle.print_ask.specs.Questions.{entry_text}
 use Rattle.print_ask.proofs.entries.Given as goal
 
 abbrev pub invariant-loop-i : goal.invariant-loop-i
-invariant-loop-i l =
-    (l.i ≤ l.n) × Puts (join_from l.i 0 (entry_text l.axes l.epochs)) l.initial.out l.at l.out l.end
-
-abbrev pub decreases-loop-i : goal.decreases-loop-i
-decreases-loop-i l = l.n - l.i
+invariant-loop-i l = Adds (join_from l.i 0 (entry_text l.fn.axes l.fn.epochs)) l.fn.text l.text

@@ -1,5 +1,5 @@
 -- `advice` meets its contract: each case has its words.
-use Rattle.base_text.proofs.Putting.{puts_both}
+use Rattle.base_text.proofs.Putting.{adds_both}
 use Rattle.print_suggest.specs.Printed.{advice_words}
 use Rattle.print_suggest.proofs.advice.Goals as goal
 
@@ -11,7 +11,7 @@ pub returns-in-Wait : goal.returns-in-Wait
 unfolding advice_words
 returns-in-Wait c =
     rw c.in-Wait.is
-    (puts_both (puts_both c.words-word.ensures c.next-named.ensures) c.next.ensures)
+    (adds_both (adds_both c.words-in-Wait.ensures c.next.ensures) c.next-in-Wait.ensures)
 
 pub returns-in-NoneWouldHelp : goal.returns-in-NoneWouldHelp
 unfolding advice_words

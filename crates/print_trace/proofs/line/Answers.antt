@@ -1,5 +1,5 @@
 -- `line` meets its contract: each case has its words. Assumes nothing.
-use Rattle.base_text.proofs.Putting.{puts_both}
+use Rattle.base_text.proofs.Putting.{adds_both}
 use Rattle.print_trace.specs.Printed.{followed_text}
 use Rattle.print_trace.proofs.line.Goals as goal
 
@@ -11,7 +11,7 @@ pub returns-in-Unfinished : goal.returns-in-Unfinished
 unfolding followed_text
 returns-in-Unfinished c =
     rw c.in-Unfinished.is
-    (puts_both c.words-word.ensures c.next.ensures)
+    (adds_both c.words-in-Unfinished.ensures c.next.ensures)
 
 pub returns-in-Unknown : goal.returns-in-Unknown
 unfolding followed_text
@@ -34,4 +34,4 @@ pub returns-in-WaitNotMet : goal.returns-in-WaitNotMet
 unfolding followed_text
 returns-in-WaitNotMet c =
     rw c.in-WaitNotMet.is
-    (puts_both c.departs-operation.ensures c.next-in-WaitNotMet.ensures)
+    (adds_both c.departs-in-WaitNotMet.ensures c.next-in-WaitNotMet.ensures)

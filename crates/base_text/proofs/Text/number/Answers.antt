@@ -1,7 +1,7 @@
 -- `number` meets its contract: the digits are the fewest.
 use mathlib.Core.Path.{◌∙◌}
 use Rattle.base_text.proofs.Spelling.{spelled}
-use Rattle.base_text.proofs.number.Goals as goal
+use Rattle.base_text.proofs.Text.number.Goals as goal
 
 pub returns : goal.returns
 returns c =
