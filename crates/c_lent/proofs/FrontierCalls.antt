@@ -6,7 +6,7 @@ use Prim.Native.Nat.{ℕ}
 use Rattle.plan_format.specs.declared.Told.{Told}
 use Rattle.frontier.specs.declared.Merged.{Merged}
 use Rattle.std.specs.Prelude.{Option, Some, None}
-use Rattle.frontier.specs.declared.Dominance.{Dominance}
+use Rattle.frontier.specs.Frontiers.{Verdict}
 use Rattle.frontier.specs.Frontiers.{well_formed, pack, capable, one_entry, merge, raise, dominance, looked_up}
 use Rattle.frontier.specs.Meaning.{epoch_of, Looked, MergeRight, RaiseRight, DominanceMeans}
 use Rattle.frontier.proofs.Lookups.{looked}
@@ -68,7 +68,7 @@ module _ (old : List ℕ) (axis epoch capacity : ℕ) (told frontier : List ℕ)
           (first_fails _ _ (oversized_formed old o)) capacity)
 
 module _ (left right : List ℕ) (told : List ℕ) where
-  abbrev dominated : Dominance
+  abbrev dominated : Verdict
   dominated = dominance (frontier_of left) (frontier_of right)
 
   pub dominance_answered : told_of told ≡ dominance_told dominated → (told_of told ≡ dominance_told dominated)
@@ -78,7 +78,7 @@ module _ (left right : List ℕ) (told : List ℕ) where
       let h = dominance_means (frontier_of left) (frontier_of right) dominated refl in (
         e,
         (
-          subst (λ (k : Dominance). DominanceMeans (frontier_of left) (frontier_of right) k)
+          subst (λ (k : Verdict). DominanceMeans (frontier_of left) (frontier_of right) k)
               (sym (ap dominance_of e ∙ dominance_back (frontier_of left) (frontier_of right))) h,
           λ o. ap (λ (k : Told). k.number) e ∙ h.number
               ∙ dominance_fourteen (frontier_of left) (frontier_of right) (either_oversized left right o),

@@ -9,9 +9,9 @@ use lib.ListN.{length, get_or, take, drop}
 use lib.Seq.{length-take-le}
 use Rattle.frontier.specs.declared.Frontier.{Frontier}
 use Rattle.frontier.specs.declared.Merged.{Merged}
-use Rattle.frontier.specs.declared.lent.Filled.{Filled}
+use Rattle.frontier.specs.Walks.{Laid}
 use Rattle.std.specs.Prelude.{Option, Some, None}
-use Rattle.frontier.specs.declared.Dominance.{Dominance}
+use Rattle.frontier.specs.Frontiers.{Verdict}
 use Rattle.frontier_slots.specs.Entries.{most_entries}
 use Rattle.frontier.specs.Frontiers.{well_formed, merge, raise, dominance, looked_up}
 use Rattle.frontier.specs.Meaning.{epoch_of}
@@ -41,13 +41,13 @@ pub first_long : {n : ℕ} (row : List ℕ) → length row ≡ n → most_entrie
     most_entries ≡ length (take most_entries row)
 first_long row e l = sym (length-take-le most_entries row (omega (arith, e, l)))
 
-stored : (m : Merged) (r : Filled) (axes epochs numbers : List ℕ) → well_formed m.frontier ≡ true →
+stored : (m : Merged) (r : Laid) (axes epochs numbers : List ℕ) → well_formed m.frontier ≡ true →
     Fills m r axes epochs → numbers ≡ list_of (filled r axes epochs).frontier → MergeStored m r.number numbers
 stored m r axes epochs numbers f w e =
     let q = filled_right m r axes epochs f w in
     (ap (λ (k : Merged). k.number) q, e ∙ ap (λ (k : Merged). list_of k.frontier) q)
 
-module _ (left right : List ℕ) (xn yn capacity : ℕ) (r : Filled) (axes epochs : List ℕ)
+module _ (left right : List ℕ) (xn yn capacity : ℕ) (r : Laid) (axes epochs : List ℕ)
     (w : Fills (merge (slots_of left xn) (slots_of right yn) capacity) r axes epochs) where
   pub merge_stored : (numbers : List ℕ) → LengthIs left xn → LengthIs right yn →
       numbers ≡ list_of (filled r axes epochs).frontier →
@@ -57,7 +57,7 @@ module _ (left right : List ℕ) (xn yn capacity : ℕ) (r : Filled) (axes epoch
       (stored (merge (slots_of left xn) (slots_of right yn) capacity) r axes epochs numbers
       (merge_formed (slots_of left xn) (slots_of right yn) capacity) w e)
 
-module _ (old : List ℕ) (len axis epoch capacity : ℕ) (r : Filled) (axes epochs : List ℕ)
+module _ (old : List ℕ) (len axis epoch capacity : ℕ) (r : Laid) (axes epochs : List ℕ)
     (w : Fills (raise (slots_of old len) axis epoch capacity) r axes epochs) where
   pub raise_stored : (numbers : List ℕ) → LengthIs old len →
       numbers ≡ list_of (filled r axes epochs).frontier →
@@ -68,7 +68,7 @@ module _ (old : List ℕ) (len axis epoch capacity : ℕ) (r : Filled) (axes epo
       (raise_formed (slots_of old len) axis epoch capacity) w e)
 
 -- QUESTIONS
-pub dominance_lent : (left right : List ℕ) (xn yn : ℕ) (r : Dominance) → LengthIs left xn → LengthIs right yn →
+pub dominance_lent : (left right : List ℕ) (xn yn : ℕ) (r : Verdict) → LengthIs left xn → LengthIs right yn →
     r ≡ dominance (slots_of left xn) (slots_of right yn) → r ≡ dominance (frontier_of left) (frontier_of right)
 dominance_lent left right xn yn r p q e = rw (← lent_slots left xn p, ← lent_slots right yn q) e
 

@@ -5,7 +5,7 @@ use Prim.Native.Nat.{ℕ}
 use lib.Dec.{eqb}
 use Rattle.base_lists.proofs.Tests.{by_cases}
 use Rattle.frontier.specs.declared.Frontier.{Frontier}
-use Rattle.frontier.specs.declared.Dominance.TheVariants.{Refused}
+use Rattle.frontier.specs.Frontiers.{Refused}
 use Rattle.frontier.specs.Frontiers.{answer, dominance_number, dominance, number_of}
 use Rattle.c_lent.specs.Lent.{dominance_told, answer_read, dominance_of}
 

@@ -6,8 +6,8 @@ use Rattle.plan_format.specs.declared.Told.{Told}
 use Rattle.frontier.specs.declared.Frontier.{Frontier}
 use Rattle.frontier.specs.declared.Merged.{Merged}
 use Rattle.std.specs.Prelude.{Option, Some, None}
-use Rattle.frontier.specs.declared.Dominance.{Dominance}
-use Rattle.frontier.specs.declared.Dominance.TheVariants.{Yes, No, Unknown, Refused}
+use Rattle.frontier.specs.Frontiers.{Verdict}
+use Rattle.frontier.specs.Frontiers.{Yes, No, Unknown, Refused}
 use Rattle.frontier_slots.specs.Entries.{most_entries}
 use Rattle.frontier.specs.Frontiers.{number_of}
 use Rattle.frontier.specs.Meaning.{epoch_of}
@@ -88,14 +88,14 @@ OversizedRefused over capable told = over ≡ true → (told_of told).number ≡
 
 -- ---- DOMINANCE
 -- R77, R67: the number and the value of an answer, with no place
-abbrev pub dominance_told : Dominance → Told
+abbrev pub dominance_told : Verdict → Told
 dominance_told r = record { number = (number_of r).number; place = 0; answer = (number_of r).value }
 
 -- what a caller reads there
-unfoldable pub answer_read : ℕ → Dominance
+unfoldable pub answer_read : ℕ → Verdict
 answer_read zero = No
 answer_read (suc zero) = Yes
 answer_read (suc (suc _)) = Unknown
 
-unfoldable pub dominance_of : Told → Dominance
+unfoldable pub dominance_of : Told → Verdict
 dominance_of r = cond (eqb r.number 0) (answer_read r.answer) (Refused r.number)

@@ -4,16 +4,17 @@
 ghost use Rattle.std.specs.Prelude.{◌≡◌, true, cond, ◌||◌, ◌+◌, ◌≤◌, ltb, length, get_or};
 ghost use Rattle.std.proofs.lemmas.List.Edits.{sets};
 ghost use Rattle.frontier_slots.specs.Entries.{most_entries};
-ghost use Rattle.frontier.specs.Frontiers.{capable, merge, raise, dominance, looked_up};
+ghost use Rattle.frontier.specs.Frontiers.{capable, merge, raise, dominance, looked_up, verdict};
 ghost use Rattle.frontier.specs.Meaning.{Looked, MergeRight, RaiseRight, DominanceMeans};
 ghost use Rattle.frontier_slots.specs.Slots.{AllSlots};
-ghost use Rattle.frontier.specs.Walks.{of_slots};
+ghost use Rattle.frontier.specs.Walks.{of_slots, laid};
 ghost use Rattle.c_told.specs.Told.{told_of};
 ghost use Rattle.c_lent.specs.Lent.{length_at, taint_at, frontier_numbers, over_long, frontier_of};
 ghost use Rattle.c_lent.specs.Lent.{list_of, oversized, Handed, MergeStored, MergeSays, merged_of};
 ghost use Rattle.c_lent.specs.Lent.{OversizedRefused, dominance_told, dominance_of, LookupSays, lookup_of};
 
-use frontier::{Dominance, Frontier, lent};
+use frontier::lent::Filled;
+use frontier::{Dominance, Frontier, Unfit, lent};
 use plan_format::Told;
 
 // Where the numbers of a frontier are: the axes come first, then the epochs, the length and the taint.
@@ -31,14 +32,14 @@ const OVER_LONG: usize = Frontier::SLOTS + 1;
 
 // The number and the value of an answer of dominance.
 #[tactic(auto, unfolding(frontier::specs::Frontiers::number_of))]
-fn dominance(r: Dominance) -> Told
-    ensures { result ≡ dominance_told r }
+fn dominance(r: Result<Dominance, Unfit>) -> Told
+    ensures { result ≡ dominance_told (verdict r) }
 {
     match r {
-        Dominance::No => plan_format::answered(0),
-        Dominance::Yes => plan_format::answered(1),
-        Dominance::Unknown => plan_format::answered(2),
-        Dominance::Refused(number) => plan_format::refused(number, 0),
+        Ok(Dominance::No) => plan_format::answered(0),
+        Ok(Dominance::Yes) => plan_format::answered(1),
+        Ok(Dominance::Unknown) => plan_format::answered(2),
+        Err(unfit) => plan_format::refused(unfit.number(), 0),
     }
 }
 
@@ -72,6 +73,30 @@ fn put<'a>(axes: &'a [u64], epochs: &'a [u64], len: usize, tainted: bool, number
     put_row(epochs, EPOCHS, numbers);
     numbers[LENGTH] = len as u64;
     numbers[TAINT] = tainted as u64;
+}
+
+// What a merge leaves in front of the room; its number, or 0.
+fn put_left<'a>(
+    r: Result<Filled, Unfit>,
+    axes: &'a [u64],
+    epochs: &'a [u64],
+    numbers: &mut [u64],
+) -> u32
+    requires { AllSlots axes.now epochs.now × (length numbers.old ≡ frontier_numbers) }
+    ensures number { result ≡ (laid r).number }
+    ensures stored { numbers.new ≡
+        list_of (of_slots axes.now epochs.now (laid r).len (laid r).tainted) }
+{
+    match r {
+        Ok(left) => {
+            put(axes, epochs, left.len, left.tainted, numbers);
+            0
+        }
+        Err(unfit) => {
+            put(axes, epochs, 0, false, numbers);
+            unfit.number()
+        }
+    }
 }
 
 // A frontier beside its number and place, with nothing to answer.
@@ -114,14 +139,12 @@ fn merge_numbers<'a>(left: &'a [u64], right: &'a [u64], capacity: u32, merged: &
         &mut axes,
         &mut epochs,
     );
-    put(
+    put_left(
+        r,
         &axes[..Frontier::SLOTS],
         &epochs[..Frontier::SLOTS],
-        r.len,
-        r.tainted,
         merged,
-    );
-    r.number
+    )
 }
 
 // The larger epoch of each axis, cut to the capacity.
@@ -164,14 +187,12 @@ fn raise_numbers(old: &[u64], axis: u64, epoch: u64, capacity: u32, raised: &mut
         &mut axes,
         &mut epochs,
     );
-    put(
+    put_left(
+        r,
         &axes[..Frontier::SLOTS],
         &epochs[..Frontier::SLOTS],
-        r.len,
-        r.tainted,
         raised,
-    );
-    r.number
+    )
 }
 
 // One axis raised to an epoch.
@@ -195,9 +216,9 @@ pub fn cundvrest_raise(
 }
 
 // Whether the left of two lent frontiers dominates the right one.
-fn dominates_numbers<'a>(left: &'a [u64], right: &'a [u64]) -> Dominance
+fn dominates_numbers<'a>(left: &'a [u64], right: &'a [u64]) -> Result<Dominance, Unfit>
     requires { (length left.now ≡ frontier_numbers) × (length right.now ≡ frontier_numbers) }
-    ensures { result ≡ dominance (frontier_of left.now) (frontier_of right.now) }
+    ensures { verdict result ≡ dominance (frontier_of left.now) (frontier_of right.now) }
 {
     let xn = length_of(left);
     let yn = length_of(right);

@@ -6,7 +6,7 @@
 ghost use Rattle.std.specs.Prelude.{◌≤◌};
 
 use ask_frontier::Sent;
-use frontier::{Dominance, Frontier};
+use frontier::{Dominance, Frontier, Unfit};
 
 fn text(rt: &impl Print, words: &[u8]) {
     let _ = rt.write_all(words);
@@ -102,12 +102,12 @@ fn refused(rt: &impl Print, name: &[u8], plan: &[u8]) {
     ask(rt, plan, 4294967295, 0);
 }
 
-fn answer(rt: &impl Print, d: Dominance) {
+fn answer(rt: &impl Print, d: Result<Dominance, Unfit>) {
     match d {
-        Dominance::Yes => text(rt, b"  yes\n"),
-        Dominance::No => text(rt, b"  no\n"),
-        Dominance::Unknown => text(rt, b"  unknown\n"),
-        Dominance::Refused(n) => number(rt, base_numbers::u32_to_u64(n)),
+        Ok(Dominance::Yes) => text(rt, b"  yes\n"),
+        Ok(Dominance::No) => text(rt, b"  no\n"),
+        Ok(Dominance::Unknown) => text(rt, b"  unknown\n"),
+        Err(unfit) => number(rt, u64::from(unfit.number())),
     }
 }
 
