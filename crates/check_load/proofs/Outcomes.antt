@@ -26,7 +26,7 @@ use Rattle.check_columns.specs.Shown.{PlacesFor}
 use Rattle.check_columns.proofs.Plans.{filling_end}
 use Rattle.stored_numbers.specs.declared.Head.{Head}
 use Rattle.stored_numbers.specs.declared.End.{End}
-use Rattle.stored_numbers.specs.declared.cursor.Cursor.{Cursor}
+use Rattle.stored_numbers.specs.Reading.{Reached}
 use Rattle.stored_numbers.specs.Reading.{fault_of, here, head_cursor, operations_after, PlanRead, NumbersRead}
 use Rattle.stored_numbers.specs.Reading.{Heading, HeadRead, end_cursor, OperationRead}
 use Rattle.stored_numbers.proofs.ReadingEnds.{ReadIn, read_refused, read_more, read_whole}
@@ -37,15 +37,15 @@ use Rattle.check_load.proofs.Blocks.{Small}
 use Rattle.check_load.proofs.Loading.{Load, read_next, goes_on, few_numbers}
 
 -- the operations of a head, wherever their numbers go, make the plan
-plan_by : {F : Form} {bs : List ℕ} {h : Head} {nums : List ℕ} → HeadRead F bs h nums → (r : Cursor) (all : List ℕ) →
+plan_by : {F : Form} {bs : List ℕ} {h : Head} {nums : List ℕ} → HeadRead F bs h nums → (r : Reached) (all : List ℕ) →
     operations_after F.semaphore_width h h.operations (here bs (head_cursor h) nums) ≡ here bs r all →
     r.at ≤ length bs → r.got ≤ h.got + block_numbers * h.operations → PlanRead F bs r all
 plan_by head r all e inside few =
     record { read = head.plan ∙ e; inside = inside; few = omega (arith, head.few, head.few_operations, few) }
 
 -- a cursor after all numbers, which are in front of the most that a plan has
-abbrev cursor_after : (number at : ℕ) → (all : List ℕ) → Cursor
-cursor_after n a all = record { number = n; at = a; got = length all; value = 0 }
+abbrev cursor_after : (number at : ℕ) → (all : List ℕ) → Reached
+cursor_after n a all = record { number = n; at = a; got = length all }
 
 abbrev padded : List ℕ → List ℕ
 padded all = all ++ replicate (plan_numbers - length all) 0
@@ -55,7 +55,7 @@ padded_long all l =
     length-append all (replicate (plan_numbers - length all) 0)
     ∙ omega (arith, length-replicate {A = ℕ} (plan_numbers - length all) 0)
 
-here_after : (bs : List ℕ) (r : Cursor) (all : List ℕ) →
+here_after : (bs : List ℕ) (r : Reached) (all : List ℕ) →
     here bs (cursor_after r.number r.at all) (padded all) ≡ scan (drop r.at bs) r.at all (fault_of r)
 unfolding here fault_of
 here_after bs r all =
@@ -97,7 +97,7 @@ module _ {F : Form} (bs : List ℕ) (form : ReadIn F bs) (h : Head) (nums : List
       abbrev all_read : List ℕ
       all_read = (heading ++ l.blocks) ++ take r.got w_now
 
-      abbrev stop : Cursor
+      abbrev stop : Reached
       stop = cursor_after r.number r.at all_read
 
       stopped : operations_after width h (i + 1) (here bs (head_cursor h) nums) ≡ here bs stop (padded all_read)

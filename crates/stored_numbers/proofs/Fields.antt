@@ -1,8 +1,10 @@
--- One field, read where there is no fault: cut short, refused by its check, or kept; and the cursor that stands for
--- what is read. Assumes nothing.
+-- One field, read where there is no fault: cut short, refused by its check, or kept; and how far the reading has come.
+-- Assumes nothing.
 use mathlib.Core.Path.{◌≡◌, refl, sym, ap, ◌∙◌}
 use mathlib.Core.Bool.{true, cond}
+use mathlib.Core.Logic.{◌⊎◌, inl, inr}
 use mathlib.Core.List.{List, [], ◌∷◌, ◌++◌}
+use Rattle.std.specs.Prelude.{Result, Ok, Err, IfOk}
 use Prim.Native.Nat.{ℕ, ◌+◌, ◌-◌, ◌≤◌, ◌<◌}
 use native.Mathlib.Numerals.{add-one}
 use native.Mathlib.Omega.{arith}
@@ -11,6 +13,13 @@ use lib.ListN.{length, take, drop, set, length-drop, length-set}
 use lib.Seq.{drop-drop, drop-set-lt, take-suc-set}
 use borrow.Author.Tests.{lt-ltb, le-ltb, ne_eqb, eqb-true, eqb-false}
 use Rattle.base_lists.proofs.Tests.{by_cases}
+use Rattle.plan_format.specs.declared.refusal.Reason.{Reason}
+use Rattle.plan_format.specs.declared.refusal.Reason.TheVariants.{CutShort, CountOverLimit, BytesFollow, NotInList}
+use Rattle.plan_format.specs.declared.refusal.Reason.TheVariants.{AxisTwice, SignalNotHigher, WaitTooHigh, RoomTooShort}
+use Rattle.plan_format.specs.declared.refusal.Reason.TheVariants.{Stuck, BrokenMark, NoSuchQueue, NoSuchBuffer}
+use Rattle.plan_format.specs.declared.refusal.Reason.TheVariants.{BadFrontier, BadCapacity, WaitForZero, OutOfTurn}
+use Rattle.plan_format.specs.declared.refusal.Reason.TheVariants.{NoSignalFrees, NoSuchOperation, BadTrace}
+use Rattle.plan_format.specs.Told.{number_of}
 use Rattle.plan_format.specs.Refusal.{refusal, none_given, given}
 use Rattle.plan_format.specs.Grammar.{Check, Grammar, field, value, bytes, Scan, scan, refused, field_number}
 use Rattle.plan_format.specs.Grammar.{read_field, last_got, count_check, read_by}
@@ -18,8 +27,9 @@ use Rattle.plan_format.specs.Sections.{limited}
 use Rattle.plan_format.proofs.Faults.{read_stays}
 use Rattle.plan_format.proofs.Judged.{other_given}
 use Rattle.plan_format.proofs.Seams.{last_snoc}
-use Rattle.stored_numbers.specs.declared.cursor.Cursor.{Cursor}
-use Rattle.stored_numbers.specs.Reading.{fault_of, here, ReadsOn, Word, ReadChecked}
+use Rattle.stored_numbers.specs.declared.reader.Reader.{Reader}
+use Rattle.stored_numbers.specs.Reading.{Reached, fault_of, here, reading, ReadsOn, Word, SameLent, Reads, ReadsField}
+use Rattle.stored_numbers.specs.Reading.{ReadsNumber}
 
 module _ (w : ℕ) (c : ℕ → ℕ) (rest : List ℕ) (p : ℕ) (got : List ℕ) where
   field_cut : length rest < w → read_field bytes w c (scan rest p got none_given) ≡ scan rest p got (refusal 1 p)
@@ -37,151 +47,168 @@ module _ (w : ℕ) (c : ℕ → ℕ) (rest : List ℕ) (p : ℕ) (got : List ℕ
   unfolding read_field field_number bytes scan refused given none_given
   field_right h e = rw (le-ltb (length rest) w h, e)
 
--- ---- cursors
-abbrev cursor : (number at got value : ℕ) → Cursor
-cursor n a k v = record { number = n; at = a; got = k; value = v }
-
-pub here_clean : (bs : List ℕ) (c : Cursor) (nums : List ℕ) → c.number ≡ 0 →
+-- ---- how far a reading has come
+pub here_clean : (bs : List ℕ) (c : Reached) (nums : List ℕ) → c.number ≡ 0 →
     here bs c nums ≡ scan (drop c.at bs) c.at (take c.got nums) none_given
 unfolding here fault_of
 here_clean bs c nums e =
     ap (λ (n : ℕ). scan (drop c.at bs) c.at (take c.got nums) (cond (eqb n 0) none_given (refusal n c.at)))
     e
 
-here_fault : (bs : List ℕ) (n a k v : ℕ) (nums : List ℕ) → (n ≡ 0 → ⊥) →
-    here bs (cursor n a k v) nums ≡ scan (drop a bs) a (take k nums) (refusal n a)
-unfolding here fault_of
-here_fault bs n a k v nums z = rw (ne_eqb n 0 z)
-
-pub fault_number : (c : Cursor) → (c.number ≡ 0 → ⊥) → (fault_of c).number ≡ c.number
+pub fault_number : (c : Reached) → (c.number ≡ 0 → ⊥) → (fault_of c).number ≡ c.number
 unfolding fault_of refusal
 fault_number c z = rw (ne_eqb c.number 0 z)
 
-pub here_given : (bs : List ℕ) (c : Cursor) (nums : List ℕ) → (c.number ≡ 0 → ⊥) → given (here bs c nums).fault ≡ true
+pub here_given : (bs : List ℕ) (c : Reached) (nums : List ℕ) → (c.number ≡ 0 → ⊥) → given (here bs c nums).fault ≡ true
 unfolding here scan
 here_given bs c nums z = other_given (fault_of c) (λ e. z (sym (fault_number c z) ∙ e))
 
-pub fault_none : (c : Cursor) → (fault_of c).number ≡ 0 → c.number ≡ 0
+pub fault_none : (c : Reached) → (fault_of c).number ≡ 0 → c.number ≡ 0
 fault_none c e =
     by_cases (eqb c.number 0) (λ t. eqb-true c.number 0 t)
     (λ f. sym (fault_number c (eqb-false c.number 0 f)) ∙ e)
 
--- a cursor with a refusal passes through
-pub passed : {g : Grammar} {many : ℕ} {bs : List ℕ} {c : Cursor} {nums : List ℕ} {v : ℕ} → (c.number ≡ 0 → ⊥) →
-    c.at ≤ length bs → ReadsOn g many bs c nums (cursor c.number c.at c.got v) nums
+-- every reason has a number
+pub reason_given : (e : Reason) → number_of e ≡ 0 → ⊥
+reason_given CutShort z = omega arith
+reason_given CountOverLimit z = omega arith
+reason_given BytesFollow z = omega arith
+reason_given NotInList z = omega arith
+reason_given AxisTwice z = omega arith
+reason_given SignalNotHigher z = omega arith
+reason_given WaitTooHigh z = omega arith
+reason_given RoomTooShort z = omega arith
+reason_given Stuck z = omega arith
+reason_given BrokenMark z = omega arith
+reason_given NoSuchQueue z = omega arith
+reason_given NoSuchBuffer z = omega arith
+reason_given BadFrontier z = omega arith
+reason_given BadCapacity z = omega arith
+reason_given WaitForZero z = omega arith
+reason_given OutOfTurn z = omega arith
+reason_given NoSignalFrees z = omega arith
+reason_given NoSuchOperation z = omega arith
+reason_given BadTrace z = omega arith
+
+here_refused : (bs : List ℕ) (e : Reason) (a k : ℕ) (nums : List ℕ) →
+    here bs (record { number = number_of e; at = a; got = k }) nums ≡
+    scan (drop a bs) a (take k nums) (refusal (number_of e) a)
 unfolding here fault_of
-passed {g} {bs = bs} {c} {nums} z h =
-    record {
-      read = read_stays bytes g (here bs c nums) (here_given bs c nums z);
-      inside = h;
-      more = omega arith;
-      few =
-          omega arith;
-      as_long = refl;
-      past = refl;
-    }
+here_refused bs e a k nums = rw (ne_eqb (number_of e) 0 (reason_given e))
 
-read_clean : (w : ℕ) (check : Check) (bs : List ℕ) (c : Cursor) (nums : List ℕ) → c.number ≡ 0 →
-    read_by bytes (field w check) (here bs c nums) ≡
-    read_field bytes w (λ v. check (take c.got nums) v)
-    (scan (drop c.at bs) c.at (take c.got nums) none_given)
+-- ---- what a field's method has read
+read_clean : (w : ℕ) (check : Check) (bs nums : List ℕ) (at got : ℕ) →
+    read_by bytes (field w check) (here bs (reading at got) nums) ≡
+    read_field bytes w (λ v. check (take got nums) v) (scan (drop at bs) at (take got nums) none_given)
 unfolding read_by scan
-read_clean w check bs c nums e = ap (λ (s : Scan). read_by bytes (field w check) s) (here_clean bs c nums e)
+read_clean w check bs nums at got = ap (λ (s : Scan). read_by bytes (field w check) s)
+    (here_clean bs (reading at got) nums refl)
 
-module _ {w : ℕ} {check : Check} {bs : List ℕ} {c : Cursor} {nums : List ℕ} (clean : c.number ≡ 0)
-    (h : c.at ≤ length bs) where
-  -- cut short
-  pub cut : {v : ℕ} → length bs - c.at < w → ReadsOn (field w check) 1 bs c nums (cursor 1 c.at c.got v) nums
-  cut {v} l =
+module _ {A : Type 0} {w : ℕ} {check : Check} where
+  -- a field that is refused leaves all as it was
+  stays : {old new : Reader} (e : Reason) → SameLent old new → new.cursor ≡ old.cursor →
+      new.numbers.now ≡ old.numbers.now → old.cursor.at ≤ length old.plan.now →
+      read_field bytes w (λ v. check (take old.cursor.got old.numbers.now) v)
+      (scan (drop old.cursor.at old.plan.now) old.cursor.at (take old.cursor.got old.numbers.now) none_given) ≡
+      scan (drop old.cursor.at old.plan.now) old.cursor.at (take old.cursor.got old.numbers.now)
+      (refusal (number_of e) old.cursor.at) → ReadsField {A = A} w check old (Err e) new
+  stays {old} {new} e same c n inside read =
+      let at : new.cursor.at ≡ old.cursor.at = ap (λ x. x.at) c in
+      let got : new.cursor.got ≡ old.cursor.got = ap (λ x. x.got) c in
       record {
-        read =
-            read_clean w check bs c nums clean
-            ∙ field_cut w (λ u. check (take c.got nums) u) (drop c.at bs) c.at (take c.got nums)
-            (rw (length-drop c.at bs) l)
-            ∙ sym (here_fault bs 1 c.at c.got v nums (eqb-false 1 0 refl));
-        inside = h;
-        more = omega arith;
-        few = omega arith;
-        as_long = refl;
-        past = refl;
+        reads = record {
+          same = same;
+          reads = record {
+            read = read_clean w check old.plan.now old.numbers.now old.cursor.at old.cursor.got ∙ read
+                ∙ sym (rw (n, at, got) (here_refused old.plan.now e old.cursor.at old.cursor.got old.numbers.now));
+            inside = rw at inside;
+            more = omega (arith, got);
+            few = omega (arith, got);
+            as_long = ap length n;
+            past = ap (drop new.cursor.got) n;
+          };
+        };
+        one = tt;
       }
 
-  module _ (l : w ≤ length bs - c.at) {v : ℕ} (d : Word w bs c.at v) where
-    -- refused by its check
-    pub wrong : {n u : ℕ} → check (take c.got nums) v ≡ n → (n ≡ 0 → ⊥) →
-        ReadsOn (field w check) 1 bs c nums (cursor n c.at c.got u) nums
-    wrong {n} {u} e z =
-        record {
-          read =
-              read_clean w check bs c nums clean
-              ∙ field_wrong w (λ x. check (take c.got nums) x) (drop c.at bs) c.at (take c.got nums) n
-              (rw (length-drop c.at bs) l)
-              (rw (← d.word) e) z
-              ∙ sym (here_fault bs n c.at c.got u nums z);
-          inside = h;
-          more = omega arith;
-          few = omega arith;
-          as_long = refl;
-          past = refl;
-        }
+  -- cut short
+  pub cut : {old : Reader} {r : Result A Reason} {e : Reason} → r ≡ Err e →
+      (e ≡ CutShort) × (length old.plan.now < old.cursor.at + w) → old.cursor.at ≤ length old.plan.now →
+      ReadsField w check old r old
+  cut {old} {r} {e} g (is, short) inside =
+      rw (g, is) (stays {old = old} {new = old} CutShort (record { plan = refl; room = refl }) refl refl inside
+      (field_cut w (λ v. check (take old.cursor.got old.numbers.now) v) (drop old.cursor.at old.plan.now)
+      old.cursor.at (take old.cursor.got old.numbers.now)
+      (rw (length-drop old.cursor.at old.plan.now) (omega arith))))
 
-    -- kept
-    pub kept : c.got < length nums → check (take c.got nums) v ≡ 0 →
-        ReadsOn (field w check) 1 bs c nums (cursor 0 (c.at + w) (c.got + 1) v) (set nums c.got v)
-    unfolding here fault_of
-    kept k e =
-        record {
-          read =
-              read_clean w check bs c nums clean
-              ∙ field_right w (λ x. check (take c.got nums) x) (drop c.at bs) c.at (take c.got nums)
-              (rw (length-drop c.at bs) l)
-              (rw (← d.word) e)
-              ∙ rw (drop-drop w c.at bs, ← d.word, add-one c.got, take-suc-set nums c.got v k);
-          inside = omega arith;
-          more = omega arith;
-          few = omega arith;
-          as_long = length-set nums c.got v;
-          past = drop-set-lt (c.got + 1) nums c.got v (omega arith);
-        }
+  -- refused by its check
+  pub wrong : {old new : Reader} (e : Reason) {v : ℕ} → SameLent old new → new.cursor ≡ old.cursor →
+      new.numbers.now ≡ old.numbers.now → Word w old.plan.now old.cursor.at v →
+      check (take old.cursor.got old.numbers.now) v ≡ number_of e → ReadsField {A = A} w check old (Err e) new
+  wrong {old} {new} e same c n d checked =
+      stays {old = old} {new = new} e same c n (omega (arith, d.whole))
+      (field_wrong w (λ v. check (take old.cursor.got old.numbers.now) v) (drop old.cursor.at old.plan.now)
+      old.cursor.at (take old.cursor.got old.numbers.now) (number_of e)
+      (rw (length-drop old.cursor.at old.plan.now) (omega (arith, d.whole)))
+      (rw (← d.word) checked) (reason_given e))
 
--- ---- fields whose number the cursor has
-pub value_last : {w : ℕ} {check : Check} {most : ℕ} {bs : List ℕ} {c r : Cursor} {nums nums_now : List ℕ} →
-    ReadChecked w check most bs c nums r nums_now → r.number ≡ 0 → last_got (here bs r nums_now) ≡ r.value
-value_last {bs = bs} {r = r} {nums_now = nums_now} p z =
-    sym (p.valued ∙ ap (λ (n : ℕ). cond (eqb n 0) (last_got (here bs r nums_now)) 0) z)
+  -- kept
+  pub kept : {old new : Reader} (x : A) {v : ℕ} → SameLent old new →
+      new.cursor ≡ record { at = old.cursor.at + w; got = old.cursor.got + 1 } →
+      new.numbers.now ≡ set old.numbers.now old.cursor.got v → Word w old.plan.now old.cursor.at v →
+      old.cursor.got + 1 ≤ length old.numbers.now → check (take old.cursor.got old.numbers.now) v ≡ 0 →
+      ReadsField w check old (Ok x) new
+  unfolding here fault_of
+  kept {old} {new} x {v} same c n d room checked =
+      let at : new.cursor.at ≡ old.cursor.at + w = ap (λ y. y.at) c in
+      let got : new.cursor.got ≡ old.cursor.got + 1 = ap (λ y. y.got) c in
+      record {
+        reads = record {
+          same = same;
+          reads = rw (n, at, got) (record {
+            read =
+                read_clean w check old.plan.now old.numbers.now old.cursor.at old.cursor.got
+                ∙ field_right w (λ y. check (take old.cursor.got old.numbers.now) y)
+                (drop old.cursor.at old.plan.now) old.cursor.at (take old.cursor.got old.numbers.now)
+                (rw (length-drop old.cursor.at old.plan.now) (omega (arith, d.whole)))
+                (rw (← d.word) checked)
+                ∙ rw (drop-drop w old.cursor.at old.plan.now, ← d.word, add-one old.cursor.got,
+                take-suc-set old.numbers.now old.cursor.got v (omega arith)) refl;
+            inside = d.whole;
+            more = omega arith;
+            few = omega arith;
+            as_long = length-set old.numbers.now old.cursor.got v;
+            past = drop-set-lt (old.cursor.got + 1) old.numbers.now old.cursor.got v (omega arith);
+          });
+        };
+        one = got;
+      }
 
-value_none : (n x : ℕ) → (n ≡ 0 → ⊥) → 0 ≡ cond (eqb n 0) x 0
-value_none n x z = rw (ne_eqb n 0 z)
+-- ---- a number that is handed back
+module _ {w : ℕ} {check : Check} {most : ℕ} where
+  pub cut_number : {old : Reader} {r : Result ℕ Reason} {e : Reason} → r ≡ Err e →
+      (e ≡ CutShort) × (length old.plan.now < old.cursor.at + w) → old.cursor.at ≤ length old.plan.now →
+      ReadsNumber w check most old r old
+  cut_number g short inside = record { field = cut g short inside; number = rw g tt }
 
-module _ {w : ℕ} {check : Check} {most : ℕ} {bs : List ℕ} {c : Cursor} {nums : List ℕ} where
-  pub checked_passed : (c.number ≡ 0 → ⊥) → c.at ≤ length bs →
-      ReadChecked w check most bs c nums (cursor c.number c.at c.got 0) nums
-  checked_passed z h = record { reads = passed z h; valued = value_none c.number _ z; value_below = omega arith }
+  pub wrong_number : {old new : Reader} (e : Reason) {v : ℕ} → SameLent old new → new.cursor ≡ old.cursor →
+      new.numbers.now ≡ old.numbers.now → Word w old.plan.now old.cursor.at v →
+      check (take old.cursor.got old.numbers.now) v ≡ number_of e → ReadsNumber w check most old (Err e) new
+  wrong_number e same c n d checked = record { field = wrong e same c n d checked; number = tt }
 
-  pub checked_cut : c.number ≡ 0 → c.at ≤ length bs → length bs - c.at < w →
-      ReadChecked w check most bs c nums (cursor 1 c.at c.got 0) nums
-  checked_cut e h l = record { reads = cut e h l; valued = refl; value_below = omega arith }
-
-  module _ (clean : c.number ≡ 0) (h : c.at ≤ length bs) (l : w ≤ length bs - c.at) {v : ℕ}
-      (d : Word w bs c.at v) where
-    pub checked_wrong : {n : ℕ} → 1 ≤ n → check (take c.got nums) v ≡ n →
-        ReadChecked w check most bs c nums (cursor n c.at c.got 0) nums
-    checked_wrong {n} o e =
-        record {
-          reads = wrong clean h l d e (λ z. omega arith);
-          valued = value_none n _ (λ z. omega arith);
-          value_below = omega arith;
-        }
-
-    pub checked_kept : c.got < length nums → check (take c.got nums) v ≡ 0 → v ≤ most →
-        ReadChecked w check most bs c nums (cursor 0 (c.at + w) (c.got + 1) v) (set nums c.got v)
-    unfolding here scan last_got
-    checked_kept k e m =
-        record {
-          reads = kept clean h l d k e;
-          valued = sym (rw (add-one c.got, take-suc-set nums c.got v k) (last_snoc (take c.got nums) v));
-          value_below = m;
-        }
+  pub kept_number : {old new : Reader} {v : ℕ} → SameLent old new →
+      new.cursor ≡ record { at = old.cursor.at + w; got = old.cursor.got + 1 } →
+      new.numbers.now ≡ set old.numbers.now old.cursor.got v → Word w old.plan.now old.cursor.at v →
+      old.cursor.got + 1 ≤ length old.numbers.now → check (take old.cursor.got old.numbers.now) v ≡ 0 → v ≤ most →
+      ReadsNumber w check most old (Ok v) new
+  unfolding here scan last_got
+  kept_number {old} {new} {v} same c n d room checked m =
+      let got : new.cursor.got ≡ old.cursor.got + 1 = ap (λ y. y.got) c in
+      record {
+        field = kept v same c n d room checked;
+        number = (rw (n, got) (sym (rw (add-one old.cursor.got, take-suc-set old.numbers.now old.cursor.got v
+            (omega arith)) (last_snoc (take old.cursor.got old.numbers.now) v))), m);
+      }
 
 -- what a limit and a count's check say of a number
 pub over_limit : (limit over v : ℕ) (got : List ℕ) → limit ≤ v → limited limit over got v ≡ over
@@ -193,13 +220,10 @@ unfolding limited
 below_limit limit over v got m = rw (lt-ltb v limit m)
 
 module _ (least most v : ℕ) where
-  pub count_under : v < least → count_check least most v ≡ 2
+  pub count_out : (v < least) ⊎ ((least ≤ v) × (most < v)) → count_check least most v ≡ 2
   unfolding count_check
-  count_under m = rw (lt-ltb v least m)
-
-  pub count_over : least ≤ v → most < v → count_check least most v ≡ 2
-  unfolding count_check
-  count_over l m = rw (le-ltb v least l, lt-ltb most v m)
+  count_out (inl m) = rw (lt-ltb v least m)
+  count_out (inr (l, m)) = rw (le-ltb v least l, lt-ltb most v m)
 
   pub count_right : least ≤ v → v ≤ most → count_check least most v ≡ 0
   unfolding count_check

@@ -1,8 +1,9 @@
 pub mod Words
 pub mod Fields
 pub mod Cursors
-pub mod Lists
 pub mod Counts
 pub mod Heads
+pub mod Openings
+pub mod Wholes
 pub mod ReadingEnds
 pub mod Rests

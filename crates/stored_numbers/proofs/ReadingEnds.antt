@@ -6,7 +6,7 @@ use mathlib.Core.List.{List, [], ◌++◌}
 use Prim.Native.Nat.{ℕ, ◌*◌, ◌≤◌, ◌<◌}
 use native.Mathlib.Omega.{arith}
 use lib.ListN.{length, take, drop, length-drop, take-append-drop}
-use lib.Seq.{length-take-le}
+use lib.Seq.{length-take-le, take_at}
 use borrow.Author.Tests.{ne_eqb}
 use Rattle.base_lists.specs.Lists.{in_front}
 use Rattle.base_lists.proofs.Tests.{by_cases}
@@ -18,11 +18,10 @@ use Rattle.plan_format.specs.Stored.{scanned, Tells}
 use Rattle.plan_format.specs.declared.Told.{Told}
 use Rattle.plan_format.proofs.HandedBack.{ended_none, ended_more, ended_got}
 use Rattle.plan_format.proofs.Faults.{ended_stays}
-use Rattle.stored_numbers.specs.declared.cursor.Cursor.{Cursor}
-use Rattle.stored_numbers.specs.Reading.{fault_of, here, Past, begun, PlanRead, Ends, NumbersRead}
+use Rattle.stored_numbers.specs.Reading.{Reached, fault_of, here, Past, begun, PlanRead, Ends, NumbersRead}
 use Rattle.stored_numbers.proofs.Fields.{here_given, here_clean, fault_number}
 
-fault_place : (c : Cursor) → (c.number ≡ 0 → ⊥) → (fault_of c).place ≡ c.at
+fault_place : (c : Reached) → (c.number ≡ 0 → ⊥) → (fault_of c).place ≡ c.at
 unfolding fault_of refusal
 fault_place c z = rw (ne_eqb c.number 0 z)
 
@@ -30,8 +29,8 @@ pub answer_few : (f : Refusal) (n m : ℕ) {r : Told} → Tells f n r → n ≤ 
 answer_few f n m t l = by_cases (given f) (λ y. omega (arith, rw y at t.answer_is))
     (λ y. omega (arith, rw y at t.answer_is))
 
--- ---- what a cursor tells at the end
-module _ (bs : List ℕ) (c : Cursor) (nums : List ℕ) where
+-- ---- what is told at the end
+module _ (bs : List ℕ) (c : Reached) (nums : List ℕ) where
   abbrev end : Scan
   end = ended (here bs c nums)
 
@@ -89,12 +88,12 @@ unfolding scanned_by begun bytes
 scanned_in F bs = ap (λ (k : ℕ). ended (read_by bytes (plan_grammar F) (scan (drop k bs) k [] none_given)))
     (let e : 1 * length F.lead ≡ length F.lead = omega arith in e)
 
-module _ {F : Form} {bs : List ℕ} {c : Cursor} {nums : List ℕ} (p : PlanRead F bs c nums)
+module _ {F : Form} {bs : List ℕ} {c : Reached} {nums : List ℕ} (p : PlanRead F bs c nums)
     (fits : c.got ≤ length nums) where
   by_form : scanned_by bytes F bs ≡ ended (here bs c nums)
   by_form = scanned_in F bs ∙ ap ended p.read
 
-  -- what the cursor tells at the end, whatever array its numbers are in
+  -- what is told at the end, whatever array the numbers are in
   abbrev pub ToldBy : Told → Type 0
   ToldBy r = (n : List ℕ) → c.got ≤ length n → Ends (ended (here bs c n)) r
 
@@ -126,7 +125,7 @@ pub read_in_told : {wide : Bool} (bs : List ℕ) → wide ≡ is_second bs → R
 read_in_told bs e = subst (λ (b : Bool). ReadIn (form_by b) bs) (sym e) (read_in bs)
 
 -- ---- what is told of a whole plan
-module _ {F : Form} {bs : List ℕ} (form : ReadIn F bs) {c : Cursor} {nums : List ℕ} (p : PlanRead F bs c nums) where
+module _ {F : Form} {bs : List ℕ} (form : ReadIn F bs) {c : Reached} {nums : List ℕ} (p : PlanRead F bs c nums) where
   scanned_is : scanned bs ≡ ended (here bs c nums)
   scanned_is = form ∙ ap ended p.read
 
@@ -162,3 +161,20 @@ module _ {F : Form} {bs : List ℕ} (form : ReadIn F bs) {c : Cursor} {nums : Li
     read_array {nums₀} past =
         ends_array bs c nums (omega (arith, p.few)) past
         ∙ ap (λ (s : Scan). in_front s.got nums₀) (sym scanned_is)
+
+-- the same of the numbers in front of the array
+pub numbers_of : {bs : List ℕ} {s : Scan} → scanned bs ≡ s → (r : Told) (nums₀ : List ℕ) {nums : List ℕ} →
+    Ends s r → nums ≡ in_front s.got nums₀ → r.answer ≤ plan_numbers → length nums ≡ plan_numbers → NumbersRead bs r nums
+unfolding Ends in_front
+numbers_of {bs} {s} e r nums₀ {nums} t a few long =
+    record {
+      told = subst (λ (x : Scan). Tells x.fault (length x.got) r) (sym e) t;
+      numbers = λ z. ap (λ (x : Scan). take (length x.got) nums) e ∙ ap (take (length s.got)) a
+          ∙ take_at s.got (drop (length s.got) nums₀) (length s.got) refl ∙ ap (λ (x : Scan). x.got) (sym e);
+      few = few;
+      long = long;
+    }
+
+pub form_is : {wide : Bool} (bs : List ℕ) → wide ≡ is_second bs → scanned bs ≡ scanned_by bytes (form_by wide) bs
+unfolding scanned
+form_is bs e = ap (λ (b : Bool). scanned_by bytes (form_by b) bs) (sym e)

@@ -7,15 +7,14 @@ use lib.ListN.{length, take, drop, length-append, length-take, length-drop}
 use lib.Seq.{take_at, drop_at, length-take-le}
 use Rattle.base_lists.specs.Lists.{in_front}
 use Rattle.plan_format.specs.Sizes.{most_operations, head_numbers, block_numbers, plan_numbers}
-use Rattle.plan_format.specs.Grammar.{bytes, Scan, scan, ended}
+use Rattle.plan_format.specs.Grammar.{Grammar, bytes, Scan, scan, ended}
 use Rattle.plan_format.specs.Form.{Form}
 use Rattle.plan_format.specs.Sections.{repeat, operation_below}
 use Rattle.plan_format.specs.Stored.{scanned}
 use Rattle.plan_format.specs.declared.Told.{Told}
 use Rattle.plan_format.proofs.Repeats.{read_repeat}
 use Rattle.stored_numbers.specs.declared.Head.{Head}
-use Rattle.stored_numbers.specs.declared.cursor.Cursor.{Cursor}
-use Rattle.stored_numbers.specs.Reading.{fault_of, here, Past, ReadsOn, head_cursor, operations_after, HeadRead}
+use Rattle.stored_numbers.specs.Reading.{Reached, reading, fault_of, here, Past, ReadsOn, head_cursor, operations_after, HeadRead}
 use Rattle.stored_numbers.specs.Reading.{Ends, rest_cursor, rest_scan}
 use Rattle.stored_numbers.proofs.Cursors.{past_then, reads_past}
 use Rattle.stored_numbers.proofs.ReadingEnds.{ReadIn, answer_few, ends_front, ends_array}
@@ -37,13 +36,20 @@ module _ (k : ℕ) (head nums : List ℕ) (l : k ≤ length head) where
       }
 
 -- ---- the reading
-module _ (width : ℕ) (bs head nums₀ : List ℕ) (at : ℕ) (h : Head) {a k n : ℕ} {nums nums_now : List ℕ} {r : Cursor}
+-- a head without a refusal
+pub from_clean : {g : Grammar} {m : ℕ} {bs : List ℕ} (number : ℕ) {a k : ℕ} {nums nums_now : List ℕ} {r : Reached} →
+    number ≡ 0 → ReadsOn g m bs (reading a k) nums r nums_now →
+    ReadsOn g m bs (record { number = number; at = a; got = k }) nums r nums_now
+from_clean {g} {m} {bs} number {a} {k} {nums} {nums_now} {r} z p =
+    subst (λ (n : ℕ). ReadsOn g m bs (record { number = n; at = a; got = k }) nums r nums_now) (sym z) p
+
+module _ (width : ℕ) (bs head nums₀ : List ℕ) (at : ℕ) (h : Head) {a k n : ℕ} {nums nums_now : List ℕ} {r : Reached}
     (place : a ≡ min at (length bs))
     (got : k ≡ min h.got head_numbers) (many : n ≡ min h.operations most_operations)
     (copied : nums ≡ in_front (take k head) nums₀)
     (long : k ≤ length head) (roomy : k ≤ length nums₀) (room : k + block_numbers * n ≤ length nums)
     (p : ReadsOn (repeat n (operation_below width h.queues h.semaphores h.buffers)) (block_numbers * n) bs
-    (record { number = h.number; at = a; got = k; value = 0 }) nums r nums_now) where
+    (record { number = h.number; at = a; got = k }) nums r nums_now) where
   taken : take k nums ≡ take k head
   taken = ap (λ (l : List ℕ). take k l) copied ∙ front_taken k head nums₀ long
 
@@ -54,7 +60,7 @@ module _ (width : ℕ) (bs head nums₀ : List ℕ) (at : ℕ) (h : Head) {a k n
   unfolding rest_scan rest_cursor here fault_of
   rest_is =
       let start : (a k : ℕ) (l : List ℕ) → Scan =
-      λ a k l. scan (drop a bs) a l (fault_of (record { number = h.number; at = a; got = k; value = 0 })) in
+      λ a k l. scan (drop a bs) a l (fault_of (record { number = h.number; at = a; got = k })) in
       ap ended
       (ap (λ (n : ℕ). operations_after width h n (start (min at (length bs)) (min h.got head_numbers)
       (take (min h.got head_numbers) head))) (sym many)
@@ -95,7 +101,7 @@ unfolding rest_scan rest_cursor here head_cursor fault_of
 rest_plan {F} {bs} {nums} {h} form head =
     let width = F.semaphore_width in
     let start : (a k : ℕ) → Scan = λ a k. scan (drop a bs) a (take k nums)
-    (fault_of (record { number = h.number; at = a; got = k; value = 0 })) in
+    (fault_of (record { number = h.number; at = a; got = k })) in
     let place : min h.at (length bs) ≡ h.at = omega (arith, head.inside) in
     let got : min h.got head_numbers ≡ h.got = omega (arith, head.few) in
     let many : min h.operations most_operations ≡ h.operations = omega (arith, head.few_operations) in

@@ -1,10 +1,13 @@
 -- What the reader's functions say: the reading that a cursor stands for, and what is handed back of it.
 -- Assumes nothing: these are definitions.
-use Rattle.std.specs.Prelude.{◌≡◌, cond, List, [], ◌∷◌, ◌++◌, ℕ, ◌+◌, ◌-◌, ◌*◌, ◌≤◌, ◌<◌, ◌^◌, min, eqb, length, take}
-use Rattle.std.specs.Prelude.{drop}
+use Rattle.std.specs.Prelude.{◌≡◌, Bool, cond, List, [], ◌∷◌, ◌++◌, ℕ, ◌+◌, ◌-◌, ◌*◌, ◌≤◌, ◌<◌, ◌^◌, min, eqb, length, take}
+use Rattle.std.specs.Prelude.{drop, Result, Ok, Err, IfOk}
 use Rattle.base_lists.specs.Lists.{in_front}
 use Rattle.plan_format.specs.Sizes.{most_queues, first_semaphores, most_buffers, most_operations, head_numbers}
 use Rattle.plan_format.specs.Sizes.{block_numbers, plan_numbers}
+use Rattle.plan_format.specs.declared.refusal.Reason.{Reason}
+use Rattle.plan_format.specs.declared.refusal.Reason.TheVariants.{CutShort}
+use Rattle.plan_format.specs.Told.{number_of}
 use Rattle.plan_format.specs.Refusal.{Refusal, refusal, none_given, given}
 use Rattle.plan_format.specs.Grammar.{Check, Grammar, field, seq, counted, value, bytes, Scan, scan, last_got, times}
 use Rattle.plan_format.specs.Grammar.{count_check, read_by, ended}
@@ -15,36 +18,34 @@ use Rattle.plan_format.specs.Stored.{scanned, Tells}
 use Rattle.plan_format.specs.declared.Told.{Told}
 use Rattle.stored_numbers.specs.declared.End.{End}
 use Rattle.stored_numbers.specs.declared.Head.{Head}
-use Rattle.stored_numbers.specs.declared.cursor.Cursor.{Cursor}
+use Rattle.stored_numbers.specs.declared.reader.Cursor.{Cursor}
+use Rattle.stored_numbers.specs.declared.operation.Counts.{Counts}
+use Rattle.stored_numbers.specs.declared.reader.Reader.{Reader}
 
--- ---- the reading of `bs` that a cursor stands for, its numbers being in front of `nums`
-unfoldable pub fault_of : Cursor → Refusal
+-- ---- how far a reading has come: the number of the refusal met, or 0; the place; how many numbers are stored
+pub record Reached : Type 0 where
+  pub number : ℕ
+  pub at : ℕ
+  pub got : ℕ
+
+-- the reading of `bs` that has come so far, its numbers being in front of `nums`
+unfoldable pub fault_of : Reached → Refusal
 fault_of c = cond (eqb c.number 0) none_given (refusal c.number c.at)
 
-unfoldable pub here : (bs : List ℕ) → Cursor → (nums : List ℕ) → Scan
+unfoldable pub here : (bs : List ℕ) → Reached → (nums : List ℕ) → Scan
 here bs c nums = scan (drop c.at bs) c.at (take c.got nums) (fault_of c)
 
--- a cursor at a place, with so many numbers and no refusal
-abbrev pub reading : (at got : ℕ) → Cursor
-reading at got = record { number = 0; at = at; got = got; value = 0 }
-
--- a cursor that is inside the bytes, with room for so many numbers more
-pub record ReadRoom (many : ℕ) (bs : List ℕ) (c : Cursor) (nums : List ℕ) : Type 0 where
-  pub inside : c.at ≤ length bs
-  pub room : c.got + many ≤ length nums
-
--- a cursor without a refusal, with so many bytes before the end
-pub record Whole (width : ℕ) (bs : List ℕ) (c : Cursor) : Type 0 where
-  pub clean : c.number ≡ 0
-  pub whole : c.at + width ≤ length bs
+-- at a place, with so many numbers and no refusal
+abbrev pub reading : (at got : ℕ) → Reached
+reading at got = record { number = 0; at = at; got = got }
 
 -- past so many numbers the array stays
 pub record Past (got : ℕ) (nums nums_now : List ℕ) : Type 0 where
   pub as_long : length nums_now ≡ length nums
   pub past : drop got nums_now ≡ drop got nums
 
--- from the cursor `c` to the cursor `r` a thing is read, at most so many numbers long
-pub record ReadsOn (g : Grammar) (many : ℕ) (bs : List ℕ) (c : Cursor) (nums : List ℕ) (r : Cursor)
+-- from `c` to `r` a thing is read, at most so many numbers long
+pub record ReadsOn (g : Grammar) (many : ℕ) (bs : List ℕ) (c : Reached) (nums : List ℕ) (r : Reached)
     (nums_now : List ℕ) : Type 0 where
   pub read : read_by bytes g (here bs c nums) ≡ here bs r nums_now
   pub inside : r.at ≤ length bs
@@ -56,23 +57,55 @@ pub record ReadsOn (g : Grammar) (many : ℕ) (bs : List ℕ) (c : Cursor) (nums
 -- a word of some bytes at a place
 pub record Word (width : ℕ) (bs : List ℕ) (at v : ℕ) : Type 0 where
   pub word : v ≡ value (take width (drop at bs))
-  pub small : v < 256 ^ width
+  pub whole : at + width ≤ length bs
 
--- a field was read whose check takes no number over the most, and the cursor has its number, 0 beside a refusal
-pub record ReadChecked (width : ℕ) (check : Check) (most : ℕ) (bs : List ℕ) (c : Cursor) (nums : List ℕ) (r : Cursor)
-    (nums_now : List ℕ) : Type 0 where
-  pub reads : ReadsOn (field width check) 1 bs c nums r nums_now
-  pub valued : r.value ≡ cond (eqb r.number 0) (last_got (here bs r nums_now)) 0
-  pub value_below : r.value ≤ most
+-- R38, the next field's number, or that it is cut short
+abbrev pub NextIs : (width : ℕ) → (bs : List ℕ) → (at : ℕ) → Result ℕ Reason → Type 0
+NextIs w bs at (Ok v) = Word w bs at v
+NextIs w bs at (Err e) = (e ≡ CutShort) × (length bs < at + w)
 
--- a limited field, and a count
-abbrev pub ReadLimited : (width limit over : ℕ) → (bs : List ℕ) → Cursor → (nums : List ℕ) → Cursor →
-    (nums_now : List ℕ) → Type 0
-ReadLimited width limit over = ReadChecked width (limited limit over) (limit - 1)
+-- ---- what a reader's methods say
+-- the number of the refusal met, or 0
+abbrev pub number_met : {A : Type 0} → Result A Reason → ℕ
+number_met (Ok x) = 0
+number_met (Err e) = number_of e
 
-abbrev pub ReadCount : (width least most : ℕ) → (bs : List ℕ) → Cursor → (nums : List ℕ) → Cursor →
-    (nums_now : List ℕ) → Type 0
-ReadCount width least most = ReadChecked width (λ _ v. count_check least most v) most
+-- how far a result has come, the cursor being where it is
+abbrev pub reached : {A : Type 0} → Result A Reason → Cursor → Reached
+reached r c = record { number = number_met r; at = c.at; got = c.got }
+
+-- room for so many numbers more
+abbrev pub RoomFor : (many : ℕ) → Reader → Type 0
+RoomFor many s = s.cursor.got + many ≤ length s.numbers.now
+
+-- a reader has what it was lent
+pub record SameLent (old new : Reader) : Type 0 where
+  pub plan : new.plan ≡ old.plan
+  pub room : new.numbers.ghost_name ≡ old.numbers.ghost_name
+
+-- a thing is read, at most so many numbers long
+pub record Reads {A : Type 0} (g : Grammar) (many : ℕ) (old : Reader) (r : Result A Reason) (new : Reader) : Type 0
+    where
+  pub same : SameLent old new
+  pub reads : ReadsOn g many old.plan.now (reading old.cursor.at old.cursor.got) old.numbers.now
+      (reached r new.cursor) new.numbers.now
+
+-- a field is read, which is one number
+pub record ReadsField {A : Type 0} (width : ℕ) (check : Check) (old : Reader) (r : Result A Reason) (new : Reader) :
+    Type 0 where
+  pub reads : Reads (field width check) 1 old r new
+  pub one : IfOk r (λ _. new.cursor.got ≡ old.cursor.got + 1)
+
+-- and it is handed back, where the check takes none over the most
+pub record ReadsNumber (width : ℕ) (check : Check) (most : ℕ) (old : Reader) (r : Result ℕ Reason) (new : Reader) :
+    Type 0 where
+  pub field : ReadsField width check old r new
+  pub number : IfOk r (λ v. (v ≡ last_got (here old.plan.now (reached r new.cursor) new.numbers.now)) × (v ≤ most))
+
+-- a section is read: its count, which is handed back, and so many numbers
+pub record ReadsSection (g : Grammar) (most : ℕ) (old : Reader) (r : Result ℕ Reason) (new : Reader) : Type 0 where
+  pub reads : Reads g (1 + most) old r new
+  pub entries : IfOk r (λ n. new.cursor.got ≡ old.cursor.got + (1 + n))
 
 -- a reading at its start, past the form's lead bytes
 unfoldable pub begun : Form → (bs : List ℕ) → Scan
@@ -91,7 +124,7 @@ abbrev pub first_numbers : ℕ
 first_numbers = 4 + most_queues + first_semaphores + most_buffers + most_operations * block_numbers
 
 -- the whole plan was read, but for its end
-pub record PlanRead (F : Form) (bs : List ℕ) (r : Cursor) (nums_now : List ℕ) : Type 0 where
+pub record PlanRead (F : Form) (bs : List ℕ) (r : Reached) (nums_now : List ℕ) : Type 0 where
   pub read : read_by bytes (plan_grammar F) (begun F bs) ≡ here bs r nums_now
   pub inside : r.at ≤ length bs
   pub few : r.got ≤ plan_numbers
@@ -144,18 +177,9 @@ pub record Heading (q m b n : ℕ) (nums : List ℕ) : Type 0 where
   pub sizes_long : length sizes ≡ b
   pub numbers_are : nums ≡ q ∷ (axes ++ (m ∷ (owners ++ (b ∷ (sizes ++ (n ∷ []))))))
 
--- three sections were read: with the fourth they make the plan
-pub record FrontRead (F : Form) (bs : List ℕ) (c : Cursor) (q m b : ℕ) (nums_now : List ℕ) : Type 0 where
-  pub read : (g : Grammar) → read_by bytes (fronted F g) (begun F bs) ≡ read_by bytes g (here bs c nums_now)
-  pub plan : read_by bytes (plan_grammar F) (begun F bs) ≡
-      read_by bytes (counted 0 most_operations 2 (operation_below F.semaphore_width q m b)) (here bs c nums_now)
-  pub heading : (n : ℕ) → c.number ≡ 0 → Heading q m b n (take c.got nums_now ++ (n ∷ []))
-  pub inside : c.at ≤ length bs
-  pub few : c.got ≤ front_numbers F
-
 -- where the operations begin
-unfoldable pub head_cursor : Head → Cursor
-head_cursor h = record { number = h.number; at = h.at; got = h.got; value = h.operations }
+unfoldable pub head_cursor : Head → Reached
+head_cursor h = record { number = h.number; at = h.at; got = h.got }
 
 -- so many operations are read after a head, a semaphore's position having so many bytes
 abbrev pub operations_after : (width : ℕ) → Head → (many : ℕ) → Scan → Scan
@@ -172,6 +196,52 @@ pub record HeadRead (F : Form) (bs : List ℕ) (h : Head) (nums_now : List ℕ) 
   pub few : h.got ≤ head_numbers
   pub few_operations : h.operations ≤ most_operations
 
+-- a reader before the first section
+pub record Begins (F : Form) (s : Reader) : Type 0 where
+  pub at : s.cursor.at ≡ length F.lead
+  pub got : s.cursor.got ≡ 0
+
+-- the head that is made of a result, and of the cursor
+abbrev pub head_of : Result (Counts × ℕ) Reason → Cursor → (wide : Bool) → Head
+head_of (Ok (k, n)) c w =
+    record {
+      number = 0;
+      at = c.at;
+      got = c.got;
+      queues = k.queues;
+      semaphores = k.semaphores;
+      buffers = k.buffers;
+      operations = n;
+      wide = w;
+    }
+head_of (Err e) c w =
+    record {
+      number = number_of e;
+      at = c.at;
+      got = c.got;
+      queues = 0;
+      semaphores = 0;
+      buffers = 0;
+      operations = 0;
+      wide = w;
+    }
+
+-- a head is read
+pub record HeadReads (F : Form) (old : Reader) (r : Result (Counts × ℕ) Reason) (new : Reader) : Type 0 where
+  pub same : SameLent old new
+  pub told : (w : Bool) → HeadTold (head_scan_by F old.plan.now) old.numbers.now (head_of r new.cursor w)
+      new.numbers.now
+  pub means : (w : Bool) → HeadRead F old.plan.now (head_of r new.cursor w) new.numbers.now
+  pub past : Past new.cursor.got old.numbers.now new.numbers.now
+  pub few : new.cursor.got ≤ front_numbers F + 1
+
+-- a plan is read, but for its end
+pub record PlanReads {A : Type 0} (F : Form) (old : Reader) (r : Result A Reason) (new : Reader) : Type 0 where
+  pub same : SameLent old new
+  pub read : PlanRead F old.plan.now (reached r new.cursor) new.numbers.now
+  pub past : Past new.cursor.got old.numbers.now new.numbers.now
+  pub few : new.cursor.got ≤ form_numbers F
+
 -- ---- an operation
 -- the reading of an operation from a place on, or from the end of the bytes
 unfoldable pub operation_scan : (width q m b : ℕ) → (bs : List ℕ) → (at : ℕ) → Scan
@@ -185,8 +255,8 @@ unfoldable pub OperationTold : (width q m b : ℕ) → (bs : List ℕ) → (at :
 OperationTold width q m b bs at w r w_now =
     Stopped (operation_scan width q m b bs at) r.number r.at r.got w w_now
 
-unfoldable pub end_cursor : End → Cursor
-end_cursor r = record { number = r.number; at = r.at; got = r.got; value = 0 }
+unfoldable pub end_cursor : End → Reached
+end_cursor r = record { number = r.number; at = r.at; got = r.got }
 
 -- what it means: the reading goes on at the place, with the numbers in front of the window
 pub record OperationRead (width q m b : ℕ) (bs : List ℕ) (at : ℕ) (r : End) (window_now : List ℕ) : Type 0 where
@@ -208,8 +278,8 @@ pub record NumbersRead (bs : List ℕ) (r : Told) (nums_now : List ℕ) : Type 0
 
 -- a plan from its head on: after the head's numbers its operations are read at a place, to the end of the bytes; beside
 -- a refusal of the head nothing is read, and it is told at that place
-unfoldable pub rest_cursor : (bs : List ℕ) → (at : ℕ) → Head → Cursor
-rest_cursor bs at h = record { number = h.number; at = min at (length bs); got = min h.got head_numbers; value = 0 }
+unfoldable pub rest_cursor : (bs : List ℕ) → (at : ℕ) → Head → Reached
+rest_cursor bs at h = record { number = h.number; at = min at (length bs); got = min h.got head_numbers }
 
 unfoldable pub rest_scan : (width : ℕ) → (bs : List ℕ) → (at : ℕ) → Head → (nums : List ℕ) → Scan
 rest_scan width bs at h nums =

@@ -1,203 +1,119 @@
-// Fields: each is read at a cursor, judged, and stored after the numbers before it. A cursor with a refusal keeps it
-// and its place.
-ghost use Rattle.std.specs.Prelude.{◌+◌, ◌-◌, ◌≤◌};
-ghost use Rattle.plan_format.specs.Form.{at_least, width_by};
-ghost use Rattle.plan_format.specs.Grammar.{field};
-ghost use Rattle.plan_format.specs.Sections.{axis_field, size_field};
-ghost use Rattle.plan_format.specs.Sizes.{second_width};
-ghost use Rattle.stored_numbers.specs.Reading.{ReadRoom, Whole, ReadsOn, ReadLimited, ReadCount};
+// Fields: each is read at the cursor, judged, and stored after the numbers before it. A field that is refused leaves
+// the cursor where it is.
+ghost use Rattle.std.specs.Prelude.{◌≡◌, ◌+◌, ◌-◌, ◌≤◌, ◌<◌, length, take, drop, set};
+ghost use Rattle.base_lists.specs.Lists.{member};
+ghost use Rattle.plan_format.specs.Form.{any_number, at_least, new_axis};
+ghost use Rattle.plan_format.specs.Told.{number_of};
+ghost use Rattle.plan_format.specs.Grammar.{count_check};
+ghost use Rattle.plan_format.specs.Sections.{limited};
+ghost use Rattle.stored_numbers.specs.Reading.{NextIs, RoomFor, SameLent, ReadsField, ReadsNumber};
 
-use crate::cursor::Cursor;
-use crate::word;
+use crate::reader::Reader;
+use byteorder::{ByteOrder, LittleEndian};
+use plan_format::Reason;
 
-// A byte below `limit`; any other is refused by `over`.
-pub fn byte(plan: &[u8], c: Cursor, limit: u64, over: u32, numbers: &mut [u64]) -> Cursor
-    requires read_room { ReadRoom 1 plan.now c numbers.old }
-    requires le_over { 1 ≤ over }
-    ensures { ReadLimited 1 limit over plan.now c numbers.old result numbers.new }
-{
-    if c.number != 0 {
-        return c.refused(c.number);
+impl<'a> Reader<'a> {
+    // The number in the next bytes, the lowest first; compiled, it is one load.
+    #[inline(always)]
+    fn next<const WIDTH: usize>(&self) -> Result<u64, Reason>
+        requires { (1 ≤ WIDTH) × (WIDTH ≤ 8) }
+        ensures { NextIs WIDTH self.now.plan.now self.now.cursor.at result }
+    {
+        let left = &self.plan[self.cursor.at..];
+        if left.len() < WIDTH {
+            return Err(Reason::CutShort);
+        }
+        Ok(LittleEndian::read_uint(left, WIDTH))
     }
-    if plan.len() - c.at < 1 {
-        return c.refused(1);
-    }
-    whole_byte(plan, c, limit, over, numbers)
-}
 
-// The same where it is known that the bytes are there.
-pub fn whole_byte(plan: &[u8], c: Cursor, limit: u64, over: u32, numbers: &mut [u64]) -> Cursor
-    requires read_room { ReadRoom 1 plan.now c numbers.old × Whole 1 plan.now c }
-    requires le_over { 1 ≤ over }
-    ensures read { ReadLimited 1 limit over plan.now c numbers.old result
-        numbers.new }
-    ensures near { result.at ≤ c.at + 1 }
-{
-    let got = c.got;
-    let value = word::word1(plan, c.at);
-    if limit <= value {
-        return c.refused(over);
+    // A number is stored, and the cursor moves past its field.
+    #[inline(always)]
+    fn keep<const WIDTH: usize>(&mut self, value: u64)
+        requires whole { self.old.cursor.at + WIDTH ≤ length self.old.plan.now }
+        requires room { RoomFor 1 self.old }
+        ensures same { SameLent self.old self.new }
+        ensures cursor { self.new.cursor ≡ record { at = self.old.cursor.at + WIDTH; got = self.old.cursor.got + 1 } }
+        ensures stored { self.new.numbers.now ≡ set self.old.numbers.now self.old.cursor.got value }
+    {
+        self.numbers[self.cursor.got] = value;
+        self.cursor = self.cursor.past(WIDTH);
     }
-    numbers[got] = value;
-    c.past(1, value)
-}
 
-// Two bytes below `limit`; any other number is refused by `over`.
-pub fn pair(plan: &[u8], c: Cursor, limit: u64, over: u32, numbers: &mut [u64]) -> Cursor
-    requires read_room { ReadRoom 1 plan.now c numbers.old }
-    requires le_over { 1 ≤ over }
-    ensures { ReadLimited 2 limit over plan.now c numbers.old result numbers.new }
-{
-    if c.number != 0 {
-        return c.refused(c.number);
+    // A number below `limit`; any other is refused by `over`.
+    #[inline(always)]
+    pub fn below<const WIDTH: usize>(&mut self, limit: u64, over: Reason) -> Result<u64, Reason>
+        requires width { (1 ≤ WIDTH) × (WIDTH ≤ 8) }
+        requires room { RoomFor 1 self.old }
+        ensures { ReadsNumber WIDTH (limited limit (number_of over)) (limit - 1) self.old result self.new }
+    {
+        let value = self.next::<WIDTH>()?;
+        if limit <= value {
+            return Err(over);
+        }
+        self.keep::<WIDTH>(value);
+        Ok(value)
     }
-    if plan.len() - c.at < 2 {
-        return c.refused(1);
-    }
-    whole_pair(plan, c, limit, over, numbers)
-}
 
-// The same where it is known that the bytes are there.
-pub fn whole_pair(plan: &[u8], c: Cursor, limit: u64, over: u32, numbers: &mut [u64]) -> Cursor
-    requires read_room { ReadRoom 1 plan.now c numbers.old × Whole 2 plan.now c }
-    requires le_over { 1 ≤ over }
-    ensures read { ReadLimited 2 limit over plan.now c numbers.old result
-        numbers.new }
-    ensures near { result.at ≤ c.at + 2 }
-{
-    let got = c.got;
-    let value = word::word2(plan, c.at);
-    if limit <= value {
-        return c.refused(over);
+    // A count, from `least` to `most`.
+    #[inline(always)]
+    pub fn count<const WIDTH: usize>(&mut self, least: u64, most: u64) -> Result<u64, Reason>
+        requires width { (1 ≤ WIDTH) × (WIDTH ≤ 8) }
+        requires room { RoomFor 1 self.old }
+        ensures { ReadsNumber WIDTH (λ _ v. count_check least most v) most self.old result self.new }
+    {
+        let value = self.next::<WIDTH>()?;
+        if value < least || most < value {
+            return Err(Reason::CountOverLimit);
+        }
+        self.keep::<WIDTH>(value);
+        Ok(value)
     }
-    numbers[got] = value;
-    c.past(2, value)
-}
 
-// The position of a semaphore: two bytes if `wide`, else one; below `semaphores`, or refused by 4.
-pub fn position(plan: &[u8], c: Cursor, wide: bool, semaphores: u64, numbers: &mut [u64]) -> Cursor
-    requires { ReadRoom 1 plan.now c numbers.old }
-    ensures { ReadLimited (width_by wide) semaphores 4 plan.now c numbers.old result
-        numbers.new }
-{
-    if wide {
-        pair(plan, c, semaphores, 4, numbers)
-    } else {
-        byte(plan, c, semaphores, 4, numbers)
+    // The size of a buffer: any number.
+    #[inline(always)]
+    pub fn size(&mut self) -> Result<(), Reason>
+        requires { RoomFor 1 self.old }
+        ensures { ReadsField 4 any_number self.old result self.new }
+    {
+        let value = self.next::<4>()?;
+        self.keep::<4>(value);
+        Ok(())
     }
-}
 
-// The same where it is known that two bytes are there.
-pub fn whole_position(
-    plan: &[u8],
-    c: Cursor,
-    wide: bool,
-    semaphores: u64,
-    numbers: &mut [u64],
-) -> Cursor
-    requires { ReadRoom 1 plan.now c numbers.old × Whole second_width plan.now c }
-    ensures read { ReadLimited (width_by wide) semaphores 4 plan.now c numbers.old result
-        numbers.new }
-    ensures near { result.at ≤ c.at + second_width }
-{
-    if wide {
-        whole_pair(plan, c, semaphores, 4, numbers)
-    } else {
-        whole_byte(plan, c, semaphores, 4, numbers)
+    // The value of a wait or a signal, at least `least`.
+    #[inline(always)]
+    pub fn value(&mut self, least: u64) -> Result<(), Reason>
+        requires { RoomFor 1 self.old }
+        ensures { ReadsField 8 (at_least least) self.old result self.new }
+    {
+        let value = self.next::<8>()?;
+        if value < least {
+            return Err(Reason::WaitForZero);
+        }
+        self.keep::<8>(value);
+        Ok(())
     }
-}
 
-// A count in two bytes, at least `least` and below `limit`; any other number is refused by 2.
-pub fn between(plan: &[u8], c: Cursor, least: u64, limit: u64, numbers: &mut [u64]) -> Cursor
-    requires read_room { ReadRoom 1 plan.now c numbers.old }
-    requires le_limit { 1 ≤ limit }
-    ensures { ReadCount 2 least (limit - 1) plan.now c numbers.old result
-        numbers.new }
-{
-    let at = c.at;
-    let got = c.got;
-    if c.number != 0 {
-        return c.refused(c.number);
+    // Whether a queue that was read has this axis: the numbers so far are the count of the queues and their axes.
+    #[inline(always)]
+    fn has_axis(&self, axis: u64) -> bool
+        requires { RoomFor 0 self.now }
+        ensures { result ≡ member axis (drop 1 (take self.now.cursor.got self.now.numbers.now)) }
+    {
+        plan_format::repeated(&self.numbers[..self.cursor.got], axis)
     }
-    if plan.len() - at < 2 {
-        return c.refused(1);
-    }
-    let value = word::word2(plan, at);
-    if value < least {
-        return c.refused(2);
-    }
-    if limit <= value {
-        return c.refused(2);
-    }
-    numbers[got] = value;
-    c.past(2, value)
-}
 
-// The size of a buffer: four bytes, any number.
-pub fn size(plan: &[u8], c: Cursor, numbers: &mut [u64]) -> Cursor
-    requires { ReadRoom 1 plan.now c numbers.old }
-    ensures { ReadsOn size_field 1 plan.now c numbers.old result numbers.new }
-{
-    let at = c.at;
-    let got = c.got;
-    if c.number != 0 {
-        return c;
+    // The axis of a queue, which no earlier queue has.
+    #[inline(always)]
+    pub fn axis(&mut self) -> Result<(), Reason>
+        requires { RoomFor 1 self.old }
+        ensures { ReadsField 8 new_axis self.old result self.new }
+    {
+        let value = self.next::<8>()?;
+        if self.has_axis(value) {
+            return Err(Reason::AxisTwice);
+        }
+        self.keep::<8>(value);
+        Ok(())
     }
-    if plan.len() - at < 4 {
-        return c.refused(1);
-    }
-    let value = word::word4(plan, at);
-    numbers[got] = value;
-    c.past(4, value)
-}
-
-// The value of a wait or a signal: eight bytes, at least `least`; a lower one is refused by 16.
-pub fn point_value(plan: &[u8], c: Cursor, least: u64, numbers: &mut [u64]) -> Cursor
-    requires { ReadRoom 1 plan.now c numbers.old }
-    ensures { ReadsOn (field 8 (at_least least)) 1 plan.now c numbers.old result
-        numbers.new }
-{
-    if c.number != 0 {
-        return c;
-    }
-    if plan.len() - c.at < 8 {
-        return c.refused(1);
-    }
-    whole_value(plan, c, least, numbers)
-}
-
-// The same where it is known that the bytes are there.
-pub fn whole_value(plan: &[u8], c: Cursor, least: u64, numbers: &mut [u64]) -> Cursor
-    requires { ReadRoom 1 plan.now c numbers.old × Whole 8 plan.now c }
-    ensures { ReadsOn (field 8 (at_least least)) 1 plan.now c numbers.old result
-        numbers.new }
-{
-    let got = c.got;
-    let value = word::word8(plan, c.at);
-    if value < least {
-        return c.refused(16);
-    }
-    numbers[got] = value;
-    c.past(8, value)
-}
-
-// The axis of a queue: eight bytes, a number that no earlier queue has.
-pub fn axis(plan: &[u8], c: Cursor, numbers: &mut [u64]) -> Cursor
-    requires { ReadRoom 1 plan.now c numbers.old }
-    ensures { ReadsOn axis_field 1 plan.now c numbers.old result numbers.new }
-{
-    let at = c.at;
-    let got = c.got;
-    if c.number != 0 {
-        return c;
-    }
-    if plan.len() - at < 8 {
-        return c.refused(1);
-    }
-    let value = word::word8(plan, at);
-    if plan_format::repeated(&numbers[..got], value) {
-        return c.refused(5);
-    }
-    numbers[got] = value;
-    c.past(8, value)
 }

@@ -1,34 +1,31 @@
-// R9 and R53, the numbers of stored plans: one pass over the bytes, a cursor by value, each field judged and stored as
-// it is read.
+// R9 and R53, the numbers of stored plans: one pass over the bytes, by a reader with a cursor that moves by value, each
+// field judged and stored as it is read.
 #![tactic(auto)]
 
-mod cursor;
 mod field;
 mod operation;
+mod reader;
 mod section;
-mod word;
 
-ghost use Rattle.std.specs.Prelude.{◌≡◌, List, false, ℕ, ◌+◌, ◌≤◌, min, length, take};
+ghost use Rattle.std.specs.Prelude.{◌≡◌, List, false, ℕ, ◌+◌, ◌≤◌, length, take};
 ghost use Rattle.base_lists.specs.Lists.{in_front};
 ghost use Rattle.plan_format.specs.Form.{is_second, first_form, form_by, width_by, scanned_by};
 ghost use Rattle.plan_format.specs.Grammar.{bytes, ended};
-ghost use Rattle.plan_format.specs.Sizes.{most_operations, plan_numbers};
+ghost use Rattle.plan_format.specs.Sizes.{plan_numbers};
 ghost use Rattle.plan_format.specs.Stored.{scanned};
-ghost use Rattle.stored_numbers.specs.Reading.{here, head_scan, head_scan_by, front_numbers, first_numbers};
-ghost use Rattle.stored_numbers.specs.Reading.{HeadTold, HeadRead, OperationTold};
-ghost use Rattle.stored_numbers.specs.Reading.{OperationRead, Ends, NumbersRead, rest_scan};
+ghost use Rattle.plan_format.specs.Told.{told_by};
+ghost use Rattle.stored_numbers.specs.Reading.{here, reached, head_scan, head_scan_by, front_numbers, form_numbers};
+ghost use Rattle.stored_numbers.specs.Reading.{first_numbers, HeadTold, HeadRead, OperationTold, OperationRead, Ends};
+ghost use Rattle.stored_numbers.specs.Reading.{NumbersRead, rest_scan, Begins};
 
-use crate::cursor::Cursor;
+use crate::operation::Counts;
+use crate::reader::{Cursor, Reader};
+use crate::section::OPERATIONS;
 use plan_format::limits::{
     BLOCK_NUMBERS, FIRST_SEMAPHORES, HEAD_NUMBERS, MOST_BUFFERS, MOST_OPERATIONS, MOST_QUEUES,
     PLAN_NUMBERS, WINDOW,
 };
-use plan_format::{Told, answered, refused};
-
-// The most operations, and the least number of them that is too many.
-const OPERATIONS: u64 = MOST_OPERATIONS as u64;
-
-const TOO_MANY_OPERATIONS: u64 = OPERATIONS + 1;
+use plan_format::{Reason, Refusal, Told, as_told, refused};
 
 // The most numbers before the operations of a plan in the first form.
 pub const FIRST_HEAD_NUMBERS: usize = 4 + MOST_QUEUES + FIRST_SEMAPHORES + MOST_BUFFERS;
@@ -43,7 +40,7 @@ pub type FirstPlanNumbers = [u64; FIRST_PLAN_NUMBERS];
 // What comes before the operations: the refusal met there, or 0; the place where the reading stopped and how many
 // numbers are stored; the four counts, 0 beside a refusal; and whether the plan is in the second form, in which a
 // semaphore's position takes two bytes.
-#[derive(Clone, Copy)]
+#[derive(Clone, Copy, Debug, PartialEq, Eq, Hash)]
 pub struct Head {
     pub number: u32,
     pub at: usize,
@@ -56,7 +53,7 @@ pub struct Head {
 }
 
 // Where the reading of an operation stopped: the refusal met there, or 0; the place; how many numbers are stored.
-#[derive(Clone, Copy)]
+#[derive(Clone, Copy, Debug, PartialEq, Eq, Hash)]
 pub struct End {
     pub number: u32,
     pub at: usize,
@@ -78,7 +75,16 @@ pub fn read_head(plan: &[u8], numbers: &mut [u64; HEAD_NUMBERS]) -> Head
     ensures means { HeadRead (form_by result.wide) plan.now result numbers.new }
 {
     let wide = section::in_second_form(plan);
-    read_head_in(plan, wide, numbers)
+    let cursor = Cursor {
+        at: section::lead(wide),
+        got: 0,
+    };
+    let mut reader = Reader {
+        plan,
+        numbers,
+        cursor,
+    };
+    reader.told_head(wide)
 }
 
 // The same of bytes taken as a plan in the first form, whatever the first byte is: fewer numbers have to be cleared.
@@ -88,43 +94,13 @@ pub fn read_first_head(plan: &[u8], numbers: &mut FirstHeadNumbers) -> Head
         numbers.new }
     ensures means { HeadRead (form_by result.wide) plan.now result numbers.new }
 {
-    read_head_in(plan, false, numbers)
-}
-
-// The same in the form that is told.
-fn read_head_in(plan: &[u8], wide: bool, numbers: &mut [u64]) -> Head
-    requires wide_in_bounds { front_numbers (form_by wide) + 1 ≤ length numbers.old }
-    requires wide_in_bounds_2 { length (form_by wide).lead ≤ length plan.now }
-    ensures form { result.wide ≡ wide }
-    ensures told { HeadTold (head_scan_by (form_by wide) plan.now) numbers.old result
-        numbers.new }
-    ensures means { HeadRead (form_by result.wide) plan.now result numbers.new }
-{
-    let f = section::first_sections(plan, wide, numbers);
-    let before = f.cursor;
-    let c = field::pair(plan, before, TOO_MANY_OPERATIONS, 2, numbers);
-    if c.number != 0 {
-        return Head {
-            number: c.number,
-            at: c.at,
-            got: c.got,
-            queues: 0,
-            semaphores: 0,
-            buffers: 0,
-            operations: 0,
-            wide,
-        };
-    }
-    Head {
-        number: c.number,
-        at: c.at,
-        got: c.got,
-        queues: f.queues,
-        semaphores: f.semaphores,
-        buffers: f.buffers,
-        operations: c.value,
-        wide,
-    }
+    let cursor = Cursor { at: 0, got: 0 };
+    let mut reader = Reader {
+        plan,
+        numbers,
+        cursor,
+    };
+    reader.told_head(false)
 }
 
 // The numbers of the operation at a place, in front of the window, where the width of a semaphore's position and the
@@ -143,20 +119,27 @@ pub fn read_operation(
     ensures means { OperationRead (width_by wide) queues semaphores buffers plan.now at result
         window.new }
 {
-    let from = base_numbers::min_usize(at, plan.len());
-    let end = operation::operation(plan, from, 0, wide, queues, semaphores, buffers, window);
-    End {
-        number: end.number,
-        at: end.at,
-        got: end.got,
-    }
-}
-
-// A number of operations, cut to the most that a plan has.
-fn few(many: u64) -> u64
-    ensures { result ≡ min many most_operations }
-{
-    if many < OPERATIONS { many } else { OPERATIONS }
+    let counts = Counts {
+        queues,
+        semaphores,
+        buffers,
+    };
+    let cursor = Cursor {
+        at: at.min(plan.len()),
+        got: 0,
+    };
+    let mut reader = Reader {
+        plan,
+        numbers: window,
+        cursor,
+    };
+    let read = reader.operation(wide, counts);
+    let Cursor { at, got } = reader.cursor;
+    let number = match read {
+        Ok(()) => 0,
+        Err(reason) => reason.number(),
+    };
+    End { number, at, got }
 }
 
 // The first `many` numbers, in front of the array.
@@ -164,49 +147,111 @@ fn copy(head: &[u64], many: usize, numbers: &mut [u64])
     requires { (many ≤ length head.now) × (many ≤ length numbers.old) }
     ensures { numbers.new ≡ in_front (take many head.now) numbers.old }
 {
-    let mut i = 0;
-    while i < many {
-        numbers[i] = head[i];
-        i += 1;
-    }
+    numbers[..many].copy_from_slice(&head[..many]);
 }
 
-// What is told where a reading has come to its end: its refusal; or 3, if bytes follow; or how many numbers it got.
-fn finished(plan: &[u8], c: Cursor) -> Told
-    requires { c.at ≤ length plan.now }
-    ensures { (nums : List ℕ) → c.got ≤ length nums → Ends (ended (here plan.now c nums)) result }
+// What is told where a reading has come to its end: its refusal; or that bytes follow; or how many numbers it got.
+fn finished(plan: &[u8], cursor: Cursor, read: Result<(), Reason>) -> Result<u64, Refusal>
+    requires { cursor.at ≤ length plan.now }
+    ensures { (nums : List ℕ) → cursor.got ≤ length nums → Ends (ended (here plan.now (reached read cursor) nums))
+        (told_by result) }
 {
-    let at = c.at;
-    if c.number != 0 {
-        return refused(c.number, at);
+    if let Err(reason) = read {
+        return Err(reason.at(cursor.at));
     }
-    if at < plan.len() {
-        return refused(3, at);
+    if cursor.at < plan.len() {
+        return Err(Reason::BytesFollow.at(cursor.at));
     }
-    answered(c.got as u64)
+    Ok(cursor.got as u64)
+}
+
+impl<'a> Reader<'a> {
+    // What comes before the operations of a plan, in the form that is told.
+    fn told_head(&mut self, wide: bool) -> Head
+        requires begins { Begins (form_by wide) self.old }
+        requires room { front_numbers (form_by wide) + 1 ≤ length self.old.numbers.now }
+        ensures same_room { self.new.numbers.ghost_name ≡ self.old.numbers.ghost_name }
+        ensures form { result.wide ≡ wide }
+        ensures told { HeadTold (head_scan_by (form_by wide) self.old.plan.now) self.old.numbers.now result
+            self.new.numbers.now }
+        ensures means { HeadRead (form_by result.wide) self.old.plan.now result self.new.numbers.now }
+    {
+        let head = self.head(wide);
+        let Cursor { at, got } = self.cursor;
+        match head {
+            Ok((counts, operations)) => Head {
+                number: 0,
+                at,
+                got,
+                queues: counts.queues,
+                semaphores: counts.semaphores,
+                buffers: counts.buffers,
+                operations,
+                wide,
+            },
+            Err(reason) => Head {
+                number: reason.number(),
+                at,
+                got,
+                queues: 0,
+                semaphores: 0,
+                buffers: 0,
+                operations: 0,
+                wide,
+            },
+        }
+    }
+
+    // The numbers of bytes taken as a plan in the form that is told, and how many they are.
+    fn whole(&mut self, wide: bool) -> Result<u64, Refusal>
+        requires begins { Begins (form_by wide) self.old }
+        requires room { form_numbers (form_by wide) ≤ length self.old.numbers.now }
+        ensures same_room { self.new.numbers.ghost_name ≡ self.old.numbers.ghost_name }
+        ensures told { Ends (scanned_by bytes (form_by wide) self.old.plan.now) (told_by result) }
+        ensures array { self.new.numbers.now ≡
+            in_front (scanned_by bytes (form_by wide) self.old.plan.now).got self.old.numbers.now }
+        ensures few { (told_by result).answer ≤ form_numbers (form_by wide) }
+        ensures long { length self.new.numbers.now ≡ length self.old.numbers.now }
+    {
+        let read = self.sections(wide);
+        finished(self.plan, self.cursor, read)
+    }
 }
 
 // The numbers of a stored plan in front of the array, with their length as the answer; or the first of refusals 1 to 5
 // and 16, with the numbers read before it. Past the numbers read the array stays.
-pub fn read_numbers(plan: &[u8], numbers: &mut [u64; PLAN_NUMBERS]) -> Told
-    ensures told { NumbersRead plan.now result numbers.new }
+pub fn read_numbers(plan: &[u8], numbers: &mut [u64; PLAN_NUMBERS]) -> Result<u64, Refusal>
+    ensures told { NumbersRead plan.now (told_by result) numbers.new }
     ensures array { numbers.new ≡ in_front (scanned plan.now).got numbers.old }
 {
     let wide = section::in_second_form(plan);
-    let c = section::sections(plan, wide, numbers);
-    finished(plan, c)
+    let cursor = Cursor {
+        at: section::lead(wide),
+        got: 0,
+    };
+    let mut reader = Reader {
+        plan,
+        numbers,
+        cursor,
+    };
+    reader.whole(wide)
 }
 
 // The same of bytes taken as a plan in the first form, whatever the first byte is: fewer numbers have to be cleared.
-pub fn read_first_numbers(plan: &[u8], numbers: &mut FirstPlanNumbers) -> Told
-    ensures told { Ends (scanned_by bytes first_form plan.now) result }
+pub fn read_first_numbers(plan: &[u8], numbers: &mut FirstPlanNumbers) -> Result<u64, Refusal>
+    ensures told { Ends (scanned_by bytes first_form plan.now) (told_by result) }
     ensures array { numbers.new ≡
         in_front (scanned_by bytes first_form plan.now).got numbers.old }
-    ensures few { result.answer ≤ first_numbers }
+    ensures few { (told_by result).answer ≤ first_numbers }
     ensures long { length numbers.new ≡ first_numbers }
 {
-    let c = section::sections(plan, false, numbers);
-    finished(plan, c)
+    let cursor = Cursor { at: 0, got: 0 };
+    let mut reader = Reader {
+        plan,
+        numbers,
+        cursor,
+    };
+    reader.whole(false)
 }
 
 // The rest of a plan whose head was read, from a place on: the head's numbers and then those of its operations in front
@@ -226,25 +271,27 @@ pub fn read_rest(
     ensures few { result.answer ≤ plan_numbers }
     ensures long { length numbers.new ≡ plan_numbers }
 {
-    let before = base_numbers::min_usize(h.got, HEAD_NUMBERS);
+    let before = h.got.min(HEAD_NUMBERS);
     copy(head, before, numbers);
-    let place = base_numbers::min_usize(at, plan.len());
-    let start = Cursor {
-        number: h.number,
-        at: place,
-        got: before,
-        value: 0,
+    let place = at.min(plan.len());
+    // A head tells its refusal by a number, which need not be that of a reason.
+    if h.number != 0 {
+        return refused(h.number, place);
+    }
+    let counts = Counts {
+        queues: h.queues,
+        semaphores: h.semaphores,
+        buffers: h.buffers,
     };
-    let many = few(h.operations);
-    let c = operation::several(
+    let mut reader = Reader {
         plan,
-        start,
-        many,
-        h.wide,
-        h.queues,
-        h.semaphores,
-        h.buffers,
         numbers,
-    );
-    finished(plan, c)
+        cursor: Cursor {
+            at: place,
+            got: before,
+        },
+    };
+    let many = h.operations.min(OPERATIONS);
+    let read = reader.several(many, h.wide, counts);
+    as_told(finished(plan, reader.cursor, read))
 }

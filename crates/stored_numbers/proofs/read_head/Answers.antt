@@ -6,24 +6,23 @@ use Rattle.stored_numbers.proofs.Counts.{lead_inside}
 use Rattle.stored_numbers.proofs.Heads.{head_in}
 use Rattle.stored_numbers.proofs.read_head.Goals as goal
 
-pub read_head_in-requires-clause-wide_in_bounds : goal.read_head_in-requires-clause-wide_in_bounds
+pub told_head-requires-clause-room : goal.told_head-requires-clause-room
 unfolding front_numbers
-read_head_in-requires-clause-wide_in_bounds c =
+told_head-requires-clause-room c =
     omega (arith, (proper_by c.in_second_form-wide.result).few)
-
-pub read_head_in-requires-clause-wide_in_bounds_2 : goal.read_head_in-requires-clause-wide_in_bounds_2
-unfolding front_numbers
-read_head_in-requires-clause-wide_in_bounds_2 c =
-    lead_inside c.args.plan.now c.in_second_form-wide.ensures
 
 pub returns-clause-form : goal.returns-clause-form
 returns-clause-form c =
-    c.read_head_in.ensures.form ∙ c.in_second_form-wide.ensures
+    c.told_head.ensures.form ∙ c.in_second_form-wide.ensures
 
 pub returns-clause-told : goal.returns-clause-told
 returns-clause-told c =
-    rw (← head_in _ c.in_second_form-wide.ensures) c.read_head_in.ensures.told
+    rw (← head_in _ c.in_second_form-wide.ensures) c.told_head.ensures.told
 
 pub returns-clause-means : goal.returns-clause-means
 returns-clause-means c =
-    c.read_head_in.ensures.means
+    c.told_head.ensures.means
+
+pub invariant_of-reader : goal.invariant_of-reader
+invariant_of-reader c =
+    omega (arith, lead_inside c.args.plan.now c.in_second_form-wide.ensures)

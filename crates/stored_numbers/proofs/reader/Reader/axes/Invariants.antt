@@ -1,0 +1,11 @@
+-- `axes` meets its contract: after k turns, k of them are read.
+use Rattle.std.proofs.Common.{◌≡◌, ◌+◌, ◌*◌}
+use Rattle.std.specs.Prelude.{Ok, ⊤}
+use Rattle.plan_format.specs.Sections.{repeat, axis_field}
+use Rattle.stored_numbers.specs.Reading.{Reads}
+use Rattle.stored_numbers.proofs.reader.Reader.axes.Given as goal
+
+abbrev pub invariant-loop-k : goal.invariant-loop-k
+invariant-loop-k l =
+    Reads {A = ⊤} (repeat l._k (axis_field)) (1 * l._k) l.initial.self (Ok tt) l.self ×
+    (l.self.cursor.got ≡ l.initial.self.cursor.got + l._k)

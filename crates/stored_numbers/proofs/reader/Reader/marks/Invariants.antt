@@ -1,0 +1,10 @@
+-- `marks` meets its contract: after k turns, k of them are read.
+use Rattle.std.proofs.Common.{◌*◌}
+use Rattle.std.specs.Prelude.{Ok, ⊤}
+use Rattle.plan_format.specs.Sections.{repeat, mark_below}
+use Rattle.stored_numbers.specs.Reading.{Reads}
+use Rattle.stored_numbers.proofs.reader.Reader.marks.Given as goal
+
+abbrev pub invariant-loop-k : goal.invariant-loop-k
+invariant-loop-k l =
+    Reads {A = ⊤} (repeat l._k (mark_below l.buffers)) (2 * l._k) l.initial.self (Ok tt) l.self

@@ -1,0 +1,13 @@
+-- `operation` meets its contract: the width is the form's.
+use Rattle.plan_format.specs.Form.{form_by, first_form, second_form}
+use Rattle.stored_numbers.proofs.reader.Reader.operation.Goals as goal
+
+pub returns-then-wide : goal.returns-then-wide
+unfolding form_by first_form second_form
+returns-then-wide c =
+    rw c.if-wide.true c.operation_in.ensures
+
+pub returns-else-wide : goal.returns-else-wide
+unfolding form_by first_form second_form
+returns-else-wide c =
+    rw c.if-wide.false c.operation_in-else-wide.ensures

@@ -1,0 +1,18 @@
+-- `told_head` meets its contract: what comes before the operations, in the form that is told. Assumes nothing.
+use Rattle.stored_numbers.proofs.reader.Reader.told_head.Goals as goal
+
+pub returns-in-Ok-clause-told : goal.returns-in-Ok-clause-told
+returns-in-Ok-clause-told c =
+    c.in-Ok.ensures.reads.told c.args.wide
+
+pub returns-in-Ok-clause-means : goal.returns-in-Ok-clause-means
+returns-in-Ok-clause-means c =
+    c.in-Ok.ensures.reads.means c.args.wide
+
+pub returns-in-Err-clause-told : goal.returns-in-Err-clause-told
+returns-in-Err-clause-told c =
+    rw c.number.ensures (c.in-Err.ensures.reads.told c.args.wide)
+
+pub returns-in-Err-clause-means : goal.returns-in-Err-clause-means
+returns-in-Err-clause-means c =
+    rw c.number.ensures (c.in-Err.ensures.reads.means c.args.wide)
