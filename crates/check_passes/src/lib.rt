@@ -61,9 +61,19 @@ pub fn judge_columns(
     let owned = rules(
         n, semaphores, signals, owner, queue, wait, wval, ssem, sval, sop,
     )?;
-    decide::check_order(
-        n, semaphores, signals, marks, owned, queue, wait, ssem, sop, mark, mop, table, list,
-    )
+    let order = decide::Order {
+        n,
+        semaphores,
+        signals,
+        marks,
+        owned,
+        queue,
+        ssem,
+        sop,
+        mark,
+        mop,
+    };
+    decide::check_order(&order, wait, table, list)
 }
 
 // 7, else 8; else whether only owners signal, and, in place of the semaphore of each wait, the operation that it rests

@@ -33,17 +33,17 @@ returns c =
     })
 
 -- none, or an operation that is not below n
-turned : (c : In_default) → c.args.n ≤ unwrap_or c.disordered.result c.args.n
+turned : (c : In_default) → c.args.order.now.n ≤ unwrap_or c.disordered.result c.args.order.now.n
 turned c = elim c.in_default.branch [
   | in_default-via-in-None-1 none ↦
-      let e : ◌≡◌ {A = Option ℕ} c.disordered.result None = cc in rw e (le_refl c.args.n)
+      let e : ◌≡◌ {A = Option ℕ} c.disordered.result None = cc in rw e (le_refl c.args.order.now.n)
   | in_default-via-in-Some+else-unturned-many w ↦ rw w.in-Some.is (rw c.from-many.ensures at w.if-unturned-many.false)
 ]
 
-unbroken : (c : In_default-2) → c.args.n ≤ unwrap_or c.broken.result c.args.n
+unbroken : (c : In_default-2) → c.args.order.now.n ≤ unwrap_or c.broken.result c.args.order.now.n
 unbroken c = elim c.in_default-2.branch [
   | in_default-2-via-in-None-1 none ↦
-      let e : ◌≡◌ {A = Option ℕ} c.broken.result None = cc in rw e (le_refl c.args.n)
+      let e : ◌≡◌ {A = Option ℕ} c.broken.result None = cc in rw e (le_refl c.args.order.now.n)
   | in_default-2-via-in-Some-broken+else-i-many w ↦
       rw w.in-Some-broken.is (rw c.from-many.ensures at w.if-i-many.false)
 ]
