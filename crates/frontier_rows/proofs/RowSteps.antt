@@ -1,43 +1,33 @@
 -- The walk that compares two rows place by place. Assumes nothing.
 use mathlib.Core.Path.{◌≡◌, refl}
-use mathlib.Core.Bool.{true, false}
+use mathlib.Core.Bool.{true, false, ◌&&◌, and-false}
 use mathlib.Core.List.{List, [], ◌∷◌}
-use Prim.Native.Nat.{ℕ, ◌+◌, ◌≤◌, ◌<◌}
-use native.Mathlib.Numerals.{add-one}
+use Prim.Native.Nat.{ℕ}
 use native.Mathlib.Omega.{arith}
-use lib.Dec.{leb}
-use lib.ListN.{length, get_or, drop}
-use lib.Seq.{drop-cons}
+use lib.Dec.{leb, eqb}
+use lib.ListN.{length}
 use denote.Ref.{Bor}
-use borrow.Author.Tests.{le-leb, lt-leb}
+use borrow.Author.Tests.{eq-eqb, ne_eqb, eqb-true, eqb-false}
+use Rattle.std.specs.Prelude.{nat_le}
+use Rattle.std.specs.List.{list_all, zip}
 use Rattle.base_lists.proofs.Tests.{by_cases, clash}
 use Rattle.frontier_rows.specs.Rows.{row_reaches, reaching_row, AsItLies}
 
-pub lengths_differ : (xs ys : List ℕ) → (length xs ≡ length ys → ⊥) → false ≡ row_reaches xs ys
+pub reaches_by_all : (xs ys : List ℕ) →
+    row_reaches xs ys ≡ (eqb (length xs) (length ys) && list_all (λ p. nat_le p.1 p.0) (zip xs ys))
 unfolding row_reaches
-lengths_differ [] [] n = absurd (n refl)
-lengths_differ [] (y ∷ ys) n = refl
-lengths_differ (x ∷ xs) [] n = refl
-lengths_differ (x ∷ xs) (y ∷ ys) n =
-    by_cases (leb y x) (λ t. rw t (lengths_differ xs ys (λ e. n (rw e)))) (λ t. rw t)
-
-module _ (xs ys : List ℕ) (same : length xs ≡ length ys) (i : ℕ) where
-  pub row_more : i < length xs → get_or ys i 0 ≤ get_or xs i 0 →
-      row_reaches (drop i xs) (drop i ys) ≡ row_reaches (drop (i + 1) xs) (drop (i + 1) ys)
-  unfolding row_reaches
-  row_more h l =
-      rw (add-one i, drop-cons xs i 0 h, drop-cons ys i 0 (omega arith), le-leb (get_or ys i 0) (get_or xs i 0) l)
-
-  pub row_stop : i < length xs → get_or xs i 0 < get_or ys i 0 → row_reaches (drop i xs) (drop i ys) ≡ false
-  unfolding row_reaches
-  row_stop h l = rw (drop-cons xs i 0 h, drop-cons ys i 0 (omega arith), lt-leb (get_or ys i 0) (get_or xs i 0) l)
-
-  pub row_end : length xs ≤ i → row_reaches (drop i xs) (drop i ys) ≡ true
-  unfolding row_reaches
-  row_end h = rw (lib.ListN.drop_of_length-le xs h, lib.ListN.drop_of_length-le ys (shorter h))
-    where
-      shorter : length xs ≤ i → length ys ≤ i
-      shorter h = omega arith
+reaches_by_all [] [] = refl
+reaches_by_all [] (y ∷ ys) = rw (ne_eqb 0 (length (y ∷ ys)) (λ e. omega arith)) refl
+reaches_by_all (x ∷ xs) [] = rw (ne_eqb (length (x ∷ xs)) 0 (λ e. omega arith)) refl
+reaches_by_all (x ∷ xs) (y ∷ ys) =
+    rw (reaches_by_all xs ys)
+    (by_cases (eqb (length xs) (length ys))
+    (λ t. rw (t, eq-eqb (length (x ∷ xs)) (length (y ∷ ys)) (omega (arith, eqb-true (length xs) (length ys) t))))
+    (λ t. rw (
+      t,
+      ne_eqb (length (x ∷ xs)) (length (y ∷ ys)) (λ e. eqb-false (length xs) (length ys) t (omega arith)),
+      and-false,
+    )))
 
 -- THE THREE ANSWERS
 module _ (first second : Bor (List ℕ)) where
