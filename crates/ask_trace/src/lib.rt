@@ -17,7 +17,7 @@ use plan_format::limits::{MOST_QUEUES, STATE_SIZE};
 use plan_trace::{Followed, Traced};
 
 // What was traced, beside the counts of the plan; or a refusal and its place, and nothing traced.
-#[derive(Clone, Copy)]
+#[derive(Clone, Copy, Debug, PartialEq, Eq, Hash)]
 pub struct TraceTold {
     pub counted: Counted,
     pub traced: Traced,
