@@ -92,14 +92,7 @@ fn refusal(c: Counted, room: usize, trace: &[u8]) -> Told
 fn with_number(c: Counted, number: u32, place: u64) -> Counted
     ensures { result ≡ counted_as c number place }
 {
-    Counted {
-        number,
-        place,
-        queues: c.queues,
-        semaphores: c.semaphores,
-        buffers: c.buffers,
-        operations: c.operations,
-    }
+    Counted { number, place, ..c }
 }
 
 // What is traced where a refusal is given.
