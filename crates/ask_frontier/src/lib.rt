@@ -84,13 +84,7 @@ fn refused(number: u32, place: u64) -> Sent
 }
 
 // R69, R70: the row of an operation in the table, under the axes, cut by a merge.
-fn send(
-    head: &HeadNumbers,
-    table: &[u32],
-    queues: usize,
-    operation: u32,
-    capacity: u32,
-) -> Frontier
+fn send(head: &HeadNumbers, table: &[u32], queues: usize, operation: u32, capacity: u32) -> Frontier
     requires { (queues ≤ most_queues) × (1 ≤ capacity) × (capacity ≤ most_entries) }
     ensures { result ≡ cut_to capacity (gathered (row_in head.now table.now (row_width * operation) queues 0)) }
 {

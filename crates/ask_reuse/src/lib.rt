@@ -22,7 +22,7 @@ use plan_format::limits::{MOST_OPERATIONS, ROW_WIDTH};
 use plan_order::Verdict;
 
 // The verdict on a buffer, and the operation of its last mark.
-#[derive(Clone, Copy)]
+#[derive(Clone, Copy, Debug, PartialEq, Eq, Hash)]
 pub struct Judged {
     pub verdict: Verdict,
     pub operation: Option<usize>,

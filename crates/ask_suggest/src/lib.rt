@@ -18,7 +18,7 @@ use plan_order::Verdict;
 use plan_suggest::Advice;
 
 // An advice; or a refusal and its place, and no advice.
-#[derive(Clone, Copy)]
+#[derive(Clone, Copy, Debug, PartialEq, Eq, Hash)]
 pub struct Suggested {
     pub number: u32,
     pub place: u64,

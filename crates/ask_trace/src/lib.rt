@@ -17,7 +17,7 @@ use plan_format::limits::{MOST_QUEUES, STATE_SIZE};
 use plan_trace::{Followed, Traced};
 
 // What was traced, beside the counts of the plan; or a refusal and its place, and nothing traced.
-#[derive(Clone, Copy)]
+#[derive(Clone, Copy, Debug, PartialEq, Eq, Hash)]
 pub struct TraceTold {
     pub counted: Counted,
     pub traced: Traced,
@@ -92,14 +92,7 @@ fn refusal(c: Counted, room: usize, trace: &[u8]) -> Told
 fn with_number(c: Counted, number: u32, place: u64) -> Counted
     ensures { result ≡ counted_as c number place }
 {
-    Counted {
-        number,
-        place,
-        queues: c.queues,
-        semaphores: c.semaphores,
-        buffers: c.buffers,
-        operations: c.operations,
-    }
+    Counted { number, place, ..c }
 }
 
 // What is traced where a refusal is given.

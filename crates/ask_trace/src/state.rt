@@ -51,13 +51,7 @@ fn clear(rest: &mut [u64], many: usize)
 
 // Raises a semaphore by the k-th signal, if its operation has run.
 #[tactic(auto, unfolding(crate::specs::Raising::raised_by))]
-fn raise(
-    columns: &PlanColumns,
-    table: &[u32],
-    counts: &QueueCounts,
-    k: usize,
-    state: &mut [u64],
-)
+fn raise(columns: &PlanColumns, table: &[u32], counts: &QueueCounts, k: usize, state: &mut [u64])
     ensures { state.new ≡
         raised_by columns.now.queue table.now counts.now columns.now.signal_semaphore
         columns.now.signal_value columns.now.signal_operation k state.old }

@@ -45,13 +45,7 @@ pub(crate) fn walk(n: usize, columns: &PlanColumns, table: &[u32], trace: &[u8])
 }
 
 // Which rule the step breaks; Unfinished if none.
-fn judge(
-    n: usize,
-    columns: &PlanColumns,
-    table: &[u32],
-    counts: &QueueCounts,
-    j: usize,
-) -> Followed
+fn judge(n: usize, columns: &PlanColumns, table: &[u32], counts: &QueueCounts, j: usize) -> Followed
     ensures { result ≡ judged_shown n columns.now.queue columns.now.source table.now
         counts.now j }
 {
@@ -110,12 +104,7 @@ fn unless(so: bool) -> usize
 
 // Whether an operation has run: its own entry is at most its queue's count.
 #[tactic(auto, unfolding(crate::specs::Walk::ran_at, crate::specs::Walk::count_of))]
-pub(crate) fn has_run(
-    columns: &PlanColumns,
-    table: &[u32],
-    counts: &QueueCounts,
-    i: usize,
-) -> bool
+pub(crate) fn has_run(columns: &PlanColumns, table: &[u32], counts: &QueueCounts, i: usize) -> bool
     ensures { result ≡ ran_at columns.now.queue table.now counts.now i }
 {
     own(columns, table, i) <= counts[place(columns, i)]

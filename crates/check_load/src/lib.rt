@@ -4,7 +4,7 @@
 
 // How many queues, semaphores, buffers, operations, signals and marks a plan has; or the reader's refusal and its
 // place.
-#[derive(Clone, Copy)]
+#[derive(Clone, Copy, Debug, PartialEq, Eq, Hash)]
 pub struct Loaded {
     pub number: u32,
     pub place: usize,

@@ -2,13 +2,13 @@
 -- front of the table. Assumes nothing.
 use mathlib.Core.Path.{◌≡◌, sym, ap, ◌∙◌, subst}
 use mathlib.Core.List.{List}
-use Prim.Native.Nat.{ℕ, ◌+◌, ◌*◌, ◌≤◌, ◌<◌}
+use Prim.Native.Nat.{ℕ, ◌+◌, ◌*◌, ◌<◌}
 use native.Mathlib.Omega.{arith}
-use lib.ListN.{length, drop, length-append}
+use lib.ListN.{length}
 use Rattle.base_lists.specs.Lists.{in_front}
 use Rattle.base_lists.proofs.Tests.{by_cases, clash}
 use Rattle.base_lists.proofs.Fronts.{front_at}
-use Rattle.plan_format.specs.Sizes.{most_queues, row_width}
+use Rattle.plan_format.specs.Sizes.{row_width}
 use Rattle.plan_format.specs.Plan.{Plan, count, queues}
 use Rattle.plan_format.specs.Refusal.{none_given, given}
 use Rattle.plan_format.specs.Sound.{Sound, rules_refusal}
@@ -103,20 +103,6 @@ module _ {bs : List ℕ} {c : Counted} {t x l y : List ℕ} (sizes : SizesTold b
 
   operations_are : c.operations ≡ count (plan_in bs)
   operations_are = sizes.operations ∙ rw (zero_not_given (scanned bs).fault read)
-
-  pub few_queues : c.queues ≤ most_queues
-  few_queues = omega (arith, queues_are, sound.few_queues)
-
-  pub rows_long : row_width * c.operations ≤ length x
-  unfolding in_front
-  rows_long =
-      let all = rows (plan_in bs) in
-      omega (
-        arith,
-        ap length rows_lie ∙ length-append all (drop (length all) t),
-        rows_length (plan_in bs),
-        operations_are,
-      )
 
   -- ---- the opened plan
   pub opened_plan : {signals marks : ℕ} {lent : Lent} →

@@ -51,7 +51,7 @@ const MIDDLE_MARKS: usize = MOST_MARKS * MIDDLE_ROOM;
 
 // How many queues, semaphores, buffers and operations a plan has; or a refusal and its place beside them. Each is 0
 // where the reader refuses the plan.
-#[derive(Clone, Copy)]
+#[derive(Clone, Copy, Debug, PartialEq, Eq, Hash)]
 pub struct Counted {
     pub number: u32,
     pub place: u64,
@@ -62,7 +62,7 @@ pub struct Counted {
 }
 
 // The same, and how many signals and marks the plan has.
-#[derive(Clone, Copy)]
+#[derive(Clone, Copy, Debug, PartialEq, Eq, Hash)]
 pub struct Opened {
     pub counted: Counted,
     pub signals: usize,

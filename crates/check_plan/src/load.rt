@@ -94,8 +94,7 @@ pub fn columns(
     let mut at = h.at;
     let mut signals: u16 = 0;
     let mut marks: u16 = 0;
-    let mut i: u16 = 0;
-    while i < many {
+    for i in 0..many {
         let o = stored_numbers::read_operation(
             plan,
             at,
@@ -114,7 +113,6 @@ pub fn columns(
         at = o.at;
         signals = all.signals as u16;
         marks = all.marks as u16;
-        i += 1;
     }
     if at < plan.len() {
         return refused(3, at);

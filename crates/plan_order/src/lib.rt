@@ -2,7 +2,7 @@
 #![tactic(auto)]
 
 // R58: the verdicts.
-#[derive(Clone, Copy)]
+#[derive(Clone, Copy, Debug, PartialEq, Eq, Hash)]
 pub enum Verdict {
     Fresh,
     Reusable,

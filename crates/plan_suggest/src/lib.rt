@@ -4,7 +4,7 @@
 pub mod numbers;
 
 // R89: no wait is needed; a wait for a semaphore and its value; or no wait would help.
-#[derive(Clone, Copy)]
+#[derive(Clone, Copy, Debug, PartialEq, Eq, Hash)]
 pub enum Advice {
     NoneNeeded,
     Wait(usize, u64),

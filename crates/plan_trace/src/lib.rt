@@ -9,14 +9,14 @@ use plan_format::limits::MOST_QUEUES;
 pub type QueueCounts = [u64; MOST_QUEUES];
 
 // A wait that is not met: its operation, and its position in that operation's list.
-#[derive(Clone, Copy)]
+#[derive(Clone, Copy, Debug, PartialEq, Eq, Hash)]
 pub struct Unmet {
     pub operation: usize,
     pub wait: usize,
 }
 
 // A full run, an unfinished one, or the rule that a step breaks, with the operation of the step.
-#[derive(Clone, Copy)]
+#[derive(Clone, Copy, Debug, PartialEq, Eq, Hash)]
 pub enum Followed {
     Full,
     Unfinished,
@@ -28,7 +28,7 @@ pub enum Followed {
 
 // The first step that departs, or the number of steps; the state before it, by the counts of the queues, which fix how
 // far each semaphore had come; and what was followed.
-#[derive(Clone, Copy)]
+#[derive(Clone, Copy, Debug, PartialEq, Eq, Hash)]
 pub struct Traced {
     pub step: usize,
     pub state: QueueCounts,

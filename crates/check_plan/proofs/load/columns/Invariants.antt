@@ -2,7 +2,7 @@
 -- end. Assumes nothing.
 use mathlib.Core.Path.{◌≡◌}
 use mathlib.Core.List.{List}
-use Prim.Native.Nat.{ℕ, ◌-◌, ◌*◌, ◌≤◌}
+use Prim.Native.Nat.{ℕ, ◌*◌, ◌≤◌}
 use lib.ListN.{length}
 use Rattle.plan_format.specs.Form.{width_by}
 use Rattle.plan_format.specs.Sizes.{most_operations}
@@ -26,7 +26,3 @@ invariant-loop-i l =
     (length l.sval ≡ length l.initial.sval)
     × (length l.sop ≡ length l.initial.sop) × (length l.mark ≡ length l.initial.mark) ×
     (length l.mop ≡ length l.initial.mop)
-
-abbrev pub decreases-loop-i : goal.decreases-loop-i
-decreases-loop-i l =
-    l.many - l.i
