@@ -48,8 +48,8 @@ loop-k-preserved c = (
   c.loop-k.invariant.4,
   owned_more c.loop-k.invariant.5 c.loop-k-test.true
       (owned_is _ _ _ _ _ _ _ c.from-s.ensures c.from-i.ensures
-      c.owned-all.ensures)
-      refl,
+      c.owned-own.ensures)
+      c.both-all.ensures,
 )
 
 pub returns : goal.returns
