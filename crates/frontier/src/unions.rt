@@ -115,7 +115,8 @@ fn next<'a>(
     }
 }
 
-// The union of x and y in front of the room; how many entries it has.
+// The union of x and y in front of the room; how many entries it has. The loop goes by a slot of each: no one sequence is
+// walked.
 fn unite<'a>(
     xa: &'a [u64],
     xe: &'a [u64],

@@ -7,10 +7,6 @@ use Rattle.frontier.specs.declared.Merged.{Merged}
 unfoldable pub stored_after : (stored : Frontier) → (new : Merged) → Frontier
 stored_after stored new = cond (eqb new.number 0) new.frontier stored
 
--- the number beside it
-unfoldable pub kept : (stored : Frontier) → (new : Merged) → Merged
-kept stored new = record { number = new.number; frontier = stored_after stored new }
-
 -- R65, in place: the number of the form by value is handed back, and a refusal changes nothing
 abbrev pub Changed : (stored : Frontier) → (by_value : Merged) → (number : ℕ) → (stored_now : Frontier) → Type 0
 Changed stored by_value number stored_now = (number ≡ by_value.number) × (stored_now ≡ stored_after stored by_value)
