@@ -55,13 +55,17 @@ fn command(rt: &HostRuntime, word: &[u8]) -> Result<Asked, Said> {
         b"read" => alone(rt, Asked::Plan(Question::Read), word),
         b"write" => alone(rt, Asked::Write, word),
         b"help" => alone(rt, Asked::Help, word),
-        _ => Err(usage::complain(
-            rt,
-            "no command ",
-            word,
-            "; right: none, reuse or suggest QUEUE BUFFER, frontier OPERATION CAPACITY, trace FILE, read, write or help",
-        )),
+        _ => Err(no_command(rt, word)),
     }
+}
+
+fn no_command(rt: &HostRuntime, word: &[u8]) -> Said {
+    usage::complain(
+        rt,
+        "no command ",
+        word,
+        "; right: none, reuse or suggest QUEUE BUFFER, frontier OPERATION CAPACITY, trace FILE, read, write or help",
+    )
 }
 
 // Whether there is an argument at i.
