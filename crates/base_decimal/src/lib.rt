@@ -30,7 +30,7 @@ pub fn more(value: Option<u64>, unit: u8) -> Option<u64>
     tens.checked_add(u64::from(unit))
 }
 
-// A word as a number of at most `limit`. A word of other bytes than digits is not decimal, however large its digits are.
+// A word as a number of at most `limit`. A word that has other bytes than digits is not decimal, whatever its digits.
 pub fn of_word(text: &[u8], limit: u64) -> Result<u64, NoNumber>
     ensures { result ≡ word_of limit text.now }
 {

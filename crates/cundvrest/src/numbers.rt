@@ -1,165 +1,122 @@
 // The numbers that `write` reads: in decimal, separated by white space.
-use crate::input;
-use base_decimal::Digits;
-use std::io::Read;
+use crate::usage;
+use crate::usage::Said;
+use base_decimal::NoNumber;
+use std::fmt;
+use std::io::{ErrorKind, Read};
 
-// How far the text has been read: how many numbers are before, how many of them are kept, and the digits of a number
-// that has begun. The fault is 0, 1 at a byte that belongs to no number, or 2 at a number of 2^64 or more.
-#[derive(Clone, Copy)]
-pub struct Scan {
-    pub kept: usize,
-    pub before: u64,
-    pub begun: bool,
-    pub digits: Digits,
-    pub fault: u8,
+// What comes after so many numbers is none, or is one of 2^64 or more.
+#[derive(Clone, Copy, Debug, PartialEq, Eq, Hash)]
+struct Fault {
+    before: u64,
+    why: NoNumber,
 }
 
-fn is_space(b: u8) -> bool {
-    b == b' ' || (b >= 9 && b <= 13)
-}
-
-// Between two numbers.
-fn between(kept: usize, before: u64) -> Scan {
-    Scan {
-        kept,
-        before,
-        begun: false,
-        digits: Digits {
-            value: 0,
-            large: false,
-        },
-        fault: 0,
+impl fmt::Display for Fault {
+    fn fmt<W: fmt::Write>(&self, f: &mut fmt::Formatter<W>) -> fmt::Result {
+        let what = match self.why {
+            NoNumber::NotDecimal => "no number",
+            NoNumber::TooLarge => "one too large",
+        };
+        write!(f, "after {} numbers comes {what}", self.before)
     }
 }
 
-fn faulty(s: Scan, fault: u8) -> Scan {
-    let digits = s.digits;
-    Scan {
-        kept: s.kept,
-        before: s.before,
-        begun: s.begun,
-        digits,
-        fault,
+// How far the text has been read: how many numbers are before, how many of them are kept, and the number that has
+// begun, if one has: its digits' value, or none from 2^64 on.
+#[derive(Clone, Copy, Debug, PartialEq, Eq, Hash)]
+struct Scan {
+    kept: usize,
+    before: u64,
+    begun: Option<Option<u64>>,
+}
+
+impl Scan {
+    fn fault(self, why: NoNumber) -> Fault {
+        Fault {
+            before: self.before,
+            why,
+        }
+    }
+
+    // The end of a number, if one has begun, kept where there is room.
+    fn ended(self, list: &mut [u64]) -> Result<Scan, Fault> {
+        let Some(digits) = self.begun else {
+            return Ok(self);
+        };
+        let Some(number) = digits else {
+            return Err(self.fault(NoNumber::TooLarge));
+        };
+        let mut kept = self.kept;
+        if kept < list.len() {
+            list[kept] = number;
+            kept += 1;
+        }
+        Ok(Scan {
+            kept,
+            before: self.before.saturating_add(1),
+            begun: None,
+        })
+    }
+
+    // One byte more.
+    fn next(self, b: u8, list: &mut [u64]) -> Result<Scan, Fault> {
+        if matches!(b, b' ' | b'\t'..=b'\r') {
+            return self.ended(list);
+        }
+        let Some(unit) = base_decimal::digit(b) else {
+            return Err(self.fault(NoNumber::NotDecimal));
+        };
+        let digits = base_decimal::more(self.begun.unwrap_or(Some(0)), unit);
+        Ok(Scan {
+            kept: self.kept,
+            before: self.before,
+            begun: Some(digits),
+        })
+    }
+
+    // Some bytes more.
+    fn text(self, text: &[u8], list: &mut [u64]) -> Result<Scan, Fault> {
+        let mut scan = self;
+        for &b in text {
+            scan = scan.next(b, list)?;
+        }
+        Ok(scan)
     }
 }
 
-// One more than a count of numbers, which no input uses up.
-fn counted(before: u64) -> u64 {
-    if before == u64::MAX {
-        before
-    } else {
-        before + 1
-    }
-}
-
-// The end of a number that has begun, kept where there is room.
-pub fn ended(s: Scan, list: &mut [u64]) -> Scan {
-    if !s.begun {
-        return s;
-    }
-    let d = s.digits;
-    if d.large {
-        return faulty(s, 2);
-    }
-    let kept = s.kept;
-    if kept < list.len() {
-        list[kept] = d.value;
-        return between(kept + 1, counted(s.before));
-    }
-    between(kept, counted(s.before))
-}
-
-// One byte more.
-fn next(s: Scan, b: u8, list: &mut [u64]) -> Scan {
-    if s.fault != 0 {
-        return s;
-    }
-    if is_space(b) {
-        return ended(s, list);
-    }
-    let unit = base_decimal::digit(b);
-    if unit > 9 {
-        return faulty(s, 1);
-    }
-    let digits = base_decimal::more(s.digits, unit);
-    Scan {
-        kept: s.kept,
-        before: s.before,
-        begun: true,
-        digits,
-        fault: 0,
-    }
-}
-
-// Some bytes more.
-fn text_read(s: Scan, text: &[u8], list: &mut [u64]) -> Scan {
-    let mut now = s;
-    let mut i = 0;
-    while i < text.len() {
-        now = next(now, text[i], list);
-        i += 1;
-    }
-    now
-}
-
-// What standard input has given so far, and whether there may be more, or a read failed.
-#[derive(Clone, Copy)]
-pub struct Numbers {
-    pub scan: Scan,
-    pub more: bool,
-    pub failed: bool,
-}
-
-// One read.
-fn some(rt: &HostRuntime, s: Scan, list: &mut [u64]) -> Numbers {
+// The first numbers of the input, as many as there is room for, once all of it has been read, or its first fault. Only
+// an interruption is no failure. The turns are counted so that the loop is seen to end: no input uses them up.
+fn all(rt: &HostRuntime, list: &mut [u64]) -> Result<Result<Scan, Fault>, Said> {
+    let mut read = Ok(Scan {
+        kept: 0,
+        before: 0,
+        begun: None,
+    });
     let mut text = [0; 65536];
-    match rt.stdin().read(&mut text) {
-        Ok(n) => {
-            let scan = text_read(s, &text[..n], list);
-            Numbers {
-                scan,
-                more: n > 0,
-                failed: false,
+    for _ in 0..u64::MAX {
+        match rt.stdin().read(&mut text) {
+            Ok(0) => break,
+            Ok(n) => {
+                if let Ok(scan) = read {
+                    read = scan.text(&text[..n], list);
+                }
             }
-        }
-        Err(error) => {
-            let again = input::interrupted(rt, error, "standard input cannot be read");
-            Numbers {
-                scan: s,
-                more: again,
-                failed: !again,
-            }
+            Err(error) if error.kind() == ErrorKind::Interrupted => {}
+            Err(error) => return Err(usage::fail(rt, "standard input cannot be read", error)),
         }
     }
+    Ok(read)
 }
 
-// The first numbers of the input, as many as there is room for, once all of it has been read. The turns only count
-// down, so that the loop is seen to end: no input uses them up.
-fn all(rt: &HostRuntime, list: &mut [u64]) -> Numbers {
-    let mut read = Numbers {
-        scan: between(0, 0),
-        more: true,
-        failed: false,
+// The first numbers of standard input, the last one ended by its end: how many are kept.
+pub fn from_input(rt: &HostRuntime, list: &mut [u64]) -> Result<usize, Said> {
+    let ended = match all(rt, list)? {
+        Ok(scan) => scan.ended(list),
+        Err(fault) => Err(fault),
     };
-    let mut turns = u64::MAX;
-    while turns > 0 && read.more {
-        read = some(rt, read.scan, list);
-        turns -= 1;
-    }
-    read
-}
-
-// The same, with the number that the end of the input ends.
-pub fn from_input(rt: &HostRuntime, list: &mut [u64]) -> Numbers {
-    let read = all(rt, list);
-    let s = read.scan;
-    if s.fault != 0 {
-        return read;
-    }
-    let scan = ended(s, list);
-    Numbers {
-        scan,
-        more: false,
-        failed: read.failed,
+    match ended {
+        Ok(scan) => Ok(scan.kept),
+        Err(fault) => Err(usage::bad_number(rt, fault)),
     }
 }

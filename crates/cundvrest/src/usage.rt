@@ -1,13 +1,14 @@
 // What there is to ask, and what is said of a question that is none: one line on standard error.
-ghost use Rattle.std.specs.Prelude.{◌≡◌, length};
+use base_text::Text;
+use std::{fmt, io};
 
-use crate::output;
-use std::io;
+// That a line on standard error says why there is no answer.
+#[derive(Clone, Copy, Debug, PartialEq, Eq, Hash)]
+pub struct Said;
 
 pub fn help(out: &mut [u8]) -> usize {
-    base_text::words(
-        out,
-        0,
+    let mut text = Text::new(out);
+    text.words(
         b"cundvrest: a proved checker for queue plans
 
   cundvrest < PLAN                              check the plan: passed with its run and rows, or refused
@@ -33,85 +34,58 @@ Over files: check, explain, draw, text, store, rows (cundvrest check --help). Ex
   1 no            refused; held or not-ordered; no wait would help; a trace that is unfinished or departs
   2 not judged    too long; or wrong words, input or output that fails: a line on standard error says what
 ",
-    )
+    );
+    text.len()
 }
 
-// The room for a line on standard error.
-fn line() -> [u8; 512]
-    ensures { length result ≡ 512 }
-{
-    [0; 512]
+// A word in quotes, its first bytes only, with a question mark for each byte that does not print.
+#[derive(Clone, Copy, Drop)]
+struct Quoted<'a>(&'a [u8]);
+
+impl fmt::Display for Quoted<'_> {
+    fn fmt<W: fmt::Write>(&self, f: &mut fmt::Formatter<W>) -> fmt::Result {
+        f.write_char('\'')?;
+        for b in self.0.iter().take(40) {
+            f.write_char(shown(*b))?;
+        }
+        f.write_str(if self.0.len() > 40 { "..'" } else { "'" })
+    }
 }
 
 // A byte that prints, or a question mark.
-fn shown(b: u8) -> u8 {
-    if b < 32 {
-        return b'?';
+fn shown(b: u8) -> char {
+    match b {
+        b' '..=b'~' => char::from(b),
+        _ => '?',
     }
-    if b > 126 {
-        return b'?';
-    }
-    b
-}
-
-// A word in quotes, its first bytes only.
-fn quoted(out: &mut [u8], at: usize, word: &[u8]) -> usize {
-    let mut end = base_text::byte(out, at, b'\'');
-    let mut i = 0;
-    while i < word.len() {
-        if i == 40 {
-            return base_text::words(out, end, b"..'");
-        }
-        end = base_text::byte(out, end, shown(word[i]));
-        i += 1;
-    }
-    base_text::byte(out, end, b'\'')
 }
 
 // A whole line. Where standard error takes none, there is nowhere to say so.
-pub fn say(rt: &HostRuntime, line: &[u8]) {
-    let _ = rt.stderr().write_all(line);
+pub fn say(rt: &HostRuntime, line: &str) -> Said {
+    let _ = eprintln!(rt; "cundvrest: {line}");
+    Said
 }
 
 // A line with a word in quotes.
-pub fn complain(rt: &HostRuntime, before: &[u8], word: &[u8], after: &[u8]) {
-    let mut out = line();
-    let name = base_text::words(&mut out, 0, b"cundvrest: ");
-    let first = base_text::words(&mut out, name, before);
-    let second = quoted(&mut out, first, word);
-    let third = base_text::words(&mut out, second, after);
-    let end = base_text::byte(&mut out, third, b'\n');
-    let _ = output::write(&rt.stderr(), &out, end);
+pub fn complain(rt: &HostRuntime, before: &str, word: &[u8], after: &str) -> Said {
+    let _ = eprintln!(rt; "cundvrest: {before}{}{after}", Quoted(word));
+    Said
 }
 
-// A line on a number of standard input that is none, or is too large.
-pub fn bad_number(rt: &HostRuntime, before: u64, fault: u8) {
-    let mut out = line();
-    let name = base_text::words(&mut out, 0, b"cundvrest: standard input: after ");
-    let first = base_text::number(&mut out, name, before);
-    let second = base_text::words(&mut out, first, b" numbers comes ");
-    let third = fault_words(&mut out, second, fault);
-    let end = base_text::words(
-        &mut out,
-        third,
-        b"; right: decimal digits, at most 18446744073709551615, white space between\n",
-    );
-    let _ = output::write(&rt.stderr(), &out, end);
-}
-
-fn fault_words(out: &mut [u8], at: usize, fault: u8) -> usize {
-    if fault == 1 {
-        return base_text::words(out, at, b"no number");
-    }
-    base_text::words(out, at, b"one too large")
+// A line on what is wrong with the numbers of standard input.
+pub fn bad_number(rt: &HostRuntime, fault: impl fmt::Display + Drop) -> Said {
+    let right = "decimal digits, at most 18446744073709551615, white space between";
+    let _ = eprintln!(rt; "cundvrest: standard input: {fault}; right: {right}");
+    Said
 }
 
 // A line on what has failed, with the system's words for why.
-pub fn fail(rt: &HostRuntime, failed: &str, error: io::Error) {
+pub fn fail(rt: &HostRuntime, failed: &str, error: io::Error) -> Said {
     let _ = match format!(in rt.alloc(); "{error}") {
         Ok(text) => eprintln!(rt; "cundvrest: {failed}: {}", without_number(text.as_str())),
         Err(_) => eprintln!(rt; "cundvrest: {failed}: {error}"),
     };
+    Said
 }
 
 // The text of an error without the number that stands in brackets after the system's words.

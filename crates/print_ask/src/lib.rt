@@ -94,7 +94,11 @@ fn entries(text: &mut Text, axes: &[u64], epochs: &[u64], n: usize)
     ensures { Adds (join_from n 0 (entry_text axes.now epochs.now)) text.old text.new }
 {
     for i in 0..n {
-        entry(text, base_slices::get_or(axes, i, 0), base_slices::get_or(epochs, i, 0));
+        entry(
+            text,
+            base_slices::get_or(axes, i, 0),
+            base_slices::get_or(epochs, i, 0),
+        );
     }
 }
 

@@ -48,25 +48,14 @@ long_alike xs ys same =
     ∙ get_or-take m ys 0 0 (omega arith) in
     rw (h, longer_alike most_input xs ys same)
 
--- the first n bytes, by the length and the first byte
-few : (bs : List ℕ) → length bs ≤ most_input → false ≡ too_long bs
+-- by the length and the first byte
+pub few : (bs : List ℕ) → length bs ≤ most_input → false ≡ too_long bs
 unfolding too_long
 few bs l = sym (ap (λ (b : Bool). is_second bs && b) (le-ltb most_input (length bs) l) ∙ and_false (is_second bs))
 
-pub few_taken : (n : ℕ) (bs : List ℕ) → n ≤ most_input → false ≡ too_long (take n bs)
-few_taken n bs l = few (take n bs) (omega (arith, length-take n bs, l))
-
-pub few_there : (n : ℕ) (bs : List ℕ) → length bs ≤ most_input → false ≡ too_long (take n bs)
-few_there n bs l = few (take n bs) (omega (arith, length-take n bs, l))
-
-pub many : (n : ℕ) (bs : List ℕ) → most_input < n → most_input < length bs →
-    eqb (get_or bs 0 0) second_lead ≡ too_long (take n bs)
+pub many : (bs : List ℕ) → most_input < length bs → eqb (get_or bs 0 0) second_lead ≡ too_long bs
 unfolding too_long is_second
-many n bs k l =
-    let h : get_or (take n bs) 0 0 ≡ get_or bs 0 0 = get_or-take n bs 0 0 (omega (arith, k)) in
-    let t : ltb most_input (length (take n bs)) ≡ true =
-    lt-ltb most_input (length (take n bs)) (omega (arith, length-take n bs, k, l)) in
-    rw (h, t, and_true (eqb (get_or bs 0 0) second_lead)) refl
+many bs l = rw (lt-ltb most_input (length bs) l, and_true (eqb (get_or bs 0 0) second_lead)) refl
 
 -- what begins alike and is not too long is read alike
 pub reads_alike : (bs cs : List ℕ) → SameBytes bs cs → too_long bs ≡ false → ReadsAlike (scanned bs) (scanned cs)

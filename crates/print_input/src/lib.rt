@@ -4,13 +4,13 @@
 ghost use Rattle.std.specs.Prelude.{◌≡◌, take};
 ghost use Rattle.base_text.specs.Text.{Puts};
 ghost use Rattle.plan_format.specs.Stored.{too_long};
-ghost use Rattle.print_trace.specs.Printed.{TracePrinted};
 ghost use Rattle.print_input.specs.Inputs.{Answered, AnsweredWhole, WrittenWhole, TracedWhole, too_long_text};
 
+use base_text::Text;
 use plan_format::limits::{MOST_INPUT, SECOND_LEAD};
 
 // What is asked of a plan.
-#[derive(Clone, Copy)]
+#[derive(Clone, Copy, Debug, PartialEq, Eq, Hash)]
 pub enum Question {
     Check,
     Reuse(u32, u32),
@@ -34,37 +34,31 @@ pub fn answered(question: Question, plan: &[u8], out: &mut [u8]) -> usize
     }
 }
 
-// Whether the first n bytes are of the second form, and more than the program judges.
-fn is_long(bytes: &[u8], n: usize) -> bool
-    ensures { result ≡ too_long (take n bytes.now) }
+// Whether bytes are of the second form, and more than the program judges.
+fn is_long(bytes: &[u8]) -> bool
+    ensures { result ≡ too_long bytes.now }
 {
-    if n <= MOST_INPUT {
-        return false;
-    }
-    if bytes.len() <= MOST_INPUT {
-        return false;
-    }
-    bytes[0] == SECOND_LEAD
+    bytes.len() > MOST_INPUT && bytes[0] == SECOND_LEAD
 }
 
 // The line in place of an answer.
 fn say_long(out: &mut [u8]) -> usize
     ensures { Puts too_long_text out.old 0 out.new result }
 {
-    base_text::words(out, 0, b"too long\n")
+    let mut text = Text::new(out);
+    text.words(b"too long\n");
+    text.len()
 }
 
 // The answer on every input that begins as the first n bytes do.
 pub fn on_first(question: Question, bytes: &[u8], n: usize, out: &mut [u8]) -> usize
     ensures { AnsweredWhole question (take n bytes.now) out.old out.new result }
 {
-    if is_long(bytes, n) {
+    let begun = &bytes[..n.min(bytes.len())];
+    if is_long(begun) {
         return say_long(out);
     }
-    if n < bytes.len() {
-        return answered(question, &bytes[..n], out);
-    }
-    answered(question, bytes, out)
+    answered(question, begun, out)
 }
 
 // The stored plan of every list that begins as the first n numbers do.
@@ -80,22 +74,10 @@ pub fn traced(plan: &[u8], n: usize, trace: &[u8], m: usize, out: &mut [u8]) -> 
     ensures { TracedWhole (take n plan.now) (take m trace.now) out.old
         out.new result }
 {
-    if is_long(plan, n) {
+    let plan = &plan[..n.min(plan.len())];
+    if is_long(plan) {
         return say_long(out);
     }
-    if n < plan.len() {
-        return with_plan(&plan[..n], trace, m, out);
-    }
-    with_plan(plan, trace, m, out)
-}
-
-// The first m bytes of a trace held against a plan.
-fn with_plan(plan: &[u8], trace: &[u8], m: usize, out: &mut [u8]) -> usize
-    ensures { TracePrinted plan.now (take m trace.now) out.old
-        out.new result }
-{
-    if m < trace.len() {
-        return print_trace::trace(plan, &trace[..m], out);
-    }
+    let trace = &trace[..m.min(trace.len())];
     print_trace::trace(plan, trace, out)
 }

@@ -8,5 +8,7 @@ pub returns : goal.returns
 unfolding refused_text
 returns c =
     lent c.new-text.ensures.room_is c.new-text.ensures.none
-    (adds_both (adds_both (adds_both c.words.ensures (rw c.from.ensures at c.next.ensures)) c.next-2.ensures) c.byte.ensures)
+    (adds_both
+    (adds_both (adds_both c.words.ensures (rw c.from.ensures at c.next.ensures)) c.next-2.ensures)
+    c.byte.ensures)
     (search rules) (search rules)

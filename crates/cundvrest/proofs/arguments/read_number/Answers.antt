@@ -4,4 +4,4 @@ use Rattle.base_decimal.proofs.Decimals.{word_limit}
 use Rattle.cundvrest.proofs.arguments.read_number.Goals as goal
 
 pub overflow_cast-result : goal.overflow_cast-result
-overflow_cast-result c = omega (arith, word_limit 4294967295 _ _ c.in-Number.ensures)
+overflow_cast-result c = omega (arith, word_limit 4294967295 _ _ c.in-Ok.ensures)
