@@ -1,4 +1,5 @@
--- The four sections, written one after the other, are the plan: where one is refused, what comes after it is as nothing.
+-- The four sections, written one after the other, are the plan: where one is refused, what comes after it is as
+-- nothing.
 -- Assumes nothing.
 use Rattle.std.proofs.Common.{◌≡◌, refl, sym, ap, ◌∙◌, subst, ℕ, ◌+◌, ◌*◌, List, get_or}
 use Rattle.std.specs.Prelude.{Result, Ok, Err}
@@ -20,20 +21,24 @@ on_list {g = g} {m} {u} {v} {r} e p =
     subst (λ (xs : List ℕ). Writes g m xs (from u.cursor) u.bytes.now (after r v.cursor) v.bytes.now) e p.writes
 
 -- what is written from the first number on
-pub from_first : {A : Type 0} {g : Grammar} {m : ℕ} {w v : Writer} {r : Result A Refused} → w.cursor.at ≡ 0 → Wrote g m w r v →
-    Writes g m w.numbers.now (record { number = 0; at = 0; put = w.cursor.put }) w.bytes.now (after r v.cursor) v.bytes.now
+pub from_first : {A : Type 0} {g : Grammar} {m : ℕ} {w v : Writer} {r : Result A Refused} → w.cursor.at ≡ 0 → Wrote g
+    m w r v →
+    Writes g m w.numbers.now (record { number = 0; at = 0; put = w.cursor.put }) w.bytes.now (after r v.cursor)
+    v.bytes.now
 from_first {g = g} {m} {w} {v} {r} z p =
     subst (λ (a : ℕ). Writes g m w.numbers.now (record { number = 0; at = a; put = w.cursor.put }) w.bytes.now
     (after r v.cursor) v.bytes.now) z p.writes
 
 wrote_from : {A : Type 0} {g : Grammar} {m : ℕ} {w v : Writer} {r : Result A Refused} → w.cursor.at ≡ 0 →
     v.numbers.now ≡ w.numbers.now →
-    Writes g m w.numbers.now (record { number = 0; at = 0; put = w.cursor.put }) w.bytes.now (after r v.cursor) v.bytes.now →
+    Writes g m w.numbers.now (record { number = 0; at = 0; put = w.cursor.put }) w.bytes.now (after r v.cursor)
+    v.bytes.now →
     Wrote g m w r v
 wrote_from {g = g} {m} {w} {v} {r} z e p =
     record {
       same_list = e;
-      writes = subst (λ (a : ℕ). Writes g m w.numbers.now (record { number = 0; at = a; put = w.cursor.put }) w.bytes.now
+      writes = subst (λ (a : ℕ). Writes g m w.numbers.now (record { number = 0; at = a; put = w.cursor.put })
+          w.bytes.now
           (after r v.cursor) v.bytes.now) (sym z) p;
     }
 
@@ -47,7 +52,8 @@ abbrev Owners : Form → (many queues : ℕ) → (w : Writer) → Result ℕ Ref
 Owners F j q w r v = Wrote (owned F (limited q 4)) j w r v
 
 module _ (F : Form) (j : ℕ) {w u₁ : Writer} (z : w.cursor.at ≡ 0) where
-  pub no_axes : {A : Type 0} {e : Refused} → Axes w (Err e) u₁ → Wrote {A = A} (plan_grammar F) (sections_most j) w (Err e) u₁
+  pub no_axes : {A : Type 0} {e : Refused} → Axes w (Err e) u₁ → Wrote {A = A} (plan_grammar F) (sections_most j) w
+      (Err e) u₁
   no_axes {e} p =
       let n = reason_given e.reason in
       let a = from_first z p in
@@ -89,7 +95,8 @@ module _ (F : Form) (j : ℕ) {w u₁ : Writer} (z : w.cursor.at ≡ 0) where
 
       pub four_sections : {A : Type 0} {u₃ v : Writer} {n : ℕ} {r : Result A Refused} → Sizes u₂ (Ok n) u₃ →
           Counted most_buffers u₂ (Ok n) u₃ →
-          Wrote (counted 0 most_operations 2 (operation_below F.semaphore_width q m n)) (2 + block_bytes * most_operations)
+          Wrote (counted 0 most_operations 2 (operation_below F.semaphore_width q m n))
+          (2 + block_bytes * most_operations)
           u₃ r v → Wrote (plan_grammar F) (sections_most j) w r v
       four_sections p c s =
           wrote_from z (s.same_list ∙ p.same_list ∙ same₂) (plan_writes F w.numbers.now a q_is o m_is (on_list same₂ p)

@@ -78,7 +78,8 @@ module _ {A B : Type 0} {w u v : Writer} where
       }
 
   -- one more
-  pub wrote_more : {g : Grammar} {m : ℕ} (i : ℕ) {a : A} {r : Result B Refused} → Wrote (repeat i g) (m * i) w (Ok a) u →
+  pub wrote_more : {g : Grammar} {m : ℕ} (i : ℕ) {a : A} {r : Result B Refused} → Wrote (repeat i g) (m * i) w (Ok a)
+      u →
       Wrote g m u r v → Wrote (repeat (i + 1) g) (m * (i + 1)) w r v
   wrote_more {g} {m} i {r = r} p q =
       record {
@@ -107,7 +108,8 @@ wrote_none g m w h = record { same_list = refl; writes = writes_none g m w.numbe
 
 -- a loop that met a refusal has written all that can be written
 pub wrote_stopped : {A B : Type 0} {w u v : Writer} {m n : ℕ} (g : Grammar) (i : ℕ) {e : Refused} {a : ⊤} → i < n →
-    Wrote (repeat i g) (m * i) w (Ok a) u → Wrote {A = A} g m u (Err e) v → Wrote {A = B} (repeat n g) (m * n) w (Err e) v
+    Wrote (repeat i g) (m * i) w (Ok a) u → Wrote {A = A} g m u (Err e) v → Wrote {A = B} (repeat n g) (m * n) w
+    (Err e) v
 wrote_stopped {m = m} {n} g i {e} h p q =
     let s = wrote_more i p q in
     record {

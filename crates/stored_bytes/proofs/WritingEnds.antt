@@ -62,7 +62,8 @@ plan_written {wide = wide} {b} {w} {v} z lead p =
     let q = from_first z p in
     record {
       read = q.read;
-      spell = λ e. ap (λ (l : List ℕ). spell_by (plan_grammar (list_by wide)) (record { left = w.numbers.now; made = l }))
+      spell = λ e. ap (λ (l : List ℕ). spell_by (plan_grammar (list_by wide))
+          (record { left = w.numbers.now; made = l }))
           (sym lead.front) ∙ q.spell e;
       inside = q.inside;
       few = omega (arith, lead.long, lead_short wide, q.few);

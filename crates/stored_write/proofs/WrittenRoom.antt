@@ -97,7 +97,8 @@ module _ {xs bytes : List ℕ} (k : ℕ) (n : Tried xs (told_by (Ok k)) bytes) w
       (no_room (listed xs).fault (spelled xs) n.told room refl h)
 
   -- the bytes, in front of the room
-  pub written_stored : {part room : List ℕ} → k ≤ length room → part ≡ take k bytes → Says xs (Ok k) room (part ++ drop k room)
+  pub written_stored : {part room : List ℕ} → k ≤ length room → part ≡ take k bytes → Says xs (Ok k) room
+      (part ++ drop k room)
   unfolding WriteSays write_refusal in_front
   written_stored {part} {room} h e =
       let front : part ≡ spelled xs = e ∙ ap (λ (j : ℕ). take j bytes) long ∙ n.front refl in

@@ -2,7 +2,8 @@
 use Rattle.std.proofs.Common.{rules, ◌≡◌, ◌∙◌, refl, Err, arith}
 use Rattle.plan_format.specs.Sizes.{most_marks}
 use Rattle.plan_format.specs.Sections.{mark_below}
-use Rattle.stored_bytes.proofs.Writers.{wrote_none, wrote_more, wrote_counted, wrote_uncounted, wrote_stopped, wrote_ok, room_left}
+use Rattle.stored_bytes.proofs.Writers.{wrote_none, wrote_more, wrote_counted, wrote_uncounted}
+use Rattle.stored_bytes.proofs.Writers.{wrote_stopped, wrote_ok, room_left}
 use Rattle.stored_bytes.proofs.writer.Writer.marks.Goals as goal
 
 pub returns-in_err-count-clause-wrote : goal.returns-in_err-count-clause-wrote
@@ -15,7 +16,8 @@ loop-k-init c = (wrote_none (mark_below c.args.buffers) 3 _ (search rules), sear
 
 pub mark-requires-clause-room : goal.mark-requires-clause-room
 mark-requires-clause-room c =
-    room_left (mark_below c.args.buffers) 3 most_marks c.requires.room c.in_ok-count.ensures.wrote c.loop-k.invariant.0 c.loop-k-test.true
+    room_left (mark_below c.args.buffers) 3 most_marks c.requires.room c.in_ok-count.ensures.wrote
+    c.loop-k.invariant.0 c.loop-k-test.true
 
 pub returns-in_err-mark-clause-wrote : goal.returns-in_err-mark-clause-wrote
 returns-in_err-mark-clause-wrote c =

@@ -8,5 +8,6 @@ use Rattle.stored_bytes.proofs.writer.Writer.operations.Given as goal
 
 abbrev pub invariant-loop-k : goal.invariant-loop-k
 invariant-loop-k g l =
-    Wrote (repeat l._k (operation_below g.row.WIDTH l.queues l.semaphores l.buffers)) (block_bytes * l._k) l.initial.self (Ok (tt {0})) l.self ×
+    Wrote (repeat l._k (operation_below g.row.WIDTH l.queues l.semaphores l.buffers)) (block_bytes * l._k)
+    l.initial.self (Ok (tt {0})) l.self ×
     (l.self.bytes.ghost_name ≡ l.initial.self.bytes.ghost_name)

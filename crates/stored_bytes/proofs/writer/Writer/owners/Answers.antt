@@ -2,7 +2,8 @@
 use Rattle.std.proofs.Common.{rules, ◌≡◌, ◌∙◌, refl, Err, arith}
 use Rattle.plan_format.specs.Grammar.{field}
 use Rattle.plan_format.specs.Sections.{limited}
-use Rattle.stored_bytes.proofs.Writers.{wrote_none, wrote_more, wrote_counted, wrote_uncounted, wrote_stopped, wrote_ok, room_left, wrote_field}
+use Rattle.stored_bytes.proofs.Writers.{wrote_none, wrote_more, wrote_counted, wrote_uncounted, wrote_stopped}
+use Rattle.stored_bytes.proofs.Writers.{wrote_ok, room_left, wrote_field}
 use Rattle.stored_bytes.proofs.writer.Writer.owners.Goals as goal
 
 pub returns-in_err-count-clause-wrote : goal.returns-in_err-count-clause-wrote
@@ -15,7 +16,8 @@ loop-k-init g c = (wrote_none (field 1 (limited c.args.queues 4)) 1 _ (search ru
 
 pub below-requires-in-loop-k-clause-room : goal.below-requires-in-loop-k-clause-room
 below-requires-in-loop-k-clause-room g c =
-    room_left (field 1 (limited c.args.queues 4)) 1 c.args.most c.requires.room c.in_ok-count.ensures.wrote c.loop-k.invariant.0 c.loop-k-test.true
+    room_left (field 1 (limited c.args.queues 4)) 1 c.args.most c.requires.room c.in_ok-count.ensures.wrote
+    c.loop-k.invariant.0 c.loop-k-test.true
 
 pub returns-in_err-below-clause-wrote : goal.returns-in_err-below-clause-wrote
 returns-in_err-below-clause-wrote g c =
@@ -32,4 +34,5 @@ loop-k-preserved g c = (
 
 pub returns-clause-wrote : goal.returns-clause-wrote
 returns-clause-wrote g c =
-    wrote_ok c.in_ok-count.count (wrote_counted 1 c.in_ok-count.ensures.wrote c.loop-k._k (omega arith) c.loop-k.invariant.0)
+    wrote_ok c.in_ok-count.count (wrote_counted 1 c.in_ok-count.ensures.wrote c.loop-k._k (omega arith)
+    c.loop-k.invariant.0)

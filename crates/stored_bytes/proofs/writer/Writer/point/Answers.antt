@@ -11,7 +11,8 @@ pub returns-in_err-below-clause-wrote : goal.returns-in_err-below-clause-wrote
 unfolding point_below
 returns-in_err-below-clause-wrote g c =
     let e : c.from_residual.result ≡ Err c.in_err-below.field-0.0 = search rules in
-    rw e (wrote_stop (field 8 (at_least c.args.least)) point_most (omega arith) (wrote_field c.in_err-below.ensures.wrote))
+    rw e (wrote_stop (field 8 (at_least c.args.least)) point_most (omega arith)
+    (wrote_field c.in_err-below.ensures.wrote))
 
 pub returns-clause-wrote : goal.returns-clause-wrote
 unfolding point_below

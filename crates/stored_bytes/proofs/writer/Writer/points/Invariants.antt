@@ -8,5 +8,6 @@ use Rattle.stored_bytes.proofs.writer.Writer.points.Given as goal
 
 abbrev pub invariant-loop-k : goal.invariant-loop-k
 invariant-loop-k g l =
-    Wrote (repeat l._k (point_below g.row.WIDTH l.semaphores l.least)) (point_most * l._k) l.initial.self (Ok (tt {0})) l.self ×
+    Wrote (repeat l._k (point_below g.row.WIDTH l.semaphores l.least)) (point_most * l._k) l.initial.self
+    (Ok (tt {0})) l.self ×
     (l.self.bytes.ghost_name ≡ l.initial.self.bytes.ghost_name)

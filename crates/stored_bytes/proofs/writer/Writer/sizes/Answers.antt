@@ -2,7 +2,8 @@
 use Rattle.std.proofs.Common.{rules, ◌≡◌, ◌∙◌, refl, Err, arith}
 use Rattle.plan_format.specs.Sizes.{most_buffers}
 use Rattle.plan_format.specs.Sections.{size_field}
-use Rattle.stored_bytes.proofs.Writers.{wrote_none, wrote_more, wrote_counted, wrote_uncounted, wrote_stopped, wrote_ok, room_left}
+use Rattle.stored_bytes.proofs.Writers.{wrote_none, wrote_more, wrote_counted, wrote_uncounted}
+use Rattle.stored_bytes.proofs.Writers.{wrote_stopped, wrote_ok, room_left}
 use Rattle.stored_bytes.proofs.writer.Writer.sizes.Goals as goal
 
 pub returns-in_err-count-clause-wrote : goal.returns-in_err-count-clause-wrote
@@ -15,7 +16,8 @@ loop-k-init c = (wrote_none size_field 4 _ (search rules), search rules)
 
 pub size-requires : goal.size-requires
 size-requires c =
-    record { room = room_left size_field 4 most_buffers c.requires.room c.in_ok-count.ensures.wrote c.loop-k.invariant.0 c.loop-k-test.true }
+    record { room = room_left size_field 4 most_buffers c.requires.room c.in_ok-count.ensures.wrote
+    c.loop-k.invariant.0 c.loop-k-test.true }
 
 pub returns-in_err-size-clause-wrote : goal.returns-in_err-size-clause-wrote
 returns-in_err-size-clause-wrote c =
@@ -32,4 +34,5 @@ loop-k-preserved c = (
 
 pub returns-clause-wrote : goal.returns-clause-wrote
 returns-clause-wrote c =
-    wrote_ok c.in_ok-count.count (wrote_counted 4 c.in_ok-count.ensures.wrote c.loop-k._k (omega arith) c.loop-k.invariant.0)
+    wrote_ok c.in_ok-count.count (wrote_counted 4 c.in_ok-count.ensures.wrote c.loop-k._k (omega arith)
+    c.loop-k.invariant.0)
