@@ -158,7 +158,8 @@ module _ (f : Frontier) (x e c : ℕ) (n : ℕ) (p : n ≡ left_number f c) wher
         same : slots f.axes (set f.epochs i m) f.len 0 ≡ union (entries f) (one_entry x e)
         same = unfold entries in
             (stored_entries f.axes f.epochs f.len i x e (get_or f.epochs i 0) m below
-            (omega (arith, below, v.short, v.sixteen_epochs)) (unfold slot in (same_entry of_axis refl)) (omega (arith, g))
+            (omega (arith, below, v.short, v.sixteen_epochs)) (unfold slot in (same_entry of_axis refl))
+            (omega (arith, g))
             (sorted_entries f left.left))
 
         packed : record {

@@ -115,8 +115,8 @@ fn next<'a>(
     }
 }
 
-// The union of x and y in front of the room; how many entries it has. The loop goes by a slot of each: no one sequence is
-// walked.
+// The union of x and y in front of the room; how many entries it has. The loop goes by a slot of each side: no one
+// sequence is walked.
 fn unite<'a>(
     xa: &'a [u64],
     xe: &'a [u64],
@@ -219,7 +219,8 @@ pub fn join_one<'a>(
     )
 }
 
-// The merge of x and y in front of the room: the capacity is judged, then x, then y; else their union, cut to the capacity.
+// The merge of x and y in front of the room: the capacity is judged, then x, then y; else their union, cut to the
+// capacity.
 pub fn merged<'a>(
     xa: &'a [u64],
     xe: &'a [u64],

@@ -1,13 +1,12 @@
 -- What well-formed slots have, and the judgement in the order in which the code makes it. Assumes nothing.
-use mathlib.Core.Path.{◌≡◌, sym, ◌∙◌}
-use mathlib.Core.Bool.{Bool, true, false, ◌&&◌}
+use mathlib.Core.Path.{◌≡◌}
+use mathlib.Core.Bool.{true, ◌&&◌}
 use mathlib.Core.List.{List}
-use Prim.Native.Nat.{ℕ, ◌≤◌, ◌<◌}
-use native.Mathlib.Omega.{arith}
+use Prim.Native.Nat.{ℕ, ◌≤◌}
 use lib.Dec.{leb, eqb}
 use lib.ListN.{length, drop}
 use borrow.Author.Tests.{leb-true, le-leb, eqb-true, eq-eqb}
-use Rattle.base_lists.proofs.Tests.{by_cases, clash, is_false, and_left, and_right, and_both}
+use Rattle.base_lists.proofs.Tests.{and_left, and_right, and_both}
 use Rattle.frontier_slots.specs.Entries.{most_entries, rising_from}
 use Rattle.frontier_slots.specs.Slots.{slots, all_zero, row_formed, slots_formed}
 
@@ -45,32 +44,3 @@ module _ (axes epochs : List ℕ) (len : ℕ) where
       (and_both (eqb (length axes) most_entries) _ (eq-eqb (length axes) most_entries w.sixteen_axes) w.zero_axes)
       (and_both (eqb (length epochs) most_entries) _ (eq-eqb (length epochs) most_entries w.sixteen_epochs)
       w.zero_epochs)))
-
-  -- a fact that well-formed slots have fails
-  fails : (SlotsHave axes epochs len → ⊥) → false ≡ slots_formed axes epochs len
-  fails h = sym (is_false (slots_formed axes epochs len) (λ t. h (slots_have t)))
-
-  pub not_short : most_entries < len → false ≡ slots_formed axes epochs len
-  not_short h = fails (λ w. omega (arith, w.short))
-
-  pub not_sixteen_axes : (length axes ≡ most_entries → ⊥) → false ≡ slots_formed axes epochs len
-  not_sixteen_axes h = fails (λ w. h w.sixteen_axes)
-
-  pub not_sixteen_epochs : (length epochs ≡ most_entries → ⊥) → false ≡ slots_formed axes epochs len
-  not_sixteen_epochs h = fails (λ w. h w.sixteen_epochs)
-
-  pub not_rising : rising_from 0 (slots axes epochs len 0) ≡ false → false ≡ slots_formed axes epochs len
-  not_rising e = fails (λ w. clash _ w.rises e)
-
-  pub not_zero : all_zero (drop len axes) ≡ false → false ≡ slots_formed axes epochs len
-  not_zero e = fails (λ w. clash _ w.zero_axes e)
-
-  pub judged : (r : Bool) → len ≤ most_entries → length axes ≡ most_entries → length epochs ≡ most_entries →
-      rising_from 0 (slots axes epochs len 0) ≡ true → all_zero (drop len axes) ≡ true →
-      r ≡ all_zero (drop len epochs) → r ≡ slots_formed axes epochs len
-  judged r l a b s z e =
-      by_cases (all_zero (drop len epochs))
-      (λ t. e ∙ t
-      ∙ sym (slots_well
-      (record { short = l; rises = s; sixteen_axes = a; sixteen_epochs = b; zero_axes = z; zero_epochs = t })))
-      (λ t. e ∙ t ∙ fails (λ w. clash _ w.zero_epochs t))

@@ -50,3 +50,6 @@ rising_stop xs es n i h p =
 pub rising_end : (xs es : List ℕ) (n i b : ℕ) → n ≤ i → rising_from b (rest xs es n i) ≡ true
 unfolding rising_from
 rising_end xs es n i b h = rw (rest_none xs es n i h)
+
+-- the walk over rising slots
+pub ruleset rising_steps = (rising_start, rising_more, rising_stop, rising_end)

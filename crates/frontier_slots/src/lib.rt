@@ -33,7 +33,7 @@ fn in_place<'a>(axes: &'a [u64], epochs: &'a [u64], i: usize) -> bool
 }
 
 // The axes rise and the epochs are above 0.
-#[tactic(auto, using(crate::proofs::Steps::rising_start, crate::proofs::Steps::rising_more, crate::proofs::Steps::rising_stop, crate::proofs::Steps::rising_end,))]
+#[tactic(auto, using(crate::proofs::Steps::rising_steps))]
 fn rising<'a>(axes: &'a [u64], epochs: &'a [u64], len: usize) -> bool
     requires { (len ≤ most_entries) × AllSlots axes.now epochs.now }
     ensures { result ≡ rising_from 0 (slots axes.now epochs.now len 0) }

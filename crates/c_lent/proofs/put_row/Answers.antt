@@ -9,5 +9,9 @@ use Rattle.c_lent.proofs.put_row.Goals as goal
 pub returns : goal.returns
 returns c =
     let e : c.args.«at» + 16 - c.args.«at» ≡ 16 = omega arith in
-    rw (e, sets-eq c.args.row.now c.args.numbers.now c.args.«at» (omega (arith, c.requires)), c.copy_from_slice.ensures.after)
+    rw (
+      e,
+      sets-eq c.args.row.now c.args.numbers.now c.args.«at» (omega (arith, c.requires)),
+      c.copy_from_slice.ensures.after,
+    )
     (rw (c.requires.0, drop-drop, append_assoc) refl)

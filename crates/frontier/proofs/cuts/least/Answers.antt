@@ -14,4 +14,5 @@ loop-i-preserved c =
 
 pub returns : goal.returns
 returns c =
-    least_end _ _ _ _ _ c.loop-i.invariant (c.loop-i.auto.i-end c.requires.len_nonzero) c.loop-i-test.false c.requires.len_in_bounds.2
+    least_end _ _ _ _ _ c.loop-i.invariant (c.loop-i.auto.i-end c.requires.len_nonzero)
+    c.loop-i-test.false c.requires.len_in_bounds.2
