@@ -25,8 +25,11 @@ unturned_some queue rows g i l =
     let q = get_or queue g 0 % row_width in
     let own = get_or rows (row_width * g + q) 0 in
     let other = get_or rows (row_width * i + q) 0 in
-    rw (lt-ltb g no_operation l, not_leb own other, ordered_is queue rows g i (get_or queue g 0) own other refl refl refl)
-    refl
+    rw (
+      lt-ltb g no_operation l,
+      not_leb own other,
+      ordered_is queue rows g i (get_or queue g 0) own other refl refl refl,
+    ) refl
 
 pub unturned_none : (queue rows : List ℕ) (g i : ℕ) → no_operation ≤ g → ltb g no_operation ≡ unturned queue rows g i
 unfolding unturned

@@ -25,7 +25,7 @@ const MOST: u16 = MOST_OPERATIONS as u16;
 // those count that both columns hold. By the columns of a plan, where what is said of owners is so, it is the lowest
 // operation with a signal out of turn. The last signallers have places for 64 semaphores, or for all that a plan can
 // have where it has more; past them operation 0 counts as the last one.
-#[tactic(auto, using(crate::proofs::Found::owners_is, crate::proofs::Found::walk_few, crate::proofs::Found::walk_many, crate::proofs::Found::plans_by))]
+#[tactic(auto, using(crate::proofs::Found::owners_is, crate::proofs::Found::walk_few, crate::proofs::Found::walk_many))]
 pub fn disordered(
     n: u16,
     semaphores: usize,

@@ -133,7 +133,8 @@ module _ (n ran : ℕ) (cs : OrderColumns) (rows : List ℕ) {t t' l l₁ l' : L
         (λ f. left.passed_table (passed_by r (is_none f))
         ∙ sym (ap (λ (b : Bool). in_front (cond b (replicate (row_width * n) 0) (take (row_width * n) rows)) t) f));
     list_holds = by_cases (given (order_by n cs ran rows))
-        (λ g. left.refused_list (refused_as r (not_none g)) ∙ front_alike (replicate (2 * n) 0) l₁ l (rw length-replicate past)
+        (λ g. left.refused_list (refused_as r (not_none g))
+        ∙ front_alike (replicate (2 * n) 0) l₁ l (rw length-replicate past)
         ∙ sym (ap (λ (b : Bool). in_front (cond b (replicate (2 * n) 0) (take (2 * n) l₁)) l) g))
         (λ f. left.passed_list (passed_by r (is_none f)) ∙ in_list
         ∙ sym (ap (λ (b : Bool). in_front (cond b (replicate (2 * n) 0) (take (2 * n) l₁)) l) f));

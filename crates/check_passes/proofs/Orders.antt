@@ -195,7 +195,8 @@ module _ (p : Plan) {n ran : ℕ} {rows_now : List ℕ} (r : Result ⊤ Refused)
       subst (λ (o : Outcome). Says o 0 p (told_of r) t t' l l') (sym same)
       (record {
         tells = told_is;
-        table_holds = left.refused_table (refused_as r z) ∙ ap (λ (k : ℕ). in_front (replicate (row_width * k) 0) t) (sym many);
+        table_holds = left.refused_table (refused_as r z)
+            ∙ ap (λ (k : ℕ). in_front (replicate (row_width * k) 0) t) (sym many);
         list_holds = left.refused_list (refused_as r z) ∙ front_alike (replicate (2 * n) 0) l₁ l
             (rw length-replicate run.listed.past)
             ∙ ap (λ (k : ℕ). in_front (replicate (2 * k) 0) l) (sym many);
@@ -207,7 +208,8 @@ module _ (p : Plan) {n ran : ℕ} {rows_now : List ℕ} (r : Result ⊤ Refused)
       let z = told_is.number ∙ e in
       let some_run = missing_none p (known p sound) (passed_means p e).0 in
       let full = (full_run p (standard p) (standard_full p (known p sound) some_run)).1 in
-      let taken = rows_taken p rows_now (rw many (left.long (passed_by r z))) (all_rows p sound rows_now some_run run.filled) in
+      let taken = rows_taken p rows_now (rw many (left.long (passed_by r z)))
+      (all_rows p sound rows_now some_run run.filled) in
       let same : plan_outcome p (length t) (length l) ≡ outcome none_given rows_and_run =
       ordered ∙ rw (zero_not_given (order_refusal p) e) in
       subst (λ (o : Outcome). Says o 0 p (told_of r) t t' l l') (sym same)

@@ -72,14 +72,14 @@ module _ (source ran : List ℕ) (j : ℕ) where
   held_at (suc zero) at passed l e z =
       held_second source ran j _ _ refl refl (first_ran (omega arith) passed) at _ e refl z
   held_at (suc (suc zero)) at passed l e z =
-      held_third source ran j _ _ refl refl (first_ran (omega arith) passed) _ _ refl refl (passed 1 (omega arith)) at _ e
-      refl z
+      held_third source ran j _ _ refl refl (first_ran (omega arith) passed) _ _ refl refl (passed 1 (omega arith))
+      at _ e refl z
   held_at (suc (suc (suc k))) at passed l e z = absurd (omega arith)
 
   pub held_none : Passed 3 → no_operation ≡ blocker_of source ran j
   held_none passed =
-      held_last source ran j _ _ refl refl (first_ran (omega arith) passed) _ _ refl refl (passed 1 (omega arith)) _ _ refl
-      refl (passed 2 (omega arith))
+      held_last source ran j _ _ refl refl (first_ran (omega arith) passed) _ _ refl refl (passed 1 (omega arith))
+      _ _ refl refl (passed 2 (omega arith))
 
 -- ---- the bit of a queue
 unit_small : (q : ℕ) → q < 16 → 2 ^ q < 65536
@@ -89,9 +89,6 @@ pub unit_shifted : (q w : ℕ) → q < 16 → 65536 ≤ w → 1 * 2 ^ q % w ≡ 
 unit_shifted q w l u =
     let e : 1 * 2 ^ q ≡ 2 ^ q = omega arith in
     rw e (mod-eq_of_lt (let h : 2 ^ q < w = omega (arith, unit_small q l) in h))
-
-pub shifted_small : (q w : ℕ) → q < 16 → 65536 ≤ w → 1 * 2 ^ q % w < 65536
-shifted_small q w l u = rw (unit_shifted q w l u) (unit_small q l)
 
 unit_only : (q k : ℕ) → has (2 ^ q) k ≡ true → q ≡ k
 unit_only q k h = eqb-true q k (sym (has_unit q k) ∙ h)

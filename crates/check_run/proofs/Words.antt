@@ -3,12 +3,11 @@ use mathlib.Core.Path.{◌≡◌, refl, sym, ap, ap₂, ◌∙◌}
 use mathlib.Core.Bool.{Bool, true, false, ◌&&◌, ◌||◌, not, cond}
 use Prim.Native.Nat.{ℕ, zero, suc, ◌+◌, ◌-◌, ◌/◌, ◌%◌, ◌^◌, ◌≤◌, ◌<◌, max}
 use native.Mathlib.Nat.{not-suc-le-zero, le_of_suc-le-suc, pow-suc}
-use native.Mathlib.Numerals.{add-one}
 use native.Mathlib.Omega.{arith}
 use lib.Dec.{eqb}
 use lib.Bits.{bit_or, or_step, or_shr}
 use lib.Count.{ones, count_trailing_zeros, ones_step}
-use lib.Pow.{pow_pos, field, mod-mod-pow}
+use lib.Pow.{pow_pos}
 use borrow.Author.Tests.{eqb-true, eqb-false, eq-eqb, ne_eqb}
 use Rattle.base_lists.specs.Lists.{tally}
 use Rattle.base_lists.proofs.Tests.{by_cases}
@@ -21,13 +20,6 @@ pub has_none : (q : ℕ) → has 0 q ≡ false
 unfolding has
 has_none zero = refl
 has_none (suc q) = has_none q
-
--- a bit below the cut stays
-pub has_cut : (k m q : ℕ) → q < k → has (m % 2 ^ k) q ≡ has m q
-unfolding has
-has_cut zero m q l = absurd (not-suc-le-zero l)
-has_cut (suc k) m zero l = rw (← add-one k, mod-mod-pow m k 1)
-has_cut (suc k) m (suc q) l = rw (← add-one k, field m k 1) (has_cut k (m / 2) q (le_of_suc-le-suc l))
 
 -- ---- the lowest bit
 lowest_here : (m : ℕ) → m % 2 ≡ 1 → LowestBit m 0

@@ -48,7 +48,7 @@ pub fn merge(
     row
 }
 
-// A row written at operation j.
+// A row written at operation j. It is made as a value first: merged in place it would be made number by number.
 pub fn lay(rows: &mut Rows, j: usize, row: [u16; ROW_WIDTH])
     requires { j ≤ no_operation }
     ensures { Laid rows.old j row row_width rows.new }

@@ -50,9 +50,9 @@ module _ (n : ℕ) (queue rows : List ℕ) where
       }) in
       rw e
 
-  pub zero_nowhere : ((k : ℕ) → k < n → Zero queue rows k → ⊥) → n ≡ first_zero n queue rows
+  pub no_zero : ((k : ℕ) → k < n → Zero queue rows k → ⊥) → n ≡ first_zero n queue rows
   unfolding place_or
-  zero_nowhere h =
+  no_zero h =
       by_option (lowest_below n (own_zero queue rows)) (λ e. rw e)
       (λ j e. let w = lowest_some n (own_zero queue rows) j e in absurd (h j w.inside (zero_of j w.passes)))
 
@@ -106,7 +106,7 @@ module _ (p : Plan) (n : ℕ) (queue rows : List ℕ) (sound : Sound p) (many : 
   first_missing : first_zero n queue rows ≡ place_or n (missing p)
   first_missing =
       by_option (lowest_below n (own_zero queue rows))
-      (λ e. sym (zero_nowhere n queue rows (none_zero e)) ∙ stuck_nowhere (none_zero e))
+      (λ e. sym (no_zero n queue rows (none_zero e)) ∙ stuck_nowhere (none_zero e))
       (λ i e. let w = lowest_some n (own_zero queue rows) i e in
       let z = zero_of n queue rows i w.passes in
       let h : (k : ℕ) → k < i → Zero queue rows k → ⊥ =
@@ -118,5 +118,5 @@ module _ (p : Plan) (n : ℕ) (queue rows : List ℕ) (sound : Sound p) (many : 
       none_zero e k l z =
           clash (own_zero queue rows k) (zero_test n queue rows k z) (lowest_none n (own_zero queue rows) e k l)
 
-  pub missing_by : {r : ℕ} → r ≡ first_zero n queue rows → r ≡ place_or n (missing p)
-  missing_by e = e ∙ first_missing
+  pub missed : {r : ℕ} → r ≡ first_zero n queue rows → r ≡ place_or n (missing p)
+  missed e = e ∙ first_missing

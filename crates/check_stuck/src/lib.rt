@@ -15,7 +15,7 @@ use plan_format::limits::ROW_WIDTH;
 
 // The lowest operation whose row is zero at its own queue, if there is one. By the rows of a plan's standard run it is
 // the lowest that did not run.
-#[tactic(auto, using(crate::proofs::Missing::zero_at, crate::proofs::Missing::zero_nowhere, crate::proofs::Missing::missing_by))]
+#[tactic(auto, using(crate::proofs::Missing::zero_at, crate::proofs::Missing::no_zero, crate::proofs::Missing::missed))]
 pub fn stuck(n: u16, queue: &QueueColumn, rows: &Rows) -> Option<usize>
     ensures found { unwrap_or result n ≡ first_zero n queue.now rows.now }
     ensures below { IfSome result (λ i. i < n) }

@@ -4,6 +4,6 @@ use Rattle.check_marks.proofs.broken.Goals as goal
 
 pub returns : goal.returns
 returns c =
-    let e = lower_found _ _ _ _ _ _ _ _ _ _ _ _ _ c.from-none.ensures c.min.ensures c.min-many.ensures c.uses-late.ensures
-    c.reuses-early.ensures c.min-lowest.ensures c.then_some.ensures in
+    let e = lower_found _ _ _ _ _ _ _ _ _ _ _ _ _ c.from-none.ensures c.min.ensures c.min-many.ensures
+    c.uses-late.ensures c.reuses-early.ensures c.min-lowest.ensures c.then_some.ensures in
     record { found = e; of_plans = λ p given. plans_by e given }

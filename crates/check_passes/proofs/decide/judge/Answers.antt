@@ -55,7 +55,8 @@ returns-2 c =
     let low = rw c.from-many.ensures at c.if-i-many.true in
     rw c.at-3.ensures (record {
       told = order_broken _ _ _ _ all c.disordered.ensures.found in_turn c.in-Some-broken.ensures.found low;
-      of_plans = λ p given. broken_told given all (c.disordered.ensures.of_plans p (handovers_given given all)) in_turn low
+      of_plans = λ p given. broken_told given all (c.disordered.ensures.of_plans p (handovers_given given all))
+          in_turn low
           (c.in-Some-broken.ensures.of_plans p (marks_given given all));
     })
 
@@ -66,6 +67,7 @@ returns-3 c =
     let kept = unbroken (goal.at.returns-3 c).In_default-2 in
     record {
       told = order_passed _ _ _ _ all c.disordered.ensures.found in_turn c.broken.ensures.found kept;
-      of_plans = λ p given. passed_told given all (c.disordered.ensures.of_plans p (handovers_given given all)) in_turn kept
+      of_plans = λ p given. passed_told given all (c.disordered.ensures.of_plans p (handovers_given given all))
+          in_turn kept
           (c.broken.ensures.of_plans p (marks_given given all));
     }

@@ -9,7 +9,8 @@ returns-then-table-many c =
 
 pub returns-then-list-many : goal.returns-then-list-many
 returns-then-list-many c =
-    rw (c.at-then-list-many.ensures, c.from-many.ensures) (tells (short_list _ _ _ (rw c.from-many.ensures at c.if-table-many.false)
+    rw (c.at-then-list-many.ensures, c.from-many.ensures)
+    (tells (short_list _ _ _ (rw c.from-many.ensures at c.if-table-many.false)
     (rw c.from-many.ensures at c.if-list-many.true)))
 
 pub returns : goal.returns
