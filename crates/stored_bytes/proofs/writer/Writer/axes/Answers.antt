@@ -16,8 +16,10 @@ loop-k-init c = (wrote_none axis_field 8 _ (search rules), search rules)
 
 pub axis-requires : goal.axis-requires
 axis-requires c =
-    record { room = room_left axis_field 8 most_queues c.requires.room c.in_ok-count.ensures.wrote
-    c.loop-k.invariant.0 c.loop-k-test.true }
+    record {
+      room = room_left axis_field 8 most_queues c.requires.room c.in_ok-count.ensures.wrote
+          c.loop-k.invariant.0 c.loop-k-test.true;
+    }
 
 pub returns-in_err-axis-clause-wrote : goal.returns-in_err-axis-clause-wrote
 returns-in_err-axis-clause-wrote c =

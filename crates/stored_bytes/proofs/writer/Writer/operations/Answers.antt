@@ -13,8 +13,11 @@ returns-in_err-count-clause-wrote g c =
     c.in_err-count.ensures.wrote)
 
 pub loop-k-init : goal.loop-k-init
-loop-k-init g c = (wrote_none (operation_below g.row.WIDTH c.args.queues c.args.semaphores c.args.buffers) block_bytes
-    _ (search rules), search rules)
+loop-k-init g c = (
+  wrote_none (operation_below g.row.WIDTH c.args.queues c.args.semaphores c.args.buffers) block_bytes
+      _ (search rules),
+  search rules,
+)
 
 pub operation-requires-clause-room : goal.operation-requires-clause-room
 operation-requires-clause-room g c =

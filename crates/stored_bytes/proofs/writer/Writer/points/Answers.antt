@@ -13,8 +13,10 @@ returns-in_err-count-clause-wrote g c =
     c.in_err-count.ensures.wrote)
 
 pub loop-k-init : goal.loop-k-init
-loop-k-init g c = (wrote_none (point_below g.row.WIDTH c.args.semaphores c.args.least) point_most _ (search rules),
-    search rules)
+loop-k-init g c = (
+  wrote_none (point_below g.row.WIDTH c.args.semaphores c.args.least) point_most _ (search rules),
+  search rules,
+)
 
 pub point-requires-clause-room : goal.point-requires-clause-room
 point-requires-clause-room g c =

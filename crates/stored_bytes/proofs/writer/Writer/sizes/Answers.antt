@@ -16,8 +16,10 @@ loop-k-init c = (wrote_none size_field 4 _ (search rules), search rules)
 
 pub size-requires : goal.size-requires
 size-requires c =
-    record { room = room_left size_field 4 most_buffers c.requires.room c.in_ok-count.ensures.wrote
-    c.loop-k.invariant.0 c.loop-k-test.true }
+    record {
+      room = room_left size_field 4 most_buffers c.requires.room c.in_ok-count.ensures.wrote
+          c.loop-k.invariant.0 c.loop-k-test.true;
+    }
 
 pub returns-in_err-size-clause-wrote : goal.returns-in_err-size-clause-wrote
 returns-in_err-size-clause-wrote c =
