@@ -62,7 +62,8 @@ module _ (queue rows : List ℕ) where
       b ≡ get_or rows (16 * last + x % 16) 0 →
       leb a b ≡ seen queue rows o i
   unfolding seen
-  seen_some o last i x a b is l e f g = rw (is, lt-ltb last most_operations l) (ordered_is queue rows i last x a b e f g)
+  seen_some o last i x a b is l e f g =
+      rw (is, lt-ltb last most_operations l) (ordered_is queue rows i last x a b e f g)
 
 -- ---- the verdict by the last mark on the buffer, which is found from the end
 module _ (mark : List ℕ) (b : ℕ) {many k : ℕ} (left : Passed (on_buffer mark b) many k) where

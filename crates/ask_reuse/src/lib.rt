@@ -12,7 +12,8 @@ ghost use Rattle.plan_order.specs.Reuse.{verdict as verdict_of, number_of, quest
 ghost use Rattle.ask_reuse.specs.Reuse.{ReuseAsked};
 ghost use Rattle.ask_reuse.specs.ReusePass.{QuestionGiven, last_shown, last_marked, seen as is_seen};
 ghost use Rattle.check_plan.specs.Opening.{lent_of};
-ghost use Rattle.ask_reuse.specs.ReusePass.{AnswerGiven, verdict_after, judged_at, judged_by, VerdictGiven, JudgedRight};
+ghost use Rattle.ask_reuse.specs.ReusePass.{AnswerGiven, verdict_after, judged_at, judged_by, VerdictGiven};
+ghost use Rattle.ask_reuse.specs.ReusePass.{JudgedRight};
 
 use base_slices::get_or;
 use check_columns::{MARK_CODES, MarkColumn, QueueColumn};

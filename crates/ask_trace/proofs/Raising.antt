@@ -7,7 +7,8 @@ use native.Mathlib.Nat.{mod-eq_of_lt, zero-add, mod-lt}
 use native.Mathlib.Numerals.{add-one}
 use native.Mathlib.Omega.{arith}
 use lib.Dec.{ltb, eqb}
-use lib.ListN.{length, get_or, set, drop, replicate, length-set, length-append, length-replicate, get_or-append, get_or-eq_default}
+use lib.ListN.{length, get_or, set, drop, replicate, length-set, length-append, length-replicate, get_or-append}
+use lib.ListN.{get_or-eq_default}
 use lib.Seq.{ext_get_or, drop-drop, get_or-append_right, get_or-set_same, get_or-set_other, drop-cons, drop-length}
 use borrow.Author.Tests.{eqb-true, eqb-false, eq-eqb, ne_eqb, ltb-true, ltb-false}
 use Rattle.base_lists.specs.Lists.{member, in_front}

@@ -66,3 +66,5 @@ module _ {queue rows ssem sop : List ℕ} {n many : ℕ} {first : List ℕ} wher
     pub left_more : t ≡ false → {next : List ℕ} → next ≡ set last s i →
         Left queue rows ssem sop n many first (k + 1) next
     left_more h e = record { inside = omega arith; rest = rw e (sym (next_is ∙ rw h refl) ∙ b.rest) }
+
+pub ruleset turns_left = (left_none, left_found, left_more, left_end)

@@ -51,7 +51,7 @@ pub fn disordered(
 }
 
 // The first signal out of turn, with a place for each of some semaphores.
-#[tactic(auto, unfolding(crate::specs::Walk::turns_found), using(crate::proofs::Turns::left_none, crate::proofs::Turns::left_found, crate::proofs::Turns::left_more, crate::proofs::Turns::left_end))]
+#[tactic(auto, unfolding(crate::specs::Walk::turns_found), using(crate::proofs::Turns::turns_left))]
 fn walk<const SEMAPHORES: usize>(
     signals: usize,
     queue: &QueueColumn,
