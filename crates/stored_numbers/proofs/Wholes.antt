@@ -25,16 +25,16 @@ module _ (F : Form) {A : Type 0} {s t : Reader} {r : Result A Reason} where
   unfolding head_cursor form_numbers
   plan_read {k = k} {n} h p =
       let q = rw h.same.plan at p.reads in
-      let most = mul-le-mul_left block_numbers ((h.means true).few_operations) in
+      let most = mul-le-mul_left block_numbers (h.means.few_operations) in
       record {
         same = same_then h.same p.same;
         read = record {
-          read = (h.means true).plan
+          read = h.means.plan
               ∙ sym (read_repeat bytes n (operation_below F.semaphore_width k.queues k.semaphores k.buffers)
               (here s.plan.now (reading t.cursor.at t.cursor.got) t.numbers.now))
               ∙ q.read;
           inside = q.inside;
-          few = omega (arith, (h.means true).few, q.few, most);
+          few = omega (arith, h.means.few, q.few, most);
         };
         past = past_then q.more h.past (reads_past q);
         few = omega (arith, h.few, q.few, most);
@@ -45,9 +45,9 @@ module _ (F : Form) {A : Type 0} {s t : Reader} {r : Result A Reason} where
   head_refused {e} gone h = rw gone (record {
     same = h.same;
     read = record {
-      read = (h.means true).plan;
-      inside = (h.means true).inside;
-      few = omega (arith, (h.means true).few);
+      read = h.means.plan;
+      inside = h.means.inside;
+      few = omega (arith, h.means.few);
     };
     past = h.past;
     few = omega (arith, h.few);
