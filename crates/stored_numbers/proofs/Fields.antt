@@ -172,8 +172,12 @@ module _ {A : Type 0} {w : ℕ} {check : Check} where
                 (drop old.cursor.at old.plan.now) old.cursor.at (take old.cursor.got old.numbers.now)
                 (rw (length-drop old.cursor.at old.plan.now) (omega (arith, d.whole)))
                 (rw (← d.word) checked)
-                ∙ rw (drop-drop w old.cursor.at old.plan.now, ← d.word, add-one old.cursor.got,
-                take-suc-set old.numbers.now old.cursor.got v (omega arith)) refl;
+                ∙ rw (
+                  drop-drop w old.cursor.at old.plan.now,
+                  ← d.word,
+                  add-one old.cursor.got,
+                  take-suc-set old.numbers.now old.cursor.got v (omega arith),
+                ) refl;
             inside = d.whole;
             more = omega arith;
             few = omega arith;
@@ -206,8 +210,14 @@ module _ {w : ℕ} {check : Check} {most : ℕ} where
       let got : new.cursor.got ≡ old.cursor.got + 1 = ap (λ y. y.got) c in
       record {
         field = kept v same c n d room checked;
-        number = (rw (n, got) (sym (rw (add-one old.cursor.got, take-suc-set old.numbers.now old.cursor.got v
-            (omega arith)) (last_snoc (take old.cursor.got old.numbers.now) v))), m);
+        number = (
+          rw (n, got) (sym (rw (
+            add-one old.cursor.got,
+            take-suc-set old.numbers.now old.cursor.got v
+                (omega arith),
+          ) (last_snoc (take old.cursor.got old.numbers.now) v))),
+          m,
+        );
       }
 
 -- what a limit and a count's check say of a number

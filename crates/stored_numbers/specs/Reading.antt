@@ -86,10 +86,10 @@ pub record SameLent (old new : Reader) : Type 0 where
 
 -- a thing is read, at most so many numbers long
 pub record Reads {A : Type 0} (g : Grammar) (many : ℕ) (old : Reader) (r : Result A Reason) (new : Reader) : Type 0
-    where
-  pub same : SameLent old new
-  pub reads : ReadsOn g many old.plan.now (reading old.cursor.at old.cursor.got) old.numbers.now
-      (reached r new.cursor) new.numbers.now
+  where
+    pub same : SameLent old new
+    pub reads : ReadsOn g many old.plan.now (reading old.cursor.at old.cursor.got) old.numbers.now
+        (reached r new.cursor) new.numbers.now
 
 -- a field is read, which is one number
 pub record ReadsField {A : Type 0} (width : ℕ) (check : Check) (old : Reader) (r : Result A Reason) (new : Reader) :

@@ -11,7 +11,7 @@ ghost use Rattle.plan_format.specs.Stored.{room_for, Tells, Fills, ReadSays};
 ghost use Rattle.stored_read.specs.Rest.{HeadingTold, RestSays};
 
 use plan_format::limits::{HEAD_NUMBERS, PLAN_NUMBERS};
-use plan_format::{Told, answered, refused};
+use plan_format::{Told, answered, as_told, refused};
 use stored_numbers::{FIRST_PLAN_NUMBERS, Head};
 
 // The first `many` numbers, in front of the room.
@@ -19,11 +19,7 @@ fn store(numbers: &[u64], many: usize, room: &mut [u64])
     requires { (many ≤ plan_numbers) × (many ≤ length numbers.now) × (many ≤ length room.old) }
     ensures { room.new ≡ in_front (take many numbers.now) room.old }
 {
-    let mut i = 0;
-    while i < many {
-        room[i] = numbers[i];
-        i += 1;
-    }
+    room[..many].copy_from_slice(&numbers[..many]);
 }
 
 // What a reading told, with its numbers in front of the room, if they fit.
@@ -50,7 +46,7 @@ fn read_either(plan: &[u8], room: &mut [u64]) -> Told
     ensures { ReadSays plan.now result room.old room.new }
 {
     let mut numbers = [0u64; PLAN_NUMBERS];
-    let told = stored_numbers::read_numbers(plan, &mut numbers);
+    let told = as_told(stored_numbers::read_numbers(plan, &mut numbers));
     into_room(told, &numbers, room)
 }
 
@@ -60,7 +56,7 @@ fn read_first(plan: &[u8], room: &mut [u64]) -> Told
     ensures { ReadSays plan.now result room.old room.new }
 {
     let mut numbers = [0u64; FIRST_PLAN_NUMBERS];
-    let told = stored_numbers::read_first_numbers(plan, &mut numbers);
+    let told = as_told(stored_numbers::read_first_numbers(plan, &mut numbers));
     into_room(told, &numbers, room)
 }
 

@@ -25,9 +25,10 @@ returns-in_err-axis c =
 
 pub loop-k-preserved : goal.loop-k-preserved
 unfolding axis_field
-loop-k-preserved c =
-    (more_reads c.loop-k._k c.loop-k.invariant.0 c.in_ok-axis.ensures.reads,
-    omega (arith, c.loop-k.invariant.1, c.in_ok-axis.ensures.one))
+loop-k-preserved c = (
+  more_reads c.loop-k._k c.loop-k.invariant.0 c.in_ok-axis.ensures.reads,
+  omega (arith, c.loop-k.invariant.1, c.in_ok-axis.ensures.one),
+)
 
 pub returns : goal.returns
 returns c =

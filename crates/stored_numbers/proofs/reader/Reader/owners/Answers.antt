@@ -24,9 +24,10 @@ returns-in_err-below c =
     (stopped_reads gone (field 1 (limited c.args.queues 4)) 1 c.loop-k._k _ (omega arith) c.loop-k.invariant.0 c.in_err-below.ensures.field.reads))
 
 pub loop-k-preserved : goal.loop-k-preserved
-loop-k-preserved c =
-    (as_reads (more_reads c.loop-k._k c.loop-k.invariant.0 c.in_ok-below.ensures.field.reads),
-    omega (arith, c.loop-k.invariant.1, c.in_ok-below.ensures.field.one))
+loop-k-preserved c = (
+  as_reads (more_reads c.loop-k._k c.loop-k.invariant.0 c.in_ok-below.ensures.field.reads),
+  omega (arith, c.loop-k.invariant.1, c.in_ok-below.ensures.field.one),
+)
 
 pub returns : goal.returns
 returns c =
