@@ -1,20 +1,18 @@
 -- A whole plan, as a reader's method reads it: what comes before the operations, and the operations. Assumes nothing.
-use mathlib.Core.Path.{◌≡◌, refl, sym, ap, ◌∙◌}
-use mathlib.Core.Bool.{true}
-use mathlib.Core.List.{List}
+use mathlib.Core.Path.{◌≡◌, sym, ◌∙◌}
 use Rattle.std.specs.Prelude.{Result, Ok, Err}
-use Prim.Native.Nat.{ℕ, ◌+◌, ◌*◌, ◌≤◌}
+use Prim.Native.Nat.{ℕ, ◌*◌}
 use native.Mathlib.Nat.{mul-le-mul_left}
 use native.Mathlib.Omega.{arith}
 use Rattle.plan_format.specs.declared.refusal.Reason.{Reason}
-use Rattle.plan_format.specs.Sizes.{most_operations, block_numbers}
+use Rattle.plan_format.specs.Sizes.{block_numbers}
 use Rattle.plan_format.specs.Grammar.{bytes, times}
 use Rattle.plan_format.specs.Form.{Form}
 use Rattle.plan_format.specs.Sections.{repeat, operation_below}
 use Rattle.plan_format.proofs.Repeats.{read_repeat}
 use Rattle.stored_numbers.specs.declared.operation.Counts.{Counts}
 use Rattle.stored_numbers.specs.declared.reader.Reader.{Reader}
-use Rattle.stored_numbers.specs.Reading.{here, reading, Past, Reads, head_cursor, fault_of, front_numbers, form_numbers}
+use Rattle.stored_numbers.specs.Reading.{here, reading, Reads, head_cursor, form_numbers}
 use Rattle.stored_numbers.specs.Reading.{HeadReads, PlanReads}
 use Rattle.stored_numbers.proofs.Cursors.{same_then, past_then, reads_past}
 

@@ -1,6 +1,6 @@
 -- What the reader's functions say: the reading that a cursor stands for, and what is handed back of it.
 -- Assumes nothing: these are definitions.
-use Rattle.std.specs.Prelude.{◌≡◌, Bool, false, cond, List, [], ◌∷◌, ◌++◌, ℕ, ◌+◌, ◌-◌, ◌*◌, ◌≤◌, ◌<◌, ◌^◌, min, eqb, length, take}
+use Rattle.std.specs.Prelude.{◌≡◌, Bool, false, cond, List, [], ◌∷◌, ◌++◌, ℕ, ◌+◌, ◌*◌, ◌≤◌, ◌<◌, min, eqb, length, take}
 use Rattle.std.specs.Prelude.{drop, Result, Ok, Err, IfOk}
 use Rattle.base_lists.specs.Lists.{in_front}
 use Rattle.plan_format.specs.Sizes.{most_queues, first_semaphores, most_buffers, most_operations, head_numbers}
@@ -13,7 +13,7 @@ use Rattle.plan_format.specs.Grammar.{Check, Grammar, field, seq, counted, value
 use Rattle.plan_format.specs.Grammar.{count_check, read_by, ended}
 use Rattle.plan_format.specs.Form.{Form, form_in, queue_count, semaphore_count, buffer_count, any_number, new_axis}
 use Rattle.plan_format.specs.Form.{a_queue, plan_grammar}
-use Rattle.plan_format.specs.Sections.{limited, owned, operation_below}
+use Rattle.plan_format.specs.Sections.{owned, operation_below}
 use Rattle.plan_format.specs.Stored.{scanned, Tells}
 use Rattle.plan_format.specs.declared.Told.{Told}
 use Rattle.stored_numbers.specs.declared.End.{End}
@@ -290,10 +290,10 @@ OperationTold width q m b bs at w r w_now =
 
 -- what it means: the reading goes on at the place, with the numbers in front of the window
 pub record OperationRead (width q m b : ℕ) (bs : List ℕ) (at : ℕ) (r : Reached) (window_now : List ℕ) : Type 0
-    where
-  pub read : operation_scan width q m b bs at ≡ here bs r window_now
-  pub inside : r.at ≤ length bs
-  pub few : r.got ≤ block_numbers
+  where
+    pub read : operation_scan width q m b bs at ≡ here bs r window_now
+    pub inside : r.at ≤ length bs
+    pub few : r.got ≤ block_numbers
 
 -- ---- a plan
 -- what is told of a reading that has come to its end: its refusal, or how many numbers it got

@@ -3,8 +3,6 @@
 use Rattle.std.proofs.Common.{refl, arith}
 use Rattle.std.specs.Prelude.{Ok, Err}
 use Rattle.plan_format.specs.Form.{width_by}
-use Rattle.plan_format.specs.Sizes.{most_operations, block_numbers}
-use Rattle.plan_format.specs.Sections.{repeat, operation_below}
 use Rattle.stored_numbers.specs.Reading.{head_told, is_wide}
 use Rattle.stored_numbers.proofs.Fields.{reason_given}
 use Rattle.stored_numbers.proofs.Heads.{stays_refused}
