@@ -12,7 +12,7 @@ ghost use Rattle.stored_read.specs.Rest.{HeadingTold, RestSays};
 
 use plan_format::limits::{HEAD_NUMBERS, PLAN_NUMBERS};
 use plan_format::{Told, answered, as_told, refused};
-use stored_numbers::{FIRST_PLAN_NUMBERS, Head};
+use stored_numbers::{FIRST_PLAN_NUMBERS, Head, Stop};
 
 // The first `many` numbers, in front of the room.
 fn store(numbers: &[u64], many: usize, room: &mut [u64])
@@ -72,10 +72,10 @@ pub fn read_plan(plan: &[u8], room: &mut [u64]) -> Told
     read_first(plan, room)
 }
 
-// The head of a plan, and the numbers before its operations.
+// The head of a plan, or where its reading stopped; and the numbers before its operations.
 #[derive(Clone, Copy)]
 pub struct Heading {
-    pub head: Head,
+    pub head: Result<Head, Stop>,
     pub numbers: [u64; HEAD_NUMBERS],
 }
 
@@ -103,6 +103,6 @@ pub fn read_rest(plan: &[u8], at: usize, h: Heading, room: &mut [u64]) -> Told
     let mut numbers = [0u64; PLAN_NUMBERS];
     let head = h.head;
     let before = h.numbers;
-    let told = stored_numbers::read_rest(plan, at, head, &before, &mut numbers);
+    let told = as_told(stored_numbers::read_rest(plan, at, head, &before, &mut numbers));
     into_room(told, &numbers, room)
 }

@@ -5,6 +5,7 @@
 ghost use Rattle.std.specs.Prelude.{◌≡◌};
 ghost use Rattle.plan_format.specs.Meaning.{ReadMeans};
 ghost use Rattle.plan_format.specs.Stored.{ReadSays};
+ghost use Rattle.stored_numbers.specs.Reading.{head_told};
 ghost use Rattle.stored_read.specs.Rest.{HeadingTold, RestSays};
 
 use plan_format::Told;
@@ -31,14 +32,15 @@ pub fn head<'a>(r: Reader<'a>) -> Heading
     stored_read::read_heading(r.src, r.at)
 }
 
-// The reader handed on, to where its head ends.
+// The reader handed on, to where its head ends, or where the reading of it stopped.
 pub fn moved<'a>(r: Reader<'a>, h: Heading) -> Reader<'a>
-    ensures { (result.src ≡ r.entry.src) × (result.at ≡ h.head.at) }
+    ensures { (result.src ≡ r.entry.src) × (result.at ≡ (head_told h.head).at) }
 {
-    Reader {
-        src: r.src,
-        at: h.head.at,
-    }
+    let at = match h.head {
+        Ok(head) => head.at,
+        Err(stop) => stop.at,
+    };
+    Reader { src: r.src, at }
 }
 
 // The plan whose head was read, its operations from the reader's place on.

@@ -1,5 +1,4 @@
 -- `read_either` meets its contract: what was read goes into the room.
-use Rattle.std.proofs.Common.{◌≡◌}
 use Rattle.plan_format.specs.Stored.{scanned, read_refusal, ReadSays}
 use Rattle.stored_read.proofs.ReadRoom.{read_fits}
 use Rattle.stored_read.proofs.read_either.Goals as goal
