@@ -164,7 +164,8 @@ module _ {F : Form} {bs : List ℕ} (form : ReadIn F bs) {c : Reached} {nums : L
 
 -- the same of the numbers in front of the array
 pub numbers_of : {bs : List ℕ} {s : Scan} → scanned bs ≡ s → (r : Told) (nums₀ : List ℕ) {nums : List ℕ} →
-    Ends s r → nums ≡ in_front s.got nums₀ → r.answer ≤ plan_numbers → length nums ≡ plan_numbers → NumbersRead bs r nums
+    Ends s r → nums ≡ in_front s.got nums₀ → r.answer ≤ plan_numbers → length nums ≡ plan_numbers →
+    NumbersRead bs r nums
 unfolding Ends in_front
 numbers_of {bs} {s} e r nums₀ {nums} t a few long =
     record {

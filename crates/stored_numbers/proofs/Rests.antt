@@ -15,7 +15,8 @@ use Rattle.plan_format.specs.Sections.{repeat, operation_below}
 use Rattle.plan_format.specs.Stored.{scanned}
 use Rattle.plan_format.specs.declared.Told.{Told}
 use Rattle.plan_format.proofs.Repeats.{read_repeat}
-use Rattle.stored_numbers.specs.Reading.{Reached, reading, fault_of, here, Past, ReadsOn, head_cursor, operations_after, HeadRead}
+use Rattle.stored_numbers.specs.Reading.{Reached, reading, fault_of, here, Past, ReadsOn, head_cursor}
+use Rattle.stored_numbers.specs.Reading.{operations_after, HeadRead}
 use Rattle.stored_numbers.specs.declared.Head.{Head}
 use Rattle.stored_numbers.specs.declared.Stop.{Stop}
 use Rattle.stored_numbers.specs.Reading.{ToldHead, head_told, is_wide, Ends, rest_cursor, rest_scan}

@@ -1,7 +1,7 @@
 -- What the reader's functions say: the reading that a cursor stands for, and what is handed back of it.
 -- Assumes nothing: these are definitions.
-use Rattle.std.specs.Prelude.{◌≡◌, Bool, false, cond, List, [], ◌∷◌, ◌++◌, ℕ, ◌+◌, ◌*◌, ◌≤◌, ◌<◌, min, eqb, length, take}
-use Rattle.std.specs.Prelude.{drop, Result, Ok, Err, IfOk}
+use Rattle.std.specs.Prelude.{◌≡◌, Bool, false, cond, List, [], ◌∷◌, ◌++◌, ℕ, ◌+◌, ◌*◌, ◌≤◌, ◌<◌, min, eqb, length}
+use Rattle.std.specs.Prelude.{take, drop, Result, Ok, Err, IfOk}
 use Rattle.base_lists.specs.Lists.{in_front}
 use Rattle.plan_format.specs.Sizes.{most_queues, first_semaphores, most_buffers, most_operations, head_numbers}
 use Rattle.plan_format.specs.Sizes.{block_numbers, plan_numbers}

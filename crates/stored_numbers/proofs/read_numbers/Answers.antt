@@ -16,7 +16,8 @@ unfolding front_numbers form_numbers
 returns-clause-told c =
     numbers_of (form_is c.args.plan.now c.in_second_form-wide.ensures) _ c.args.numbers.now c.whole.ensures.told
     c.whole.ensures.array
-    (omega (arith, c.whole.ensures.few, (proper_by c.in_second_form-wide.result).few)) (omega (arith, c.whole.ensures.long))
+    (omega (arith, c.whole.ensures.few, (proper_by c.in_second_form-wide.result).few))
+    (omega (arith, c.whole.ensures.long))
 
 pub returns-clause-array : goal.returns-clause-array
 returns-clause-array c =

@@ -11,7 +11,9 @@ use Rattle.stored_numbers.proofs.reader.Reader.owners.Goals as goal
 pub returns-in_err-count : goal.returns-in_err-count
 returns-in_err-count c =
     let gone : c.from_residual.result ≡ Err c.in_err-count.field-0.0 = search rules in
-    section_refused gone (count_refused (form_by c.args.wide).semaphores_least (form_by c.args.wide).semaphores_most (width_by c.args.wide) (field 1 (limited c.args.queues 4)) 1 gone c.in_err-count.ensures)
+    section_refused gone
+    (count_refused (form_by c.args.wide).semaphores_least (form_by c.args.wide).semaphores_most
+    (width_by c.args.wide) (field 1 (limited c.args.queues 4)) 1 gone c.in_err-count.ensures)
 
 pub loop-k-init : goal.loop-k-init
 loop-k-init c =
@@ -20,8 +22,11 @@ loop-k-init c =
 pub returns-in_err-below : goal.returns-in_err-below
 returns-in_err-below c =
     let gone : c.from_residual-in_err-below.result ≡ Err c.in_err-below.field-0.0 = search rules in
-    section_refused gone (count_then (form_by c.args.wide).semaphores_least (form_by c.args.wide).semaphores_most (width_by c.args.wide) (field 1 (limited c.args.queues 4)) 1 c.in_ok-count.ensures
-    (stopped_reads gone (field 1 (limited c.args.queues 4)) 1 c.loop-k._k _ (omega arith) c.loop-k.invariant.0 c.in_err-below.ensures.field.reads))
+    section_refused gone
+    (count_then (form_by c.args.wide).semaphores_least (form_by c.args.wide).semaphores_most (width_by c.args.wide)
+    (field 1 (limited c.args.queues 4)) 1 c.in_ok-count.ensures
+    (stopped_reads gone (field 1 (limited c.args.queues 4)) 1 c.loop-k._k _ (omega arith) c.loop-k.invariant.0
+    c.in_err-below.ensures.field.reads))
 
 pub loop-k-preserved : goal.loop-k-preserved
 loop-k-preserved c = (
@@ -32,5 +37,7 @@ loop-k-preserved c = (
 pub returns : goal.returns
 returns c =
     let all : c.loop-k._k ≡ c.in_ok-count.count = omega arith in
-    section_read (count_then (form_by c.args.wide).semaphores_least (form_by c.args.wide).semaphores_most (width_by c.args.wide) (field 1 (limited c.args.queues 4)) 1 c.in_ok-count.ensures (rw all at c.loop-k.invariant.0))
+    section_read
+    (count_then (form_by c.args.wide).semaphores_least (form_by c.args.wide).semaphores_most (width_by c.args.wide)
+    (field 1 (limited c.args.queues 4)) 1 c.in_ok-count.ensures (rw all at c.loop-k.invariant.0))
     (omega (arith, all, c.loop-k.invariant.1, c.in_ok-count.ensures.field.one))

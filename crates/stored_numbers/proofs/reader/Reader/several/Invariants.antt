@@ -9,4 +9,6 @@ use Rattle.stored_numbers.proofs.reader.Reader.several.Given as goal
 
 abbrev pub invariant-loop-k : goal.invariant-loop-k
 invariant-loop-k l =
-    Reads {A = ⊤} (repeat l._k (operation_below (width_by l.wide) l.counts.queues l.counts.semaphores l.counts.buffers)) (block_numbers * l._k) l.initial.self (Ok tt) l.self
+    Reads {A = ⊤}
+    (repeat l._k (operation_below (width_by l.wide) l.counts.queues l.counts.semaphores l.counts.buffers))
+    (block_numbers * l._k) l.initial.self (Ok tt) l.self
