@@ -40,7 +40,7 @@ fn numbers(rt: &impl Print, a: &[u32; 128], many: usize)
     let mut i = 0;
     while i < many {
         turn(rt, i);
-        number(rt, base_numbers::u32_to_u64(a[i]));
+        number(rt, u64::from(a[i]));
         i += 1;
     }
     line_end(rt);
@@ -50,7 +50,7 @@ fn numbers(rt: &impl Print, a: &[u32; 128], many: usize)
 fn sizes(rt: &impl Print, plan: &[u8]) {
     let c = check_plan::counts(plan);
     text(rt, b"  counts");
-    number(rt, base_numbers::u32_to_u64(c.number));
+    number(rt, u64::from(c.number));
     number(rt, c.place);
     number(rt, c.queues as u64);
     number(rt, c.semaphores as u64);
@@ -61,7 +61,7 @@ fn sizes(rt: &impl Print, plan: &[u8]) {
 
 fn show(rt: &impl Print, told: Told) {
     text(rt, b"  check");
-    number(rt, base_numbers::u32_to_u64(told.number));
+    number(rt, u64::from(told.number));
     number(rt, told.place);
     number(rt, told.answer);
 }

@@ -33,7 +33,7 @@ fn numbers(rt: &impl Print, a: &[u32; 128], many: usize)
     let mut i = 0;
     while i < many {
         turn(rt, i);
-        number(rt, base_numbers::u32_to_u64(a[i]));
+        number(rt, u64::from(a[i]));
         i += 1;
     }
     line_end(rt);
@@ -41,7 +41,7 @@ fn numbers(rt: &impl Print, a: &[u32; 128], many: usize)
 
 fn show(rt: &impl Print, told: Told) {
     text(rt, b"  reuse");
-    number(rt, base_numbers::u32_to_u64(told.number));
+    number(rt, u64::from(told.number));
     number(rt, told.place);
     number(rt, told.answer);
     line_end(rt);
@@ -51,8 +51,8 @@ fn show(rt: &impl Print, told: Told) {
 fn head(rt: &impl Print, name: &[u8], queue: u32, buffer: u32) {
     text(rt, name);
     text(rt, b", asked for");
-    number(rt, base_numbers::u32_to_u64(queue));
-    number(rt, base_numbers::u32_to_u64(buffer));
+    number(rt, u64::from(queue));
+    number(rt, u64::from(buffer));
     line_end(rt);
 }
 

@@ -48,11 +48,11 @@ fn taint(rt: &impl Print, tainted: bool) {
 
 fn show(rt: &impl Print, operation: u32, capacity: u32, sent: Sent) {
     text(rt, b"  ");
-    digits(rt, base_numbers::u32_to_u64(operation));
+    digits(rt, u64::from(operation));
     text(rt, b" at");
-    number(rt, base_numbers::u32_to_u64(capacity));
+    number(rt, u64::from(capacity));
     text(rt, b":");
-    number(rt, base_numbers::u32_to_u64(sent.number));
+    number(rt, u64::from(sent.number));
     number(rt, sent.place);
     let f = sent.frontier;
     taint(rt, f.tainted);
@@ -132,7 +132,7 @@ fn numbers(rt: &impl Print, a: &[u32; 64], many: usize)
     let mut i = 0;
     while i < many {
         turn(rt, i);
-        number(rt, base_numbers::u32_to_u64(a[i]));
+        number(rt, u64::from(a[i]));
         i += 1;
     }
     line_end(rt);
