@@ -1,7 +1,6 @@
 -- What is read, put together: one thing after another, a count and its things, a loop that stops at a refusal.
 -- Assumes nothing.
-use mathlib.Core.Path.{◌≡◌, refl, sym, ap, ◌∙◌, subst}
-use mathlib.Core.Bool.{cond}
+use mathlib.Core.Path.{◌≡◌, refl, sym, ap, ◌∙◌}
 use mathlib.Core.List.{List}
 use Rattle.std.specs.Prelude.{Result, Ok, Err, ⊤}
 use Rattle.plan_format.specs.declared.refusal.Reason.{Reason}
@@ -9,17 +8,16 @@ use Prim.Native.Nat.{ℕ, ◌+◌, ◌*◌, ◌≤◌, ◌<◌}
 use native.Mathlib.Nat.{mul-le-mul_left, mul-suc}
 use native.Mathlib.Numerals.{add-one}
 use native.Mathlib.Omega.{arith}
-use lib.Dec.{eqb}
-use lib.ListN.{length, take, drop}
+use lib.ListN.{length}
 use Rattle.base_lists.proofs.Fronts.{past_later}
-use Rattle.plan_format.specs.Refusal.{refusal, none_given, given}
+use Rattle.plan_format.specs.Refusal.{given}
 use Rattle.plan_format.specs.Grammar.{Grammar, field, seq, counted, bytes, Scan, scan, last_got}
 use Rattle.plan_format.specs.Grammar.{count_check, read_by}
 use Rattle.plan_format.specs.Sections.{repeat}
 use Rattle.plan_format.proofs.Faults.{read_stays}
 use Rattle.plan_format.proofs.Repeats.{read_counted, repeat_stops}
 use Rattle.stored_numbers.specs.declared.reader.Reader.{Reader}
-use Rattle.stored_numbers.specs.Reading.{Reached, fault_of, here, reading, Past, ReadsOn, reached, SameLent, Reads}
+use Rattle.stored_numbers.specs.Reading.{Reached, fault_of, here, Past, ReadsOn, reached, SameLent, Reads}
 use Rattle.stored_numbers.specs.Reading.{ReadsNumber, ReadsSection}
 use Rattle.stored_numbers.proofs.Fields.{here_given, fault_none, reason_given}
 

@@ -4,8 +4,8 @@ use mathlib.Core.Path.{◌≡◌, refl, sym, ap, ◌∙◌}
 use mathlib.Core.Bool.{true, cond}
 use mathlib.Core.Logic.{◌⊎◌, inl, inr}
 use mathlib.Core.List.{List, [], ◌∷◌, ◌++◌}
-use Rattle.std.specs.Prelude.{Result, Ok, Err, IfOk}
-use Prim.Native.Nat.{ℕ, ◌+◌, ◌-◌, ◌≤◌, ◌<◌}
+use Rattle.std.specs.Prelude.{Result, Ok, Err}
+use Prim.Native.Nat.{ℕ, ◌+◌, ◌≤◌, ◌<◌}
 use native.Mathlib.Numerals.{add-one}
 use native.Mathlib.Omega.{arith}
 use lib.Dec.{eqb}
@@ -21,14 +21,13 @@ use Rattle.plan_format.specs.declared.refusal.Reason.TheVariants.{BadFrontier, B
 use Rattle.plan_format.specs.declared.refusal.Reason.TheVariants.{NoSignalFrees, NoSuchOperation, BadTrace}
 use Rattle.plan_format.specs.Told.{number_of}
 use Rattle.plan_format.specs.Refusal.{refusal, none_given, given}
-use Rattle.plan_format.specs.Grammar.{Check, Grammar, field, value, bytes, Scan, scan, refused, field_number}
+use Rattle.plan_format.specs.Grammar.{Check, field, value, bytes, Scan, scan, refused, field_number}
 use Rattle.plan_format.specs.Grammar.{read_field, last_got, count_check, read_by}
 use Rattle.plan_format.specs.Sections.{limited}
-use Rattle.plan_format.proofs.Faults.{read_stays}
 use Rattle.plan_format.proofs.Judged.{other_given}
 use Rattle.plan_format.proofs.Seams.{last_snoc}
 use Rattle.stored_numbers.specs.declared.reader.Reader.{Reader}
-use Rattle.stored_numbers.specs.Reading.{Reached, fault_of, here, reading, ReadsOn, Word, SameLent, Reads, ReadsField}
+use Rattle.stored_numbers.specs.Reading.{Reached, fault_of, here, reading, Word, SameLent, ReadsField}
 use Rattle.stored_numbers.specs.Reading.{ReadsNumber}
 
 module _ (w : ℕ) (c : ℕ → ℕ) (rest : List ℕ) (p : ℕ) (got : List ℕ) where

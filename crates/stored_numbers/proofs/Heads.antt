@@ -25,11 +25,9 @@ use Rattle.plan_format.proofs.Judged.{zero_not_given}
 use Rattle.plan_format.proofs.Reading.{last_is}
 use Rattle.plan_format.proofs.Repeats.{read_repeat}
 use Rattle.plan_format.proofs.Sections.{sections_kept}
-use Rattle.stored_numbers.specs.declared.End.{End}
-use Rattle.stored_numbers.specs.declared.Head.{Head}
 use Rattle.stored_numbers.specs.Reading.{Reached, fault_of, here, Past, ReadsOn, begun, front_numbers, Stopped}
 use Rattle.stored_numbers.specs.Reading.{unless_refused, Heading, head_grammar, head_scan_by, head_scan, HeadTold}
-use Rattle.stored_numbers.specs.Reading.{HeadRead, head_cursor, operation_scan, OperationTold, end_cursor}
+use Rattle.stored_numbers.specs.Reading.{ToldHead, HeadRead, head_cursor, operation_scan, OperationTold}
 use Rattle.stored_numbers.specs.Reading.{OperationRead}
 use Rattle.stored_numbers.proofs.Fields.{here_clean, here_given, fault_number, fault_none}
 use Rattle.stored_numbers.proofs.Cursors.{past_then, reads_past, counted_read}
@@ -83,11 +81,10 @@ module _ (F : Form) (bs : List ℕ) (r : Reached) {nums₀ nums_now : List ℕ} 
   stopped : Stopped (head_scan_by F bs) r.number r.at r.got nums₀ nums_now
   stopped = stopped_here bs (head_scan_by F bs) r is roomy past
 
-  pub told_clean : {q m b n : ℕ} (w : Bool) → r.number ≡ 0 → Heading q m b n (take r.got nums_now) →
+  pub told_clean : {q m b n : ℕ} → r.number ≡ 0 → Heading q m b n (take r.got nums_now) →
       n ≡ last_got (here bs r nums_now) →
       HeadTold (head_scan_by F bs) nums₀
       (record {
-        wide = w;
         number = r.number;
         at = r.at;
         got = r.got;
@@ -98,7 +95,7 @@ module _ (F : Form) (bs : List ℕ) (r : Reached) {nums₀ nums_now : List ℕ} 
       })
       nums_now
   unfolding here scan
-  told_clean {q} {m} {b} {n} w z head last =
+  told_clean {q} {m} {b} {n} z head last =
       let s = head_scan_by F bs in
       let counts = heading_counts head in
       let clean = sym stopped.number_is ∙ z in
@@ -117,10 +114,9 @@ module _ (F : Form) (bs : List ℕ) (r : Reached) {nums₀ nums_now : List ℕ} 
   unfolding unless_refused
   refused_none z n = rw (is, here_given bs r nums_now z)
 
-  pub told_refused : (w : Bool) → (r.number ≡ 0 → ⊥) →
+  pub told_refused : (r.number ≡ 0 → ⊥) →
       HeadTold (head_scan_by F bs) nums₀
       (record {
-        wide = w;
         number = r.number;
         at = r.at;
         got = r.got;
@@ -130,7 +126,7 @@ module _ (F : Form) (bs : List ℕ) (r : Reached) {nums₀ nums_now : List ℕ} 
         operations = 0;
       })
       nums_now
-  told_refused w z =
+  told_refused z =
       record {
         stopped = stopped;
         queues = refused_none z _;
@@ -214,9 +210,8 @@ module _ (F : Form) (fits : F.semaphores_most ≤ most_semaphores) (bs : List �
       let (clean, got) = counted_after z in subst (λ (l : List ℕ). Heading q m b n l) (sym got)
       (heading F bs q m b enough axes queues_are owners semaphores_are sizes buffers_are n clean)
 
-  abbrev head : (wide : Bool) → Head
-  head w = record {
-    wide = w;
+  abbrev head : ToldHead
+  head = record {
     number = r.number;
     at = r.at;
     got = r.got;
@@ -226,9 +221,8 @@ module _ (F : Form) (fits : F.semaphores_most ≤ most_semaphores) (bs : List �
     operations = n;
   }
 
-  abbrev refused : (wide : Bool) → Head
-  refused w = record {
-    wide = w;
+  abbrev refused : ToldHead
+  refused = record {
     number = r.number;
     at = r.at;
     got = r.got;
@@ -238,12 +232,12 @@ module _ (F : Form) (fits : F.semaphores_most ≤ most_semaphores) (bs : List �
     operations = 0;
   }
 
-  pub head_told : (w : Bool) → r.number ≡ 0 → HeadTold (head_scan_by F bs) n₀ (head w) nums_now
-  head_told w z = told_clean F bs r head_is head_room head_past w z (head_heading z) (last z)
+  pub counts_told : r.number ≡ 0 → HeadTold (head_scan_by F bs) n₀ head nums_now
+  counts_told z = told_clean F bs r head_is head_room head_past z (head_heading z) (last z)
 
-  pub head_read : (w : Bool) → r.number ≡ 0 → n ≤ most_operations → HeadRead F bs (head w) nums_now
+  pub head_read : r.number ≡ 0 → n ≤ most_operations → HeadRead F bs head nums_now
   unfolding head_cursor here fault_of front_numbers
-  head_read w z few = record {
+  head_read z few = record {
     plan = plan_after ∙ read_repeat bytes n (operation_below F.semaphore_width q m b) (here bs r nums_now);
     heading = head_heading;
     inside = count.inside;
@@ -251,12 +245,12 @@ module _ (F : Form) (fits : F.semaphores_most ≤ most_semaphores) (bs : List �
     few_operations = few;
   }
 
-  pub refused_told : (w : Bool) → (r.number ≡ 0 → ⊥) → HeadTold (head_scan_by F bs) n₀ (refused w) nums_now
-  refused_told w z = told_refused F bs r head_is head_room head_past w z
+  pub refused_told : (r.number ≡ 0 → ⊥) → HeadTold (head_scan_by F bs) n₀ refused nums_now
+  refused_told z = told_refused F bs r head_is head_room head_past z
 
-  pub refused_read : (w : Bool) → (r.number ≡ 0 → ⊥) → HeadRead F bs (refused w) nums_now
+  pub refused_read : (r.number ≡ 0 → ⊥) → HeadRead F bs refused nums_now
   unfolding head_cursor here fault_of times front_numbers
-  refused_read w z = record {
+  refused_read z = record {
     plan =
         plan_after
         ∙ read_stays bytes (repeat n (operation_below F.semaphore_width q m b)) (here bs r nums_now)
@@ -283,14 +277,10 @@ module _ (width q m b : ℕ) {a : ℕ} (at : ℕ) {bs w w_now : List ℕ} {r : R
     operation_is = subst (λ (z : ℕ). read_by bytes (operation_below width q m b) (scan (drop z bs) z [] none_given) ≡
         here bs r w_now) place p.read
 
-    abbrev end : End
-    end = record { number = r.number; at = r.at; got = r.got }
-
-    pub operation_told : OperationTold width q m b bs at w end w_now
+    pub operation_told : OperationTold width q m b bs at w r w_now
     unfolding OperationTold
     operation_told =
         stopped_here bs (operation_scan width q m b bs at) r operation_is (omega (arith, p.few)) (reads_past p)
 
-    pub operation_read : OperationRead width q m b bs at end w_now
-    unfolding end_cursor here fault_of
+    pub operation_read : OperationRead width q m b bs at r w_now
     operation_read = record { read = operation_is; inside = p.inside; few = p.few }

@@ -1,7 +1,6 @@
 -- What comes before the operations, as a reader's method reads it: three sections and a count, or the first thing
 -- refused. Assumes nothing.
-use mathlib.Core.Path.{◌≡◌, refl, sym, ap, ◌∙◌}
-use mathlib.Core.List.{List}
+use mathlib.Core.Path.{◌≡◌, refl}
 use Rattle.std.specs.Prelude.{Result, Ok, Err}
 use Prim.Native.Nat.{ℕ, ◌+◌, ◌≤◌}
 use native.Mathlib.Omega.{arith}
@@ -18,7 +17,7 @@ use Rattle.stored_numbers.specs.Reading.{front_numbers, Begins, HeadReads}
 use Rattle.stored_numbers.proofs.Fields.{reason_given}
 use Rattle.stored_numbers.proofs.Cursors.{same_then}
 use Rattle.stored_numbers.proofs.Counts.{origin}
-use Rattle.stored_numbers.proofs.Heads.{stays_refused, head_told, head_read, head_past, head_few, refused_told}
+use Rattle.stored_numbers.proofs.Heads.{stays_refused, counts_told, head_read, head_past, head_few, refused_told}
 use Rattle.stored_numbers.proofs.Heads.{refused_read}
 
 -- what is read of the same bytes
@@ -61,11 +60,11 @@ module _ (F : Form) (fits : F.semaphores_most ≤ most_semaphores) {s : Reader} 
         record {
           same = same_then same₃ p₄.field.reads.same;
           told =
-              λ wide. head_told F fits s.plan.now q m b roomy a (λ _. got) o (λ _. p₂.entries) z (λ _. p₃.entries) c n
-              (λ _. last) wide refl;
+              counts_told F fits s.plan.now q m b roomy a (λ _. got) o (λ _. p₂.entries) z (λ _. p₃.entries) c n
+              (λ _. last) refl;
           means =
-              λ wide. head_read F fits s.plan.now q m b roomy a (λ _. got) o (λ _. p₂.entries) z (λ _. p₃.entries) c n
-              (λ _. last) wide refl p₄.number.1;
+              head_read F fits s.plan.now q m b roomy a (λ _. got) o (λ _. p₂.entries) z (λ _. p₃.entries) c n
+              (λ _. last) refl p₄.number.1;
           past =
               head_past F fits s.plan.now q m b roomy a (λ _. got) o (λ _. p₂.entries) z (λ _. p₃.entries) c n
               (λ _. last);
@@ -93,11 +92,11 @@ module _ (F : Form) (fits : F.semaphores_most ≤ most_semaphores) {s : Reader} 
           rw gone (record {
             same = p₁.reads.same;
             told =
-                λ w. refused_told F fits bs 0 0 0 roomy a (λ i. absurd (z i)) o (λ i. absurd (z i)) y
-                (λ i. absurd (z i)) k 0 (λ i. absurd (z i)) w z;
+                refused_told F fits bs 0 0 0 roomy a (λ i. absurd (z i)) o (λ i. absurd (z i)) y
+                (λ i. absurd (z i)) k 0 (λ i. absurd (z i)) z;
             means =
-                λ w. refused_read F fits bs 0 0 0 roomy a (λ i. absurd (z i)) o (λ i. absurd (z i)) y
-                (λ i. absurd (z i)) k 0 (λ i. absurd (z i)) w z;
+                refused_read F fits bs 0 0 0 roomy a (λ i. absurd (z i)) o (λ i. absurd (z i)) y
+                (λ i. absurd (z i)) k 0 (λ i. absurd (z i)) z;
             past =
                 head_past F fits bs 0 0 0 roomy a (λ i. absurd (z i)) o (λ i. absurd (z i)) y
                 (λ i. absurd (z i)) k 0 (λ i. absurd (z i));
@@ -121,11 +120,11 @@ module _ (F : Form) (fits : F.semaphores_most ≤ most_semaphores) {s : Reader} 
           rw gone (record {
             same = same_then p₁.reads.same p₂.reads.same;
             told =
-                λ w. refused_told F fits bs q 0 0 roomy a (λ _. got) o (λ i. absurd (z i)) y
-                (λ i. absurd (z i)) k 0 (λ i. absurd (z i)) w z;
+                refused_told F fits bs q 0 0 roomy a (λ _. got) o (λ i. absurd (z i)) y
+                (λ i. absurd (z i)) k 0 (λ i. absurd (z i)) z;
             means =
-                λ w. refused_read F fits bs q 0 0 roomy a (λ _. got) o (λ i. absurd (z i)) y
-                (λ i. absurd (z i)) k 0 (λ i. absurd (z i)) w z;
+                refused_read F fits bs q 0 0 roomy a (λ _. got) o (λ i. absurd (z i)) y
+                (λ i. absurd (z i)) k 0 (λ i. absurd (z i)) z;
             past =
                 head_past F fits bs q 0 0 roomy a (λ _. got) o (λ i. absurd (z i)) y
                 (λ i. absurd (z i)) k 0 (λ i. absurd (z i));
@@ -150,11 +149,11 @@ module _ (F : Form) (fits : F.semaphores_most ≤ most_semaphores) {s : Reader} 
           rw gone (record {
             same = same_then same₂ p₃.reads.same;
             told =
-                λ w. refused_told F fits bs q m 0 roomy a (λ _. got) o (λ _. p₂.entries) y
-                (λ i. absurd (z i)) k 0 (λ i. absurd (z i)) w z;
+                refused_told F fits bs q m 0 roomy a (λ _. got) o (λ _. p₂.entries) y
+                (λ i. absurd (z i)) k 0 (λ i. absurd (z i)) z;
             means =
-                λ w. refused_read F fits bs q m 0 roomy a (λ _. got) o (λ _. p₂.entries) y
-                (λ i. absurd (z i)) k 0 (λ i. absurd (z i)) w z;
+                refused_read F fits bs q m 0 roomy a (λ _. got) o (λ _. p₂.entries) y
+                (λ i. absurd (z i)) k 0 (λ i. absurd (z i)) z;
             past =
                 head_past F fits bs q m 0 roomy a (λ _. got) o (λ _. p₂.entries) y
                 (λ i. absurd (z i)) k 0 (λ i. absurd (z i));
@@ -179,11 +178,11 @@ module _ (F : Form) (fits : F.semaphores_most ≤ most_semaphores) {s : Reader} 
           rw gone (record {
             same = same_then same₃ p₄.field.reads.same;
             told =
-                λ w. refused_told F fits bs q m b roomy a (λ _. got) o (λ _. p₂.entries) y (λ _. p₃.entries) k 0
-                (λ i. absurd (z i)) w z;
+                refused_told F fits bs q m b roomy a (λ _. got) o (λ _. p₂.entries) y (λ _. p₃.entries) k 0
+                (λ i. absurd (z i)) z;
             means =
-                λ w. refused_read F fits bs q m b roomy a (λ _. got) o (λ _. p₂.entries) y (λ _. p₃.entries) k 0
-                (λ i. absurd (z i)) w z;
+                refused_read F fits bs q m b roomy a (λ _. got) o (λ _. p₂.entries) y (λ _. p₃.entries) k 0
+                (λ i. absurd (z i)) z;
             past =
                 head_past F fits bs q m b roomy a (λ _. got) o (λ _. p₂.entries) y (λ _. p₃.entries) k 0
                 (λ i. absurd (z i));

@@ -1,6 +1,6 @@
 -- What the reader's functions say: the reading that a cursor stands for, and what is handed back of it.
 -- Assumes nothing: these are definitions.
-use Rattle.std.specs.Prelude.{◌≡◌, Bool, cond, List, [], ◌∷◌, ◌++◌, ℕ, ◌+◌, ◌-◌, ◌*◌, ◌≤◌, ◌<◌, ◌^◌, min, eqb, length, take}
+use Rattle.std.specs.Prelude.{◌≡◌, Bool, false, cond, List, [], ◌∷◌, ◌++◌, ℕ, ◌+◌, ◌*◌, ◌≤◌, ◌<◌, min, eqb, length, take}
 use Rattle.std.specs.Prelude.{drop, Result, Ok, Err, IfOk}
 use Rattle.base_lists.specs.Lists.{in_front}
 use Rattle.plan_format.specs.Sizes.{most_queues, first_semaphores, most_buffers, most_operations, head_numbers}
@@ -13,11 +13,12 @@ use Rattle.plan_format.specs.Grammar.{Check, Grammar, field, seq, counted, value
 use Rattle.plan_format.specs.Grammar.{count_check, read_by, ended}
 use Rattle.plan_format.specs.Form.{Form, form_in, queue_count, semaphore_count, buffer_count, any_number, new_axis}
 use Rattle.plan_format.specs.Form.{a_queue, plan_grammar}
-use Rattle.plan_format.specs.Sections.{limited, owned, operation_below}
+use Rattle.plan_format.specs.Sections.{owned, operation_below}
 use Rattle.plan_format.specs.Stored.{scanned, Tells}
 use Rattle.plan_format.specs.declared.Told.{Told}
 use Rattle.stored_numbers.specs.declared.End.{End}
 use Rattle.stored_numbers.specs.declared.Head.{Head}
+use Rattle.stored_numbers.specs.declared.Stop.{Stop}
 use Rattle.stored_numbers.specs.declared.reader.Cursor.{Cursor}
 use Rattle.stored_numbers.specs.declared.operation.Counts.{Counts}
 use Rattle.stored_numbers.specs.declared.reader.Reader.{Reader}
@@ -159,8 +160,47 @@ head_scan_by F bs = read_by bytes (head_grammar F) (begun F bs)
 unfoldable pub head_scan : (bs : List ℕ) → Scan
 head_scan bs = head_scan_by (form_in bs) bs
 
+-- what is told of a head: the number of the refusal met, or 0; the place where the reading stopped and how many numbers
+-- it got; the four counts
+pub record ToldHead : Type 0 where
+  pub number : ℕ
+  pub at : ℕ
+  pub got : ℕ
+  pub queues : ℕ
+  pub semaphores : ℕ
+  pub buffers : ℕ
+  pub operations : ℕ
+
+-- R53, what is told by a head that was read, or by where its reading stopped: beside a refusal the counts are 0
+abbrev pub head_told : Result Head Stop → ToldHead
+head_told (Ok h) =
+    record {
+      number = 0;
+      at = h.at;
+      got = h.got;
+      queues = h.queues;
+      semaphores = h.semaphores;
+      buffers = h.buffers;
+      operations = h.operations;
+    }
+head_told (Err s) =
+    record {
+      number = number_of s.reason;
+      at = s.at;
+      got = s.got;
+      queues = 0;
+      semaphores = 0;
+      buffers = 0;
+      operations = 0;
+    }
+
+-- R8, whether a head that was read is in the second form; where its reading stopped, nothing more is read by that
+abbrev pub is_wide : Result Head Stop → Bool
+is_wide (Ok h) = h.wide
+is_wide (Err s) = false
+
 -- what `read_head` hands back of that reading, and the array
-pub record HeadTold (s : Scan) (nums : List ℕ) (h : Head) (nums_now : List ℕ) : Type 0 where
+pub record HeadTold (s : Scan) (nums : List ℕ) (h : ToldHead) (nums_now : List ℕ) : Type 0 where
   pub stopped : Stopped s h.number h.at h.got nums nums_now
   pub queues : h.queues ≡ unless_refused s (queue_count s.got)
   pub semaphores : h.semaphores ≡ unless_refused s (semaphore_count s.got)
@@ -178,16 +218,16 @@ pub record Heading (q m b n : ℕ) (nums : List ℕ) : Type 0 where
   pub numbers_are : nums ≡ q ∷ (axes ++ (m ∷ (owners ++ (b ∷ (sizes ++ (n ∷ []))))))
 
 -- where the operations begin
-unfoldable pub head_cursor : Head → Reached
+unfoldable pub head_cursor : ToldHead → Reached
 head_cursor h = record { number = h.number; at = h.at; got = h.got }
 
 -- so many operations are read after a head, a semaphore's position having so many bytes
-abbrev pub operations_after : (width : ℕ) → Head → (many : ℕ) → Scan → Scan
+abbrev pub operations_after : (width : ℕ) → ToldHead → (many : ℕ) → Scan → Scan
 operations_after width h many s =
     times many (λ t. read_by bytes (operation_below width h.queues h.semaphores h.buffers) t) s
 
 -- what a head means: with so many operations it makes the plan
-pub record HeadRead (F : Form) (bs : List ℕ) (h : Head) (nums_now : List ℕ) : Type 0 where
+pub record HeadRead (F : Form) (bs : List ℕ) (h : ToldHead) (nums_now : List ℕ) : Type 0 where
   pub plan : read_by bytes (plan_grammar F) (begun F bs) ≡
       operations_after F.semaphore_width h h.operations (here bs (head_cursor h) nums_now)
   pub heading : h.number ≡ 0 →
@@ -201,9 +241,9 @@ pub record Begins (F : Form) (s : Reader) : Type 0 where
   pub at : s.cursor.at ≡ length F.lead
   pub got : s.cursor.got ≡ 0
 
--- the head that is made of a result, and of the cursor
-abbrev pub head_of : Result (Counts × ℕ) Reason → Cursor → (wide : Bool) → Head
-head_of (Ok (k, n)) c w =
+-- what is told of a head by a result, and by the cursor
+abbrev pub head_of : Result (Counts × ℕ) Reason → Cursor → ToldHead
+head_of (Ok (k, n)) c =
     record {
       number = 0;
       at = c.at;
@@ -212,26 +252,14 @@ head_of (Ok (k, n)) c w =
       semaphores = k.semaphores;
       buffers = k.buffers;
       operations = n;
-      wide = w;
     }
-head_of (Err e) c w =
-    record {
-      number = number_of e;
-      at = c.at;
-      got = c.got;
-      queues = 0;
-      semaphores = 0;
-      buffers = 0;
-      operations = 0;
-      wide = w;
-    }
+head_of (Err e) c = head_told (Err (record { reason = e; at = c.at; got = c.got }))
 
 -- a head is read
 pub record HeadReads (F : Form) (old : Reader) (r : Result (Counts × ℕ) Reason) (new : Reader) : Type 0 where
   pub same : SameLent old new
-  pub told : (w : Bool) → HeadTold (head_scan_by F old.plan.now) old.numbers.now (head_of r new.cursor w)
-      new.numbers.now
-  pub means : (w : Bool) → HeadRead F old.plan.now (head_of r new.cursor w) new.numbers.now
+  pub told : HeadTold (head_scan_by F old.plan.now) old.numbers.now (head_of r new.cursor) new.numbers.now
+  pub means : HeadRead F old.plan.now (head_of r new.cursor) new.numbers.now
   pub past : Past new.cursor.got old.numbers.now new.numbers.now
   pub few : new.cursor.got ≤ front_numbers F + 1
 
@@ -249,20 +277,23 @@ operation_scan width q m b bs at =
     let from = min at (length bs) in read_by bytes (operation_below width q m b)
     (scan (drop from bs) from [] none_given)
 
+-- R53, how far a reading has come by the end of an operation, or by where its reading stopped
+abbrev pub end_told : Result End Stop → Reached
+end_told (Ok e) = record { number = 0; at = e.at; got = e.got }
+end_told (Err s) = record { number = number_of s.reason; at = s.at; got = s.got }
+
 -- what `read_operation` hands back, and the window
-unfoldable pub OperationTold : (width q m b : ℕ) → (bs : List ℕ) → (at : ℕ) → (window : List ℕ) → End →
+unfoldable pub OperationTold : (width q m b : ℕ) → (bs : List ℕ) → (at : ℕ) → (window : List ℕ) → Reached →
     (window_now : List ℕ) → Type 0
 OperationTold width q m b bs at w r w_now =
     Stopped (operation_scan width q m b bs at) r.number r.at r.got w w_now
 
-unfoldable pub end_cursor : End → Reached
-end_cursor r = record { number = r.number; at = r.at; got = r.got }
-
 -- what it means: the reading goes on at the place, with the numbers in front of the window
-pub record OperationRead (width q m b : ℕ) (bs : List ℕ) (at : ℕ) (r : End) (window_now : List ℕ) : Type 0 where
-  pub read : operation_scan width q m b bs at ≡ here bs (end_cursor r) window_now
-  pub inside : r.at ≤ length bs
-  pub few : r.got ≤ block_numbers
+pub record OperationRead (width q m b : ℕ) (bs : List ℕ) (at : ℕ) (r : Reached) (window_now : List ℕ) : Type 0
+  where
+    pub read : operation_scan width q m b bs at ≡ here bs r window_now
+    pub inside : r.at ≤ length bs
+    pub few : r.got ≤ block_numbers
 
 -- ---- a plan
 -- what is told of a reading that has come to its end: its refusal, or how many numbers it got
@@ -278,9 +309,9 @@ pub record NumbersRead (bs : List ℕ) (r : Told) (nums_now : List ℕ) : Type 0
 
 -- a plan from its head on: after the head's numbers its operations are read at a place, to the end of the bytes; beside
 -- a refusal of the head nothing is read, and it is told at that place
-unfoldable pub rest_cursor : (bs : List ℕ) → (at : ℕ) → Head → Reached
+unfoldable pub rest_cursor : (bs : List ℕ) → (at : ℕ) → ToldHead → Reached
 rest_cursor bs at h = record { number = h.number; at = min at (length bs); got = min h.got head_numbers }
 
-unfoldable pub rest_scan : (width : ℕ) → (bs : List ℕ) → (at : ℕ) → Head → (nums : List ℕ) → Scan
+unfoldable pub rest_scan : (width : ℕ) → (bs : List ℕ) → (at : ℕ) → ToldHead → (nums : List ℕ) → Scan
 rest_scan width bs at h nums =
     ended (operations_after width h (min h.operations most_operations) (here bs (rest_cursor bs at h) nums))

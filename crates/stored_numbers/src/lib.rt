@@ -7,16 +7,16 @@ mod operation;
 mod reader;
 mod section;
 
-ghost use Rattle.std.specs.Prelude.{◌≡◌, List, false, ℕ, ◌+◌, ◌≤◌, length, take};
+ghost use Rattle.std.specs.Prelude.{◌≡◌, List, false, ℕ, ◌+◌, ◌≤◌, length, take, IfOk};
 ghost use Rattle.base_lists.specs.Lists.{in_front};
-ghost use Rattle.plan_format.specs.Form.{is_second, first_form, form_by, width_by, scanned_by};
+ghost use Rattle.plan_format.specs.Form.{is_second, first_form, form_in, form_by, width_by, scanned_by};
 ghost use Rattle.plan_format.specs.Grammar.{bytes, ended};
 ghost use Rattle.plan_format.specs.Sizes.{plan_numbers};
 ghost use Rattle.plan_format.specs.Stored.{scanned};
-ghost use Rattle.plan_format.specs.Told.{told_by};
+ghost use Rattle.plan_format.specs.Told.{refused_by, told_by};
 ghost use Rattle.stored_numbers.specs.Reading.{here, reached, head_scan, head_scan_by, front_numbers, form_numbers};
-ghost use Rattle.stored_numbers.specs.Reading.{first_numbers, HeadTold, HeadRead, OperationTold, OperationRead, Ends};
-ghost use Rattle.stored_numbers.specs.Reading.{NumbersRead, rest_scan, Begins};
+ghost use Rattle.stored_numbers.specs.Reading.{first_numbers, head_told, is_wide, HeadTold, HeadRead, end_told};
+ghost use Rattle.stored_numbers.specs.Reading.{OperationTold, OperationRead, Ends, NumbersRead, rest_scan, Begins};
 
 use crate::operation::Counts;
 use crate::reader::{Cursor, Reader};
@@ -25,7 +25,7 @@ use plan_format::limits::{
     BLOCK_NUMBERS, FIRST_SEMAPHORES, HEAD_NUMBERS, MOST_BUFFERS, MOST_OPERATIONS, MOST_QUEUES,
     PLAN_NUMBERS, WINDOW,
 };
-use plan_format::{Reason, Refusal, Told, as_told, refused};
+use plan_format::{Reason, Refusal};
 
 // The most numbers before the operations of a plan in the first form.
 pub const FIRST_HEAD_NUMBERS: usize = 4 + MOST_QUEUES + FIRST_SEMAPHORES + MOST_BUFFERS;
@@ -37,12 +37,10 @@ pub const FIRST_PLAN_NUMBERS: usize = FIRST_HEAD_NUMBERS + MOST_OPERATIONS * BLO
 
 pub type FirstPlanNumbers = [u64; FIRST_PLAN_NUMBERS];
 
-// What comes before the operations: the refusal met there, or 0; the place where the reading stopped and how many
-// numbers are stored; the four counts, 0 beside a refusal; and whether the plan is in the second form, in which a
-// semaphore's position takes two bytes.
+// What comes before the operations: the place where they begin, a byte, and how many numbers are stored; the four
+// counts; and whether the plan is in the second form, in which a semaphore's position takes two bytes.
 #[derive(Clone, Copy, Debug, PartialEq, Eq, Hash)]
 pub struct Head {
-    pub number: u32,
     pub at: usize,
     pub got: usize,
     pub queues: u64,
@@ -52,12 +50,28 @@ pub struct Head {
     pub wide: bool,
 }
 
-// Where the reading of an operation stopped: the refusal met there, or 0; the place; how many numbers are stored.
+// Where an operation ends: the place, a byte; how many numbers are stored.
 #[derive(Clone, Copy, Debug, PartialEq, Eq, Hash)]
 pub struct End {
-    pub number: u32,
     pub at: usize,
     pub got: usize,
+}
+
+// Where a reading stopped, and why: the reason; the place, a byte; how many numbers are stored.
+#[derive(Clone, Copy, Debug, PartialEq, Eq, Hash)]
+pub struct Stop {
+    pub reason: Reason,
+    pub at: usize,
+    pub got: usize,
+}
+
+impl From<Stop> for Refusal {
+    ghost from_gives = { λ stop refusal. refusal ≡ refused_by stop.reason stop.at };
+
+    // The refusal where the reading stopped.
+    fn from(stop: Stop) -> Refusal {
+        stop.reason.at(stop.at)
+    }
 }
 
 // Whether a plan is stored in the second form: its first byte tells.
@@ -68,11 +82,11 @@ pub fn is_second(plan: &[u8]) -> bool
 }
 
 // The numbers before the operations, in front of the array, with the four counts; or the first of refusals 1, 2, 4 and
-// 5 that is met there, and no counts. Past the numbers read the array stays.
-pub fn read_head(plan: &[u8], numbers: &mut [u64; HEAD_NUMBERS]) -> Head
-    ensures form { result.wide ≡ is_second plan.now }
-    ensures told { HeadTold (head_scan plan.now) numbers.old result numbers.new }
-    ensures means { HeadRead (form_by result.wide) plan.now result numbers.new }
+// 5 that is met there, and where. Past the numbers read the array stays.
+pub fn read_head(plan: &[u8], numbers: &mut [u64; HEAD_NUMBERS]) -> Result<Head, Stop>
+    ensures form { IfOk result (λ head. head.wide ≡ is_second plan.now) }
+    ensures told { HeadTold (head_scan plan.now) numbers.old (head_told result) numbers.new }
+    ensures means { HeadRead (form_in plan.now) plan.now (head_told result) numbers.new }
 {
     let wide = section::in_second_form(plan);
     let cursor = Cursor {
@@ -84,15 +98,14 @@ pub fn read_head(plan: &[u8], numbers: &mut [u64; HEAD_NUMBERS]) -> Head
         numbers,
         cursor,
     };
-    reader.told_head(wide)
+    reader.front(wide)
 }
 
 // The same of bytes taken as a plan in the first form, whatever the first byte is: fewer numbers have to be cleared.
-pub fn read_first_head(plan: &[u8], numbers: &mut FirstHeadNumbers) -> Head
-    ensures form { result.wide ≡ false }
-    ensures told { HeadTold (head_scan_by first_form plan.now) numbers.old result
-        numbers.new }
-    ensures means { HeadRead (form_by result.wide) plan.now result numbers.new }
+pub fn read_first_head(plan: &[u8], numbers: &mut FirstHeadNumbers) -> Result<Head, Stop>
+    ensures form { IfOk result (λ head. head.wide ≡ false) }
+    ensures told { HeadTold (head_scan_by first_form plan.now) numbers.old (head_told result) numbers.new }
+    ensures means { HeadRead first_form plan.now (head_told result) numbers.new }
 {
     let cursor = Cursor { at: 0, got: 0 };
     let mut reader = Reader {
@@ -100,7 +113,7 @@ pub fn read_first_head(plan: &[u8], numbers: &mut FirstHeadNumbers) -> Head
         numbers,
         cursor,
     };
-    reader.told_head(false)
+    reader.front(false)
 }
 
 // The numbers of the operation at a place, in front of the window, where the width of a semaphore's position and the
@@ -113,11 +126,10 @@ pub fn read_operation(
     semaphores: u64,
     buffers: u64,
     window: &mut [u64; WINDOW],
-) -> End
-    ensures told { OperationTold (width_by wide) queues semaphores buffers plan.now
-        at window.old result window.new }
-    ensures means { OperationRead (width_by wide) queues semaphores buffers plan.now at result
+) -> Result<End, Stop>
+    ensures told { OperationTold (width_by wide) queues semaphores buffers plan.now at window.old (end_told result)
         window.new }
+    ensures means { OperationRead (width_by wide) queues semaphores buffers plan.now at (end_told result) window.new }
 {
     let counts = Counts {
         queues,
@@ -135,19 +147,18 @@ pub fn read_operation(
     };
     let read = reader.operation(wide, counts);
     let Cursor { at, got } = reader.cursor;
-    let number = match read {
-        Ok(()) => 0,
-        Err(reason) => reason.number(),
-    };
-    End { number, at, got }
+    match read {
+        Ok(()) => Ok(End { at, got }),
+        Err(reason) => Err(Stop { reason, at, got }),
+    }
 }
 
 // The first `many` numbers, in front of the array.
-fn copy(head: &[u64], many: usize, numbers: &mut [u64])
-    requires { (many ≤ length head.now) × (many ≤ length numbers.old) }
-    ensures { numbers.new ≡ in_front (take many head.now) numbers.old }
+fn copy(front: &[u64], many: usize, numbers: &mut [u64])
+    requires { (many ≤ length front.now) × (many ≤ length numbers.old) }
+    ensures { numbers.new ≡ in_front (take many front.now) numbers.old }
 {
-    numbers[..many].copy_from_slice(&head[..many]);
+    numbers[..many].copy_from_slice(&front[..many]);
 }
 
 // What is told where a reading has come to its end: its refusal; or that bytes follow; or how many numbers it got.
@@ -167,20 +178,19 @@ fn finished(plan: &[u8], cursor: Cursor, read: Result<(), Reason>) -> Result<u64
 
 impl<'a> Reader<'a> {
     // What comes before the operations of a plan, in the form that is told.
-    fn told_head(&mut self, wide: bool) -> Head
+    fn front(&mut self, wide: bool) -> Result<Head, Stop>
         requires begins { Begins (form_by wide) self.old }
         requires room { front_numbers (form_by wide) + 1 ≤ length self.old.numbers.now }
         ensures same_room { self.new.numbers.ghost_name ≡ self.old.numbers.ghost_name }
-        ensures form { result.wide ≡ wide }
-        ensures told { HeadTold (head_scan_by (form_by wide) self.old.plan.now) self.old.numbers.now result
-            self.new.numbers.now }
-        ensures means { HeadRead (form_by result.wide) self.old.plan.now result self.new.numbers.now }
+        ensures form { IfOk result (λ head. head.wide ≡ wide) }
+        ensures told { HeadTold (head_scan_by (form_by wide) self.old.plan.now) self.old.numbers.now
+            (head_told result) self.new.numbers.now }
+        ensures means { HeadRead (form_by wide) self.old.plan.now (head_told result) self.new.numbers.now }
     {
         let head = self.head(wide);
         let Cursor { at, got } = self.cursor;
         match head {
-            Ok((counts, operations)) => Head {
-                number: 0,
+            Ok((counts, operations)) => Ok(Head {
                 at,
                 got,
                 queues: counts.queues,
@@ -188,17 +198,8 @@ impl<'a> Reader<'a> {
                 buffers: counts.buffers,
                 operations,
                 wide,
-            },
-            Err(reason) => Head {
-                number: reason.number(),
-                at,
-                got,
-                queues: 0,
-                semaphores: 0,
-                buffers: 0,
-                operations: 0,
-                wide,
-            },
+            }),
+            Err(reason) => Err(Stop { reason, at, got }),
         }
     }
 
@@ -255,29 +256,31 @@ pub fn read_first_numbers(plan: &[u8], numbers: &mut FirstPlanNumbers) -> Result
 }
 
 // The rest of a plan whose head was read, from a place on: the head's numbers and then those of its operations in front
-// of the array, with their length as the answer; or the head's refusal, or the first of refusals 1 to 4 and 16 after
-// it. Past the numbers read the array stays.
+// of the array, with their length as the answer; or the head's refusal at that place, or the first of refusals 1 to 4
+// and 16 after it. Past the numbers read the array stays.
 pub fn read_rest(
     plan: &[u8],
     at: usize,
-    h: Head,
-    head: &[u64; HEAD_NUMBERS],
+    head: Result<Head, Stop>,
+    front: &[u64; HEAD_NUMBERS],
     numbers: &mut [u64; PLAN_NUMBERS],
-) -> Told
-    ensures told { Ends (rest_scan (width_by h.wide) plan.now at h head.now) result }
+) -> Result<u64, Refusal>
+    ensures told { Ends (rest_scan (width_by (is_wide head)) plan.now at (head_told head) front.now) (told_by result) }
     ensures array { numbers.new ≡
-        in_front (rest_scan (width_by h.wide) plan.now at h head.now).got
-        numbers.old }
-    ensures few { result.answer ≤ plan_numbers }
+        in_front (rest_scan (width_by (is_wide head)) plan.now at (head_told head) front.now).got numbers.old }
+    ensures few { (told_by result).answer ≤ plan_numbers }
     ensures long { length numbers.new ≡ plan_numbers }
 {
-    let before = h.got.min(HEAD_NUMBERS);
-    copy(head, before, numbers);
     let place = at.min(plan.len());
-    // A head tells its refusal by a number, which need not be that of a reason.
-    if h.number != 0 {
-        return refused(h.number, place);
-    }
+    let h = match head {
+        Ok(h) => h,
+        Err(stop) => {
+            copy(front, stop.got.min(HEAD_NUMBERS), numbers);
+            return Err(stop.reason.at(place));
+        }
+    };
+    let before = h.got.min(HEAD_NUMBERS);
+    copy(front, before, numbers);
     let counts = Counts {
         queues: h.queues,
         semaphores: h.semaphores,
@@ -293,5 +296,5 @@ pub fn read_rest(
     };
     let many = h.operations.min(OPERATIONS);
     let read = reader.several(many, h.wide, counts);
-    as_told(finished(plan, reader.cursor, read))
+    finished(plan, reader.cursor, read)
 }

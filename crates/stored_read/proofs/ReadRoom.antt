@@ -5,17 +5,17 @@ use mathlib.Core.List.{List, [], ◌++◌}
 use Rattle.std.specs.Prelude.{Ok, Err}
 use Prim.Native.Nat.{ℕ, ◌-◌, ◌≤◌, ◌<◌}
 use native.Mathlib.Omega.{arith}
-use lib.ListN.{length, get_or, take, drop, replicate, length-append, length-drop, drop_of_length-le}
+use lib.ListN.{length, get_or, take, drop, replicate, length-drop, drop_of_length-le}
 use lib.Seq.{take_at, take_all}
 use mir.Syntax.{w8}
 use mir.Val.{Fits}
+use Rattle.std.specs.Prelude.{IfOk}
 use Rattle.base_lists.specs.Lists.{in_front}
-use Rattle.base_lists.proofs.Tests.{by_cases}
-use Rattle.plan_format.specs.Form.{form_by, is_second, first_form, scanned_by}
+use Rattle.plan_format.specs.Form.{form_in, form_by, is_second, first_form, scanned_by}
 use Rattle.plan_format.specs.Grammar.{bytes, Scan}
 use Rattle.plan_format.specs.Meaning.{ReadMeans}
 use Rattle.plan_format.specs.Refusal.{Refusal, none_given, given, or_refusal}
-use Rattle.plan_format.specs.Sizes.{head_numbers, plan_numbers}
+use Rattle.plan_format.specs.Sizes.{head_numbers}
 use Rattle.plan_format.specs.Stored.{all_bytes, scanned, room_for, read_refusal, Tells, Fills, ReadSays}
 use Rattle.plan_format.specs.Told.{Refused, refused_by, told_by}
 use Rattle.plan_format.specs.declared.Told.{Told}
@@ -23,10 +23,9 @@ use Rattle.plan_format.specs.declared.refusal.Reason.TheVariants.{RoomTooShort}
 use Rattle.plan_format.proofs.HandedBack.{answer_long, not_read, no_room, stored}
 use Rattle.plan_format.proofs.Judged.{zero_not_given}
 use Rattle.plan_format.proofs.RoundTripRoom.{bytes_by, read_means}
-use Rattle.stored_numbers.specs.Reading.{head_scan, HeadTold, HeadRead, Ends}
+use Rattle.stored_numbers.specs.Reading.{head_scan, head_told, HeadTold, HeadRead, Ends}
 use Rattle.stored_numbers.proofs.Fields.{reason_given}
-use Rattle.stored_numbers.proofs.ReadingEnds.{read_in_told}
-use Rattle.stored_numbers.proofs.Rests.{rest_plan}
+use Rattle.stored_numbers.proofs.Rests.{rest_by}
 use Rattle.stored_read.specs.declared.Heading.{Heading}
 use Rattle.stored_read.specs.Rest.{HeadingTold, RestSays}
 
@@ -98,9 +97,9 @@ module _ (bs : List ℕ) (fit : (i : ℕ) → Fits w8 (get_or bs i 0)) (at : ℕ
   -- what `read_head` says of a part of the bytes
   abbrev pub Says : (part : List ℕ) → Type 0
   Says part =
-      (h.head.wide ≡ is_second part)
-      × (HeadTold (head_scan part) (replicate head_numbers 0) h.head h.numbers
-      × HeadRead (form_by h.head.wide) part h.head h.numbers)
+      IfOk h.head (λ x. x.wide ≡ is_second part)
+      × (HeadTold (head_scan part) (replicate head_numbers 0) (head_told h.head) h.numbers
+      × HeadRead (form_in part) part (head_told h.head) h.numbers)
 
   heading_of : {part : List ℕ} → part ≡ drop at bs → Says part → HeadingTold bs at h
   heading_of e p =
@@ -121,10 +120,10 @@ module _ (s : Scan) (r : Told) (old : List ℕ) {new : List ℕ} (t : Ends s r) 
 
 -- from where the head ends on, the rest makes the plan
 pub rest_reads : (bs : List ℕ) (h : Heading) → HeadingTold bs 0 h → (t : Told) (o x : List ℕ) →
-    RestSays bs h.head.at h t o x → ReadSays bs t o x × ReadMeans bs t o x
+    RestSays bs (head_told h.head).at h t o x → ReadSays bs t o x × ReadMeans bs t o x
 unfolding RestSays ReadSays read_refusal
 rest_reads bs h head t o x r =
     let says : ReadSays bs t o x =
     subst (λ (s : Scan). Fills (or_refusal s.fault (room_for (length s.got) (length o))) s.got t o x)
-    (rest_plan (read_in_told bs head.form) head.means) r in
+    (rest_by h.head head.form head.means) r in
     (says, read_means bs head.are_bytes t o x says)

@@ -9,8 +9,8 @@ ghost use Rattle.plan_format.specs.Told.{told_by};
 ghost use Rattle.stored_read.specs.Rest.{HeadingTold, RestSays};
 
 use plan_format::limits::{HEAD_NUMBERS, PLAN_NUMBERS};
-use plan_format::{Reason, Refusal, Told, as_told};
-use stored_numbers::{FIRST_PLAN_NUMBERS, Head};
+use plan_format::{Reason, Refusal};
+use stored_numbers::{FIRST_PLAN_NUMBERS, Head, Stop};
 
 // Numbers in front of the room, if they fit, with their length as the answer.
 fn into_room(numbers: &[u64], room: &mut [u64]) -> Result<u64, Refusal>
@@ -55,10 +55,10 @@ pub fn read_plan(plan: &[u8], room: &mut [u64]) -> Result<u64, Refusal>
     read_first(plan, room)
 }
 
-// The head of a plan, and the numbers before its operations.
-#[derive(Clone, Copy)]
+// The head of a plan, or where its reading stopped; and the numbers before its operations.
+#[derive(Clone, Copy, Debug, PartialEq, Eq, Hash)]
 pub struct Heading {
-    pub head: Head,
+    pub head: Result<Head, Stop>,
     pub numbers: [u64; HEAD_NUMBERS],
 }
 
@@ -80,15 +80,10 @@ pub fn read_heading(plan: &[u8], at: usize) -> Heading
 
 // The numbers of a plan whose head was read, its operations from a place on, in front of the room, with their length as
 // the answer; or a refusal, and the room untouched.
-pub fn read_rest(plan: &[u8], at: usize, h: Heading, room: &mut [u64]) -> Told
-    ensures { RestSays plan.now at h result room.old room.new }
+pub fn read_rest(plan: &[u8], at: usize, h: Heading, room: &mut [u64]) -> Result<u64, Refusal>
+    ensures { RestSays plan.now at h (told_by result) room.old room.new }
 {
     let mut numbers = [0u64; PLAN_NUMBERS];
-    let head = h.head;
-    let before = h.numbers;
-    let told = stored_numbers::read_rest(plan, at, head, &before, &mut numbers);
-    if told.number != 0 {
-        return told;
-    }
-    as_told(into_room(&numbers[..told.answer as usize], room))
+    let many = stored_numbers::read_rest(plan, at, h.head, &h.numbers, &mut numbers)?;
+    into_room(&numbers[..many as usize], room)
 }

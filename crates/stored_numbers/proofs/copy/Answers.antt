@@ -6,4 +6,4 @@ use Rattle.stored_numbers.proofs.copy.Goals as goal
 pub returns : goal.returns
 unfolding in_front
 returns c =
-    rw (length-take-le c.args.many c.args.head.now (omega arith)) (search rules)
+    rw (length-take-le c.args.many c.args.front.now (omega arith)) (search rules)

@@ -4,25 +4,26 @@ use Rattle.plan_format.specs.Form.{first_form, form_by}
 use Rattle.stored_numbers.specs.Reading.{front_numbers}
 use Rattle.stored_numbers.proofs.read_first_head.Goals as goal
 
-pub told_head-requires-clause-begins : goal.told_head-requires-clause-begins
+pub front-requires-clause-begins : goal.front-requires-clause-begins
 unfolding form_by first_form
-told_head-requires-clause-begins c =
+front-requires-clause-begins c =
     record { at = refl; got = refl }
 
-pub told_head-requires-clause-room : goal.told_head-requires-clause-room
+pub front-requires-clause-room : goal.front-requires-clause-room
 unfolding front_numbers form_by first_form
-told_head-requires-clause-room c =
+front-requires-clause-room c =
     omega arith
 
 pub returns-clause-form : goal.returns-clause-form
 returns-clause-form c =
-    c.told_head.ensures.form
+    c.front.ensures.form
 
 pub returns-clause-told : goal.returns-clause-told
 unfolding form_by
 returns-clause-told c =
-    c.told_head.ensures.told
+    c.front.ensures.told
 
 pub returns-clause-means : goal.returns-clause-means
+unfolding first_form form_by
 returns-clause-means c =
-    c.told_head.ensures.means
+    c.front.ensures.means

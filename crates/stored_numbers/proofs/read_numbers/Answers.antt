@@ -1,5 +1,5 @@
 -- `read_numbers` meets its contract: the plan in the form that the first byte tells.
-use Rattle.std.proofs.Common.{sym, ap, ◌∙◌, arith}
+use Rattle.std.proofs.Common.{arith}
 use Rattle.plan_format.proofs.Forms.{proper_by}
 use Rattle.stored_numbers.specs.Reading.{front_numbers, form_numbers}
 use Rattle.stored_numbers.proofs.Counts.{lead_inside}

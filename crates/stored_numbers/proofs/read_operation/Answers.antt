@@ -16,12 +16,10 @@ returns-in-Ok-clause-means c =
 
 pub returns-in-Err-clause-told : goal.returns-in-Err-clause-told
 returns-in-Err-clause-told c =
-    rw c.number-number.ensures
-    (operation_told (width_by c.args.wide) c.args.queues c.args.semaphores c.args.buffers c.args.at c.min.ensures
-    (omega (arith, c.in-Err.ensures.reads.as_long)) c.in-Err.ensures.reads)
+    operation_told (width_by c.args.wide) c.args.queues c.args.semaphores c.args.buffers c.args.at c.min.ensures
+    (omega (arith, c.in-Err.ensures.reads.as_long)) c.in-Err.ensures.reads
 
 pub returns-in-Err-clause-means : goal.returns-in-Err-clause-means
 returns-in-Err-clause-means c =
-    rw c.number-number.ensures
-    (operation_read (width_by c.args.wide) c.args.queues c.args.semaphores c.args.buffers c.args.at c.min.ensures
-    (omega (arith, c.in-Err.ensures.reads.as_long)) c.in-Err.ensures.reads)
+    operation_read (width_by c.args.wide) c.args.queues c.args.semaphores c.args.buffers c.args.at c.min.ensures
+    (omega (arith, c.in-Err.ensures.reads.as_long)) c.in-Err.ensures.reads

@@ -1,55 +1,55 @@
 -- `read_rest` meets its contract: the head's numbers are copied, the operations are read after them, and so it ends.
 -- Assumes nothing.
 use Rattle.std.proofs.Common.{refl, arith}
+use Rattle.std.specs.Prelude.{Ok, Err}
 use Rattle.plan_format.specs.Form.{width_by}
-use Rattle.plan_format.specs.Sizes.{most_operations, block_numbers}
-use Rattle.plan_format.specs.Sections.{repeat, operation_below}
+use Rattle.stored_numbers.specs.Reading.{head_told, is_wide}
+use Rattle.stored_numbers.proofs.Fields.{reason_given}
 use Rattle.stored_numbers.proofs.Heads.{stays_refused}
 use Rattle.stored_numbers.proofs.ReadingEnds.{ends_refused}
-use Rattle.stored_numbers.proofs.Rests.{from_clean, rest_told, rest_few}
+use Rattle.stored_numbers.proofs.Rests.{rest_told, rest_few}
 use Rattle.stored_numbers.proofs.read_rest.Goals as goal
 
-pub returns-then-h-ne0-clause-told : goal.returns-then-h-ne0-clause-told
-returns-then-h-ne0-clause-told c =
+pub returns-in-Err-clause-told : goal.returns-in-Err-clause-told
+returns-in-Err-clause-told c =
+    let z = reason_given c.in-Err.stop.reason in
     let law =
-    rest_told (width_by c.args.h.wide) c.args.plan.now c.args.head.now c.args.numbers.now c.args.at c.args.h
-    c.min-place.ensures c.min-before.ensures refl c.copy.ensures (omega arith) (omega arith) (omega arith)
-    (stays_refused _ _ _ _ _ c.if-h-ne0.true (omega arith)) in
-    rw c.refused.ensures (law.0 _ (λ nums l. ends_refused _ _ nums c.if-h-ne0.true))
+    rest_told (width_by (is_wide (Err c.in-Err.stop))) c.args.plan.now c.args.front.now c.args.numbers.now c.args.at
+    (head_told (Err c.in-Err.stop)) c.min-place.ensures c.min.ensures refl c.copy.ensures (omega arith)
+    (omega arith) (omega arith) (stays_refused _ _ _ _ _ z (omega arith)) in
+    rw (c.in-Err.is, c.at.ensures) (law.0 _ (λ nums l. ends_refused _ _ nums z))
 
-pub returns-then-h-ne0-clause-array : goal.returns-then-h-ne0-clause-array
-returns-then-h-ne0-clause-array c =
+pub returns-in-Err-clause-array : goal.returns-in-Err-clause-array
+returns-in-Err-clause-array c =
+    let z = reason_given c.in-Err.stop.reason in
     let law =
-    rest_told (width_by c.args.h.wide) c.args.plan.now c.args.head.now c.args.numbers.now c.args.at c.args.h
-    c.min-place.ensures c.min-before.ensures refl c.copy.ensures (omega arith) (omega arith) (omega arith)
-    (stays_refused _ _ _ _ _ c.if-h-ne0.true (omega arith)) in
-    law.1
+    rest_told (width_by (is_wide (Err c.in-Err.stop))) c.args.plan.now c.args.front.now c.args.numbers.now c.args.at
+    (head_told (Err c.in-Err.stop)) c.min-place.ensures c.min.ensures refl c.copy.ensures (omega arith)
+    (omega arith) (omega arith) (stays_refused _ _ _ _ _ z (omega arith)) in
+    rw c.in-Err.is law.1
 
 pub returns-clause-told : goal.returns-clause-told
 returns-clause-told c =
     let law =
-    rest_told (width_by c.args.h.wide) c.args.plan.now c.args.head.now c.args.numbers.now c.args.at c.args.h
-    c.min-place.ensures c.min-before.ensures c.min-many.ensures c.copy.ensures (omega arith) (omega arith) (omega arith)
-    (from_clean c.args.h.number c.if-h-ne0.false c.several-read.ensures.reads.reads) in
-    rw c.as_told.ensures
-    (law.0 _ c.finished.ensures)
+    rest_told (width_by c.in-Ok.h.wide) c.args.plan.now c.args.front.now c.args.numbers.now c.args.at
+    (head_told (Ok c.in-Ok.h)) c.min-place.ensures c.min-before.ensures c.min-many.ensures c.copy-2.ensures
+    (omega arith) (omega arith) (omega arith) c.several-read.ensures.reads.reads in
+    rw c.in-Ok.is (law.0 _ c.finished.ensures)
 
 pub returns-clause-array : goal.returns-clause-array
 returns-clause-array c =
     let law =
-    rest_told (width_by c.args.h.wide) c.args.plan.now c.args.head.now c.args.numbers.now c.args.at c.args.h
-    c.min-place.ensures c.min-before.ensures c.min-many.ensures c.copy.ensures (omega arith) (omega arith) (omega arith)
-    (from_clean c.args.h.number c.if-h-ne0.false c.several-read.ensures.reads.reads) in
-    law.1
+    rest_told (width_by c.in-Ok.h.wide) c.args.plan.now c.args.front.now c.args.numbers.now c.args.at
+    (head_told (Ok c.in-Ok.h)) c.min-place.ensures c.min-before.ensures c.min-many.ensures c.copy-2.ensures
+    (omega arith) (omega arith) (omega arith) c.several-read.ensures.reads.reads in
+    rw c.in-Ok.is law.1
 
 pub returns-clause-few : goal.returns-clause-few
 returns-clause-few c =
-    let p = from_clean c.args.h.number c.if-h-ne0.false c.several-read.ensures.reads.reads in
     let law =
-    rest_told (width_by c.args.h.wide) c.args.plan.now c.args.head.now c.args.numbers.now c.args.at c.args.h
-    c.min-place.ensures c.min-before.ensures c.min-many.ensures c.copy.ensures (omega arith) (omega arith) (omega arith)
-    p in
-    rw c.as_told.ensures
-    (rest_few (width_by c.args.h.wide) c.args.plan.now c.args.head.now c.args.numbers.now c.args.at c.args.h
-    c.min-place.ensures c.min-before.ensures c.min-many.ensures c.copy.ensures (omega arith) (omega arith) (omega arith)
-    p _ (law.0 _ c.finished.ensures))
+    rest_told (width_by c.in-Ok.h.wide) c.args.plan.now c.args.front.now c.args.numbers.now c.args.at
+    (head_told (Ok c.in-Ok.h)) c.min-place.ensures c.min-before.ensures c.min-many.ensures c.copy-2.ensures
+    (omega arith) (omega arith) (omega arith) c.several-read.ensures.reads.reads in
+    rest_few (width_by c.in-Ok.h.wide) c.args.plan.now c.args.front.now c.args.numbers.now c.args.at
+    (head_told (Ok c.in-Ok.h)) c.min-place.ensures c.min-before.ensures c.min-many.ensures c.copy-2.ensures
+    (omega arith) (omega arith) (omega arith) c.several-read.ensures.reads.reads _ (law.0 _ c.finished.ensures)

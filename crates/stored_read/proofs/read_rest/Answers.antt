@@ -1,22 +1,23 @@
 -- `read_rest` meets its contract: what was read goes into the room.
+use Rattle.std.proofs.Common.{rules, ◌≡◌, refl, Err}
 use Rattle.plan_format.specs.Form.{width_by}
-use Rattle.plan_format.proofs.HandedBack.{not_read}
-use Rattle.stored_numbers.specs.Reading.{Ends, rest_scan}
+use Rattle.stored_numbers.specs.Reading.{head_told, is_wide, Ends, rest_scan}
 use Rattle.stored_read.specs.Rest.{RestSays}
-use Rattle.stored_read.proofs.ReadRoom.{numbers_read, rest_taken}
+use Rattle.stored_read.proofs.ReadRoom.{refused_read, numbers_read, rest_taken}
 use Rattle.stored_read.proofs.read_rest.Goals as goal
 
-pub returns-then-told-ne0 : goal.returns-then-told-ne0
+pub returns-in_err-many : goal.returns-in_err-many
 unfolding RestSays Ends
-returns-then-told-ne0 c =
-    let scan = rest_scan (width_by c.args.h.head.wide) c.args.plan.now c.args.at c.args.h.head c.args.h.numbers in
-    not_read scan.fault scan.got c.read_rest-told.ensures.told c.args.room.now c.if-told-ne0.true
+returns-in_err-many c =
+    let e : c.from_residual.result ≡ Err c.in_err-many.field-0.0 = search rules in
+    let h = c.args.h.head in
+    let scan = rest_scan (width_by (is_wide h)) c.args.plan.now c.args.at (head_told h) c.args.h.numbers in
+    rw e (refused_read scan.got c.in_err-many.field-0.0 c.in_err-many.ensures.told c.args.room.now)
 
 pub returns : goal.returns
 unfolding RestSays Ends
 returns c =
-    let scan = rest_scan (width_by c.args.h.head.wide) c.args.plan.now c.args.at c.args.h.head c.args.h.numbers in
-    rw c.as_told.ensures
-    (numbers_read scan.got _ c.read_rest-told.ensures.told c.if-told-ne0.false
-    (rest_taken scan c.read_rest-told.result _ c.read_rest-told.ensures.told c.read_rest-told.ensures.array) _ _ _
-    c.into_room.ensures)
+    let h = c.args.h.head in
+    let scan = rest_scan (width_by (is_wide h)) c.args.plan.now c.args.at (head_told h) c.args.h.numbers in
+    numbers_read scan.got _ c.in_ok-many.ensures.told refl
+    (rest_taken scan _ _ c.in_ok-many.ensures.told c.in_ok-many.ensures.array) _ _ _ c.into_room.ensures

@@ -1,6 +1,6 @@
 -- `sections` meets its contract: the operations after what comes before them, or a refusal there.
 use Rattle.std.proofs.Common.{rules, ◌≡◌, arith}
-use Rattle.std.specs.Prelude.{Err, true}
+use Rattle.std.specs.Prelude.{Err}
 use native.Mathlib.Nat.{mul-le-mul_left}
 use Rattle.plan_format.specs.Sizes.{block_numbers}
 use Rattle.plan_format.specs.Form.{form_by}
@@ -26,7 +26,7 @@ several-requires c =
       c.requires.room,
       c.in_ok-counts.ensures.reads.few,
       c.in_ok-counts.ensures.reads.past.as_long,
-      mul-le-mul_left block_numbers (c.in_ok-counts.ensures.reads.means true).few_operations,
+      mul-le-mul_left block_numbers c.in_ok-counts.ensures.reads.means.few_operations,
     )
 
 pub returns-clause-reads : goal.returns-clause-reads
