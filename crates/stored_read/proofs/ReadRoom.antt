@@ -1,41 +1,66 @@
 -- What the numbers that were read are to the room. Assumes nothing.
 use mathlib.Core.Path.{◌≡◌, refl, sym, ap, ◌∙◌, subst}
 use mathlib.Core.Bool.{Bool, true, false}
-use mathlib.Core.List.{List, []}
+use mathlib.Core.List.{List, [], ◌++◌}
+use Rattle.std.specs.Prelude.{Ok, Err}
 use Prim.Native.Nat.{ℕ, ◌-◌, ◌≤◌, ◌<◌}
 use native.Mathlib.Omega.{arith}
-use lib.ListN.{length, get_or, take, drop, replicate, length-append, length-drop, drop_of_length-le}
+use lib.ListN.{length, get_or, take, drop, replicate, length-drop, drop_of_length-le}
 use lib.Seq.{take_at, take_all}
 use mir.Syntax.{w8}
 use mir.Val.{Fits}
 use Rattle.std.specs.Prelude.{IfOk}
 use Rattle.base_lists.specs.Lists.{in_front}
-use Rattle.base_lists.proofs.Tests.{by_cases}
 use Rattle.plan_format.specs.Form.{form_in, form_by, is_second, first_form, scanned_by}
 use Rattle.plan_format.specs.Grammar.{bytes, Scan}
 use Rattle.plan_format.specs.Meaning.{ReadMeans}
-use Rattle.plan_format.specs.Refusal.{Refusal, given, or_refusal}
-use Rattle.plan_format.specs.Sizes.{head_numbers, plan_numbers}
+use Rattle.plan_format.specs.Refusal.{Refusal, none_given, given, or_refusal}
+use Rattle.plan_format.specs.Sizes.{head_numbers}
 use Rattle.plan_format.specs.Stored.{all_bytes, scanned, room_for, read_refusal, Tells, Fills, ReadSays}
+use Rattle.plan_format.specs.Told.{Refused, refused_by, told_by}
 use Rattle.plan_format.specs.declared.Told.{Told}
-use Rattle.plan_format.proofs.HandedBack.{answer_long}
+use Rattle.plan_format.specs.declared.refusal.Reason.TheVariants.{RoomTooShort}
+use Rattle.plan_format.proofs.HandedBack.{answer_long, not_read, no_room, stored}
+use Rattle.plan_format.proofs.Judged.{zero_not_given}
 use Rattle.plan_format.proofs.RoundTripRoom.{bytes_by, read_means}
-use Rattle.stored_numbers.specs.Reading.{head_scan, head_told, HeadTold, HeadRead, Ends, NumbersRead}
+use Rattle.stored_numbers.specs.Reading.{head_scan, head_told, HeadTold, HeadRead, Ends}
+use Rattle.stored_numbers.proofs.Fields.{reason_given}
 use Rattle.stored_numbers.proofs.Rests.{rest_by}
 use Rattle.stored_read.specs.declared.Heading.{Heading}
 use Rattle.stored_read.specs.Rest.{HeadingTold, RestSays}
 
--- the numbers that were told are in front
-pub in_room : (f : Refusal) (got : List ℕ) {told : Told} → Tells f (length got) told → (room nums : List ℕ) →
-    told.number ≡ 0 →
-    take (length got) nums ≡ got → in_front (take told.answer nums) room ≡ in_front got room
-in_room f got t room nums z e =
-    ap (λ (l : List ℕ). in_front l room) (ap (λ (k : ℕ). take k nums) (answer_long f got t [] z) ∙ e)
+-- numbers alone: too little room, or they are in front
+module _ (got room : List ℕ) where
+  all_told : Tells none_given (length got) (record { number = 0; place = 0; answer = length got })
+  unfolding none_given given
+  all_told = record { number = refl; place = refl; answer_is = refl }
 
--- they fit the array that they were read into
-pub read_fits : {bs : List ℕ} {r : Told} {nums : List ℕ} → NumbersRead bs r nums →
-    (r.answer ≤ plan_numbers) × (r.answer ≤ length nums)
-read_fits n = (n.few, omega (arith, n.few, n.long))
+  pub too_short : length room < length got →
+      Fills (room_for (length got) (length room)) got (told_by (Err (refused_by RoomTooShort (length got)))) room room
+  unfolding none_given given or_refusal
+  too_short h = no_room none_given got all_told room refl h
+
+  pub in_room : length got ≤ length room →
+      Fills (room_for (length got) (length room)) got (told_by (Ok (length got))) room (got ++ drop (length got) room)
+  unfolding none_given given or_refusal in_front
+  in_room h = stored none_given got all_told room refl h refl
+
+-- a refusal leaves the room
+pub refused_read : {f : Refusal} (got : List ℕ) (e : Refused) → Tells f (length got) (told_by (Err e)) →
+    (room : List ℕ) → Fills (or_refusal f (room_for (length got) (length room))) got (told_by (Err e)) room room
+refused_read {f} got e t room = not_read f got t room (reason_given e.reason)
+
+-- the numbers that were told, and the room for them
+module _ {f : Refusal} (got nums : List ℕ) {told : Told} (t : Tells f (length got) told) (z : told.number ≡ 0)
+    (e : take (length got) nums ≡ got) where
+  front : take told.answer nums ≡ got
+  front = ap (λ (k : ℕ). take k nums) (answer_long f got t [] z) ∙ e
+
+  pub numbers_read : (r : Told) (room room_now : List ℕ) →
+      Fills (room_for (length (take told.answer nums)) (length room)) (take told.answer nums) r room room_now →
+      Fills (or_refusal f (room_for (length got) (length room))) got r room room_now
+  unfolding or_refusal
+  numbers_read r room room_now w = rw (zero_not_given f (sym t.number ∙ z)) (rw front at w)
 
 -- what is in a slice of bytes
 slice_bytes : (bs : List ℕ) → ((i : ℕ) → Fits w8 (get_or bs i 0)) → all_bytes bs ≡ true
@@ -92,13 +117,6 @@ module _ (s : Scan) (r : Told) (old : List ℕ) {new : List ℕ} (t : Ends s r) 
   unfolding in_front
   rest_taken = ap (λ (l : List ℕ). take (length s.got) l) a
       ∙ take_at s.got (drop (length s.got) old) (length s.got) refl
-
-  pub rest_fits : r.answer ≤ length new
-  unfolding Ends in_front
-  rest_fits =
-      let long = ap length a ∙ length-append s.got (drop (length s.got) old) in
-      by_cases (given s.fault) (λ y. omega (arith, rw y at t.answer_is))
-      (λ y. omega (arith, rw y at t.answer_is, long))
 
 -- from where the head ends on, the rest makes the plan
 pub rest_reads : (bs : List ℕ) (h : Heading) → HeadingTold bs 0 h → (t : Told) (o x : List ℕ) →

@@ -1,70 +1,53 @@
 // R10, R12 and R13, the reader: the numbers of the bytes, stored in the room that the caller lends.
 #![tactic(auto)]
 
-ghost use Rattle.std.specs.Prelude.{◌≡◌, false, List, ℕ, ◌≤◌, length, take};
-ghost use Rattle.base_lists.specs.Lists.{in_front};
+ghost use Rattle.std.specs.Prelude.{◌≡◌, false, length};
 ghost use Rattle.plan_format.specs.Form.{is_second};
 ghost use Rattle.plan_format.specs.Meaning.{ReadMeans};
-ghost use Rattle.plan_format.specs.Refusal.{Refusal, or_refusal};
-ghost use Rattle.plan_format.specs.Sizes.{plan_numbers};
-ghost use Rattle.plan_format.specs.Stored.{room_for, Tells, Fills, ReadSays};
+ghost use Rattle.plan_format.specs.Stored.{room_for, Fills, ReadSays};
+ghost use Rattle.plan_format.specs.Told.{told_by};
 ghost use Rattle.stored_read.specs.Rest.{HeadingTold, RestSays};
 
 use plan_format::limits::{HEAD_NUMBERS, PLAN_NUMBERS};
-use plan_format::{Told, answered, as_told, refused};
+use plan_format::{Reason, Refusal};
 use stored_numbers::{FIRST_PLAN_NUMBERS, Head, Stop};
 
-// The first `many` numbers, in front of the room.
-fn store(numbers: &[u64], many: usize, room: &mut [u64])
-    requires { (many ≤ plan_numbers) × (many ≤ length numbers.now) × (many ≤ length room.old) }
-    ensures { room.new ≡ in_front (take many numbers.now) room.old }
+// Numbers in front of the room, if they fit, with their length as the answer.
+fn into_room(numbers: &[u64], room: &mut [u64]) -> Result<u64, Refusal>
+    ensures { Fills (room_for (length numbers.now) (length room.old)) numbers.now (told_by result) room.old room.new }
 {
-    room[..many].copy_from_slice(&numbers[..many]);
-}
-
-// What a reading told, with its numbers in front of the room, if they fit.
-fn into_room(told: Told, numbers: &[u64], room: &mut [u64]) -> Told
-    requires { (told.answer ≤ plan_numbers) × (told.answer ≤ length numbers.now) }
-    ensures { (f : Refusal) (got : List ℕ) → Tells f (length got) told →
-        (told.number ≡ 0 → take (length got) numbers.now ≡ got) →
-        Fills (or_refusal f (room_for (length got) (length room.old))) got result room.old
-        room.new }
-{
-    if told.number != 0 {
-        return told;
-    }
-    let many = told.answer as usize;
+    let many = numbers.len();
     if room.len() < many {
-        return refused(9, many);
+        return Err(Reason::RoomTooShort.at(many));
     }
-    store(numbers, many, room);
-    answered(told.answer)
+    room[..many].copy_from_slice(numbers);
+    Ok(many as u64)
 }
 
 // The numbers of a plan in either form.
-fn read_either(plan: &[u8], room: &mut [u64]) -> Told
-    ensures { ReadSays plan.now result room.old room.new }
+fn read_either(plan: &[u8], room: &mut [u64]) -> Result<u64, Refusal>
+    ensures { ReadSays plan.now (told_by result) room.old room.new }
 {
     let mut numbers = [0u64; PLAN_NUMBERS];
-    let told = as_told(stored_numbers::read_numbers(plan, &mut numbers));
-    into_room(told, &numbers, room)
+    let many = stored_numbers::read_numbers(plan, &mut numbers)?;
+    into_room(&numbers[..many as usize], room)
 }
 
 // The numbers of a plan in the first form: fewer have to be cleared.
-fn read_first(plan: &[u8], room: &mut [u64]) -> Told
+fn read_first(plan: &[u8], room: &mut [u64]) -> Result<u64, Refusal>
     requires { is_second plan.now ≡ false }
-    ensures { ReadSays plan.now result room.old room.new }
+    ensures { ReadSays plan.now (told_by result) room.old room.new }
 {
     let mut numbers = [0u64; FIRST_PLAN_NUMBERS];
-    let told = as_told(stored_numbers::read_first_numbers(plan, &mut numbers));
-    into_room(told, &numbers, room)
+    let many = stored_numbers::read_first_numbers(plan, &mut numbers)?;
+    into_room(&numbers[..many as usize], room)
 }
 
 // The numbers of a stored plan in front of the room, with their length as the answer; or a refusal, and the room
 // untouched.
-pub fn read_plan(plan: &[u8], room: &mut [u64]) -> Told
-    ensures says { ReadSays plan.now result room.old room.new }
-    ensures means { ReadMeans plan.now result room.old room.new }
+pub fn read_plan(plan: &[u8], room: &mut [u64]) -> Result<u64, Refusal>
+    ensures says { ReadSays plan.now (told_by result) room.old room.new }
+    ensures means { ReadMeans plan.now (told_by result) room.old room.new }
 {
     if stored_numbers::is_second(plan) {
         return read_either(plan, room);
@@ -73,7 +56,7 @@ pub fn read_plan(plan: &[u8], room: &mut [u64]) -> Told
 }
 
 // The head of a plan, or where its reading stopped; and the numbers before its operations.
-#[derive(Clone, Copy)]
+#[derive(Clone, Copy, Debug, PartialEq, Eq, Hash)]
 pub struct Heading {
     pub head: Result<Head, Stop>,
     pub numbers: [u64; HEAD_NUMBERS],
@@ -97,12 +80,10 @@ pub fn read_heading(plan: &[u8], at: usize) -> Heading
 
 // The numbers of a plan whose head was read, its operations from a place on, in front of the room, with their length as
 // the answer; or a refusal, and the room untouched.
-pub fn read_rest(plan: &[u8], at: usize, h: Heading, room: &mut [u64]) -> Told
-    ensures { RestSays plan.now at h result room.old room.new }
+pub fn read_rest(plan: &[u8], at: usize, h: Heading, room: &mut [u64]) -> Result<u64, Refusal>
+    ensures { RestSays plan.now at h (told_by result) room.old room.new }
 {
     let mut numbers = [0u64; PLAN_NUMBERS];
-    let head = h.head;
-    let before = h.numbers;
-    let told = as_told(stored_numbers::read_rest(plan, at, head, &before, &mut numbers));
-    into_room(told, &numbers, room)
+    let many = stored_numbers::read_rest(plan, at, h.head, &h.numbers, &mut numbers)?;
+    into_room(&numbers[..many as usize], room)
 }

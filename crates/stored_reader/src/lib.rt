@@ -1,61 +1,65 @@
 // A reader that holds the bytes of a stored plan and its place in them, and is handed on from the head to the
-// operations: thin functions over it, and one above them with plain parameters.
+// operations: thin methods over the functions that read, and a function above them with plain parameters.
 #![tactic(auto)]
 
 ghost use Rattle.std.specs.Prelude.{◌≡◌};
 ghost use Rattle.plan_format.specs.Meaning.{ReadMeans};
 ghost use Rattle.plan_format.specs.Stored.{ReadSays};
+ghost use Rattle.plan_format.specs.Told.{told_by};
 ghost use Rattle.stored_numbers.specs.Reading.{head_told};
 ghost use Rattle.stored_read.specs.Rest.{HeadingTold, RestSays};
 
-use plan_format::Told;
+use plan_format::Refusal;
 use stored_read::Heading;
 
 // The bytes of a plan, lent, and a place in them.
-#[derive(Clone, Copy)]
+#[derive(Clone, Copy, Debug, PartialEq, Eq, Hash)]
 pub struct Reader<'a> {
     pub src: &'a [u8],
     pub at: usize,
 }
 
-// A reader at the first byte.
-pub fn new<'a>(src: &'a [u8]) -> Reader<'a>
-    ensures { (result.src ≡ src.entry) × (result.at ≡ 0) }
-{
-    Reader { src, at: 0 }
-}
+impl<'a> Reader<'a> {
+    // A reader at the first byte.
+    pub fn new(src: &'a [u8]) -> Reader<'a>
+        ensures { (result.src ≡ src.entry) × (result.at ≡ 0) }
+    {
+        Reader { src, at: 0 }
+    }
 
-// The head of the plan that begins at the reader's place.
-pub fn head<'a>(r: Reader<'a>) -> Heading
-    ensures { HeadingTold r.entry.src.now r.entry.at result }
-{
-    stored_read::read_heading(r.src, r.at)
-}
+    // The head of the plan that begins at the reader's place.
+    pub fn head(self) -> Heading
+        ensures { HeadingTold self.entry.src.now self.entry.at result }
+    {
+        stored_read::read_heading(self.src, self.at)
+    }
 
-// The reader handed on, to where its head ends, or where the reading of it stopped.
-pub fn moved<'a>(r: Reader<'a>, h: Heading) -> Reader<'a>
-    ensures { (result.src ≡ r.entry.src) × (result.at ≡ (head_told h.head).at) }
-{
-    let at = match h.head {
-        Ok(head) => head.at,
-        Err(stop) => stop.at,
-    };
-    Reader { src: r.src, at }
-}
+    // The reader handed on, to where its head ends, or where the reading of it stopped.
+    pub fn moved(self, h: Heading) -> Reader<'a>
+        ensures { (result.src ≡ self.entry.src) × (result.at ≡ (head_told h.head).at) }
+    {
+        let at = match h.head {
+            Ok(head) => head.at,
+            Err(stop) => stop.at,
+        };
+        Reader { src: self.src, at }
+    }
 
-// The plan whose head was read, its operations from the reader's place on.
-pub fn rest<'a>(r: Reader<'a>, h: Heading, room: &mut [u64]) -> Told
-    ensures { RestSays r.entry.src.now r.entry.at h result room.old room.new }
-{
-    stored_read::read_rest(r.src, r.at, h, room)
+    // The plan whose head was read, its operations from the reader's place on: the length of its numbers, which are in
+    // front of the room; or a refusal, and the room untouched.
+    pub fn rest(self, h: Heading, room: &mut [u64]) -> Result<u64, Refusal>
+        ensures { RestSays self.entry.src.now self.entry.at h (told_by result) room.old room.new }
+    {
+        stored_read::read_rest(self.src, self.at, h, room)
+    }
 }
 
 // A plan read through the struct: its head, and from there on its operations. Callers need no struct.
-pub fn read_through(plan: &[u8], room: &mut [u64]) -> Told
-    ensures { ReadSays plan.now result room.old room.new ×
-        ReadMeans plan.now result room.old room.new }
+pub fn read_through(plan: &[u8], room: &mut [u64]) -> Result<u64, Refusal>
+    ensures { ReadSays plan.now (told_by result) room.old room.new ×
+        ReadMeans plan.now (told_by result) room.old room.new }
 {
-    let r = new(plan);
-    let h = head(r);
-    rest(moved(r, h), h, room)
+    let r = Reader::new(plan);
+    let h = r.head();
+    r.moved(h).rest(h, room)
 }

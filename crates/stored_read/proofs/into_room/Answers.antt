@@ -1,21 +1,9 @@
--- `into_room` meets its contract: a refusal, too little room, or the numbers in front of the room.
-use Rattle.std.proofs.Common.{◌∙◌}
-use Rattle.plan_format.proofs.HandedBack.{not_read, no_room, stored}
-use Rattle.stored_read.proofs.ReadRoom.{in_room}
+-- `into_room` meets its contract: too little room, or the numbers in front of it.
+use Rattle.stored_read.proofs.ReadRoom.{too_short, in_room}
 use Rattle.stored_read.proofs.into_room.Goals as goal
 
-pub returns-then-told-ne0 : goal.returns-then-told-ne0
-returns-then-told-ne0 c f got t e =
-    not_read f got t c.args.room.now c.if-told-ne0.true
-
 pub returns-then-room-many : goal.returns-then-room-many
-returns-then-room-many c =
-    rw c.refused.ensures
-    (λ f got t e. no_room f got t c.args.room.now c.if-told-ne0.false
-    c.if-room-many.true)
+returns-then-room-many c = rw c.at.ensures (too_short c.args.numbers.now c.args.room.now c.if-room-many.true)
 
 pub returns : goal.returns
-returns c =
-    rw c.answered.ensures (λ f got t e.
-    stored f got t c.args.room.now c.if-told-ne0.false c.if-room-many.false
-    (c.store.ensures ∙ in_room f got t c.args.room.now c.args.numbers.now c.if-told-ne0.false (e c.if-told-ne0.false)))
+returns c = rw c.copy_from_slice.ensures.after (in_room c.args.numbers.now c.args.room.now c.if-room-many.false)

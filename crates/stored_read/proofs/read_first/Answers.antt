@@ -1,23 +1,23 @@
 -- `read_first` meets its contract: what was read in the first form goes into the room.
-use Rattle.std.proofs.Common.{arith}
+use Rattle.std.proofs.Common.{rules, ◌≡◌, refl, Err}
 use Rattle.plan_format.specs.Form.{first_form, scanned_by}
 use Rattle.plan_format.specs.Grammar.{bytes}
 use Rattle.stored_numbers.specs.Reading.{Ends}
-use Rattle.stored_read.proofs.ReadRoom.{rest_taken, rest_fits, first_says}
+use Rattle.stored_read.proofs.ReadRoom.{refused_read, numbers_read, rest_taken, first_says}
 use Rattle.stored_read.proofs.read_first.Goals as goal
 
-pub into_room-requires : goal.into_room-requires
-into_room-requires c =
-    rw c.as_told-told.ensures (
-      omega (arith, c.read_first_numbers.ensures.few),
-      rest_fits (scanned_by bytes first_form c.args.plan.now) _ _ c.read_first_numbers.ensures.told
-          c.read_first_numbers.ensures.array,
-    )
+pub returns-in_err-many : goal.returns-in_err-many
+unfolding Ends
+returns-in_err-many c =
+    let e : c.from_residual.result ≡ Err c.in_err-many.field-0.0 = search rules in
+    let scan = scanned_by bytes first_form c.args.plan.now in
+    rw e (first_says c.args.plan.now c.requires _ _ _
+    (refused_read scan.got c.in_err-many.field-0.0 c.in_err-many.ensures.told c.args.room.now))
 
 pub returns : goal.returns
 unfolding Ends
 returns c =
     let scan = scanned_by bytes first_form c.args.plan.now in
     first_says c.args.plan.now c.requires _ _ _
-    (c.into_room.ensures scan.fault scan.got (rw c.as_told-told.ensures c.read_first_numbers.ensures.told)
-    (λ _. rest_taken scan _ _ c.read_first_numbers.ensures.told c.read_first_numbers.ensures.array))
+    (numbers_read scan.got _ c.in_ok-many.ensures.told refl
+    (rest_taken scan _ _ c.in_ok-many.ensures.told c.in_ok-many.ensures.array) _ _ _ c.into_room.ensures)

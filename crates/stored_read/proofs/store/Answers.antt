@@ -1,9 +1,0 @@
--- `store` meets its contract: the numbers copied, and the room past them.
-use Rattle.std.proofs.Common.{rules, arith, length-take-le}
-use Rattle.base_lists.specs.Lists.{in_front}
-use Rattle.stored_read.proofs.store.Goals as goal
-
-pub returns : goal.returns
-unfolding in_front
-returns c =
-    rw (length-take-le c.args.many c.args.numbers.now (omega arith)) (search rules)
