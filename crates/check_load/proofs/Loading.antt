@@ -14,10 +14,8 @@ use Rattle.plan_format.proofs.Repeats.{times_last}
 use Rattle.check_columns.specs.Columns.{Columns}
 use Rattle.check_columns.specs.Filling.{next_at, signal_count, mark_count, Added}
 use Rattle.check_columns.proofs.Parts.{Filling, filling_none, filling_next}
-use Rattle.stored_numbers.specs.declared.Head.{Head}
-use Rattle.stored_numbers.specs.declared.End.{End}
-use Rattle.stored_numbers.specs.Reading.{fault_of, here, head_cursor, operations_after, operation_scan}
-use Rattle.stored_numbers.specs.Reading.{end_cursor, OperationRead}
+use Rattle.stored_numbers.specs.Reading.{Reached, fault_of, here, ToldHead, head_cursor, operations_after}
+use Rattle.stored_numbers.specs.Reading.{operation_scan, OperationRead}
 use Rattle.stored_numbers.proofs.Fields.{here_clean}
 use Rattle.check_load.specs.Loading.{KeptPast}
 use Rattle.check_load.proofs.Blind.{after, blind_read, operation_blind}
@@ -26,7 +24,7 @@ use Rattle.check_load.proofs.Windows.{added_among}
 use Rattle.check_load.proofs.Keeping.{keeps_none, keeps_more}
 
 -- i operations after a head's numbers are read, up to a place of the bytes, and are in the columns
-pub record Load (width : ℕ) (bs : List ℕ) (h : Head) (nums : List ℕ) (cs₀ cs : Columns)
+pub record Load (width : ℕ) (bs : List ℕ) (h : ToldHead) (nums : List ℕ) (cs₀ cs : Columns)
     (i at signals marks : ℕ) : Type 0 where
   pub blocks : List ℕ
   pub read : operations_after width h i (here bs (head_cursor h) nums) ≡
@@ -53,21 +51,21 @@ few_more {window} a =
     (omega (arith, a.more_signals, few_signals window), omega (arith, a.more_marks, few_marks window))
 
 -- ---- one operation in a window
-module _ (width q m b : ℕ) (bs : List ℕ) (at : ℕ) (w_now : List ℕ) (r : End)
+module _ (width q m b : ℕ) (bs : List ℕ) (at : ℕ) (w_now : List ℕ) (r : Reached)
     (o : OperationRead width q m b bs at r w_now) (inside : at ≤ length bs) where
   abbrev op : Scan → Scan
   op s = read_by bytes (operation_below width q m b) s
 
-  in_window : op (scan (drop at bs) at [] none_given) ≡ here bs (end_cursor r) w_now
+  in_window : op (scan (drop at bs) at [] none_given) ≡ here bs r w_now
   unfolding operation_scan here fault_of
   in_window =
       let same : min at (length bs) ≡ at = omega arith in
-      subst (λ (a : ℕ). op (scan (drop a bs) a [] none_given) ≡ here bs (end_cursor r) w_now) same o.read
+      subst (λ (a : ℕ). op (scan (drop a bs) a [] none_given) ≡ here bs r w_now) same o.read
 
   -- the same after other numbers
   pub among : (front : List ℕ) → read_by bytes (operation_below width q m b) (scan (drop at bs) at front none_given) ≡
-      scan (drop r.at bs) r.at (front ++ take r.got w_now) (fault_of (end_cursor r))
-  unfolding after scan here end_cursor
+      scan (drop r.at bs) r.at (front ++ take r.got w_now) (fault_of r)
+  unfolding after scan here
   among front =
       ap (λ (l : List ℕ). op (scan (drop at bs) at l none_given)) (sym (append-nil front))
       ∙ blind_read bytes front (operation_blind width q m b) (scan (drop at bs) at [] none_given)
@@ -80,17 +78,17 @@ module _ (width q m b : ℕ) (bs : List ℕ) (at : ℕ) (w_now : List ℕ) (r : 
   few_numbers = omega (arith, o.few, length-take r.got w_now)
 
   pub whole_block : r.number ≡ 0 → Block q m b (take r.got w_now)
-  unfolding here scan none_given end_cursor
+  unfolding here scan none_given
   whole_block z =
-      block_read width q m b (drop at bs) at (here bs (end_cursor r) w_now) in_window
-      (ap (λ (s : Scan). s.fault.number) (here_clean bs (end_cursor r) w_now z))
+      block_read width q m b (drop at bs) at (here bs r w_now) in_window
+      (ap (λ (s : Scan). s.fault.number) (here_clean bs r w_now z))
 
-pub clean_fault : (r : End) → r.number ≡ 0 → fault_of (end_cursor r) ≡ none_given
-unfolding fault_of end_cursor
+pub clean_fault : (r : Reached) → r.number ≡ 0 → fault_of r ≡ none_given
+unfolding fault_of
 clean_fault r z = rw z
 
 -- ---- operation after operation
-module _ (width : ℕ) (bs : List ℕ) (h : Head) (nums : List ℕ) (cs₀ : Columns) where
+module _ (width : ℕ) (bs : List ℕ) (h : ToldHead) (nums : List ℕ) (cs₀ : Columns) where
   abbrev heading : List ℕ
   heading = take h.got nums
 
@@ -114,10 +112,10 @@ module _ (width : ℕ) (bs : List ℕ) (h : Head) (nums : List ℕ) (cs₀ : Col
 
   module _ {cs : Columns} {i at signals marks : ℕ}
       (l : Load width bs h nums cs₀ cs i at signals marks) (on : i < h.operations)
-      (w_now : List ℕ) (r : End) (o : OperationRead width h.queues h.semaphores h.buffers bs at r w_now) where
+      (w_now : List ℕ) (r : Reached) (o : OperationRead width h.queues h.semaphores h.buffers bs at r w_now) where
     -- one more is read, or refused
     pub read_next : operations_after width h (i + 1) (here bs (head_cursor h) nums) ≡
-        scan (drop r.at bs) r.at ((heading ++ l.blocks) ++ take r.got w_now) (fault_of (end_cursor r))
+        scan (drop r.at bs) r.at ((heading ++ l.blocks) ++ take r.got w_now) (fault_of r)
     unfolding times
     read_next =
         let op : Scan → Scan = λ s. read_by bytes (operation_below width h.queues h.semaphores h.buffers) s in

@@ -24,20 +24,16 @@ use Rattle.plan_format.proofs.Plans.{scanned_limits}
 use Rattle.check_columns.specs.Columns.{Columns, HeadColumn}
 use Rattle.check_columns.specs.Shown.{PlacesFor}
 use Rattle.check_columns.proofs.Plans.{filling_end}
-use Rattle.stored_numbers.specs.declared.Head.{Head}
-use Rattle.stored_numbers.specs.declared.End.{End}
-use Rattle.stored_numbers.specs.Reading.{Reached}
-use Rattle.stored_numbers.specs.Reading.{fault_of, here, head_cursor, operations_after, PlanRead, NumbersRead}
-use Rattle.stored_numbers.specs.Reading.{Heading, HeadRead, end_cursor, OperationRead}
+use Rattle.stored_numbers.specs.Reading.{Reached, fault_of, here, ToldHead, head_cursor, operations_after, PlanRead}
+use Rattle.stored_numbers.specs.Reading.{NumbersRead, Heading, HeadRead, OperationRead}
 use Rattle.stored_numbers.proofs.ReadingEnds.{ReadIn, read_refused, read_more, read_whole}
 use Rattle.stored_numbers.proofs.Fields.{here_given}
-use Rattle.check_load.specs.declared.Loaded.{Loaded}
-use Rattle.check_load.specs.Loading.{Loads}
+use Rattle.check_load.specs.Loading.{ToldLoad, Loads}
 use Rattle.check_load.proofs.Blocks.{Small}
 use Rattle.check_load.proofs.Loading.{Load, read_next, goes_on, few_numbers}
 
 -- the operations of a head, wherever their numbers go, make the plan
-plan_by : {F : Form} {bs : List ℕ} {h : Head} {nums : List ℕ} → HeadRead F bs h nums → (r : Reached) (all : List ℕ) →
+plan_by : {F : Form} {bs : List ℕ} {h : ToldHead} {nums : List ℕ} → HeadRead F bs h nums → (r : Reached) (all : List ℕ) →
     operations_after F.semaphore_width h h.operations (here bs (head_cursor h) nums) ≡ here bs r all →
     r.at ≤ length bs → r.got ≤ h.got + block_numbers * h.operations → PlanRead F bs r all
 plan_by head r all e inside few =
@@ -70,7 +66,7 @@ here_clean_after bs at all =
     (take-append_seam all (replicate (plan_numbers - length all) 0))
 
 -- after a refusal no more operations are read
-operations_stop : (width : ℕ) (h : Head) (s : Scan) (i n : ℕ) → given (operations_after width h i s).fault ≡ true →
+operations_stop : (width : ℕ) (h : ToldHead) (s : Scan) (i n : ℕ) → given (operations_after width h i s).fault ≡ true →
     i ≤ n → operations_after width h n s ≡ operations_after width h i s
 operations_stop width h s i n g l =
     let op = operation_below width h.queues h.semaphores h.buffers in
@@ -78,7 +74,7 @@ operations_stop width h s i n g l =
     ∙ repeat_stops bytes op s i n (ap (λ (z : Scan). given z.fault) (read_repeat bytes i op s) ∙ g) l
     ∙ read_repeat bytes i op s
 
-module _ {F : Form} (bs : List ℕ) (form : ReadIn F bs) (h : Head) (nums : List ℕ) (cs₀ : Columns)
+module _ {F : Form} (bs : List ℕ) (form : ReadIn F bs) (h : ToldHead) (nums : List ℕ) (cs₀ : Columns)
     (head : HeadRead F bs h nums) where
   abbrev width : ℕ
   width = F.semaphore_width
@@ -92,7 +88,7 @@ module _ {F : Form} (bs : List ℕ) (form : ReadIn F bs) (h : Head) (nums : List
   module _ {cs : Columns} {i at signals marks : ℕ}
       (l : Load width bs h nums cs₀ cs i at signals marks) where
     -- ---- an operation that is refused
-    module _ (on : i < h.operations) (w_now : List ℕ) (r : End)
+    module _ (on : i < h.operations) (w_now : List ℕ) (r : Reached)
         (o : OperationRead width h.queues h.semaphores h.buffers bs at r w_now) (z : r.number ≡ 0 → ⊥) where
       abbrev all_read : List ℕ
       all_read = (heading ++ l.blocks) ++ take r.got w_now
@@ -101,8 +97,7 @@ module _ {F : Form} (bs : List ℕ) (form : ReadIn F bs) (h : Head) (nums : List
       stop = cursor_after r.number r.at all_read
 
       stopped : operations_after width h (i + 1) (here bs (head_cursor h) nums) ≡ here bs stop (padded all_read)
-      unfolding end_cursor
-      stopped = read_next width bs h nums cs₀ l on w_now r o ∙ sym (here_after bs (end_cursor r) all_read)
+      stopped = read_next width bs h nums cs₀ l on w_now r o ∙ sym (here_after bs r all_read)
 
       few_read : length all_read ≤ h.got + block_numbers * h.operations
       few_read = omega (
@@ -319,7 +314,7 @@ module _ {F : Form} (bs : List ℕ) (form : ReadIn F bs) (h : Head) (nums : List
               ∙ ap (λ (p : Plan). get_or p.sizes b 0) (sym plan_is);
         }
 
-        abbrev pub loaded : Loaded
+        abbrev pub loaded : ToldLoad
         loaded = record {
           number = 0;
           place = 0;
@@ -357,7 +352,7 @@ module _ {F : Form} (bs : List ℕ) (form : ReadIn F bs) (h : Head) (nums : List
             ∙ take_at front.owners after_owners h.semaphores front.owners_long)
 
 -- a refusal shows nothing
-abbrev pub refused_at : (number place : ℕ) → Loaded
+abbrev pub refused_at : (number place : ℕ) → ToldLoad
 refused_at number place = record {
   number = number;
   place = place;
@@ -385,7 +380,7 @@ refused_loads {bs} (n, p) z =
     }
 
 -- ---- the head
-module _ {F : Form} {bs : List ℕ} {h : Head} {nums : List ℕ} (head : HeadRead F bs h nums) where
+module _ {F : Form} {bs : List ℕ} {h : ToldHead} {nums : List ℕ} (head : HeadRead F bs h nums) where
   pub head_refused : ReadIn F bs → (h.number ≡ 0 → ⊥) →
       (h.number ≡ (scanned bs).fault.number) × (h.at ≡ (scanned bs).fault.place)
   unfolding head_cursor here times scan

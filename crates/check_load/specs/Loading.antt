@@ -1,6 +1,6 @@
 -- What a loaded plan is: the reader's refusal, or columns that show the plan; and what is left in what was lent.
 -- Assumes nothing: these are definitions.
-use Rattle.std.specs.Prelude.{◌≡◌, cond, List, ℕ, ◌*◌, length}
+use Rattle.std.specs.Prelude.{◌≡◌, cond, List, ℕ, ◌*◌, length, Result, Ok, Err}
 use Rattle.plan_format.specs.Sizes.{most_waits}
 use Rattle.plan_format.specs.Form.{form_by, is_second}
 use Rattle.plan_format.specs.Grammar.{last_got}
@@ -10,7 +10,8 @@ use Rattle.plan_format.specs.Stored.{scanned, plan_in}
 use Rattle.plan_order.specs.Meaning.{PastKept}
 use Rattle.check_columns.specs.Columns.{Columns, HeadColumn}
 use Rattle.check_columns.specs.Shown.{ColumnsOf}
-use Rattle.stored_numbers.specs.Reading.{HeadRead, head_scan, unless_refused}
+use Rattle.plan_format.specs.Told.{number_of, Refused}
+use Rattle.stored_numbers.specs.Reading.{head_told, HeadRead, head_scan, unless_refused}
 use Rattle.stored_numbers.specs.declared.Head.{Head}
 use Rattle.check_load.specs.declared.Loaded.{Loaded}
 
@@ -21,8 +22,45 @@ pub record Sizes (bytes : List ℕ) (q s b n : ℕ) : Type 0 where
   pub buffers : b ≡ cond (given (scanned bytes).fault) 0 (length (plan_in bytes).sizes)
   pub operations : n ≡ cond (given (scanned bytes).fault) 0 (count (plan_in bytes))
 
+-- what is told of a loading: the number and the place of the refusal met, or 0 and 0; how many queues, semaphores,
+-- buffers, operations, signals and marks the plan has
+pub record ToldLoad : Type 0 where
+  pub number : ℕ
+  pub place : ℕ
+  pub queues : ℕ
+  pub semaphores : ℕ
+  pub buffers : ℕ
+  pub operations : ℕ
+  pub signals : ℕ
+  pub marks : ℕ
+
+-- R53, what is told by what was loaded, or by a refusal: the counts beside it are 0
+abbrev pub load_told : Result Loaded Refused → ToldLoad
+load_told (Ok l) =
+    record {
+      number = 0;
+      place = 0;
+      queues = l.queues;
+      semaphores = l.semaphores;
+      buffers = l.buffers;
+      operations = l.operations;
+      signals = l.signals;
+      marks = l.marks;
+    }
+load_told (Err e) =
+    record {
+      number = number_of e.reason;
+      place = e.place;
+      queues = 0;
+      semaphores = 0;
+      buffers = 0;
+      operations = 0;
+      signals = 0;
+      marks = 0;
+    }
+
 -- R53: the reader's refusal; where there is none, the columns show the plan. On a refusal the counts are 0
-pub record Loads (bytes : List ℕ) (r : Loaded) (head : List ℕ) (cs : Columns) : Type 0 where
+pub record Loads (bytes : List ℕ) (r : ToldLoad) (head : List ℕ) (cs : Columns) : Type 0 where
   pub number : r.number ≡ (scanned bytes).fault.number
   pub place : r.place ≡ (scanned bytes).fault.place
   pub sizes : Sizes bytes r.queues r.semaphores r.buffers r.operations
@@ -33,7 +71,7 @@ pub record Loads (bytes : List ℕ) (r : Loaded) (head : List ℕ) (cs : Columns
 -- R8, R53: the head of a stored plan, read in the form that its first byte tells
 pub record HeadKnown (bytes : List ℕ) (h : Head) (head : List ℕ) : Type 0 where
   pub form : h.wide ≡ is_second bytes
-  pub read : HeadRead (form_by h.wide) bytes h head
+  pub read : HeadRead (form_by h.wide) bytes (head_told (Ok h)) head
 
 -- ---- what is left
 -- past so many operations, signals and marks each column is as it was
@@ -49,7 +87,7 @@ pub record KeptPast (operations signals marks : ℕ) (cs cs' : Columns) : Type 0
 
 -- past the plan's own places the columns are as they were; on a refusal, past the places of the n operations that the
 -- head tells, with the three signals and seven marks that the bits of their counts can tell
-pub record Keeps (n : ℕ) (r : Loaded) (cs cs' : Columns) : Type 0 where
+pub record Keeps (n : ℕ) (r : ToldLoad) (cs cs' : Columns) : Type 0 where
   pub taken : r.number ≡ 0 → KeptPast r.operations r.signals r.marks cs cs'
   pub refused : (r.number ≡ 0 → ⊥) → KeptPast n (3 * n) (7 * n) cs cs'
 

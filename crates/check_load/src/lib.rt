@@ -2,12 +2,9 @@
 // `check_plan` does.
 #![tactic(auto)]
 
-// How many queues, semaphores, buffers, operations, signals and marks a plan has; or the reader's refusal and its
-// place.
+// How many queues, semaphores, buffers, operations, signals and marks a plan has that the reader takes.
 #[derive(Clone, Copy, Debug, PartialEq, Eq, Hash)]
 pub struct Loaded {
-    pub number: u32,
-    pub place: usize,
     pub queues: u64,
     pub semaphores: u64,
     pub buffers: u64,

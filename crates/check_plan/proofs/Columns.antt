@@ -1,30 +1,34 @@
 -- The counts and columns of a stored plan that are loaded from its bytes. Assumes nothing.
 use mathlib.Core.Path.{◌≡◌, sym, ◌∙◌, subst}
+use mathlib.Core.Bool.{Bool, false}
 use mathlib.Core.List.{List, []}
 use Prim.Native.Nat.{ℕ, ◌-◌}
 use native.Mathlib.Omega.{arith}
 use lib.ListN.{length, take, drop, length-drop}
 use lib.Seq.{take_all}
+use Rattle.std.specs.Prelude.{Ok, Err}
+use Rattle.plan_format.specs.Form.{form_in, form_by, first_form, is_second}
 use Rattle.plan_format.specs.Plan.{Plan}
 use Rattle.plan_format.specs.Sound.{rules_refusal}
 use Rattle.plan_format.specs.Stored.{scanned, plan_in}
+use Rattle.plan_format.specs.Told.{Refused, refused_by}
 use Rattle.plan_format.proofs.Judged.{zero_not_given}
 use Rattle.plan_format.proofs.Plans.{scanned_limits}
 use Rattle.check_columns.specs.Columns.{Columns, columns, OwnerColumn, SourceColumn}
 use Rattle.check_columns.proofs.Ownership.{owners_shown}
 use Rattle.stored_numbers.specs.declared.Head.{Head}
-use Rattle.stored_numbers.proofs.ReadingEnds.{read_in_told}
-use Rattle.check_load.specs.Loading.{HeadKnown, Loads}
+use Rattle.stored_numbers.specs.declared.Stop.{Stop}
+use Rattle.stored_numbers.specs.Reading.{ToldHead, head_told, HeadRead}
+use Rattle.stored_numbers.proofs.Fields.{reason_given}
+use Rattle.stored_numbers.proofs.ReadingEnds.{read_in}
+use Rattle.check_load.specs.Loading.{HeadKnown, ToldLoad, load_told, Loads}
+use Rattle.check_load.proofs.Outcomes.{refused_loads, head_refused}
 use Rattle.check_load.specs.declared.Loaded.{Loaded}
-use Rattle.check_load.proofs.Outcomes.{refused_at, refused_loads, head_refused}
 use Rattle.check_passes.specs.Given.{CheckGiven}
-use Rattle.check_plan.specs.Counting.{CountsTold, counts_of, opened_of}
+use Rattle.check_plan.specs.Counting.{CountsTold, opened_of}
 use Rattle.check_plan.specs.Opening.{ReadPlan, lent}
 
-module _ {bs head : List ℕ} {cs : Columns} {r : Loaded} (l : Loads bs r head cs) where
-  pub loaded_counts : CountsTold bs (counts_of r r.number r.place)
-  loaded_counts = record { number = l.number; place = l.place; sizes = l.sizes }
-
+module _ {bs head : List ℕ} {cs : Columns} {r : ToldLoad} (l : Loads bs r head cs) where
   pub loaded_none : ((scanned bs).fault.number ≡ 0 → ⊥) → (r.signals ≡ 0) × (r.marks ≡ 0)
   loaded_none z = l.none (λ e. z (sym l.number ∙ e))
 
@@ -57,13 +61,36 @@ module _ {bs head : List ℕ} {cs : Columns} {r : Loaded} (l : Loads bs r head c
       shown = l.columns z;
     }
 
--- a head that is refused: nothing is loaded, whatever the columns are
-module _ {bs nums : List ℕ} {h : Head} (head : HeadKnown bs h nums) (bad : h.number ≡ 0 → ⊥) where
-  pub head_loads : (cs : Columns) → Loads bs (refused_at h.number h.at) nums cs
-  head_loads cs = refused_loads (head_refused head.read (read_in_told bs head.form) bad) bad
+-- what is counted of them
+pub loaded_counts : {bs head : List ℕ} {cs : Columns} {l : Loaded} → Loads bs (load_told (Ok l)) head cs →
+    CountsTold bs (Ok (record {
+      queues = l.queues;
+      semaphores = l.semaphores;
+      buffers = l.buffers;
+      operations = l.operations;
+    }))
+loaded_counts l = record { number = l.number; place = l.place; sizes = l.sizes }
 
-  pub head_counts : CountsTold bs (counts_of (refused_at h.number h.at) h.number h.at)
-  head_counts = loaded_counts (head_loads (columns [] [] [] [] [] [] [] []))
+pub refused_counts : {bs head : List ℕ} {cs : Columns} {e : Refused} → Loads bs (load_told (Err e)) head cs →
+    CountsTold bs (Err e)
+refused_counts l = record { number = l.number; place = l.place; sizes = l.sizes }
+
+-- a head that is read
+pub head_known : {bs nums : List ℕ} {h : Head} → h.wide ≡ is_second bs →
+    HeadRead (form_in bs) bs (head_told (Ok h)) nums → HeadKnown bs h nums
+head_known {bs} {nums} {h} e read =
+    record { form = e; read = subst (λ (b : Bool). HeadRead (form_by b) bs (head_told (Ok h)) nums) (sym e) read }
+
+pub in_first : {bs nums : List ℕ} {h : ToldHead} → is_second bs ≡ false → HeadRead first_form bs h nums →
+    HeadRead (form_in bs) bs h nums
+unfolding form_by
+in_first {bs} {nums} {h} e read = subst (λ (b : Bool). HeadRead (form_by b) bs h nums) (sym e) read
+
+-- a head that is refused: nothing is loaded, whatever the columns are
+pub head_loads : {bs nums : List ℕ} (s : Stop) → HeadRead (form_in bs) bs (head_told (Err s)) nums →
+    Loads bs (load_told (Err (refused_by s.reason s.at))) nums (columns [] [] [] [] [] [] [] [])
+head_loads {bs} s head =
+    refused_loads (head_refused head (read_in bs) (reason_given s.reason)) (reason_given s.reason)
 
 -- the owners in the part of the head from a place on
 pub owners_part : (p : Plan) (head : List ℕ) (first many : ℕ) → p.owners ≡ take many (drop first head) →

@@ -7,10 +7,8 @@ use Rattle.plan_format.specs.Sizes.{most_waits}
 use Rattle.plan_format.specs.Stored.{scanned}
 use Rattle.plan_order.specs.Meaning.{PastKept}
 use Rattle.check_columns.specs.Columns.{Columns, columns}
-use Rattle.stored_numbers.specs.declared.Head.{Head}
-use Rattle.stored_numbers.specs.Reading.{head_scan, HeadTold}
-use Rattle.check_load.specs.Loading.{KeptPast, Loads, Keeps, head_got, head_operations}
-use Rattle.check_load.specs.declared.Loaded.{Loaded}
+use Rattle.stored_numbers.specs.Reading.{ToldHead, head_scan, HeadTold}
+use Rattle.check_load.specs.Loading.{ToldLoad, KeptPast, Loads, Keeps, head_got, head_operations}
 use Rattle.check_load.proofs.Keeping.{keeps_none}
 use Rattle.check_plan.specs.Counting.{opened_of}
 use Rattle.check_plan.specs.Opening.{Lent, lent, lent_columns, LentKept, LentLeft}
@@ -46,7 +44,7 @@ with_sources {i} head k s = record {
   mark_operations_kept = k.mark_operations_kept;
 }
 
-module _ {bs head : List ℕ} {r : Loaded} {m : ℕ} {cs cs' : Columns} (loads : Loads bs r head cs')
+module _ {bs head : List ℕ} {r : ToldLoad} {m : ℕ} {cs cs' : Columns} (loads : Loads bs r head cs')
     (keeps : Keeps m r cs cs') (n i : ℕ) where
   -- a plan that the reader refuses
   pub kept_refused : (r.number ≡ 0 → ⊥) →
@@ -66,7 +64,7 @@ module _ {bs head : List ℕ} {r : Loaded} {m : ℕ} {cs cs' : Columns} (loads :
   }
 
 -- ---- the head
-module _ {bs nums nums_now : List ℕ} {h : Head} (told : HeadTold (head_scan bs) nums h nums_now)
+module _ {bs nums nums_now : List ℕ} {h : ToldHead} (told : HeadTold (head_scan bs) nums h nums_now)
     {queue source ssem sval sop mark mop : List ℕ} {o : Opened} where
   -- after a head that is read
   pub left_after : {queue' source' ssem' sval' sop' mark' mop' : List ℕ} →

@@ -13,10 +13,10 @@ ghost use Rattle.plan_format.specs.Stored.{scanned, plan_in};
 ghost use Rattle.plan_order.specs.Promise.{Checked};
 ghost use Rattle.check_columns.specs.Columns.{columns};
 ghost use Rattle.check_columns.specs.Shown.{PlacesFor};
-ghost use Rattle.check_load.specs.Loading.{HeadKnown};
-ghost use Rattle.plan_format.specs.Told.{told_as};
-ghost use Rattle.check_plan.specs.Counting.{SizesTold, CountsTold, opened_of};
-ghost use Rattle.check_plan.specs.Counting.{counts_of};
+ghost use Rattle.check_load.specs.Loading.{HeadKnown, load_told};
+ghost use Rattle.std.specs.Prelude.{Ok, Err};
+ghost use Rattle.plan_format.specs.Told.{number_of, told_as};
+ghost use Rattle.check_plan.specs.Counting.{SizesTold, CountsTold, counts_of, opened_of};
 ghost use Rattle.check_plan.specs.Opening.{ReadPlan, OpenedPlan, LentKept, LentLeft, lent};
 ghost use Rattle.check_plan.specs.Opening.{lent_of, cleared, Handed, GivenAt};
 ghost use Rattle.check_plan.specs.declared.PlanColumns.{PlanColumns};
@@ -49,8 +49,16 @@ const MIDDLE_SIGNALS: usize = MOST_SIGNALS * MIDDLE_ROOM;
 
 const MIDDLE_MARKS: usize = MOST_MARKS * MIDDLE_ROOM;
 
-// How many queues, semaphores, buffers and operations a plan has; or a refusal and its place beside them. Each is 0
-// where the reader refuses the plan.
+// How many queues, semaphores, buffers and operations a plan has.
+#[derive(Clone, Copy, Debug, PartialEq, Eq, Hash)]
+pub struct PlanCounts {
+    pub queues: usize,
+    pub semaphores: usize,
+    pub buffers: usize,
+    pub operations: usize,
+}
+
+// The same, or a refusal and its place beside them. Each is 0 where the reader refuses the plan.
 #[derive(Clone, Copy, Debug, PartialEq, Eq, Hash)]
 pub struct Counted {
     pub number: u32,
@@ -85,14 +93,11 @@ pub struct PlanColumns {
 }
 
 // The counts of a stored plan, or the reader's refusal.
-pub fn counts(plan: &[u8]) -> Counted
+pub fn counts(plan: &[u8]) -> Result<PlanCounts, Refusal>
     ensures { CountsTold plan.now result }
 {
     let mut head = [0u64; HEAD_NUMBERS];
-    let h = stored_numbers::read_head(plan, &mut head);
-    if h.number != 0 {
-        return with_counts(load::refused(h.number, h.at), h.number, h.at as u64);
-    }
+    let h = stored_numbers::read_head(plan, &mut head)?;
     let mut queue = [0u16; MOST_OPERATIONS];
     let mut wsem = [0u16; WAIT_PLACES];
     let mut wval = [0u64; WAIT_PLACES];
@@ -101,14 +106,19 @@ pub fn counts(plan: &[u8]) -> Counted
     let mut sop = [0u16; SIGNAL_PLACES];
     let mut mark = [0u16; MARK_PLACES];
     let mut mop = [0u16; MARK_PLACES];
-    let l = load::columns(
+    let loaded = load::columns(
         plan, h, &mut queue, &mut wsem, &mut wval, &mut ssem, &mut sval, &mut sop, &mut mark,
         &mut mop,
-    );
-    with_counts(l, l.number, l.place as u64)
+    )?;
+    Ok(PlanCounts {
+        queues: loaded.queues as usize,
+        semaphores: loaded.semaphores as usize,
+        buffers: loaded.buffers as usize,
+        operations: usize::from(loaded.operations),
+    })
 }
 
-// The check of a stored plan: 0, and the rows and the run in table and list; or the first refusal and its place.
+// The check of a stored plan: the rows and the run in table and list; or the first refusal and its place.
 pub fn check_plan(plan: &[u8], table: &mut [u32], list: &mut [u32]) -> Told
     ensures { Checked plan.now result table.old table.new list.old
         list.new }
@@ -141,10 +151,10 @@ fn in_first_form(plan: &[u8], table: &mut [u32], list: &mut [u32]) -> Counted
     ensures sizes { SizesTold plan.now result }
 {
     let mut head = [0u64; FIRST_HEAD_NUMBERS];
-    let h = stored_numbers::read_first_head(plan, &mut head);
-    if h.number != 0 {
-        return with_counts(load::refused(h.number, h.at), h.number, h.at as u64);
-    }
+    let h = match stored_numbers::read_first_head(plan, &mut head) {
+        Ok(h) => h,
+        Err(stop) => return counts_none(stop.reason.at(stop.at)),
+    };
     by_room(plan, h, &head, table, list)
 }
 
@@ -156,7 +166,7 @@ fn by_room(
     table: &mut [u32],
     list: &mut [u32],
 ) -> Counted
-    requires { HeadKnown plan.now h head.now × (h.number ≡ 0) }
+    requires { HeadKnown plan.now h head.now }
     ensures checked { Checked plan.now (record { number = result.number; place = result.place; answer = 0 })
         table.old table.new list.old list.new }
     ensures sizes { SizesTold plan.now result }
@@ -178,10 +188,10 @@ fn in_second_form(plan: &[u8], table: &mut [u32], list: &mut [u32]) -> Counted
     ensures sizes { SizesTold plan.now result }
 {
     let mut head = [0u64; HEAD_NUMBERS];
-    let h = stored_numbers::read_head(plan, &mut head);
-    if h.number != 0 {
-        return with_counts(load::refused(h.number, h.at), h.number, h.at as u64);
-    }
+    let h = match stored_numbers::read_head(plan, &mut head) {
+        Ok(h) => h,
+        Err(stop) => return counts_none(stop.reason.at(stop.at)),
+    };
     in_columns::<WAIT_PLACES, SIGNAL_PLACES, MARK_PLACES>(plan, h, &head, table, list)
 }
 
@@ -193,7 +203,7 @@ fn in_columns<const WAITS: usize, const SIGNALS: usize, const MARKS: usize>(
     table: &mut [u32],
     list: &mut [u32],
 ) -> Counted
-    requires known { HeadKnown plan.now h head.now × (h.number ≡ 0) }
+    requires known { HeadKnown plan.now h head.now }
     requires room { (most_waits * h.operations ≤ WAITS) × (most_signals * h.operations ≤ SIGNALS) ×
         (most_marks * h.operations ≤ MARKS) }
     requires within { (WAITS ≤ wait_places) × (SIGNALS ≤ signal_places) × (MARKS ≤ mark_places) }
@@ -263,10 +273,10 @@ pub fn check_opened(
         (lent head.new queue.new source.new ssem.new sval.new
         sop.new mark.new mop.new) }
 {
-    let h = stored_numbers::read_head(plan, head);
-    if h.number != 0 {
-        return with_lists(load::refused(h.number, h.at), h.number, h.at as u64);
-    }
+    let h = match stored_numbers::read_head(plan, head) {
+        Ok(h) => h,
+        Err(stop) => return lists_none(stop.reason.at(stop.at)),
+    };
     let mut wval = [0u64; WAIT_PLACES];
     places(queue, source);
     judged(
@@ -354,7 +364,7 @@ fn judged(
     table: &mut [u32],
     list: &mut [u32],
 ) -> Opened
-    requires { HeadKnown plan.now h head.now × (h.number ≡ 0) ×
+    requires { HeadKnown plan.now h head.now ×
         PlacesFor h.operations (columns queue.old source.old wval.old ssem.old sval.old sop.old
         mark.old mop.old) }
     ensures checked { Checked plan.now
@@ -375,10 +385,10 @@ fn judged(
         (lent head.now queue.new source.new ssem.new sval.new
         sop.new mark.new mop.new) }
 {
-    let l = load::columns(plan, h, queue, source, wval, ssem, sval, sop, mark, mop);
-    if l.number != 0 {
-        return with_lists(l, l.number, l.place as u64);
-    }
+    let l = match load::columns(plan, h, queue, source, wval, ssem, sval, sop, mark, mop) {
+        Ok(l) => l,
+        Err(e) => return lists_none(e),
+    };
     let first = 2 + h.queues as usize;
     let owner = &head[first..];
     let told = told_passed(check_passes::judge_columns(
@@ -413,7 +423,7 @@ fn told_passed(r: Result<(), Refusal>) -> Told
 
 // The counts of a loaded plan, beside a number and its place.
 fn with_counts(l: Loaded, number: u32, place: u64) -> Counted
-    ensures { result ≡ counts_of l number place }
+    ensures { result ≡ counts_of (load_told (Ok l)) number place }
 {
     Counted {
         number,
@@ -427,11 +437,36 @@ fn with_counts(l: Loaded, number: u32, place: u64) -> Counted
 
 // The same, and the numbers of signals and marks.
 fn with_lists(l: Loaded, number: u32, place: u64) -> Opened
-    ensures { result ≡ opened_of l number place }
+    ensures { result ≡ opened_of (load_told (Ok l)) number place }
 {
     Opened {
         counted: with_counts(l, number, place),
         signals: l.signals as usize,
         marks: l.marks as usize,
+    }
+}
+
+// The reader's refusal, beside which the counts are 0.
+fn counts_none(e: Refusal) -> Counted
+    ensures { result ≡ counts_of (load_told (Err e)) (number_of e.reason) e.place }
+{
+    Counted {
+        number: e.reason.number(),
+        place: e.place,
+        queues: 0,
+        semaphores: 0,
+        buffers: 0,
+        operations: 0,
+    }
+}
+
+// The same, and no signals and no marks.
+fn lists_none(e: Refusal) -> Opened
+    ensures { result ≡ opened_of (load_told (Err e)) (number_of e.reason) e.place }
+{
+    Opened {
+        counted: counts_none(e),
+        signals: 0,
+        marks: 0,
     }
 }

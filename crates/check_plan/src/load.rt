@@ -1,66 +1,17 @@
 // A stored plan read straight into its columns: each operation into a window of numbers, and from there after the
 // operations before it.
-ghost use Rattle.std.specs.Prelude.{◌≡◌, List, ℕ, ◌+◌, ◌≤◌, take, drop};
+ghost use Rattle.std.specs.Prelude.{◌≡◌, List, ℕ, ◌+◌, ◌≤◌, take, drop, IfOk};
 ghost use Rattle.plan_format.specs.Sizes.{most_operations};
 ghost use Rattle.plan_format.specs.Stored.{plan_in};
 ghost use Rattle.check_columns.specs.Columns.{columns};
 ghost use Rattle.check_columns.specs.Shown.{PlacesFor};
-ghost use Rattle.check_load.specs.Loading.{HeadKnown, Loads, Keeps};
+ghost use Rattle.check_load.specs.Loading.{HeadKnown, load_told, Loads, Keeps};
 
 use check_columns::{QueueColumn, WaitColumn};
 use check_load::Loaded;
 use plan_format::limits::WINDOW;
+use plan_format::{Reason, Refusal};
 use stored_numbers::Head;
-
-// A refusal at a place.
-pub fn refused(number: u32, place: usize) -> Loaded
-    ensures { result ≡ record {
-      number = number;
-      place = place;
-      queues = 0;
-      semaphores = 0;
-      buffers = 0;
-      operations = 0;
-      signals = 0;
-      marks = 0;
-    } }
-{
-    Loaded {
-        number,
-        place,
-        queues: 0,
-        semaphores: 0,
-        buffers: 0,
-        operations: 0,
-        signals: 0,
-        marks: 0,
-    }
-}
-
-// A plan without a refusal, and what it has.
-fn whole(h: Head, operations: u16, signals: u16, marks: u16) -> Loaded
-    ensures { result ≡ record {
-      number = 0;
-      place = 0;
-      queues = h.queues;
-      semaphores = h.semaphores;
-      buffers = h.buffers;
-      operations = operations;
-      signals = signals;
-      marks = marks;
-    } }
-{
-    Loaded {
-        number: 0,
-        place: 0,
-        queues: h.queues,
-        semaphores: h.semaphores,
-        buffers: h.buffers,
-        operations,
-        signals,
-        marks,
-    }
-}
 
 // Fills the columns of a plan whose head is read. Past the plan's own places each column stays. On a refusal, the
 // places of as many operations as the head tells, three signals and seven marks to each, are unspecified.
@@ -75,15 +26,15 @@ pub fn columns(
     sop: &mut [u16],
     mark: &mut [u16],
     mop: &mut [u16],
-) -> Loaded
+) -> Result<Loaded, Refusal>
     requires { (h.operations ≤ most_operations) ×
         PlacesFor h.operations (columns queue.old wsem.old wval.old ssem.old sval.old sop.old
         mark.old mop.old) }
-    ensures { (nums : List ℕ) → HeadKnown plan.now h nums → h.number ≡ 0 →
-        Loads plan.now result nums (columns queue.new wsem.new wval.new
+    ensures { (nums : List ℕ) → HeadKnown plan.now h nums →
+        Loads plan.now (load_told result) nums (columns queue.new wsem.new wval.new
         ssem.new sval.new sop.new mark.new mop.new) ×
-        (result.number ≡ 0 → (plan_in plan.now).owners ≡ take h.semaphores (drop (2 + h.queues) nums))
-        × Keeps h.operations result
+        IfOk result (λ _. (plan_in plan.now).owners ≡ take h.semaphores (drop (2 + h.queues) nums))
+        × Keeps h.operations (load_told result)
         (columns queue.old wsem.old wval.old ssem.old sval.old
         sop.old mark.old mop.old)
         (columns queue.new wsem.new wval.new ssem.new sval.new
@@ -95,7 +46,7 @@ pub fn columns(
     let mut signals: u16 = 0;
     let mut marks: u16 = 0;
     for i in 0..many {
-        let o = stored_numbers::read_operation(
+        let end = stored_numbers::read_operation(
             plan,
             at,
             h.wide,
@@ -103,19 +54,23 @@ pub fn columns(
             h.semaphores,
             h.buffers,
             &mut window,
-        );
-        if o.number != 0 {
-            return refused(o.number, o.at);
-        }
+        )?;
         let all = check_columns::add(
             &window, i, signals, marks, queue, wsem, wval, ssem, sval, sop, mark, mop,
         );
-        at = o.at;
+        at = end.at;
         signals = all.signals as u16;
         marks = all.marks as u16;
     }
     if at < plan.len() {
-        return refused(3, at);
+        return Err(Reason::BytesFollow.at(at));
     }
-    whole(h, many, signals, marks)
+    Ok(Loaded {
+        queues: h.queues,
+        semaphores: h.semaphores,
+        buffers: h.buffers,
+        operations: many,
+        signals,
+        marks,
+    })
 }

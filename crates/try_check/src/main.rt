@@ -46,16 +46,26 @@ fn numbers(rt: &impl Print, a: &[u32; 128], many: usize)
     line_end(rt);
 }
 
-// The counts of a plan.
+// The counts of a plan, after two zeros; or a refusal and its place, and four zeros.
 fn sizes(rt: &impl Print, plan: &[u8]) {
-    let c = check_plan::counts(plan);
     text(rt, b"  counts");
-    number(rt, u64::from(c.number));
-    number(rt, c.place);
-    number(rt, c.queues as u64);
-    number(rt, c.semaphores as u64);
-    number(rt, c.buffers as u64);
-    number(rt, c.operations as u64);
+    match check_plan::counts(plan) {
+        Ok(c) => {
+            number(rt, 0);
+            number(rt, 0);
+            number(rt, c.queues as u64);
+            number(rt, c.semaphores as u64);
+            number(rt, c.buffers as u64);
+            number(rt, c.operations as u64);
+        }
+        Err(e) => {
+            number(rt, u64::from(e.reason.number()));
+            number(rt, e.place);
+            for _k in 0..4 {
+                number(rt, 0);
+            }
+        }
+    }
     line_end(rt);
 }
 

@@ -2,22 +2,23 @@
 use mathlib.Core.Path.{refl, ◌∙◌}
 use Rattle.plan_format.proofs.Telling.{tells_as}
 use Rattle.plan_order.proofs.Checks.{checked}
+use Rattle.stored_numbers.proofs.Fields.{reason_given}
 use Rattle.check_plan.proofs.Told.{not_read}
-use Rattle.check_plan.proofs.Columns.{head_counts}
+use Rattle.check_plan.proofs.Columns.{head_loads}
 use Rattle.check_plan.proofs.Left.{left_after, left_head}
 use Rattle.check_plan.proofs.check_opened.Goals as goal
 
-pub returns-then-h-ne0 : goal.returns-then-h-ne0
-returns-then-h-ne0 c =
-    let l = head_counts (record { form = c.read_head-h.ensures.form; read = c.read_head-h.ensures.means })
-    c.if-h-ne0.true in
-    rw (c.with_lists.ensures, c.refused.ensures) (record {
-      checked = checked _ _ _ _ _ _ (not_read _ _ _ _ (tells_as l.number l.place) c.if-h-ne0.true);
+pub returns-in-Err : goal.returns-in-Err
+returns-in-Err c =
+    let l = head_loads c.in-Err.stop c.in-Err.ensures.means in
+    let bad = reason_given c.in-Err.stop.reason in
+    rw (c.lists_none.ensures, c.at.ensures) (record {
+      checked = checked _ _ _ _ _ _ (not_read _ _ _ _ (tells_as l.number l.place) bad);
       sizes = l.sizes;
       refused = λ _. (refl, refl);
-      read = λ z. absurd (c.if-h-ne0.true (l.number ∙ z));
-      opened = λ z. absurd (c.if-h-ne0.true z);
-      left = left_head c.read_head-h.ensures.told (λ z. c.if-h-ne0.true (l.number ∙ z));
+      read = λ z. absurd (bad (l.number ∙ z));
+      opened = λ z. absurd (bad z);
+      left = left_head c.in-Err.ensures.told (λ z. bad (l.number ∙ z));
     })
 
 pub returns : goal.returns
@@ -28,5 +29,5 @@ returns c =
       refused = c.judged.ensures.refused;
       read = c.judged.ensures.read;
       opened = c.judged.ensures.opened;
-      left = left_after c.read_head-h.ensures.told c.judged.ensures.kept;
+      left = left_after c.in-Ok.ensures.told c.judged.ensures.kept;
     }

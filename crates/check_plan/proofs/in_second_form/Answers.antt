@@ -2,16 +2,19 @@
 -- Assumes nothing.
 use Rattle.plan_format.proofs.Telling.{tells_as}
 use Rattle.plan_order.proofs.Checks.{checked}
+use Rattle.stored_numbers.proofs.Fields.{reason_given}
 use Rattle.check_plan.proofs.Told.{not_read}
-use Rattle.check_plan.proofs.Columns.{head_counts}
+use Rattle.check_plan.proofs.Columns.{head_known, head_loads}
 use Rattle.check_plan.proofs.in_second_form.Goals as goal
 
-pub returns-then-h-ne0 : goal.returns-then-h-ne0
-returns-then-h-ne0 c =
-    let l = head_counts (record { form = c.read_head-h.ensures.form; read = c.read_head-h.ensures.means })
-    c.if-h-ne0.true in
-    rw (c.with_counts.ensures, c.refused.ensures)
-    (record {
-      checked = checked _ _ _ _ _ _ (not_read _ _ _ _ (tells_as l.number l.place) c.if-h-ne0.true);
+pub returns-in-Err : goal.returns-in-Err
+returns-in-Err c =
+    let l = head_loads c.in-Err.stop c.in-Err.ensures.means in
+    rw (c.counts_none.ensures, c.at.ensures) (record {
+      checked = checked _ _ _ _ _ _ (not_read _ _ _ _ (tells_as l.number l.place) (reason_given c.in-Err.stop.reason));
       sizes = l.sizes;
     })
+
+pub in_columns-requires-clause-known : goal.in_columns-requires-clause-known
+in_columns-requires-clause-known c =
+    head_known c.in-Ok.ensures.form c.in-Ok.ensures.means

@@ -3,6 +3,8 @@
 use mathlib.Core.Path.{refl}
 use native.Mathlib.Omega.{arith}
 use borrow.Author.Tests.{eqb-false}
+use Rattle.std.proofs.lemmas.Result.{err_from_is_err_and}
+use Rattle.stored_numbers.proofs.Fields.{reason_given}
 use Rattle.stored_numbers.proofs.ReadingEnds.{read_in_told}
 use Rattle.check_load.proofs.Loading.{load_none, load_next, few_more}
 use Rattle.check_load.proofs.Outcomes.{load_refused, load_more, load_columns, load_owners, refused_loads}
@@ -16,7 +18,7 @@ loop-i-init c = (
   omega arith,
   omega arith,
   omega arith,
-  (λ nums head z. load_none _ _ _ nums _ z head.read.inside),
+  (λ nums head. load_none _ _ _ nums _ refl head.read.inside),
   c.requires.1,
   refl,
   refl,
@@ -26,16 +28,16 @@ loop-i-init c = (
   refl,
 )
 
-pub returns-then-o-ne0 : goal.returns-then-o-ne0
-returns-then-o-ne0 c =
-    rw c.refused.ensures
-    (λ nums head z. (
+pub returns-in_err-end : goal.returns-in_err-end
+returns-in_err-end c =
+    let bad = reason_given c.in_err-end.field-0.0.reason in
+    let gone = err_from_is_err_and c.from_residual.result c.from_residual.ensures.1 in
+    rw (gone.1, gone.2) (λ nums head. (
       refused_loads
-          (load_refused _ (read_in_told _ head.form) _ nums _ head.read (c.loop-i.invariant.5 nums head z)
-          c.loop-i-test.true
-          _ _ c.read_operation-o.ensures.means c.if-o-ne0.true) c.if-o-ne0.true,
-      (λ e. absurd (c.if-o-ne0.true e)),
-      keeps_refused _ _ c.if-o-ne0.true (c.loop-i.invariant.5 nums head z).kept (omega arith) c.loop-i.invariant.3
+          (load_refused _ (read_in_told _ head.form) _ nums _ head.read (c.loop-i.invariant.5 nums head)
+          c.loop-i-test.true _ _ c.in_err-end.ensures.means bad) bad,
+      tt,
+      keeps_refused _ _ bad (c.loop-i.invariant.5 nums head).kept (omega arith) c.loop-i.invariant.3
           c.loop-i.invariant.4,
     ))
 
@@ -84,9 +86,8 @@ loop-i-preserved c =
       omega (arith, c.loop-i-test.true),
       omega (arith, (few_more a).0, c.loop-i.invariant.3),
       omega (arith, (few_more a).1, c.loop-i.invariant.4),
-      (λ nums head z. load_next _ _ _ nums _ (c.loop-i.invariant.5 nums head z) c.loop-i-test.true _ _
-          c.read_operation-o.ensures.means
-          c.if-o-ne0.false a),
+      (λ nums head. load_next _ _ _ nums _ (c.loop-i.invariant.5 nums head) c.loop-i-test.true _ _
+          c.in_ok-end.ensures.means refl a),
       c.loop-i.invariant.6,
       omega (arith, c.loop-i.invariant.7),
       omega (arith, c.loop-i.invariant.8),
@@ -99,24 +100,22 @@ loop-i-preserved c =
 pub returns-then-at-plan : goal.returns-then-at-plan
 returns-then-at-plan c =
     let three = eqb-false 3 0 refl in
-    rw c.refused-then-at-plan.ensures
-    (λ nums head z. (
+    rw c.at.ensures
+    (λ nums head. (
       refused_loads
-          (load_more _ (read_in_told _ head.form) _ nums _ head.read (c.loop-i.invariant.5 nums head z)
+          (load_more _ (read_in_told _ head.form) _ nums _ head.read (c.loop-i.invariant.5 nums head)
           c.loop-i-test.false c.loop-i.invariant.2
           c.if-at-plan.true) three,
-      (λ e. absurd (three e)),
-      keeps_refused _ _ three (c.loop-i.invariant.5 nums head z).kept c.loop-i.invariant.2 c.loop-i.invariant.3
+      tt,
+      keeps_refused _ _ three (c.loop-i.invariant.5 nums head).kept c.loop-i.invariant.2 c.loop-i.invariant.3
           c.loop-i.invariant.4,
     ))
 
 pub returns : goal.returns
-returns c =
-    rw c.whole.ensures
-    (λ nums head z. (
-      load_columns _ (read_in_told _ head.form) _ nums _ head.read (c.loop-i.invariant.5 nums head z)
-          c.loop-i-test.false c.loop-i.invariant.2 c.if-at-plan.false z c.loop-i.invariant.6,
-      (λ _. load_owners _ (read_in_told _ head.form) _ nums _ head.read (c.loop-i.invariant.5 nums head z)
-          c.loop-i-test.false c.loop-i.invariant.2 c.if-at-plan.false z),
-      keeps_whole _ _ refl (c.loop-i.invariant.5 nums head z).kept c.loop-i.invariant.2,
-    ))
+returns c nums head = (
+  load_columns _ (read_in_told _ head.form) _ nums _ head.read (c.loop-i.invariant.5 nums head)
+      c.loop-i-test.false c.loop-i.invariant.2 c.if-at-plan.false refl c.loop-i.invariant.6,
+  load_owners _ (read_in_told _ head.form) _ nums _ head.read (c.loop-i.invariant.5 nums head)
+      c.loop-i-test.false c.loop-i.invariant.2 c.if-at-plan.false refl,
+  keeps_whole _ _ refl (c.loop-i.invariant.5 nums head).kept c.loop-i.invariant.2,
+)
