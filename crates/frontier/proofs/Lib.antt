@@ -17,3 +17,4 @@ pub mod Fill
 pub mod Raising
 pub mod Raise
 pub mod Gathered
+pub mod Sides

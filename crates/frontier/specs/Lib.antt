@@ -1,3 +1,4 @@
 pub mod Frontiers
 pub mod Meaning
 pub mod Walks
+pub mod Sides

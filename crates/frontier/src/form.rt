@@ -1,31 +1,25 @@
 // What a merge judges first: the capacity, and the form of the left side.
-ghost use Rattle.std.specs.Prelude.{◌≡◌, false};
-ghost use Rattle.frontier.specs.Frontiers.{number_by};
-ghost use Rattle.frontier.specs.Walks.{of_slots, laid, left_number};
+ghost use Rattle.std.specs.Prelude.{◌≡◌};
+ghost use Rattle.frontier.specs.Sides.{shown, Judged};
+ghost use Rattle.frontier.specs.Walks.{laid, left_number};
 
 use crate::lent::Filled;
+use crate::side::{Formed, Slots};
 use crate::{Frontier, Unfit};
-use frontier_slots::formed;
 
-// A capacity out of its limits is refused first, then slots that are not well-formed.
-pub fn judged<'a>(
-    axes: &'a [u64],
-    epochs: &'a [u64],
-    len: usize,
-    capacity: u32,
-) -> Result<(), Unfit>
-    ensures { number_by result ≡ left_number (of_slots axes.now epochs.now len false) capacity }
-{
-    if capacity < Frontier::LEAST {
-        return Err(Unfit::Capacity);
+impl<'a> Slots<'a> {
+    // A capacity out of its limits is refused first, then slots that are not well-formed.
+    pub fn judged(self, capacity: u32) -> Result<Formed<'a>, Unfit>
+        ensures { Judged (left_number (shown self.entry) capacity) (shown self.entry) result }
+    {
+        if capacity < Frontier::LEAST {
+            return Err(Unfit::Capacity);
+        }
+        if Frontier::MOST < capacity {
+            return Err(Unfit::Capacity);
+        }
+        self.formed()
     }
-    if Frontier::MOST < capacity {
-        return Err(Unfit::Capacity);
-    }
-    if !formed(axes, epochs, len) {
-        return Err(Unfit::Form);
-    }
-    Ok(())
 }
 
 // The number of a merge: a refusal's, or 0.

@@ -7,8 +7,7 @@ ghost use Rattle.frontier.specs.Walks.{of_slots, laid, filled, Fills};
 
 use crate::cuts::clear;
 use crate::form::left;
-use crate::search::dominance_of;
-use crate::unions::{merged, raised};
+use crate::side::Slots;
 use crate::{Dominance, Frontier, Unfit};
 use frontier_slots::lookup_by_halving;
 
@@ -49,7 +48,19 @@ pub fn merge<'a>(
         (of_slots ya.now ye.now yn yt) capacity
         (filled (laid result) axes.new epochs.new) }
 {
-    let r = merged(xa, xe, xn, xt, ya, ye, yn, yt, capacity, axes, epochs);
+    let x = Slots {
+        axes: xa,
+        epochs: xe,
+        len: xn,
+        tainted: xt,
+    };
+    let y = Slots {
+        axes: ya,
+        epochs: ye,
+        len: yn,
+        tainted: yt,
+    };
+    let r = x.merged(y, capacity, axes, epochs);
     let len = left(r).len;
     clear(axes, len);
     clear(epochs, len);
@@ -73,7 +84,13 @@ pub fn raise<'a>(
     ensures right { RaiseRight (of_slots xa.now xe.now xn xt) axis epoch capacity
         (filled (laid result) axes.new epochs.new) }
 {
-    let r = raised(xa, xe, xn, xt, axis, epoch, capacity, axes, epochs);
+    let x = Slots {
+        axes: xa,
+        epochs: xe,
+        len: xn,
+        tainted: xt,
+    };
+    let r = x.raised(axis, epoch, capacity, axes, epochs);
     let len = left(r).len;
     clear(axes, len);
     clear(epochs, len);
@@ -96,5 +113,17 @@ pub fn dominates<'a>(
     ensures means { DominanceMeans (of_slots xa.now xe.now xn xt)
         (of_slots ya.now ye.now yn yt) (verdict result) }
 {
-    dominance_of(xa, xe, xn, xt, ya, ye, yn, yt)
+    let x = Slots {
+        axes: xa,
+        epochs: xe,
+        len: xn,
+        tainted: xt,
+    };
+    let y = Slots {
+        axes: ya,
+        epochs: ye,
+        len: yn,
+        tainted: yt,
+    };
+    x.dominates(y)
 }

@@ -5,6 +5,7 @@ mod cuts;
 mod form;
 pub mod lent;
 mod search;
+mod side;
 mod unions;
 
 ghost use Rattle.std.specs.Prelude.{◌≡◌, false, []};
@@ -14,9 +15,9 @@ ghost use Rattle.frontier.specs.Meaning.{Looked, MergeRight, RaiseRight, Dominan
 ghost use Rattle.frontier.specs.Walks.{left_number};
 
 use cuts::{clear, first_slots};
-use form::{judged, left, number};
+use form::{left, number};
 use frontier_slots::formed;
-use unions::join_one;
+use side::{Formed, Slots};
 
 // Slot i holds the entry (axes[i], epochs[i]) for i below len; the slots past len are zero. A tainted frontier may have
 // lost entries.
@@ -140,7 +141,13 @@ impl Frontier {
         ensures right { RaiseRight self axis epoch capacity result }
     {
         let len = self.len;
-        if let Err(unfit) = judged(&self.axes, &self.epochs, len, capacity) {
+        let slots = Slots {
+            axes: &self.axes,
+            epochs: &self.epochs,
+            len,
+            tainted: self.tainted,
+        };
+        if let Err(unfit) = slots.judged(capacity) {
             return Merged {
                 number: unfit.number(),
                 frontier: Self::empty(),
@@ -183,17 +190,13 @@ fn with_one(f: Frontier, axis: u64, epoch: u64, capacity: u32) -> Merged
 {
     let mut axes = [0u64; Frontier::BOTH];
     let mut epochs = [0u64; Frontier::BOTH];
-    let r = join_one(
-        &f.axes,
-        &f.epochs,
-        f.len,
-        f.tainted,
-        axis,
-        epoch,
-        capacity as usize,
-        &mut axes,
-        &mut epochs,
-    );
+    let x = Formed {
+        axes: &f.axes,
+        epochs: &f.epochs,
+        len: f.len,
+        tainted: f.tainted,
+    };
+    let r = x.join_one(axis, epoch, capacity as usize, &mut axes, &mut epochs);
     clear(&mut axes, r.len);
     clear(&mut epochs, r.len);
     let frontier = Frontier {

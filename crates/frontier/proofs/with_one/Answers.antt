@@ -5,15 +5,16 @@ use Rattle.frontier.proofs.Raise.{raise_joins, raise_joined, raise_formed}
 use Rattle.frontier.proofs.Fill.{left_same, fills, held_right}
 use Rattle.frontier.proofs.with_one.Goals as goal
 
-pub join_one-r-requires : goal.join_one-r-requires
+pub invariant_of-x : goal.invariant_of-x
 unfolding entries
+invariant_of-x c =
+    let f = raise_joins c.args.f c.args.axis c.args.epoch _ _ refl c.requires in
+    record { few = f.0.0; sixteen = f.0.2; rising = f.0.1 }
+
+pub join_one-r-requires : goal.join_one-r-requires
 join_one-r-requires c =
     let f = raise_joins c.args.f c.args.axis c.args.epoch _ _ refl c.requires in
-    record {
-      xn_le_most_entries = (f.0.0, f.0.2, f.0.1);
-      le_capacity = f.1;
-      all_room = (refl, refl);
-    }
+    record { le_capacity = f.1; all_room = (refl, refl) }
 
 pub returns : goal.returns
 unfolding entries

@@ -1,12 +1,11 @@
 -- `raise` meets its contract: refused, stored in the axis's slot, or joined with one entry. Assumes nothing.
-use Rattle.std.proofs.Common.{◌≡◌, ◌<◌, get_or, sym, ap, ap₂, ◌∙◌, arith, ℕ, refl, Result, Ok, Err}
-use Rattle.std.specs.Bool.{⊤}
+use Rattle.std.proofs.Common.{◌≡◌, ◌<◌, get_or, sym, ap₂, ◌∙◌, arith, ℕ, refl}
 use Rattle.frontier.specs.declared.Frontier.{Frontier}
 use Rattle.frontier.specs.declared.Merged.{Merged}
 use Rattle.frontier_slots.specs.Entries.{most_entries}
-use Rattle.frontier.specs.Frontiers.{refusal, number_by}
-use Rattle.frontier.specs.declared.Unfit.{Unfit}
+use Rattle.frontier.specs.Frontiers.{refusal}
 use Rattle.frontier.proofs.Fill.{not_zero}
+use Rattle.frontier.proofs.Sides.{refused_by, not_refused}
 use Rattle.frontier.specs.Walks.{left_number}
 use Rattle.frontier.proofs.Meaning.{raise_all}
 use Rattle.frontier.proofs.Raise.{raise_refused, raise_stored}
@@ -21,19 +20,15 @@ below : (c : In-Some) → c.in-Some.at < most_entries
 below c = let w = c.search.ensures.means.of_axis _ c.in-Some.is in omega (arith, w.0, w.1)
 
 -- what the judgement tells, where it is no refusal
-fits : (c : In_default) → number_by c.judged.result ≡ 0
-fits c = by c.judged.result c.in_default.not-Err
-  where
-    by : (r : Result ⊤ Unfit) → ((e : Unfit) → r ≡ Err e → ⊥) → number_by r ≡ 0
-    by (Ok x) h = refl
-    by (Err e) h = absurd (h e refl)
+fits : (c : In_default) → left_number c.args.self c.args.capacity ≡ 0
+fits c = not_refused _ _ _ c.judged.ensures c.in_default.not-Err
 
 pub returns-in-Err : goal.returns-in-Err
 unfolding left_number refusal
 returns-in-Err c =
     let w = raise_all _ _ _ _ _
     (ap₂ {C = Merged} (λ (n : ℕ) (f : Frontier). record { number = n; frontier = f }) c.number.ensures c.empty.ensures
-    ∙ raise_refused c.args.self _ _ _ _ (sym (ap number_by c.in-Err.is) ∙ c.judged.ensures) (not_zero _)) in
+    ∙ raise_refused c.args.self _ _ _ _ (sym (refused_by _ _ _ c.judged.ensures _ c.in-Err.is)) (not_zero _)) in
     record { answers = w.0; right = w.1 }
 
 pub offset_bounds-self-at : goal.offset_bounds-self-at
@@ -55,13 +50,12 @@ unfolding left_number
 returns-in-Some c =
     let l = (goal.at.returns-in-Some c).In-Some in
     let w = raise_all _ _ _ _ _
-    (raise_stored c.args.self _ _ _ _ c.judged.ensures (fits (goal.at.returns-in-Some c).In_default) _ _
+    (raise_stored c.args.self _ _ _ _ refl (fits (goal.at.returns-in-Some c).In_default) _ _
     (listed l).0 (listed l).1 c.max.ensures c.if-len-capacity.true) in
     record { answers = w.0; right = w.1 }
 
 pub with_one-requires : goal.with_one-requires
-unfolding left_number
-with_one-requires c = sym c.judged.ensures ∙ fits (goal.at.with_one-requires c).In_default
+with_one-requires c = fits (goal.at.with_one-requires c).In_default
 
 pub returns : goal.returns
 returns c = let w = raise_all _ _ _ _ _ c.with_one.ensures in record { answers = w.0; right = w.1 }
