@@ -16,7 +16,10 @@ pub extern "C" fn cundvrest_read(plan: &[u8], room: &mut [u64], told: &mut [u64;
     ensures says { ReadSays plan.now (told_of told.new) room.old room.new }
     ensures means { ReadMeans plan.now (told_of told.new) room.old room.new }
 {
-    c_told::tell(stored_read::read_plan(plan, room), told);
+    c_told::tell(
+        plan_format::as_told(stored_read::read_plan(plan, room)),
+        told,
+    );
 }
 
 // The bytes of a list of numbers in front of the room; the answer is how many there are.

@@ -13,11 +13,13 @@ pub fn read(plan: &[u8], out: &mut [u8]) -> usize
     ensures { Puts (read_text plan.now) out.old 0 out.new result }
 {
     let mut numbers = [0u64; PLAN_NUMBERS];
-    let told = stored_reader::read_through(plan, &mut numbers);
-    if told.number != 0 {
-        return base_text::refused(out, told.number, told.place);
-    }
-    let many = (told.answer as usize).min(numbers.len());
+    let length = match stored_reader::read_through(plan, &mut numbers) {
+        Ok(length) => length as usize,
+        Err(refusal) => {
+            return base_text::refused(out, refusal.reason.number(), refusal.place);
+        }
+    };
+    let many = length.min(numbers.len());
     let mut text = Text::new(out);
     text.line(&numbers[..many]);
     text.byte(b'\n');

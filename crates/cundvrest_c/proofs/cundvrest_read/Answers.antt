@@ -3,4 +3,4 @@ use Rattle.cundvrest_c.proofs.cundvrest_read.Goals as goal
 
 -- look: clauses says, means
 pub returns : goal.returns
-returns c = rw c.tell.ensures c.read_plan.ensures
+returns c = rw (c.tell.ensures, c.as_told.ensures) c.read_plan.ensures
