@@ -33,7 +33,8 @@ use Rattle.check_load.proofs.Blocks.{Small}
 use Rattle.check_load.proofs.Loading.{Load, read_next, goes_on, few_numbers}
 
 -- the operations of a head, wherever their numbers go, make the plan
-plan_by : {F : Form} {bs : List ℕ} {h : ToldHead} {nums : List ℕ} → HeadRead F bs h nums → (r : Reached) (all : List ℕ) →
+plan_by : {F : Form} {bs : List ℕ} {h : ToldHead} {nums : List ℕ} → HeadRead F bs h nums →
+    (r : Reached) (all : List ℕ) →
     operations_after F.semaphore_width h h.operations (here bs (head_cursor h) nums) ≡ here bs r all →
     r.at ≤ length bs → r.got ≤ h.got + block_numbers * h.operations → PlanRead F bs r all
 plan_by head r all e inside few =
