@@ -6,45 +6,24 @@ ghost use Rattle.frontier.specs.Frontiers.{merge, raise};
 ghost use Rattle.frontier_in_place.specs.InPlace.{Changed};
 
 use frontier::{Frontier, Merged};
-
-fn text(rt: &impl Print, words: &[u8]) {
-    let _ = rt.write_all(words);
-}
-
-fn digits(rt: &impl Print, n: u64) {
-    let _ = rt.print(n);
-}
-
-fn number(rt: &impl Print, n: u64) {
-    text(rt, b" ");
-    digits(rt, n);
-}
+use std::io;
 
 // The slots with an epoch, each as axis:epoch.
-fn entries<'a>(
-    rt: &impl Print,
-    axes: &'a [u64; Frontier::SLOTS],
-    epochs: &'a [u64; Frontier::SLOTS],
-) {
-    for i in 0..Frontier::SLOTS {
-        if epochs[i] != 0 {
-            number(rt, axes[i]);
-            text(rt, b":");
-            digits(rt, epochs[i]);
+fn entries(rt: &impl Print, frontier: &Frontier) -> io::Result<()> {
+    for (axis, epoch) in frontier.axes.iter().zip(&frontier.epochs) {
+        if *epoch != 0 {
+            print!(rt; " {axis}:{epoch}")?;
         }
     }
+    println!(rt)
 }
 
 // The number of a change in place, and the frontier that is stored then: its length and its entries.
-fn show(rt: &impl Print, m: Merged) {
-    number(rt, u64::from(m.number));
+fn show(rt: &impl Print, m: Merged) -> io::Result<()> {
     let f = m.frontier;
-    if f.tainted {
-        text(rt, b" tainted");
-    }
-    number(rt, f.len as u64);
-    entries(rt, &f.axes, &f.epochs);
-    text(rt, b"\n");
+    let form = if f.tainted { " tainted" } else { "" };
+    print!(rt; " {}{form} {}", m.number, f.len)?;
+    entries(rt, &f)
 }
 
 // One axis of a stored frontier raised in place.
@@ -80,120 +59,122 @@ fn two(axis: u64, epoch: u64, later: u64, last: u64, len: usize) -> Frontier {
     f
 }
 
-fn say(rt: &impl Print, answer: Option<u64>) {
-    if let Some(epoch) = answer {
-        number(rt, epoch);
-    } else {
-        text(rt, b" absent");
+fn say(rt: &impl Print, answer: Option<u64>) -> io::Result<()> {
+    match answer {
+        Some(epoch) => print!(rt; " {epoch}"),
+        None => print!(rt; " absent"),
     }
 }
 
 // Whether a frontier is well formed, and what it then says of axes 0 to 4.
-fn ask(rt: &impl Print, f: Frontier) {
+fn ask(rt: &impl Print, f: Frontier) -> io::Result<()> {
     if f.well_formed() {
         for axis in 0..5 {
-            say(rt, f.lookup(axis));
+            say(rt, f.lookup(axis))?;
         }
     } else {
-        text(rt, b" badly formed");
+        print!(rt; " badly formed")?;
     }
-    text(rt, b"\n");
+    println!(rt)
 }
 
-fn forms(rt: &impl Print) {
-    text(rt, b"form and lookup\n");
-    ask(rt, Frontier::empty());
-    ask(rt, two(1, 5, 3, 2, 2));
-    ask(rt, two(0, 5, 0, 0, 1));
-    ask(rt, two(3, 2, 1, 5, 2));
-    ask(rt, two(3, 2, 3, 5, 2));
-    ask(rt, two(1, 0, 3, 2, 2));
-    ask(rt, two(1, 5, 3, 2, 1));
-    ask(rt, two(1, 5, 3, 2, 3));
-    ask(rt, two(1, 5, 3, 2, 17));
-    say(rt, two(1, 5, 3, 2, 17).lookup(1));
-    text(rt, b"\n");
+fn forms(rt: &impl Print) -> io::Result<()> {
+    println!(rt; "form and lookup")?;
+    ask(rt, Frontier::empty())?;
+    ask(rt, two(1, 5, 3, 2, 2))?;
+    ask(rt, two(0, 5, 0, 0, 1))?;
+    ask(rt, two(3, 2, 1, 5, 2))?;
+    ask(rt, two(3, 2, 3, 5, 2))?;
+    ask(rt, two(1, 0, 3, 2, 2))?;
+    ask(rt, two(1, 5, 3, 2, 1))?;
+    ask(rt, two(1, 5, 3, 2, 3))?;
+    ask(rt, two(1, 5, 3, 2, 17))?;
+    say(rt, two(1, 5, 3, 2, 17).lookup(1))?;
+    println!(rt)
 }
 
 // The slot of an axis among the first `len` of axes 1 to 17, and how many slots were read.
-fn search(rt: &impl Print, len: usize, axis: u64) {
+fn search(rt: &impl Print, len: usize, axis: u64) -> io::Result<()> {
     let axes = [1u64, 2, 3, 4, 5, 6, 7, 8, 9, 10, 11, 12, 13, 14, 15, 16, 17];
     let found = axis_search::search(&axes, len, axis);
     if let Some(at) = found.at {
-        number(rt, at as u64);
+        println!(rt; " {at} {}", found.read)
     } else {
-        text(rt, b" none");
+        println!(rt; " none {}", found.read)
     }
-    number(rt, found.read as u64);
-    text(rt, b"\n");
 }
 
 // No slot, the first that is read, both ends, an axis below all, one above all, and more slots than are searched.
-fn searches(rt: &impl Print) {
-    text(rt, b"search by halving\n");
-    search(rt, 0, 1);
-    search(rt, 16, 9);
-    search(rt, 16, 1);
-    search(rt, 16, 16);
-    search(rt, 16, 0);
-    search(rt, 16, 17);
-    search(rt, 17, 9);
+fn searches(rt: &impl Print) -> io::Result<()> {
+    println!(rt; "search by halving")?;
+    for &(len, axis) in &[
+        (0usize, 1u64),
+        (16, 9),
+        (16, 1),
+        (16, 16),
+        (16, 0),
+        (16, 17),
+        (17, 9),
+    ] {
+        search(rt, len, axis)?;
+    }
+    Ok(())
 }
 
 // Raises of a listed axis, of one that is not, and refusals; a cut loses the entry with the smaller epoch.
-fn raises(rt: &impl Print) {
-    text(rt, b"raise in place\n");
+fn raises(rt: &impl Print) -> io::Result<()> {
+    println!(rt; "raise in place")?;
     let f = two(1, 5, 3, 2, 2);
-    show(rt, raised(f, 3, 7, 16));
-    show(rt, raised(f, 1, 4, 16));
-    show(rt, raised(f, 1, 0, 2));
-    show(rt, raised(f, 2, 9, 16));
-    show(rt, raised(f, 2, 0, 16));
-    show(rt, raised(f, 2, 9, 2));
-    show(rt, raised(f, 3, 7, 1));
-    show(rt, raised(f, 1, 0, 1));
-    show(rt, raised(f, 3, 7, 0));
-    show(rt, raised(f, 3, 7, 17));
-    show(rt, raised(two(3, 2, 1, 5, 2), 3, 7, 16));
+    show(rt, raised(f, 3, 7, 16))?;
+    show(rt, raised(f, 1, 4, 16))?;
+    show(rt, raised(f, 1, 0, 2))?;
+    show(rt, raised(f, 2, 9, 16))?;
+    show(rt, raised(f, 2, 0, 16))?;
+    show(rt, raised(f, 2, 9, 2))?;
+    show(rt, raised(f, 3, 7, 1))?;
+    show(rt, raised(f, 1, 0, 1))?;
+    show(rt, raised(f, 3, 7, 0))?;
+    show(rt, raised(f, 3, 7, 17))?;
+    show(rt, raised(two(3, 2, 1, 5, 2), 3, 7, 16))
 }
 
 // T12, the same without a cut, and refusals.
-fn merges(rt: &impl Print) {
-    text(rt, b"merge in place\n");
+fn merges(rt: &impl Print) -> io::Result<()> {
+    println!(rt; "merge in place")?;
     let f = two(1, 5, 2, 3, 2);
     let g = two(2, 7, 3, 4, 2);
-    show(rt, merged(f, g, 2));
-    show(rt, merged(f, g, 16));
-    show(rt, merged(f, g, 0));
-    show(rt, merged(f, two(2, 7, 2, 4, 2), 16));
-    show(rt, merged(two(1, 5, 2, 0, 2), g, 16));
+    show(rt, merged(f, g, 2))?;
+    show(rt, merged(f, g, 16))?;
+    show(rt, merged(f, g, 0))?;
+    show(rt, merged(f, two(2, 7, 2, 4, 2), 16))?;
+    show(rt, merged(two(1, 5, 2, 0, 2), g, 16))
 }
 
-fn row(rt: &impl Print, row: &[u32]) {
-    for &x in row {
-        number(rt, u64::from(x));
+fn row(rt: &impl Print, row: &[u32]) -> io::Result<()> {
+    for number in row {
+        print!(rt; " {number}")?;
     }
-    text(rt, b"\n");
+    println!(rt)
 }
 
 // The row that reaches the other.
-fn rows(rt: &impl Print) {
-    text(rt, b"rows\n");
+fn rows(rt: &impl Print) -> io::Result<()> {
+    println!(rt; "rows")?;
     let high = [3u32, 2, 4];
     let low = [1u32, 2, 4];
     let other = [1u32, 3, 4];
-    row(rt, frontier_rows::reaching(&high, &low));
-    row(rt, frontier_rows::reaching(&low, &high));
-    row(rt, frontier_rows::reaching(&high, &high));
-    row(rt, frontier_rows::reaching(&high, &other));
-    row(rt, frontier_rows::reaching(&high[..2], &low));
-    row(rt, frontier_rows::reaching(&low, &high[..2]));
+    row(rt, frontier_rows::reaching(&high, &low))?;
+    row(rt, frontier_rows::reaching(&low, &high))?;
+    row(rt, frontier_rows::reaching(&high, &high))?;
+    row(rt, frontier_rows::reaching(&high, &other))?;
+    row(rt, frontier_rows::reaching(&high[..2], &low))?;
+    row(rt, frontier_rows::reaching(&low, &high[..2]))
 }
 
-fn main(rt: HostRuntime) {
-    forms(&rt);
-    searches(&rt);
-    raises(&rt);
-    merges(&rt);
-    rows(&rt);
+fn main(rt: HostRuntime) -> io::Result<()> {
+    forms(&rt)?;
+    searches(&rt)?;
+    raises(&rt)?;
+    merges(&rt)?;
+    rows(&rt)
 }
