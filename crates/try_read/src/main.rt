@@ -3,7 +3,7 @@
 
 ghost use Rattle.std.specs.Prelude.{◌≡◌, ◌≤◌, length};
 
-use plan_format::Told;
+use plan_format::Refusal;
 use std::io;
 
 // The plan T3: three queues, two semaphores, one buffer, three operations, 38 numbers.
@@ -11,8 +11,11 @@ const T3: [u8; 96] =
     *b"\x03\x01\x00\x00\x00\x00\x00\x00\x00\x02\x00\x00\x00\x00\x00\x00\x00\x03\x00\x00\x00\x00\x00\x00\x00\x02\x00\x01\x01\x00\x10\x00\x00\x00\x03\x00\x00\x00\x01\x00\x01\x00\x00\x00\x00\x00\x00\x00\x01\x00\x00\x00\x01\x01\x00\x01\x00\x00\x00\x00\x00\x00\x00\x01\x01\x01\x00\x00\x00\x00\x00\x00\x00\x02\x00\x00\x00\x00\x00\x01\x02\x01\x01\x01\x00\x00\x00\x00\x00\x00\x00\x00\x01\x00\x00\x00";
 
 // What the reader hands back, on a line.
-fn show(rt: &impl Print, told: Told) -> io::Result<()> {
-    println!(rt; "{} {} {}", told.number, told.place, told.answer)
+fn show(rt: &impl Print, answer: Result<u64, Refusal>) -> io::Result<()> {
+    match answer {
+        Ok(length) => println!(rt; "0 0 {length}"),
+        Err(e) => println!(rt; "{} {} 0", e.reason.number(), e.place),
+    }
 }
 
 // A plan read into room enough.
