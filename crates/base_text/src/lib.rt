@@ -49,7 +49,8 @@ impl<'a> Text<'a> {
     pub fn len(&self) -> usize
         ensures { result ≡ self.now.len }
     {
-        self.len
+        let Text { len, .. } = self;
+        *len
     }
 
     // One byte.
