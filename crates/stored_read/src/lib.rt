@@ -34,6 +34,7 @@ fn read_either(plan: &[u8], room: &mut [u64]) -> Result<u64, Refusal>
 }
 
 // The numbers of a plan in the first form: fewer have to be cleared.
+// A function of its own: the array that is read into differs in its type from the one for either form.
 fn read_first(plan: &[u8], room: &mut [u64]) -> Result<u64, Refusal>
     requires { is_second plan.now ≡ false }
     ensures { ReadSays plan.now (told_by result) room.old room.new }
