@@ -17,6 +17,7 @@ use plan_format::limits::{
 // The columns of a plan: a queue for each operation; for each place of a wait a semaphore or the operation that the
 // wait rests on, and a value; for each signal a semaphore or its operation, and a value; for each mark its code or its
 // operation.
+// In a column of operations 1,024 stands for none: an element of sixteen bits has no room for an Option.
 pub type QueueColumn = [u16; MOST_OPERATIONS];
 
 pub type WaitColumn = [u16; WAIT_PLACES];
