@@ -132,13 +132,21 @@ pub fn trim(axes: &mut [u64], epochs: &mut [u64], len: usize, bound: Entry) -> u
 }
 
 // Zero from a place on.
-pub fn clear(row: &mut [u64], from: usize)
+fn clear(row: &mut [u64], from: usize)
     requires { length row.old ≡ most_of_two }
     ensures { Cleared from row.old row.new }
 {
     for i in from..Frontier::BOTH {
         row[i] = 0;
     }
+}
+
+// Both rows of the room.
+pub fn clear_both(axes: &mut Room, epochs: &mut Room, from: usize)
+    ensures { Cleared from axes.old axes.new × Cleared from epochs.old epochs.new }
+{
+    clear(axes, from);
+    clear(epochs, from);
 }
 
 // Sixteen slots in front of the room.
