@@ -67,6 +67,8 @@ fn least<'a>(axes: &'a [u64], epochs: &'a [u64], len: usize) -> Entry
 
 // The bound that the entries kept at a capacity exceed: the greatest that is cut. If more than one is, it is counted
 // how many exceed each entry between the greatest known to be cut and the least known to be kept.
+// The rows are parameters of their own: of one behind a struct's field a proof does not know that each number fits 64
+// bits, which the first `kept` goes by.
 pub fn bound_of<'a>(axes: &'a [u64], epochs: &'a [u64], len: usize, capacity: usize) -> Entry
     requires len_in_bounds { (len ≤ length axes.now) × (len ≤ length epochs.now) ×
         (rising_from 0 (slots axes.now epochs.now len 0) ≡ true) }
