@@ -30,8 +30,8 @@ pub struct Frontier {
 }
 
 // A merge's number and frontier: empty and untainted where the number is a refusal's. The frontier comes first, so
-// that it is copied in whole words. A `Result` of a frontier has a tag in front, and compiles to two calls that copy the
-// frontier, and to 272 bytes cleared beside a refusal.
+// that it is copied in whole words. A `Result` of a frontier has a tag in front, and compiles to two calls that copy
+// the frontier, and to 272 bytes cleared beside a refusal.
 #[derive(Clone, Copy, Debug, PartialEq, Eq, Hash)]
 pub struct Merged {
     pub frontier: Frontier,

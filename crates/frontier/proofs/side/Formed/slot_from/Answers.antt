@@ -9,7 +9,8 @@ use Rattle.frontier.proofs.side.Formed.slot_from.Goals.{else-from-self-via-else-
 pub returns-then-self-from : goal.returns-then-self-from
 returns-then-self-from c =
     slot_is _ _ _ _ _ _
-    (came_later _ c.args.self.epochs.now _ _ _ _ c.if-from-self.true c.if-self-from.true _ c.seek.ensures.1 c.seek.ensures.2 refl) _
+    (came_later _ c.args.self.epochs.now _ _ _ _
+    c.if-from-self.true c.if-self-from.true _ c.seek.ensures.1 c.seek.ensures.2 refl) _
     c.slot_at.ensures
 
 pub returns : goal.returns
