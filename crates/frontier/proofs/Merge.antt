@@ -1,7 +1,7 @@
 -- The laws of merge and raise: the refusals in their order, well-formed results, commutative always, idempotent where
 -- the capacity holds it. Assumes nothing.
 use mathlib.Core.Path.{◌≡◌, refl, sym, ap, ◌∙◌}
-use mathlib.Core.Bool.{Bool, true, false, ◌&&◌, ◌||◌, cond, or-false}
+use mathlib.Core.Bool.{Bool, true, false, ◌&&◌, ◌||◌, or-false}
 use mathlib.Core.List.{List, []}
 use Prim.Native.Nat.{ℕ, ◌≤◌, ◌<◌, zero-le}
 use native.Mathlib.Nat.{le_refl}
@@ -13,15 +13,14 @@ use Rattle.base_lists.proofs.Tests.{by_cases}
 use Rattle.frontier.specs.declared.Frontier.{Frontier}
 use Rattle.frontier.specs.declared.Merged.{Merged}
 use Rattle.frontier_slots.specs.declared.Entry.{Entry}
-use Rattle.frontier_slots.specs.Entries.{most_entries, rising_from, union, cut}
+use Rattle.frontier_slots.specs.Entries.{most_entries, union, cut}
 use Rattle.frontier.specs.Frontiers.{entries, well_formed, pack, refusal, handed, joined, merge_number, merge}
 use Rattle.frontier.specs.Frontiers.{one_entry}
-use Rattle.frontier_slots.specs.Slots.{AllSlots}
 use Rattle.frontier.specs.Walks.{left_number}
 use Rattle.frontier.proofs.Sorted.{Sorted, sorted_union, union_commutes, union_idempotent}
 use Rattle.frontier.proofs.Cut.{sorted_cut, cut_length, cut_whole}
 use Rattle.frontier.proofs.Slots.{slots_length}
-use Rattle.frontier.proofs.Pack.{pack_entries, sorted_entries, well_formed_pack, both_fit}
+use Rattle.frontier.proofs.Pack.{pack_entries, sorted_entries, well_formed_pack}
 
 -- ONE ENTRY
 pub sorted_one : (a e : ℕ) → Sorted 0 (one_entry a e)
@@ -44,11 +43,6 @@ judged_small f c h = rw (lt-leb 1 c h)
 pub judged_large : (f : Frontier) (c : ℕ) → most_entries < c → 15 ≡ left_number f c
 unfolding left_number
 judged_large f c h = rw (le-leb 1 c (omega arith), lt-leb c most_entries h)
-
-pub judged_form : (f : Frontier) (c n : ℕ) (b : Bool) → 1 ≤ c → c ≤ most_entries → well_formed f ≡ b → n ≡ cond b 0 14 →
-    n ≡ left_number f c
-unfolding left_number
-judged_form f c n b h l e q = rw (le-leb 1 c h, le-leb c most_entries l, e) q
 
 module _ (f g : Frontier) (c : ℕ) where
   pub refused_first : (n : ℕ) → n ≡ left_number f c → (n ≡ 0 → ⊥) → refusal n ≡ merge f g c
@@ -86,13 +80,6 @@ module _ (f g : Frontier) (c : ℕ) where
   pub merged : (m : Merged) → LeftAccepted → well_formed g ≡ true →
       m ≡ handed (joined (entries f) (entries g) (f.tainted || g.tainted) c) → m ≡ merge f g c
   merged m w q e = e ∙ accepted w.at_least_one w.at_most_sixteen w.left q
-
-  -- what the walk asks
-  pub joins : LeftAccepted → well_formed g ≡ true →
-      ((f.len ≤ most_entries) × (g.len ≤ most_entries) × AllSlots f.axes f.epochs
-      × AllSlots g.axes g.epochs)
-      × (((rising_from 0 (entries f) ≡ true) × (rising_from 0 (entries g) ≡ true)) × ((1 ≤ c) × (c ≤ most_entries)))
-  joins w q = let b = both_fit f g w.left q in (b.0, (b.1, (w.at_least_one, w.at_most_sixteen)))
 
   -- what number 0 tells
   pub record Accepted : Type 0 where

@@ -152,13 +152,3 @@ well_formed_pack xs t s h = well (pack xs t) (record {
 -- all slots of a well-formed frontier are there
 pub all_slots : (f : Frontier) → well_formed f ≡ true → AllSlots f.axes f.epochs
 all_slots f e = ((formed f e).sixteen_axes, (formed f e).sixteen_epochs)
-
--- two frontiers that the walks take
-pub both_fit : (f g : Frontier) → well_formed f ≡ true → well_formed g ≡ true →
-    ((f.len ≤ most_entries) × (g.len ≤ most_entries) × AllSlots f.axes f.epochs
-    × AllSlots g.axes g.epochs)
-    × ((rising_from 0 (entries f) ≡ true) × (rising_from 0 (entries g) ≡ true))
-both_fit f g p q = (
-  ((formed f p).short, (formed g q).short, all_slots f p, all_slots g q),
-  ((formed f p).rises, (formed g q).rises),
-)

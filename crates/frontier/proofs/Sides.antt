@@ -19,8 +19,7 @@ use Rattle.frontier_slots.specs.Entries.{most_entries}
 use Rattle.frontier.specs.Frontiers.{refusal, handed, joined, merge, raise, one_entry}
 use Rattle.frontier_slots.specs.Slots.{AllSlots}
 use Rattle.frontier.specs.Walks.{of_slots, left_number}
-use Rattle.frontier.proofs.Merge.{LeftAccepted, left_accepted, accepted, refused_first}
-use Rattle.frontier.proofs.Merge.{refused_right}
+use Rattle.frontier.proofs.Merge.{LeftAccepted, left_accepted, accepted, refused_first, refused_right}
 use Rattle.frontier.proofs.Raise.{raise_refused, raise_joined, raise_stored}
 use Rattle.frontier.proofs.Dominates.{judged_left, judged_right, judged_answer}
 use Rattle.frontier.proofs.Fill.{not_zero}

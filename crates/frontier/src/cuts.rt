@@ -67,6 +67,8 @@ fn least<'a>(axes: &'a [u64], epochs: &'a [u64], len: usize) -> Entry
 
 // The bound that the entries kept at a capacity exceed: the greatest that is cut. If more than one is, it is counted
 // how many exceed each entry between the greatest known to be cut and the least known to be kept.
+// The rows are parameters of their own: of one behind a struct's field a proof does not know that each number fits 64
+// bits, which the first `kept` goes by.
 pub fn bound_of<'a>(axes: &'a [u64], epochs: &'a [u64], len: usize, capacity: usize) -> Entry
     requires len_in_bounds { (len ≤ length axes.now) × (len ≤ length epochs.now) ×
         (rising_from 0 (slots axes.now epochs.now len 0) ≡ true) }
@@ -132,13 +134,21 @@ pub fn trim(axes: &mut [u64], epochs: &mut [u64], len: usize, bound: Entry) -> u
 }
 
 // Zero from a place on.
-pub fn clear(row: &mut [u64], from: usize)
+fn clear(row: &mut [u64], from: usize)
     requires { length row.old ≡ most_of_two }
     ensures { Cleared from row.old row.new }
 {
     for i in from..Frontier::BOTH {
         row[i] = 0;
     }
+}
+
+// Both rows of the room.
+pub fn clear_both(axes: &mut Room, epochs: &mut Room, from: usize)
+    ensures { Cleared from axes.old axes.new × Cleared from epochs.old epochs.new }
+{
+    clear(axes, from);
+    clear(epochs, from);
 }
 
 // Sixteen slots in front of the room.

@@ -5,7 +5,7 @@ ghost use Rattle.frontier.specs.Frontiers.{merge, raise, dominance, verdict};
 ghost use Rattle.frontier.specs.Meaning.{Looked, MergeRight, RaiseRight, DominanceMeans};
 ghost use Rattle.frontier.specs.Walks.{of_slots, laid, filled, Fills};
 
-use crate::cuts::clear;
+use crate::cuts::clear_both;
 use crate::form::left;
 use crate::side::Slots;
 use crate::{Dominance, Frontier, Unfit};
@@ -62,8 +62,7 @@ pub fn merge<'a>(
     };
     let r = x.merged(y, capacity, axes, epochs);
     let len = left(r).len;
-    clear(axes, len);
-    clear(epochs, len);
+    clear_both(axes, epochs, len);
     r
 }
 
@@ -92,8 +91,7 @@ pub fn raise<'a>(
     };
     let r = x.raised(axis, epoch, capacity, axes, epochs);
     let len = left(r).len;
-    clear(axes, len);
-    clear(epochs, len);
+    clear_both(axes, epochs, len);
     r
 }
 

@@ -22,5 +22,5 @@ returns c =
     let formed = raise_formed _ _ _ _ in
     let raised = raise_joined c.args.f c.args.axis c.args.epoch _ _ refl c.requires in
     let left = left_same (raised _ refl) c.join_one-r.ensures in
-    held_right _ _ _ _ _ _ formed (fills _ _ _ _ _ _ formed left c.clear.ensures c.clear-2.ensures)
+    held_right _ _ _ _ _ _ formed (fills _ _ _ _ _ _ formed left c.clear_both.ensures.0 c.clear_both.ensures.1)
     c.first_slots.ensures c.first_slots-2.ensures
