@@ -16,7 +16,9 @@ use Rattle.plan_format.specs.Stored.{plan_in}
 use Rattle.plan_format.specs.Meaning.{Refuses}
 use Rattle.plan_format.proofs.Judged.{zero_not_given, other_given}
 use Rattle.plan_order.specs.Promise.{Checked}
+use Rattle.check_plan.specs.Counting.{outcome_told}
 use Rattle.check_plan.specs.declared.Counted.{Counted}
+use Rattle.check_plan.specs.declared.PlanCounts.{PlanCounts}
 use Rattle.check_plan.specs.declared.Opened.{Opened}
 use Rattle.check_plan.specs.Opening.{Lent, OpenedPlan, Handed}
 use Rattle.check_plan.specs.declared.PlanColumns.{PlanColumns}
@@ -34,20 +36,20 @@ refused_as n i = record { number = n; place = i; frontier = pack [] false }
 
 -- ---- after the check
 module _ {bs t x l y : List ℕ} (k : Counted) (j c : ℕ)
-    (checked : Checked bs (record { number = k.number; place = k.place; answer = 0 }) t x l y) where
-  pub plan_refused : (r : Sent) → (k.number ≡ 0 → ⊥) → r ≡ refused_as k.number k.place →
+    (checked : Checked bs (outcome_told k.outcome) t x l y) where
+  pub plan_refused : (r : Sent) → ((outcome_told k.outcome).number ≡ 0 → ⊥) → r ≡ refused_as (outcome_told k.outcome).number (outcome_told k.outcome).place →
       FrontierRight bs j c r t x l y
   plan_refused r h e =
       frontier_right bs j c r t x l y (subst (λ (a : Sent). FrontierSays bs j c a t x l y) (sym e)
-      (plan_said bs j c t x l y k.number k.place checked.says h))
+      (plan_said bs j c t x l y (outcome_told k.outcome).number (outcome_told k.outcome).place checked.says h))
 
-  pub then_answered : (r : Sent) → k.number ≡ 0 → SentTells (plan_in bs) j c r → FrontierRight bs j c r t x l y
+  pub then_answered : (r : Sent) → (outcome_told k.outcome).number ≡ 0 → SentTells (plan_in bs) j c r → FrontierRight bs j c r t x l y
   then_answered r z a =
-      frontier_right bs j c r t x l y (asked_said bs j c t x l y k.number k.place checked.says z a)
+      frontier_right bs j c r t x l y (asked_said bs j c t x l y (outcome_told k.outcome).number (outcome_told k.outcome).place checked.says z a)
 
 -- a plan that passes, opened
 pub sent_given : {p : Plan} {o : Opened} {c : Lent} {table : List ℕ} → OpenedPlan p o c table →
-    SentGiven p o.counted c.head table
+    SentGiven p o.counted.counts c.head table
 sent_given opened = record {
   sound = opened.sound;
   queues_are = opened.queues_are;
@@ -57,7 +59,7 @@ sent_given opened = record {
 }
 
 -- ---- the question's own refusals, and its answer
-module _ {p : Plan} {k : Counted} {head table : List ℕ} (opened : SentGiven p k head table) (j c : ℕ) where
+module _ {p : Plan} {k : PlanCounts} {head table : List ℕ} (opened : SentGiven p k head table) (j c : ℕ) where
   no_answer : (b : Bool) → ◌≡◌ {A = ℕ} 0 (cond b 0 0)
   no_answer true = refl
   no_answer false = refl
@@ -101,8 +103,8 @@ pub asked_of : {bs t x l y : List ℕ} (j c : ℕ) {o : Opened} {before : Lent} 
     Handed bs o before columns t x l y → {r : Sent} → FrontierGiven j c o.counted columns.head x r →
     FrontierRight bs j c r t x l y
 asked_of j c {o} h {r} a =
-    by_cases (eqb o.counted.number 0)
-    (λ e. let passed = eqb-true o.counted.number 0 e in
+    by_cases (eqb (outcome_told o.counted.outcome).number 0)
+    (λ e. let passed = eqb-true (outcome_told o.counted.outcome).number 0 e in
     then_answered o.counted j c h.checked r passed (a.answered passed _ (sent_given (h.opened passed))))
-    (λ e. let bad = eqb-false o.counted.number 0 e in
+    (λ e. let bad = eqb-false (outcome_told o.counted.outcome).number 0 e in
     plan_refused o.counted j c h.checked r bad (a.refused bad))

@@ -19,7 +19,7 @@ use Rattle.frontier.proofs.Raising.{raises, raises_from_empty, sorted_gathered, 
 use Rattle.plan_format.specs.Plan.{Plan, count, queues}
 use Rattle.plan_order.specs.Rows.{row}
 use Rattle.check_columns.specs.Columns.{RowColumns}
-use Rattle.check_plan.specs.declared.Counted.{Counted}
+use Rattle.check_plan.specs.declared.PlanCounts.{PlanCounts}
 use Rattle.ask_frontier.specs.Sent.{row_entries, sent_entries, cut_to, sent}
 use Rattle.ask_frontier.specs.SentWalk.{SentGiven, row_in}
 
@@ -77,7 +77,7 @@ module _ (head table : List ℕ) (first : ℕ) where
       ∙ merge_empty (gathered es) false c (sorted_gathered es) (omega (arith, gathered_length es, row_long many 0)) l k)
 
 -- ---- the row of an operation, where it lies
-module _ {p : Plan} {k : Counted} {head table : List ℕ} (opened : SentGiven p k head table) (j : ℕ)
+module _ {p : Plan} {k : PlanCounts} {head table : List ℕ} (opened : SentGiven p k head table) (j : ℕ)
     (inside : j < count p) where
   row_found : row_in head table (16 * j) (queues p) 0 ≡ row_entries p j
   unfolding row_in row_entries RowColumns

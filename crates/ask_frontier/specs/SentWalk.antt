@@ -9,12 +9,14 @@ use Rattle.plan_format.specs.Refusal.{given}
 use Rattle.plan_format.specs.Sound.{Sound}
 use Rattle.plan_format.specs.Stored.{Tells}
 use Rattle.check_columns.specs.Columns.{HeadColumn, RowColumns}
+use Rattle.check_plan.specs.Counting.{outcome_told}
 use Rattle.check_plan.specs.declared.Counted.{Counted}
+use Rattle.check_plan.specs.declared.PlanCounts.{PlanCounts}
 use Rattle.ask_frontier.specs.declared.Sent.{Sent}
 use Rattle.ask_frontier.specs.Sent.{sent, sent_refusal, told}
 
 -- a sound plan with its counts, its axes and its rows
-pub record SentGiven (p : Plan) (c : Counted) (head table : List ℕ) : Type 0 where
+pub record SentGiven (p : Plan) (c : PlanCounts) (head table : List ℕ) : Type 0 where
   pub sound : Sound p
   pub queues_are : c.queues ≡ queues p
   pub operations_are : c.operations ≡ count p
@@ -28,8 +30,13 @@ pub record SentTells (p : Plan) (j capacity : ℕ) (r : Sent) : Type 0 where
 
 -- R70, what is handed back for an opened plan: the check's refusal, or what the question says of a plan that passes
 pub record FrontierGiven (j capacity : ℕ) (c : Counted) (head table : List ℕ) (r : Sent) : Type 0 where
-  pub refused : (c.number ≡ 0 → ⊥) → r ≡ record { number = c.number; place = c.place; frontier = pack [] false }
-  pub answered : c.number ≡ 0 → (p : Plan) → SentGiven p c head table → SentTells p j capacity r
+  pub refused : ((outcome_told c.outcome).number ≡ 0 → ⊥) →
+      r ≡ record {
+        number = (outcome_told c.outcome).number;
+        place = (outcome_told c.outcome).place;
+        frontier = pack [] false;
+      }
+  pub answered : (outcome_told c.outcome).number ≡ 0 → (p : Plan) → SentGiven p c.counts head table → SentTells p j capacity r
 
 -- the entries of so many queues from one on, of the row that begins at `first` in the table; the axes come after their
 -- count

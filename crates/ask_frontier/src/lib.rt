@@ -11,7 +11,7 @@ ghost use Rattle.ask_frontier.specs.SentMeaning.{FrontierRight};
 ghost use Rattle.ask_frontier.specs.SentWalk.{SentGiven, SentTells, FrontierGiven, row_in};
 
 use base_slices::get_or;
-use check_plan::{Counted, PlanColumns};
+use check_plan::{Counted, PlanColumns, PlanCounts};
 use frontier::Frontier;
 use plan_format::limits::{HeadNumbers, MOST_QUEUES, ROW_WIDTH};
 
@@ -43,14 +43,14 @@ pub fn frontier_of(
 fn asked(c: Counted, columns: &PlanColumns, table: &[u32], operation: u32, capacity: u32) -> Sent
     ensures { FrontierGiven operation capacity c columns.now.head table.now result }
 {
-    if c.number != 0 {
-        return refused(c.number, c.place);
+    if let Err(e) = c.outcome {
+        return refused(e.reason.number(), e.place);
     }
-    answer(c, &columns.head, table, operation, capacity)
+    answer(c.counts, &columns.head, table, operation, capacity)
 }
 
 // The same of a plan that passes.
-fn answer(c: Counted, head: &HeadNumbers, table: &[u32], operation: u32, capacity: u32) -> Sent
+fn answer(c: PlanCounts, head: &HeadNumbers, table: &[u32], operation: u32, capacity: u32) -> Sent
     ensures { (p : Plan) → SentGiven p c head.now table.now →
         SentTells p operation capacity result }
 {

@@ -27,7 +27,8 @@ use Rattle.plan_order.proofs.QuestionMeaning.{question_means, question_passed, q
 use Rattle.plan_order.proofs.QuestionMeaning.{question_number, question_answer, question_no_answer, question_most}
 use Rattle.check_plan.specs.Opening.{Lent, OpenedPlan, Handed, lent_of}
 use Rattle.check_plan.specs.declared.PlanColumns.{PlanColumns}
-use Rattle.check_plan.specs.declared.Counted.{Counted}
+use Rattle.check_plan.specs.Counting.{outcome_told}
+use Rattle.check_plan.specs.declared.PlanCounts.{PlanCounts}
 use Rattle.check_plan.specs.declared.Opened.{Opened}
 use Rattle.ask_reuse.specs.Reuse.{ReuseAsked}
 use Rattle.ask_reuse.specs.ReusePass.{QuestionGiven, AnswerGiven}
@@ -114,7 +115,7 @@ module _ {bs : List ℕ} (q b : ℕ) {n i : ℕ} {t x l y : List ℕ}
 
 -- ---- a plan that passes, opened
 pub question_given : {p : Plan} {o : Opened} {c : Lent} {table : List ℕ} → OpenedPlan p o c table →
-    QuestionGiven p o.counted o.marks c.queue c.mark c.mark_operation table
+    QuestionGiven p o.counted.counts o.marks c.queue c.mark c.mark_operation table
 question_given {p} opened = record {
   queues_are = opened.queues_are;
   buffers_are = opened.buffers_are;
@@ -130,11 +131,11 @@ question_given {p} opened = record {
 }
 
 -- ---- the question's own refusals, and its answer
-pub buffer_known : {p : Plan} {c : Counted} {marks : ℕ} {queue mark operation rows : List ℕ} {b : ℕ} →
+pub buffer_known : {p : Plan} {c : PlanCounts} {marks : ℕ} {queue mark operation rows : List ℕ} {b : ℕ} →
     QuestionGiven p c marks queue mark operation rows → b < c.buffers → b < length p.sizes
 buffer_known {b} opened h = subst (λ (n : ℕ). b < n) opened.buffers_are h
 
-module _ {p : Plan} {c : Counted} {marks : ℕ} {queue mark operation rows : List ℕ}
+module _ {p : Plan} {c : PlanCounts} {marks : ℕ} {queue mark operation rows : List ℕ}
     (opened : QuestionGiven p c marks queue mark operation rows) (q b : ℕ) where
   pub no_queue : c.queues ≤ q →
       Tells (question_refusal p q b) (number_of (verdict p q b)) (record { number = 12; place = q; answer = 0 })
@@ -168,7 +169,7 @@ pub asked_of : {bs t x l y : List ℕ} (q b : ℕ) {o : Opened} {before : Lent} 
     Handed bs o before c t x l y → {r : Told} → AnswerGiven q b o (lent_of c) x r → ReuseAsked bs q b r t x l y
 asked_of q b {o} h {r} a =
     asked _ q b r _ _ _ _
-    (by_cases (eqb o.counted.number 0)
-    (λ e. let passed = eqb-true o.counted.number 0 e in
+    (by_cases (eqb (outcome_told o.counted.outcome).number 0)
+    (λ e. let passed = eqb-true (outcome_told o.counted.outcome).number 0 e in
     then_asked q b h.checked passed (a.answered passed _ (question_given (h.opened passed))))
-    (λ e. let bad = eqb-false o.counted.number 0 e in rw (a.refused bad) (plan_refused q b h.checked bad)))
+    (λ e. let bad = eqb-false (outcome_told o.counted.outcome).number 0 e in rw (a.refused bad) (plan_refused q b h.checked bad)))

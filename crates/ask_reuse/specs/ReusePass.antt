@@ -17,7 +17,8 @@ use Rattle.plan_order.specs.declared.Verdict.{Verdict}
 use Rattle.plan_order.specs.declared.Verdict.TheVariants.{Fresh, Reusable, Held, NotOrdered}
 use Rattle.check_columns.specs.Columns.{QueueColumn, MarkColumns, RowColumns}
 use Rattle.check_columns.specs.Shown.{mark_codes, ordered}
-use Rattle.check_plan.specs.declared.Counted.{Counted}
+use Rattle.check_plan.specs.Counting.{outcome_told}
+use Rattle.check_plan.specs.declared.PlanCounts.{PlanCounts}
 use Rattle.check_plan.specs.declared.Opened.{Opened}
 use Rattle.check_plan.specs.Opening.{Lent}
 use Rattle.ask_reuse.specs.declared.Judged.{Judged}
@@ -33,7 +34,7 @@ pub record VerdictGiven (p : Plan) (n marks : ℕ) (queue mark operation rows : 
   pub rows_shown : RowColumns p (λ j. j < count p) rows
 
 -- the same with the plan's counts
-pub record QuestionGiven (p : Plan) (c : Counted) (marks : ℕ) (queue mark operation rows : List ℕ) : Type 0 where
+pub record QuestionGiven (p : Plan) (c : PlanCounts) (marks : ℕ) (queue mark operation rows : List ℕ) : Type 0 where
   pub queues_are : c.queues ≡ queues p
   pub buffers_are : c.buffers ≡ length p.sizes
   pub shown : VerdictGiven p c.operations marks queue mark operation rows
@@ -83,8 +84,7 @@ pub record JudgedRight (p : Plan) (q b : ℕ) (r : Judged) : Type 0 where
 
 -- R57, what is handed back for an opened plan: the check's refusal, or what the question says of a plan that passes
 pub record AnswerGiven (q b : ℕ) (o : Opened) (c : Lent) (rows : List ℕ) (r : Told) : Type 0 where
-  pub refused : (o.counted.number ≡ 0 → ⊥) →
-      r ≡ record { number = o.counted.number; place = o.counted.place; answer = 0 }
-  pub answered : o.counted.number ≡ 0 → (p : Plan) →
-      QuestionGiven p o.counted o.marks c.queue c.mark c.mark_operation rows →
+  pub refused : ((outcome_told o.counted.outcome).number ≡ 0 → ⊥) → r ≡ outcome_told o.counted.outcome
+  pub answered : (outcome_told o.counted.outcome).number ≡ 0 → (p : Plan) →
+      QuestionGiven p o.counted.counts o.marks c.queue c.mark c.mark_operation rows →
       Tells (question_refusal p q b) (number_of (verdict p q b)) r

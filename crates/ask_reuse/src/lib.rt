@@ -17,7 +17,7 @@ ghost use Rattle.ask_reuse.specs.ReusePass.{JudgedRight};
 
 use base_slices::get_or;
 use check_columns::{MARK_CODES, MarkColumn, QueueColumn};
-use check_plan::{Counted, Opened, PlanColumns};
+use check_plan::{Opened, PlanColumns, PlanCounts};
 use plan_format::Told;
 use plan_format::limits::{MOST_OPERATIONS, ROW_WIDTH};
 use plan_order::Verdict;
@@ -49,15 +49,15 @@ pub fn reuse_question(
 fn asked(o: Opened, q: usize, b: usize, columns: &PlanColumns, table: &[u32]) -> Told
     ensures { AnswerGiven q b o (lent_of columns.now) table.now result }
 {
-    if o.counted.number != 0 {
-        return plan_format::forwarded(o.counted.number, o.counted.place);
+    if let Err(e) = o.counted.outcome {
+        return plan_format::forwarded(e.reason.number(), e.place);
     }
-    answer(o.counted, o.marks, q, b, columns, table)
+    answer(o.counted.counts, o.marks, q, b, columns, table)
 }
 
 // The question on a plan that passes, by its counts, its columns and its rows in the table.
 fn answer(
-    c: Counted,
+    c: PlanCounts,
     marks: usize,
     q: usize,
     b: usize,

@@ -41,6 +41,7 @@ use Rattle.plan_suggest.proofs.QuestionMeaning.{twelve_is, thirteen_is, then_sig
 use Rattle.plan_suggest.proofs.Promises.{suggest_right}
 use Rattle.check_columns.specs.Shown.{ordered}
 use Rattle.check_columns.proofs.Ordered.{ordered_right}
+use Rattle.check_plan.specs.Counting.{outcome_told}
 use Rattle.check_plan.specs.Opening.{Lent, OpenedPlan, Handed, lent_of}
 use Rattle.check_plan.specs.declared.PlanColumns.{PlanColumns}
 use Rattle.check_plan.specs.declared.Opened.{Opened}
@@ -60,7 +61,7 @@ suggest_given opened =
 
 module _ {p : Plan} {o : Opened} {queue ssem sval sop mark mop rows : List ℕ}
     (given_plan : SuggestGiven p o queue ssem sval sop mark mop rows) (q b : ℕ) where
-  abbrev shown : VerdictGiven p o.counted.operations o.marks queue mark mop rows
+  abbrev shown : VerdictGiven p o.counted.counts.operations o.marks queue mark mop rows
   shown = given_plan.question.shown
 
   -- ---- refused for the queue or the buffer
@@ -71,21 +72,21 @@ module _ {p : Plan} {o : Opened} {queue ssem sval sop mark mop rows : List ℕ}
       rw (other_given (suggest_refusal p q b) (λ z. bad (sym r.0 ∙ z)))
       (sym (λ j. suggested (r.0 j) (r.1 j) NoneNeeded))
 
-  pub no_queue : o.counted.queues ≤ q → {r : Suggested} → r ≡ suggested 12 q NoneNeeded → r ≡ suggested_of p q b
+  pub no_queue : o.counted.counts.queues ≤ q → {r : Suggested} → r ≡ suggested 12 q NoneNeeded → r ≡ suggested_of p q b
   no_queue h e = e ∙ refused_as (twelve_is p q b (omega (arith, given_plan.question.queues_are))) (λ z. omega arith)
 
-  module _ (queue_known : q < o.counted.queues) where
+  module _ (queue_known : q < o.counted.counts.queues) where
     known_queue : q < queues p
     known_queue = omega (arith, given_plan.question.queues_are)
 
-    pub no_buffer : o.counted.buffers ≤ b → {r : Suggested} → r ≡ suggested 13 b NoneNeeded → r ≡ suggested_of p q b
+    pub no_buffer : o.counted.counts.buffers ≤ b → {r : Suggested} → r ≡ suggested 13 b NoneNeeded → r ≡ suggested_of p q b
     no_buffer h e =
         e ∙
         refused_as (thirteen_is p q b known_queue (omega (arith, given_plan.question.buffers_are))) (λ z. omega arith)
 
-    module _ (buffer_known : b < o.counted.buffers) {j : Judged}
+    module _ (buffer_known : b < o.counted.counts.buffers) {j : Judged}
         (judged : b < length p.sizes →
-        VerdictGiven p o.counted.operations o.marks queue mark mop rows → JudgedRight p q b j) where
+        VerdictGiven p o.counted.counts.operations o.marks queue mark mop rows → JudgedRight p q b j) where
       known_buffer : b < length p.sizes
       known_buffer = omega (arith, given_plan.question.buffers_are)
 
@@ -244,7 +245,7 @@ pub asked_of : {bs t x l y : List ℕ} (q b : ℕ) {o : Opened} {before : Lent} 
     Handed bs o before c t x l y → {r : Suggested} → AdviceGiven q b o (lent_of c) x r →
     SuggestRight bs q b (told r) r.advice t x l y
 asked_of q b {o} h a =
-    by_cases (eqb o.counted.number 0)
-    (λ e. let passed = eqb-true o.counted.number 0 e in
+    by_cases (eqb (outcome_told o.counted.outcome).number 0)
+    (λ e. let passed = eqb-true (outcome_told o.counted.outcome).number 0 e in
     then_asked q b h.checked passed (a.answered passed _ (suggest_given (h.opened passed))))
-    (λ e. let bad = eqb-false o.counted.number 0 e in plan_refused q b h.checked bad (a.refused bad))
+    (λ e. let bad = eqb-false (outcome_told o.counted.outcome).number 0 e in plan_refused q b h.checked bad (a.refused bad))

@@ -13,6 +13,7 @@ use Rattle.plan_suggest.specs.Numbers.{number_of}
 use Rattle.plan_suggest.specs.Suggest.{advice, suggest_refusal, advised_by}
 use Rattle.check_columns.specs.Columns.{SignalColumns}
 use Rattle.check_columns.specs.Shown.{ordered}
+use Rattle.check_plan.specs.Counting.{outcome_told}
 use Rattle.check_plan.specs.declared.Opened.{Opened}
 use Rattle.check_plan.specs.Opening.{Lent}
 use Rattle.ask_reuse.specs.ReusePass.{QuestionGiven}
@@ -34,7 +35,7 @@ suggested_of p q b = suggested_by (suggest_refusal p q b) (advice p q b)
 
 -- what the reuse question is given, and the plan's signals
 pub record SuggestGiven (p : Plan) (o : Opened) (queue ssem sval sop mark mop rows : List ℕ) : Type 0 where
-  pub question : QuestionGiven p o.counted o.marks queue mark mop rows
+  pub question : QuestionGiven p o.counted.counts o.marks queue mark mop rows
   pub signals_shown : SignalColumns p o.signals ssem sval sop
 
 -- R88: the first of n signals whose operation is i or after it
@@ -49,7 +50,8 @@ at_signal ssem sval b (some k) = suggested 0 0 (Wait (get_or ssem k 0) (get_or s
 
 -- R90, what is handed back for an opened plan: the check's refusal, or what the question says of a plan that passes
 pub record AdviceGiven (q b : ℕ) (o : Opened) (c : Lent) (rows : List ℕ) (r : Suggested) : Type 0 where
-  pub refused : (o.counted.number ≡ 0 → ⊥) → r ≡ suggested o.counted.number o.counted.place NoneNeeded
-  pub answered : o.counted.number ≡ 0 → (p : Plan) →
+  pub refused : ((outcome_told o.counted.outcome).number ≡ 0 → ⊥) →
+      r ≡ suggested (outcome_told o.counted.outcome).number (outcome_told o.counted.outcome).place NoneNeeded
+  pub answered : (outcome_told o.counted.outcome).number ≡ 0 → (p : Plan) →
       SuggestGiven p o c.queue c.signal_semaphore c.signal_value c.signal_operation c.mark c.mark_operation rows →
       r ≡ suggested_of p q b

@@ -46,8 +46,8 @@ pub fn suggest_question(
 fn asked(o: Opened, q: usize, b: usize, columns: &PlanColumns, table: &[u32]) -> Suggested
     ensures { AdviceGiven q b o (lent_of columns.now) table.now result }
 {
-    if o.counted.number != 0 {
-        return refused(o.counted.number, o.counted.place);
+    if let Err(e) = o.counted.outcome {
+        return refused(e.reason.number(), e.place);
     }
     answer(o, q, b, columns, table)
 }
@@ -59,7 +59,7 @@ fn answer(o: Opened, q: usize, b: usize, columns: &PlanColumns, table: &[u32]) -
         columns.now.signal_operation columns.now.mark columns.now.mark_operation table.now →
         result ≡ suggested_of p q b }
 {
-    let c = o.counted;
+    let c = o.counted.counts;
     if c.queues <= q {
         return refused(12, q as u64);
     }

@@ -30,10 +30,10 @@ use Rattle.plan_trace.specs.Promise.{TraceRight}
 use Rattle.plan_trace.proofs.FollowedMeaning.{followed_run}
 use Rattle.plan_trace.proofs.QuestionMeaning.{own_none, plan_first, then_asked, leaves_are}
 use Rattle.plan_trace.proofs.Promises.{trace_right}
-use Rattle.check_plan.specs.declared.Counted.{Counted}
 use Rattle.check_plan.specs.declared.Opened.{Opened}
-use Rattle.check_plan.specs.Counting.{SizesTold}
+use Rattle.check_plan.specs.Counting.{outcome_told, SizesTold}
 use Rattle.check_plan.specs.Opening.{Lent, OpenedPlan}
+use Rattle.ask_trace.specs.declared.Counted.{Counted}
 use Rattle.ask_trace.specs.declared.TraceTold.{TraceTold}
 use Rattle.ask_trace.specs.Raising.{begun, raised_from}
 use Rattle.ask_trace.specs.Answer.{told, first_refusal, counted_as, walked, answer_by, state_by}
@@ -43,7 +43,7 @@ use Rattle.ask_trace.proofs.Refusals.{check_first, then_own}
 
 -- ---- a plan that passes, opened
 module _ {p : Plan} {o : Opened} {c : Lent} {table : List ℕ} (opened : OpenedPlan p o c table) where
-  pub shown_of : TraceGiven p o.counted.operations c.queue c.source table
+  pub shown_of : TraceGiven p o.counted.counts.operations c.queue c.source table
   shown_of =
       let safe = (demand_3 p opened.sound).exactly.0 opened.passes in
       record {
@@ -57,7 +57,7 @@ module _ {p : Plan} {o : Opened} {c : Lent} {table : List ℕ} (opened : OpenedP
         full = safe.full;
       }
 
-  pub signals_of : TraceSignalsGiven p o.counted.operations o.signals c.queue c.source table
+  pub signals_of : TraceSignalsGiven p o.counted.counts.operations o.signals c.queue c.source table
       c.signal_semaphore c.signal_value
       c.signal_operation
   signals_of = record {
@@ -72,13 +72,13 @@ module _ {p : Plan} {o : Opened} {c : Lent} {table : List ℕ} (opened : OpenedP
 
 -- ---- what the code hands back
 module _ (o : Opened) (queue source ssem sval sop rows ts old : List ℕ) (f : Told)
-    (tells : Tells (first_refusal o.counted ts (length old)) 0 f) (c : Counted)
-    (c_is : c ≡ counted_as o.counted f.number f.place) where
+    (tells : Tells (first_refusal (outcome_told o.counted.outcome) ts (length old)) 0 f) (c : Counted)
+    (c_is : c ≡ counted_as o.counted.counts f.number f.place) where
   abbrev first : Refusal
-  first = first_refusal o.counted ts (length old)
+  first = first_refusal (outcome_told o.counted.outcome) ts (length old)
 
-  counted_right : c ≡ counted_as o.counted first.number first.place
-  counted_right = c_is ∙ (λ i. counted_as o.counted (tells.number i) (tells.place i))
+  counted_right : c ≡ counted_as o.counted.counts first.number first.place
+  counted_right = c_is ∙ (λ i. counted_as o.counted.counts (tells.number i) (tells.place i))
 
   -- a refusal
   module _ (bad : f.number ≡ 0 → ⊥) where
@@ -112,19 +112,19 @@ module _ (o : Opened) (queue source ssem sval sop rows ts old : List ℕ) (f : T
 
     pub enough_room : state_size ≤ length old
     enough_room =
-        by_cases (eqb o.counted.number 0)
+        by_cases (eqb (outcome_told o.counted.outcome).number 0)
         (λ a. (own_none ts (length old)
-        (sym (ap (λ (z : Refusal). z.number) (then_own o.counted ts (length old)
-        (eqb-true o.counted.number 0 a)))
+        (sym (ap (λ (z : Refusal). z.number) (then_own (outcome_told o.counted.outcome) ts (length old)
+        (eqb-true (outcome_told o.counted.outcome).number 0 a)))
         ∙ sym tells.number ∙ none)).0)
-        (λ a. let bad = eqb-false o.counted.number 0 a in
+        (λ a. let bad = eqb-false (outcome_told o.counted.outcome).number 0 a in
         absurd (bad (unfold refusal in (sym (ap (λ (z : Refusal). z.number)
-        (check_first o.counted ts (length old) bad)) ∙ sym tells.number ∙ none))))
+        (check_first (outcome_told o.counted.outcome) ts (length old) bad)) ∙ sym tells.number ∙ none))))
 
 -- ---- what the question says
 module _ (bs ts t x l y s : List ℕ) (o : Opened) (c : Lent)
-    (checked : Checked bs (record { number = o.counted.number; place = o.counted.place; answer = 0 }) t x l y)
-    (opened : o.counted.number ≡ 0 → OpenedPlan (plan_in bs) o c x) where
+    (checked : Checked bs (outcome_told o.counted.outcome) t x l y)
+    (opened : (outcome_told o.counted.outcome).number ≡ 0 → OpenedPlan (plan_in bs) o c x) where
   abbrev plan : Plan
   plan = plan_in bs
 
@@ -132,7 +132,7 @@ module _ (bs ts t x l y s : List ℕ) (o : Opened) (c : Lent)
   steps = trace_steps ts
 
   abbrev here : Refusal
-  here = first_refusal o.counted ts (length s)
+  here = first_refusal (outcome_told o.counted.outcome) ts (length s)
 
   abbrev end : Outcome
   end = trace_outcome_in bs ts t l s
@@ -141,34 +141,34 @@ module _ (bs ts t x l y s : List ℕ) (o : Opened) (c : Lent)
   refusal_is : here ≡ end.refusal
   unfolding outcome refusal
   refusal_is =
-      by_cases (eqb o.counted.number 0)
-      (λ a. let z = eqb-true o.counted.number 0 a in
-      then_own o.counted ts (length s) z
+      by_cases (eqb (outcome_told o.counted.outcome).number 0)
+      (λ a. let z = eqb-true (outcome_told o.counted.outcome).number 0 a in
+      then_own (outcome_told o.counted.outcome) ts (length s) z
       ∙ sym (ap (λ (w : Outcome). w.refusal)
       (then_asked bs ts (length t) (length l) (length s) (sym checked.number ∙ z))))
-      (λ a. let bad = eqb-false o.counted.number 0 a in
-      check_first o.counted ts (length s) bad
+      (λ a. let bad = eqb-false (outcome_told o.counted.outcome).number 0 a in
+      check_first (outcome_told o.counted.outcome) ts (length s) bad
       ∙ (λ i. record { number = checked.number i; place = checked.place i })
       ∙ sym (ap (λ (w : Outcome). w.refusal)
       (plan_first bs ts (length t) (length l) (length s) (λ z. bad (checked.number ∙ z)))))
 
   -- no refusal: the plan passes, and there is room
-  passes : given here ≡ false → o.counted.number ≡ 0
+  passes : given here ≡ false → (outcome_told o.counted.outcome).number ≡ 0
   passes f =
-      by_cases (eqb o.counted.number 0) (λ a. eqb-true o.counted.number 0 a)
-      (λ a. let bad = eqb-false o.counted.number 0 a in
-      clash (given here) (ap given (check_first o.counted ts (length s) bad) ∙
-      other_given (refusal o.counted.number o.counted.place) (unfold refusal in bad)) f)
+      by_cases (eqb (outcome_told o.counted.outcome).number 0) (λ a. eqb-true (outcome_told o.counted.outcome).number 0 a)
+      (λ a. let bad = eqb-false (outcome_told o.counted.outcome).number 0 a in
+      clash (given here) (ap given (check_first (outcome_told o.counted.outcome) ts (length s) bad) ∙
+      other_given (refusal (outcome_told o.counted.outcome).number (outcome_told o.counted.outcome).place) (unfold refusal in bad)) f)
 
   room : given here ≡ false → state_size ≤ length s
   room f =
       (own_none ts (length s)
-      (sym (ap (λ (z : Refusal). z.number) (then_own o.counted ts (length s) (passes f))) ∙
+      (sym (ap (λ (z : Refusal). z.number) (then_own (outcome_told o.counted.outcome) ts (length s) (passes f))) ∙
       not_given_zero here f)).0
 
   -- what was walked
   walk_is : given here ≡ false → walked o c.queue c.source x ts ≡ traced_of plan steps
-  walk_is f = walked_right plan o.counted.operations c.queue c.source x (shown_of (opened (passes f))) steps
+  walk_is f = walked_right plan o.counted.counts.operations c.queue c.source x (shown_of (opened (passes f))) steps
 
   traced_is : cond (given here) nothing_traced (walked o c.queue c.source x ts) ≡ traced_by here plan steps
   unfolding traced_by
@@ -180,7 +180,7 @@ module _ (bs ts t x l y s : List ℕ) (o : Opened) (c : Lent)
   state_is =
       by_cases (given here) (λ g. rw g)
       (λ f. rw (f, walk_is f)
-      (state_right plan o.counted.operations o.signals c.queue c.source x c.signal_semaphore
+      (state_right plan o.counted.counts.operations o.signals c.queue c.source x c.signal_semaphore
       c.signal_value
       c.signal_operation (signals_of (opened (passes f))) (steps_followed plan steps) (followed_run plan steps) s
       (room f)))
@@ -222,6 +222,6 @@ module _ (bs ts t x l y s : List ℕ) (o : Opened) (c : Lent)
 -- the counts are those of the check
 pub sizes_kept : (bs queue source rows ts : List ℕ) (o : Opened) (s : ℕ) (r : TraceTold) →
     r ≡ answer_by o queue source rows ts s →
-    SizesTold bs o.counted → SizesTold bs r.counted
+    SizesTold bs o.counted.counts → SizesTold bs r.counted.counts
 unfolding answer_by
 sizes_kept bs queue source rows ts o s r e h = rw e h

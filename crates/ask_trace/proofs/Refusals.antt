@@ -12,7 +12,6 @@ use Rattle.plan_format.proofs.Judged.{zero_not_given, other_given}
 use Rattle.plan_trace.specs.Trace.{trace_formed}
 use Rattle.plan_trace.specs.Question.{own_refusal}
 use Rattle.plan_trace.proofs.QuestionMeaning.{formed_gives, not_formed, short_is, ill_is, none_is}
-use Rattle.check_plan.specs.declared.Counted.{Counted}
 use Rattle.ask_trace.specs.Answer.{first_refusal}
 
 -- nothing to answer
@@ -25,7 +24,7 @@ tells_of : (f : Refusal) (n i : ℕ) (r : Told) → Refuses f n i → r ≡ reco
 tells_of f n i r w e =
     subst (Tells f 0) (sym e) (record { number = sym w.0; place = sym w.1; answer_is = no_answer (given f) })
 
-module _ (c : Counted) (ts : List ℕ) (s : ℕ) where
+module _ (c : Told) (ts : List ℕ) (s : ℕ) where
   pub check_first : (c.number ≡ 0 → ⊥) → first_refusal c ts s ≡ refusal c.number c.place
   unfolding first_refusal or_refusal refusal
   check_first h = rw (other_given (refusal c.number c.place) h)

@@ -8,13 +8,21 @@ ghost use Rattle.std.specs.Prelude.{◌≡◌, length};
 ghost use Rattle.plan_format.specs.Stored.{Tells};
 ghost use Rattle.plan_trace.specs.State.{nothing_traced};
 ghost use Rattle.plan_trace.specs.Promise.{TraceRight};
-ghost use Rattle.check_plan.specs.Counting.{SizesTold};
+ghost use Rattle.check_plan.specs.Counting.{outcome_told, SizesTold};
 ghost use Rattle.ask_trace.specs.Answer.{told, first_refusal, answer_by, state_by, counted_as};
 
-use check_plan::{Counted, Opened, PlanColumns};
-use plan_format::Told;
+use check_plan::{Opened, PlanColumns, PlanCounts};
+use plan_format::{Refusal, Told};
 use plan_format::limits::{MOST_QUEUES, STATE_SIZE};
 use plan_trace::{Followed, Traced};
+
+// The counts of a plan beside 0 and 0, or beside the number of a refusal and its place.
+#[derive(Clone, Copy, Debug, PartialEq, Eq, Hash)]
+pub struct Counted {
+    pub number: u32,
+    pub place: u64,
+    pub counts: PlanCounts,
+}
 
 // What was traced, beside the counts of the plan; or a refusal and its place, and nothing traced.
 #[derive(Clone, Copy, Debug, PartialEq, Eq, Hash)]
@@ -35,7 +43,7 @@ pub fn trace_question(
     ensures right { TraceRight plan.now trace.now (told result) result.traced
         table.old table.new list.old list.new state.old
         state.new }
-    ensures sizes { SizesTold plan.now result.counted }
+    ensures sizes { SizesTold plan.now result.counted.counts }
 {
     // Of a closure that `check_plan::ask` calls a proof knows what it gives, and not what it leaves in the state.
     let mut columns = PlanColumns::cleared();
@@ -58,26 +66,26 @@ fn answer(
         columns.now.signal_value columns.now.signal_operation
         table.now trace.now state.old }
 {
-    let f = refusal(o.counted, state.len(), trace);
-    let counted = with_number(o.counted, f.number, f.place);
+    let f = refusal(o.counted.outcome, state.len(), trace);
+    let counted = with_number(o.counted.counts, f.number, f.place);
     if f.number != 0 {
         return TraceTold {
             counted,
             traced: nothing(),
         };
     }
-    let traced = steps::walk(o.counted.operations, columns, table, trace);
+    let traced = steps::walk(o.counted.counts.operations, columns, table, trace);
     let counts = traced.state;
     state::tell(o.signals, columns, table, &counts, state);
     TraceTold { counted, traced }
 }
 
 // The check's refusal, or that of the room, or that of the trace.
-fn refusal(c: Counted, room: usize, trace: &[u8]) -> Told
-    ensures { Tells (first_refusal c trace.now room) 0 result }
+fn refusal(check: Result<(), Refusal>, room: usize, trace: &[u8]) -> Told
+    ensures { Tells (first_refusal (outcome_told check) trace.now room) 0 result }
 {
-    if c.number != 0 {
-        return plan_format::forwarded(c.number, c.place);
+    if let Err(e) = check {
+        return plan_format::forwarded(e.reason.number(), e.place);
     }
     if room < STATE_SIZE {
         return plan_format::refused(9, STATE_SIZE);
@@ -88,11 +96,15 @@ fn refusal(c: Counted, room: usize, trace: &[u8]) -> Told
     plan_format::refused(22, 0)
 }
 
-// The same counts beside another number and its place.
-fn with_number(c: Counted, number: u32, place: u64) -> Counted
-    ensures { result ≡ counted_as c number place }
+// The counts beside a number and its place.
+fn with_number(counts: PlanCounts, number: u32, place: u64) -> Counted
+    ensures { result ≡ counted_as counts number place }
 {
-    Counted { number, place, ..c }
+    Counted {
+        number,
+        place,
+        counts,
+    }
 }
 
 // What is traced where a refusal is given.

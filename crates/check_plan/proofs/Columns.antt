@@ -6,7 +6,7 @@ use Prim.Native.Nat.{ℕ, ◌-◌}
 use native.Mathlib.Omega.{arith}
 use lib.ListN.{length, take, drop, length-drop}
 use lib.Seq.{take_all}
-use Rattle.std.specs.Prelude.{Ok, Err}
+use Rattle.std.specs.Prelude.{Result, Ok, Err}
 use Rattle.plan_format.specs.Form.{form_in, form_by, first_form, is_second}
 use Rattle.plan_format.specs.Plan.{Plan}
 use Rattle.plan_format.specs.Sound.{rules_refusal}
@@ -25,19 +25,19 @@ use Rattle.check_load.specs.Loading.{HeadKnown, ToldLoad, load_told, Loads}
 use Rattle.check_load.proofs.Outcomes.{refused_loads, head_refused}
 use Rattle.check_load.specs.declared.Loaded.{Loaded}
 use Rattle.check_passes.specs.Given.{CheckGiven}
-use Rattle.check_plan.specs.Counting.{CountsTold, opened_of}
+use Rattle.check_plan.specs.Counting.{CountsTold, counts_of, opened_of}
 use Rattle.check_plan.specs.Opening.{ReadPlan, lent}
 
 module _ {bs head : List ℕ} {cs : Columns} {r : ToldLoad} (l : Loads bs r head cs) where
   pub loaded_none : ((scanned bs).fault.number ≡ 0 → ⊥) → (r.signals ≡ 0) × (r.marks ≡ 0)
   loaded_none z = l.none (λ e. z (sym l.number ∙ e))
 
-  pub loaded_read : {source : List ℕ} (n i : ℕ) →
+  pub loaded_read : {source : List ℕ} (o : Result (Unit {0}) Refused) →
       ((scanned bs).fault.number ≡ 0 → (rules_refusal (plan_in bs)).number ≡ 0 → SourceColumn (plan_in bs) source) →
       (scanned bs).fault.number ≡ 0 →
-      ReadPlan (plan_in bs) (opened_of r n i) (lent head cs.queue source cs.signal_semaphore cs.signal_value
+      ReadPlan (plan_in bs) (opened_of r o) (lent head cs.queue source cs.signal_semaphore cs.signal_value
       cs.signal_operation cs.mark cs.mark_operation)
-  loaded_read n i sources z =
+  loaded_read o sources z =
       let clean = l.number ∙ z in
       record {
         head_shown = l.head_shown clean;
@@ -63,12 +63,7 @@ module _ {bs head : List ℕ} {cs : Columns} {r : ToldLoad} (l : Loads bs r head
 
 -- what is counted of them
 pub loaded_counts : {bs head : List ℕ} {cs : Columns} {l : Loaded} → Loads bs (load_told (Ok l)) head cs →
-    CountsTold bs (Ok (record {
-      queues = l.queues;
-      semaphores = l.semaphores;
-      buffers = l.buffers;
-      operations = l.operations;
-    }))
+    CountsTold bs (Ok (counts_of (load_told (Ok l))))
 loaded_counts l = record { number = l.number; place = l.place; sizes = l.sizes }
 
 pub refused_counts : {bs head : List ℕ} {cs : Columns} {e : Refused} → Loads bs (load_told (Err e)) head cs →

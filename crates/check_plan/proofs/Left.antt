@@ -3,8 +3,10 @@ use mathlib.Core.Path.{◌≡◌, refl, sym, ◌∙◌, subst}
 use mathlib.Core.List.{List, []}
 use Prim.Native.Nat.{ℕ, ◌*◌}
 use native.Mathlib.Omega.{arith}
+use Rattle.std.specs.Prelude.{Result}
 use Rattle.plan_format.specs.Sizes.{most_waits}
 use Rattle.plan_format.specs.Stored.{scanned}
+use Rattle.plan_format.specs.Told.{Refused}
 use Rattle.plan_order.specs.Meaning.{PastKept}
 use Rattle.check_columns.specs.Columns.{Columns, columns}
 use Rattle.stored_numbers.specs.Reading.{ToldHead, head_scan, HeadTold}
@@ -45,10 +47,10 @@ with_sources {i} head k s = record {
 }
 
 module _ {bs head : List ℕ} {r : ToldLoad} {m : ℕ} {cs cs' : Columns} (loads : Loads bs r head cs')
-    (keeps : Keeps m r cs cs') (n i : ℕ) where
+    (keeps : Keeps m r cs cs') (o : Result (Unit {0}) Refused) where
   -- a plan that the reader refuses
   pub kept_refused : (r.number ≡ 0 → ⊥) →
-      LentKept bs m (opened_of r n i) (lent_by head cs cs.wait_semaphore) (lent_by head cs' cs'.wait_semaphore)
+      LentKept bs m (opened_of r o) (lent_by head cs cs.wait_semaphore) (lent_by head cs' cs'.wait_semaphore)
   kept_refused bad = record {
     taken = λ z. absurd (bad (loads.number ∙ z));
     refused = λ _. with_sources head (keeps.refused bad) (past_none _ cs'.wait_semaphore);
@@ -57,7 +59,7 @@ module _ {bs head : List ℕ} {r : ToldLoad} {m : ℕ} {cs cs' : Columns} (loads
   -- a plan that is judged
   pub kept_judged : r.number ≡ 0 → {source : List ℕ} →
       PastKept (most_waits * r.operations) cs'.wait_semaphore source →
-      LentKept bs m (opened_of r n i) (lent_by head cs cs.wait_semaphore) (lent_by head cs' source)
+      LentKept bs m (opened_of r o) (lent_by head cs cs.wait_semaphore) (lent_by head cs' source)
   kept_judged z s = record {
     taken = λ _. with_sources head (keeps.taken z) s;
     refused = λ bad. absurd (bad (sym loads.number ∙ z));

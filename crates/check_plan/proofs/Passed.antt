@@ -13,6 +13,7 @@ use Rattle.plan_format.specs.Plan.{Plan, count, queues}
 use Rattle.plan_format.specs.Refusal.{none_given, given}
 use Rattle.plan_format.specs.Sound.{Sound, rules_refusal}
 use Rattle.plan_format.specs.Stored.{scanned, plan_in, plan_refusal}
+use Rattle.plan_format.specs.declared.Told.{Told}
 use Rattle.plan_format.proofs.Judged.{zero_not_given, not_given_zero, or_else_none}
 use Rattle.plan_format.proofs.Plans.{sound_in, scanned_limits}
 use Rattle.plan_order.specs.Check.{room_refusal, order_refusal, Leaves, untouched, zeros, rows_and_run, Outcome}
@@ -24,7 +25,8 @@ use Rattle.plan_order.proofs.Rows.{row_at, rows_at, rows_length}
 use Rattle.check_columns.specs.Columns.{RowColumns}
 use Rattle.check_plan.specs.Counting.{SizesTold}
 use Rattle.check_plan.specs.Opening.{Lent, ReadPlan, OpenedPlan}
-use Rattle.check_plan.specs.declared.Counted.{Counted}
+use Rattle.check_plan.specs.declared.PlanCounts.{PlanCounts}
+use Rattle.check_plan.specs.declared.Opened.{Opened}
 
 -- ---- the outcome of a passed check
 -- nothing is refused by either of two outcomes
@@ -62,9 +64,8 @@ rows_in_front p t j q l b =
     let inside : row_width * j + q < length (rows p) = omega (arith, rows_length p) in
     front_at (rows p) t (row_width * j + q) 0 inside ∙ rows_at p j q l b ∙ sym (row_at p j q b)
 
-module _ {bs : List ℕ} {c : Counted} {t x l y : List ℕ} (sizes : SizesTold bs c)
-    (checked : Checked bs (record { number = c.number; place = c.place; answer = 0 }) t x l y)
-    (passed : c.number ≡ 0) where
+module _ {bs : List ℕ} {c : PlanCounts} {r : Told} {t x l y : List ℕ} (sizes : SizesTold bs c)
+    (checked : Checked bs r t x l y) (passed : r.number ≡ 0) where
   none_refused : (check_outcome bs (length t) (length l)).refusal.number ≡ 0
   unfolding CheckSays
   none_refused = sym checked.says.tells.number ∙ passed
@@ -105,17 +106,16 @@ module _ {bs : List ℕ} {c : Counted} {t x l y : List ℕ} (sizes : SizesTold b
   operations_are = sizes.operations ∙ rw (zero_not_given (scanned bs).fault read)
 
   -- ---- the opened plan
-  pub opened_plan : {signals marks : ℕ} {lent : Lent} →
-      ReadPlan (plan_in bs) (record { counted = c; signals = signals; marks = marks }) lent →
-      OpenedPlan (plan_in bs) (record { counted = c; signals = signals; marks = marks }) lent x
-  opened_plan read_plan = record {
+  pub opened_plan : {o : Opened} {lent : Lent} → o.counted.counts ≡ c → ReadPlan (plan_in bs) o lent →
+      OpenedPlan (plan_in bs) o lent x
+  opened_plan same read_plan = record {
     limits = scanned_limits bs read;
     sound = sound;
     passes = (passes bs (length t) (length l) none_refused).order;
-    queues_are = queues_are;
-    semaphores_are = semaphores_are;
-    buffers_are = buffers_are;
-    operations_are = operations_are;
+    queues_are = ap (λ (k : PlanCounts). k.queues) same ∙ queues_are;
+    semaphores_are = ap (λ (k : PlanCounts). k.semaphores) same ∙ semaphores_are;
+    buffers_are = ap (λ (k : PlanCounts). k.buffers) same ∙ buffers_are;
+    operations_are = ap (λ (k : PlanCounts). k.operations) same ∙ operations_are;
     read = read_plan;
     sources_shown = read_plan.sources_shown sound.rules;
     rows_shown = rows_shown;

@@ -7,9 +7,11 @@ use lib.ListN.{length}
 use Rattle.plan_format.specs.Refusal.{Refusal, given}
 use Rattle.plan_format.specs.Sound.{rules_refusal}
 use Rattle.plan_format.specs.Stored.{scanned, plan_in, plan_refusal, Tells}
+use Rattle.plan_format.specs.Told.{number_of, Refused}
 use Rattle.plan_format.specs.declared.Told.{Told}
 use Rattle.plan_format.proofs.Judged.{other_given, or_else_first}
 use Rattle.plan_format.proofs.Telling.{told, tells_as}
+use Rattle.stored_numbers.proofs.Fields.{reason_given}
 use Rattle.plan_order.specs.Check.{Outcome, untouched, outcome, table_left, list_left, left_in, Says, CheckSays}
 use Rattle.plan_order.specs.Check.{PlanCheckSays}
 use Rattle.plan_order.proofs.Outcomes.{plan_refused, outcome_of_plan}
@@ -40,3 +42,7 @@ read_says bs r t x l y clean s =
       table_holds = s.table_holds;
       list_holds = s.list_holds;
     })
+
+-- a refusal is given
+pub refusal_given : (e : Refused) → number_of e.reason ≡ 0 → ⊥
+refusal_given e = reason_given e.reason

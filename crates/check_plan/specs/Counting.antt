@@ -2,13 +2,18 @@
 use Rattle.std.specs.Prelude.{◌≡◌, List, ℕ, Result, Ok, Err}
 use Rattle.plan_format.specs.Stored.{scanned}
 use Rattle.plan_format.specs.Told.{Refused, told_as}
+use Rattle.plan_format.specs.declared.Told.{Told}
 use Rattle.check_load.specs.Loading.{Sizes, ToldLoad}
 use Rattle.check_plan.specs.declared.PlanCounts.{PlanCounts}
-use Rattle.check_plan.specs.declared.Counted.{Counted}
 use Rattle.check_plan.specs.declared.Opened.{Opened}
 
+-- R37, what a check tells: the number and the place of its refusal, or 0 and 0; it has no answer of its own
+abbrev pub outcome_told : Result (Unit {0}) Refused → Told
+outcome_told r =
+    record { number = (told_as (λ _. 0) r).number; place = (told_as (λ _. 0) r).place; answer = 0 }
+
 -- the counts of queues, semaphores, buffers and operations, each 0 where the reader refuses the plan
-abbrev pub SizesTold : (bytes : List ℕ) → Counted → Type 0
+abbrev pub SizesTold : (bytes : List ℕ) → PlanCounts → Type 0
 SizesTold bytes r = Sizes bytes r.queues r.semaphores r.buffers r.operations
 
 -- R53, the counts, each 0 beside a refusal
@@ -20,20 +25,12 @@ counts_told (Err e) = record { queues = 0; semaphores = 0; buffers = 0; operatio
 pub record CountsTold (bytes : List ℕ) (r : Result PlanCounts Refused) : Type 0 where
   pub number : (told_as (λ _. 0) r).number ≡ (scanned bytes).fault.number
   pub place : (told_as (λ _. 0) r).place ≡ (scanned bytes).fault.place
-  pub sizes : Sizes bytes (counts_told r).queues (counts_told r).semaphores (counts_told r).buffers
-      (counts_told r).operations
+  pub sizes : SizesTold bytes (counts_told r)
 
--- what was loaded, beside a number and its place
-abbrev pub counts_of : ToldLoad → (number place : ℕ) → Counted
-counts_of l n i =
-    record {
-      number = n;
-      place = i;
-      queues = l.queues;
-      semaphores = l.semaphores;
-      buffers = l.buffers;
-      operations = l.operations;
-    }
+-- what was loaded, and beside it what the check says
+abbrev pub counts_of : ToldLoad → PlanCounts
+counts_of l = record { queues = l.queues; semaphores = l.semaphores; buffers = l.buffers; operations = l.operations }
 
-abbrev pub opened_of : ToldLoad → (number place : ℕ) → Opened
-opened_of l n i = record { counted = counts_of l n i; signals = l.signals; marks = l.marks }
+abbrev pub opened_of : ToldLoad → Result (Unit {0}) Refused → Opened
+opened_of l r =
+    record { counted = record { counts = counts_of l; outcome = r }; signals = l.signals; marks = l.marks }

@@ -13,7 +13,7 @@ use Rattle.check_columns.specs.Columns.{SourceColumn, RowColumns}
 use Rattle.check_load.specs.Loading.{KeptPast, head_got, head_operations}
 use Rattle.plan_format.specs.Sizes.{head_numbers, most_operations, wait_places, signal_places, mark_places}
 use Rattle.plan_order.specs.Promise.{Checked}
-use Rattle.check_plan.specs.Counting.{SizesTold}
+use Rattle.check_plan.specs.Counting.{outcome_told, SizesTold}
 use Rattle.check_plan.specs.declared.Opened.{Opened}
 use Rattle.check_plan.specs.declared.PlanColumns.{PlanColumns}
 
@@ -55,10 +55,10 @@ pub record OpenedPlan (p : Plan) (o : Opened) (c : Lent) (table : List ℕ) : Ty
   pub limits : Limits p
   pub sound : Sound p
   pub passes : (order_refusal p).number ≡ 0
-  pub queues_are : o.counted.queues ≡ queues p
-  pub semaphores_are : o.counted.semaphores ≡ length p.owners
-  pub buffers_are : o.counted.buffers ≡ length p.sizes
-  pub operations_are : o.counted.operations ≡ count p
+  pub queues_are : o.counted.counts.queues ≡ queues p
+  pub semaphores_are : o.counted.counts.semaphores ≡ length p.owners
+  pub buffers_are : o.counted.counts.buffers ≡ length p.sizes
+  pub operations_are : o.counted.counts.operations ≡ count p
   pub read : ReadPlan p o c
   pub sources_shown : SourceColumn p c.source
   pub rows_shown : RowColumns p (λ j. j < count p) table
@@ -74,7 +74,7 @@ lent_columns c =
 -- operations that the head tells, with three signals and seven marks to each
 pub record LentKept (bytes : List ℕ) (n : ℕ) (o : Opened) (c c' : Lent) : Type 0 where
   pub taken : (scanned bytes).fault.number ≡ 0 →
-      KeptPast o.counted.operations o.signals o.marks (lent_columns c) (lent_columns c')
+      KeptPast o.counted.counts.operations o.signals o.marks (lent_columns c) (lent_columns c')
   pub refused : ((scanned bytes).fault.number ≡ 0 → ⊥) →
       KeptPast n (3 * n) (7 * n) (lent_columns c) (lent_columns c')
 
@@ -98,12 +98,11 @@ lent_of c =
 -- R55, what those who ask further are handed: all that the check promises of what it was lent
 pub record Handed (bytes : List ℕ) (o : Opened) (before : Lent) (c : PlanColumns)
     (table table_now list list_now : List ℕ) : Type 0 where
-  pub checked : Checked bytes (record { number = o.counted.number; place = o.counted.place; answer = 0 }) table
-      table_now list list_now
-  pub sizes : SizesTold bytes o.counted
+  pub checked : Checked bytes (outcome_told o.counted.outcome) table table_now list list_now
+  pub sizes : SizesTold bytes o.counted.counts
   pub refused : ((scanned bytes).fault.number ≡ 0 → ⊥) → (o.signals ≡ 0) × (o.marks ≡ 0)
   pub read : (scanned bytes).fault.number ≡ 0 → ReadPlan (plan_in bytes) o (lent_of c)
-  pub opened : o.counted.number ≡ 0 → OpenedPlan (plan_in bytes) o (lent_of c) table_now
+  pub opened : (outcome_told o.counted.outcome).number ≡ 0 → OpenedPlan (plan_in bytes) o (lent_of c) table_now
   pub left : LentLeft bytes o before (lent_of c)
 
 -- a call at an opened plan, its columns and a table may give the result

@@ -15,8 +15,7 @@ ghost use Rattle.check_columns.specs.Columns.{columns};
 ghost use Rattle.check_columns.specs.Shown.{PlacesFor};
 ghost use Rattle.check_load.specs.Loading.{HeadKnown, load_told};
 ghost use Rattle.std.specs.Prelude.{Ok, Err};
-ghost use Rattle.plan_format.specs.Told.{number_of, told_as};
-ghost use Rattle.check_plan.specs.Counting.{SizesTold, CountsTold, counts_of, opened_of};
+ghost use Rattle.check_plan.specs.Counting.{outcome_told, SizesTold, CountsTold, counts_of, opened_of};
 ghost use Rattle.check_plan.specs.Opening.{ReadPlan, OpenedPlan, LentKept, LentLeft, lent};
 ghost use Rattle.check_plan.specs.Opening.{lent_of, cleared, Handed, GivenAt};
 ghost use Rattle.check_plan.specs.declared.PlanColumns.{PlanColumns};
@@ -28,7 +27,7 @@ use plan_format::limits::{
     HEAD_NUMBERS, HeadNumbers, MARK_PLACES, MOST_MARKS, MOST_OPERATIONS, MOST_SIGNALS, MOST_WAITS,
     SIGNAL_PLACES, WAIT_PLACES,
 };
-use plan_format::{Refusal, Told};
+use plan_format::Refusal;
 use stored_numbers::{FIRST_HEAD_NUMBERS, FirstHeadNumbers, Head};
 
 // For how many operations columns are made; for all that a plan can have where it has more than either.
@@ -58,15 +57,11 @@ pub struct PlanCounts {
     pub operations: usize,
 }
 
-// The same, or a refusal and its place beside them. Each is 0 where the reader refuses the plan.
+// The counts of a plan, each 0 where the reader refuses it; and that the check passes it, or its first refusal.
 #[derive(Clone, Copy, Debug, PartialEq, Eq, Hash)]
 pub struct Counted {
-    pub number: u32,
-    pub place: u64,
-    pub queues: usize,
-    pub semaphores: usize,
-    pub buffers: usize,
-    pub operations: usize,
+    pub counts: PlanCounts,
+    pub outcome: Result<(), Refusal>,
 }
 
 // The same, and how many signals and marks the plan has.
@@ -110,32 +105,20 @@ pub fn counts(plan: &[u8]) -> Result<PlanCounts, Refusal>
         plan, h, &mut queue, &mut wsem, &mut wval, &mut ssem, &mut sval, &mut sop, &mut mark,
         &mut mop,
     )?;
-    Ok(PlanCounts {
-        queues: loaded.queues as usize,
-        semaphores: loaded.semaphores as usize,
-        buffers: loaded.buffers as usize,
-        operations: usize::from(loaded.operations),
-    })
+    Ok(sizes(loaded))
 }
 
 // The check of a stored plan: the rows and the run in table and list; or the first refusal and its place.
-pub fn check_plan(plan: &[u8], table: &mut [u32], list: &mut [u32]) -> Told
-    ensures { Checked plan.now result table.old table.new list.old
-        list.new }
+pub fn check_plan(plan: &[u8], table: &mut [u32], list: &mut [u32]) -> Result<(), Refusal>
+    ensures { Checked plan.now (outcome_told result) table.old table.new list.old list.new }
 {
-    let c = check_counted(plan, table, list);
-    Told {
-        number: c.number,
-        place: c.place,
-        answer: 0,
-    }
+    check_counted(plan, table, list).outcome
 }
 
 // The check with the plan's counts beside its answer.
 pub fn check_counted(plan: &[u8], table: &mut [u32], list: &mut [u32]) -> Counted
-    ensures checked { Checked plan.now (record { number = result.number; place = result.place; answer = 0 })
-        table.old table.new list.old list.new }
-    ensures sizes { SizesTold plan.now result }
+    ensures checked { Checked plan.now (outcome_told result.outcome) table.old table.new list.old list.new }
+    ensures sizes { SizesTold plan.now result.counts }
 {
     if stored_numbers::is_second(plan) {
         return in_second_form(plan, table, list);
@@ -146,14 +129,13 @@ pub fn check_counted(plan: &[u8], table: &mut [u32], list: &mut [u32]) -> Counte
 // Of a plan in the first form, in columns by the number of its operations.
 fn in_first_form(plan: &[u8], table: &mut [u32], list: &mut [u32]) -> Counted
     requires { is_second plan.now ≡ false }
-    ensures checked { Checked plan.now (record { number = result.number; place = result.place; answer = 0 })
-        table.old table.new list.old list.new }
-    ensures sizes { SizesTold plan.now result }
+    ensures checked { Checked plan.now (outcome_told result.outcome) table.old table.new list.old list.new }
+    ensures sizes { SizesTold plan.now result.counts }
 {
     let mut head = [0u64; FIRST_HEAD_NUMBERS];
     let h = match stored_numbers::read_first_head(plan, &mut head) {
         Ok(h) => h,
-        Err(stop) => return counts_none(stop.reason.at(stop.at)),
+        Err(stop) => return unread(stop.reason.at(stop.at)).counted,
     };
     by_room(plan, h, &head, table, list)
 }
@@ -167,9 +149,8 @@ fn by_room(
     list: &mut [u32],
 ) -> Counted
     requires { HeadKnown plan.now h head.now }
-    ensures checked { Checked plan.now (record { number = result.number; place = result.place; answer = 0 })
-        table.old table.new list.old list.new }
-    ensures sizes { SizesTold plan.now result }
+    ensures checked { Checked plan.now (outcome_told result.outcome) table.old table.new list.old list.new }
+    ensures sizes { SizesTold plan.now result.counts }
 {
     let many = h.operations as usize;
     if many <= SMALL_ROOM {
@@ -183,14 +164,13 @@ fn by_room(
 
 // Of a plan in the second form, in columns for as many operations as a plan can have.
 fn in_second_form(plan: &[u8], table: &mut [u32], list: &mut [u32]) -> Counted
-    ensures checked { Checked plan.now (record { number = result.number; place = result.place; answer = 0 })
-        table.old table.new list.old list.new }
-    ensures sizes { SizesTold plan.now result }
+    ensures checked { Checked plan.now (outcome_told result.outcome) table.old table.new list.old list.new }
+    ensures sizes { SizesTold plan.now result.counts }
 {
     let mut head = [0u64; HEAD_NUMBERS];
     let h = match stored_numbers::read_head(plan, &mut head) {
         Ok(h) => h,
-        Err(stop) => return counts_none(stop.reason.at(stop.at)),
+        Err(stop) => return unread(stop.reason.at(stop.at)).counted,
     };
     in_columns::<WAIT_PLACES, SIGNAL_PLACES, MARK_PLACES>(plan, h, &head, table, list)
 }
@@ -207,9 +187,8 @@ fn in_columns<const WAITS: usize, const SIGNALS: usize, const MARKS: usize>(
     requires room { (most_waits * h.operations ≤ WAITS) × (most_signals * h.operations ≤ SIGNALS) ×
         (most_marks * h.operations ≤ MARKS) }
     requires within { (WAITS ≤ wait_places) × (SIGNALS ≤ signal_places) × (MARKS ≤ mark_places) }
-    ensures checked { Checked plan.now (record { number = result.number; place = result.place; answer = 0 })
-        table.old table.new list.old list.new }
-    ensures sizes { SizesTold plan.now result }
+    ensures checked { Checked plan.now (outcome_told result.outcome) table.old table.new list.old list.new }
+    ensures sizes { SizesTold plan.now result.counts }
 {
     let mut queue = [0u16; MOST_OPERATIONS];
     let mut source = [0u16; WAIT_PLACES];
@@ -254,16 +233,14 @@ pub fn check_opened(
     table: &mut [u32],
     list: &mut [u32],
 ) -> Opened
-    ensures checked { Checked plan.now
-        (record { number = result.counted.number; place = result.counted.place; answer = 0 }) table.old
-        table.new list.old list.new }
-    ensures sizes { SizesTold plan.now result.counted }
+    ensures checked { Checked plan.now (outcome_told result.counted.outcome) table.old table.new list.old list.new }
+    ensures sizes { SizesTold plan.now result.counted.counts }
     ensures refused { ((scanned plan.now).fault.number ≡ 0 → ⊥) →
         (result.signals ≡ 0) × (result.marks ≡ 0) }
     ensures read { (scanned plan.now).fault.number ≡ 0 → ReadPlan (plan_in plan.now) result
         (lent head.new queue.new source.new ssem.new sval.new
         sop.new mark.new mop.new) }
-    ensures opened { result.counted.number ≡ 0 → OpenedPlan (plan_in plan.now) result
+    ensures opened { (outcome_told result.counted.outcome).number ≡ 0 → OpenedPlan (plan_in plan.now) result
         (lent head.new queue.new source.new ssem.new sval.new
         sop.new mark.new mop.new)
         table.new }
@@ -275,7 +252,7 @@ pub fn check_opened(
 {
     let h = match stored_numbers::read_head(plan, head) {
         Ok(h) => h,
-        Err(stop) => return lists_none(stop.reason.at(stop.at)),
+        Err(stop) => return unread(stop.reason.at(stop.at)),
     };
     let mut wval = [0u64; WAIT_PLACES];
     places(queue, source);
@@ -367,16 +344,14 @@ fn judged(
     requires { HeadKnown plan.now h head.now ×
         PlacesFor h.operations (columns queue.old source.old wval.old ssem.old sval.old sop.old
         mark.old mop.old) }
-    ensures checked { Checked plan.now
-        (record { number = result.counted.number; place = result.counted.place; answer = 0 }) table.old
-        table.new list.old list.new }
-    ensures sizes { SizesTold plan.now result.counted }
+    ensures checked { Checked plan.now (outcome_told result.counted.outcome) table.old table.new list.old list.new }
+    ensures sizes { SizesTold plan.now result.counted.counts }
     ensures refused { ((scanned plan.now).fault.number ≡ 0 → ⊥) →
         (result.signals ≡ 0) × (result.marks ≡ 0) }
     ensures read { (scanned plan.now).fault.number ≡ 0 → ReadPlan (plan_in plan.now) result
         (lent head.now queue.new source.new ssem.new sval.new
         sop.new mark.new mop.new) }
-    ensures opened { result.counted.number ≡ 0 → OpenedPlan (plan_in plan.now) result
+    ensures opened { (outcome_told result.counted.outcome).number ≡ 0 → OpenedPlan (plan_in plan.now) result
         (lent head.now queue.new source.new ssem.new sval.new
         sop.new mark.new mop.new) table.new }
     ensures kept { LentKept plan.now h.operations result
@@ -387,11 +362,11 @@ fn judged(
 {
     let l = match load::columns(plan, h, queue, source, wval, ssem, sval, sop, mark, mop) {
         Ok(l) => l,
-        Err(e) => return lists_none(e),
+        Err(e) => return unread(e),
     };
     let first = 2 + h.queues as usize;
     let owner = &head[first..];
-    let told = told_passed(check_passes::judge_columns(
+    let outcome = check_passes::judge_columns(
         l.operations,
         l.semaphores as usize,
         l.signals as usize,
@@ -407,27 +382,15 @@ fn judged(
         mop,
         table,
         list,
-    ));
-    with_lists(l, told.number, told.place)
+    );
+    with_lists(l, outcome)
 }
 
-// What a result without an answer tells.
-fn told_passed(r: Result<(), Refusal>) -> Told
-    ensures { result ≡ told_as (λ _. 0) r }
+// How many of each a loaded plan has.
+fn sizes(l: Loaded) -> PlanCounts
+    ensures { result ≡ counts_of (load_told (Ok l)) }
 {
-    match r {
-        Ok(()) => plan_format::answered(0),
-        Err(e) => plan_format::forwarded(e.reason.number(), e.place),
-    }
-}
-
-// The counts of a loaded plan, beside a number and its place.
-fn with_counts(l: Loaded, number: u32, place: u64) -> Counted
-    ensures { result ≡ counts_of (load_told (Ok l)) number place }
-{
-    Counted {
-        number,
-        place,
+    PlanCounts {
         queues: l.queues as usize,
         semaphores: l.semaphores as usize,
         buffers: l.buffers as usize,
@@ -435,37 +398,34 @@ fn with_counts(l: Loaded, number: u32, place: u64) -> Counted
     }
 }
 
-// The same, and the numbers of signals and marks.
-fn with_lists(l: Loaded, number: u32, place: u64) -> Opened
-    ensures { result ≡ opened_of (load_told (Ok l)) number place }
+// A loaded plan, beside what the check says of it.
+fn with_lists(l: Loaded, outcome: Result<(), Refusal>) -> Opened
+    ensures { result ≡ opened_of (load_told (Ok l)) outcome }
 {
     Opened {
-        counted: with_counts(l, number, place),
+        counted: Counted {
+            counts: sizes(l),
+            outcome,
+        },
         signals: l.signals as usize,
         marks: l.marks as usize,
     }
 }
 
-// The reader's refusal, beside which the counts are 0.
-fn counts_none(e: Refusal) -> Counted
-    ensures { result ≡ counts_of (load_told (Err e)) (number_of e.reason) e.place }
-{
-    Counted {
-        number: e.reason.number(),
-        place: e.place,
-        queues: 0,
-        semaphores: 0,
-        buffers: 0,
-        operations: 0,
-    }
-}
-
-// The same, and no signals and no marks.
-fn lists_none(e: Refusal) -> Opened
-    ensures { result ≡ opened_of (load_told (Err e)) (number_of e.reason) e.place }
+// The reader's refusal, beside which there are no counts.
+fn unread(e: Refusal) -> Opened
+    ensures { result ≡ opened_of (load_told (Err e)) (Err e) }
 {
     Opened {
-        counted: counts_none(e),
+        counted: Counted {
+            counts: PlanCounts {
+                queues: 0,
+                semaphores: 0,
+                buffers: 0,
+                operations: 0,
+            },
+            outcome: Err(e),
+        },
         signals: 0,
         marks: 0,
     }

@@ -39,11 +39,12 @@ pub fn merge(
         (largest rows.now a b c d k + get_or unit.now (row_width - q + k) 0) % 65536 }
 {
     let mut row = [0u16; ROW_WIDTH];
-    let from = ROW_WIDTH - q;
+    // The part is taken once: with an index for each column the compiler takes the last one apart.
+    let own = &unit[ROW_WIDTH - q..];
     for k in 0..ROW_WIDTH {
         let ab = higher(rows, a, b, k);
         let cd = higher(rows, c, d, k);
-        row[k] = sum(ab.max(cd), unit[from + k]);
+        row[k] = sum(ab.max(cd), own[k]);
     }
     row
 }

@@ -2,13 +2,17 @@
 // and stores what comes back.
 #![tactic(auto)]
 
+ghost use Rattle.std.specs.Prelude.{◌≡◌};
 ghost use Rattle.plan_format.specs.Meaning.{ReadMeans, WriteMeans};
 ghost use Rattle.plan_format.specs.Stored.{ReadSays, WriteSays};
 ghost use Rattle.plan_order.specs.Promise.{Checked};
+ghost use Rattle.check_plan.specs.Counting.{outcome_told};
 ghost use Rattle.ask_reuse.specs.Reuse.{ReuseAsked};
 ghost use Rattle.ask_frontier.specs.SentMeaning.{FrontierRight};
 ghost use Rattle.c_told.specs.Told.{told_of};
 ghost use Rattle.cundvrest_c.specs.Sent.{SentSays, sent_of};
+
+use plan_format::{Refusal, Told};
 
 // The numbers of a stored plan in front of the room; the answer is how many there are.
 #[unsafe(no_mangle)]
@@ -45,7 +49,17 @@ pub extern "C" fn cundvrest_check(
     ensures { Checked plan.now (told_of told.new) table.old table.new
         list.old list.new }
 {
-    c_told::tell(check_plan::check_plan(plan, table, list), told);
+    c_told::tell(passed(check_plan::check_plan(plan, table, list)), told);
+}
+
+// What a check tells: 0 and 0, or the number of its refusal and the place.
+fn passed(outcome: Result<(), Refusal>) -> Told
+    ensures { result ≡ outcome_told outcome }
+{
+    match outcome {
+        Ok(()) => plan_format::answered(0),
+        Err(e) => plan_format::forwarded(e.reason.number(), e.place),
+    }
 }
 
 // The reuse question: whether a queue may take a buffer anew; the answer is the verdict.

@@ -21,6 +21,7 @@ fn answer_of(reached: bool, tainted: bool, other: bool) -> Dominance
 
 impl<'a> Formed<'a> {
     // The first slot from `from` on whose axis is not below the one sought, or the length.
+    #[inline(always)]
     fn seek(self, from: usize, axis: u64) -> usize
         requires { from ≤ self.len }
         ensures { (result ≤ self.entry.len) × (result < self.entry.len → axis ≤ get_or self.entry.axes.now result 0) ×
@@ -35,6 +36,7 @@ impl<'a> Formed<'a> {
     }
 
     // A slot, if it is of the axis.
+    #[inline(always)]
     fn slot_at(self, at: usize, axis: u64) -> Option<usize>
         ensures { result ≡
             cond (ltb at self.entry.len && eqb (get_or self.entry.axes.now at 0) axis) (Some at) None }
@@ -47,6 +49,7 @@ impl<'a> Formed<'a> {
 
     // The slot of an axis among those from `from` on, or none. Slot `from` is looked at before the search, since a walk
     // over two frontiers mostly finds the axis there.
+    #[inline(always)]
     pub fn slot_from(self, from: usize, axis: u64) -> Option<usize>
         requires { from ≤ self.len }
         ensures { SlotFrom self.entry.axes.now self.entry.epochs.now self.entry.len from axis result }

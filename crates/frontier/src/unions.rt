@@ -23,6 +23,7 @@ pub struct Step {
 impl<'a> Formed<'a> {
     // The next axis of the union of this side from slot i and the other from slot j is of this side: the other has
     // none, or none that is smaller.
+    #[inline(always)]
     fn leads_at(self, i: usize, other: Formed<'_>, j: usize) -> bool
         ensures { result ≡ leads (onward self.entry i) (onward other.entry j) }
     {
@@ -37,6 +38,7 @@ impl<'a> Formed<'a> {
 
     // The entry in slot i of this side, which leads: with the larger epoch if the other lists its axis, with its own if
     // it is absent there.
+    #[inline(always)]
     fn leading(self, i: usize, other: Formed<'_>, j: usize) -> Step
         requires inside { (i < self.len) × (j ≤ other.len) }
         requires first { leads (onward self i) (onward other j) ≡ true }
@@ -66,6 +68,7 @@ impl<'a> Formed<'a> {
 
     // The next entry of the union of this side from slot i and the other from slot j: the smaller axis, with the larger
     // epoch where both list it.
+    #[inline(always)]
     fn next(self, i: usize, other: Formed<'_>, j: usize) -> Step
         requires { (i ≤ self.len) × (j ≤ other.len) × (i + j < self.len + other.len) }
         ensures bounds { (result.left ≤ self.entry.len) × (result.right ≤ other.entry.len) ×

@@ -10,9 +10,9 @@ use Rattle.plan_format.specs.Stored.{scanned}
 use Rattle.plan_format.proofs.Judged.{not_given_zero}
 use Rattle.plan_format.proofs.Plans.{scanned_limits}
 use Rattle.check_plan.specs.Counting.{SizesTold}
-use Rattle.check_plan.specs.declared.Counted.{Counted}
+use Rattle.check_plan.specs.declared.PlanCounts.{PlanCounts}
 
-pub few_counts : (bs : List ℕ) (c : Counted) → SizesTold bs c →
+pub few_counts : (bs : List ℕ) (c : PlanCounts) → SizesTold bs c →
     (c.operations ≤ most_operations) × (c.queues ≤ most_queues)
 unfolding count queues
 few_counts bs c s =

@@ -6,10 +6,10 @@ ghost use Rattle.base_lists.specs.Lists.{join_from};
 ghost use Rattle.plan_format.specs.Sizes.{most_queues, most_operations, table_numbers, list_numbers};
 ghost use Rattle.base_text.specs.Text.{Puts, Adds, blanked, or_refused};
 ghost use Rattle.print_check.specs.CheckText.{sizes_text, runs_text, row_text, passed_text, RowsInside};
-ghost use Rattle.print_check.specs.CheckText.{CheckPrinted};
+ghost use Rattle.print_check.specs.CheckText.{told_of, CheckPrinted};
 
 use base_text::Text;
-use check_plan::Counted;
+use check_plan::{Counted, PlanCounts};
 use plan_format::limits::{LIST_NUMBERS, ROW_WIDTH, TABLE_NUMBERS};
 
 // The check of a plan.
@@ -18,20 +18,22 @@ pub fn check(plan: &[u8], out: &mut [u8]) -> usize
 {
     let mut table = [0u32; TABLE_NUMBERS];
     let mut list = [0u32; LIST_NUMBERS];
-    let counts = check_plan::check_counted(plan, &mut table, &mut list);
-    checked(out, counts, &table, &list)
+    let counted = check_plan::check_counted(plan, &mut table, &mut list);
+    checked(out, counted, &table, &list)
 }
 
 // The line of a refusal, or the text of a pass.
-fn checked(out: &mut [u8], counts: Counted, table: &[u32], list: &[u32]) -> usize
-    requires { RowsInside counts.operations counts.queues table.now × (list_numbers ≤ length list.now) }
+fn checked(out: &mut [u8], counted: Counted, table: &[u32], list: &[u32]) -> usize
+    requires { RowsInside counted.counts.operations counted.counts.queues table.now × (list_numbers ≤ length list.now) }
     ensures { Puts
-        (or_refused counts.number counts.place (passed_text counts table.now list.now))
+        (or_refused (told_of counted).number (told_of counted).place
+        (passed_text counted.counts table.now list.now))
         out.old 0 out.new result }
 {
-    if counts.number != 0 {
-        return base_text::refused(out, counts.number, counts.place);
+    if let Err(e) = counted.outcome {
+        return base_text::refused(out, e.reason.number(), e.place);
     }
+    let counts = counted.counts;
     let mut text = Text::new(out);
     sizes(&mut text, counts);
     runs(&mut text, counts.operations, list);
@@ -42,7 +44,7 @@ fn checked(out: &mut [u8], counts: Counted, table: &[u32], list: &[u32]) -> usiz
 }
 
 // `passed 0`, and the line of the four counts without its end.
-fn sizes(text: &mut Text, counts: Counted)
+fn sizes(text: &mut Text, counts: PlanCounts)
     ensures { Adds (sizes_text counts) text.old text.new }
 {
     text.words(b"passed 0\nsize ");

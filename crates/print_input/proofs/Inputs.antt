@@ -14,7 +14,7 @@ use Rattle.plan_order.proofs.Checks.{checked}
 use Rattle.plan_suggest.proofs.Promises.{suggest_right}
 use Rattle.plan_suggest.proofs.SaysAlike.{suggest_says_alike}
 use Rattle.check_plan.specs.Counting.{SizesTold}
-use Rattle.check_plan.specs.declared.Counted.{Counted}
+use Rattle.check_plan.specs.declared.PlanCounts.{PlanCounts}
 use Rattle.ask_reuse.proofs.ReuseAsked.{asked}
 use Rattle.ask_frontier.specs.Sent.{sent, sent_outcome, FrontierSays}
 use Rattle.ask_frontier.specs.declared.Sent.{Sent}
@@ -25,7 +25,7 @@ use Rattle.print_input.specs.declared.Question.{Question}
 use Rattle.print_input.specs.declared.Question.TheVariants.{Check, Reuse, Suggest, Frontier, Read}
 
 module _ (bs cs : List ℕ) (read : ReadsAlike (scanned bs) (scanned cs)) where
-  pub sizes_alike : (c : Counted) → SizesTold bs c → SizesTold cs c
+  pub sizes_alike : (c : PlanCounts) → SizesTold bs c → SizesTold cs c
   sizes_alike c s =
       let f = read.fault in
       let p = plan_alike bs cs read in

@@ -25,6 +25,6 @@ module _ (bs cs ts us : List ℕ) (read : ReadsAlike (scanned bs) (scanned cs)) 
     state = w.state;
     right = trace_right cs us _ _ _ w.table _ w.list _ w.state
         (trace_says_alike bs cs ts us read begun_alike _ _ _ w.table _ w.list _ w.state w.right.says);
-    sizes = sizes_alike bs cs read w.answer.counted w.sizes;
+    sizes = sizes_alike bs cs read w.answer.counted.counts w.sizes;
     text = w.text;
   }

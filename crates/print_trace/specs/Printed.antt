@@ -49,7 +49,7 @@ pub record TracePrinted (bytes trace room room_now : List ℕ) (end : ℕ) : Typ
       TraceRight bytes trace (told answer) answer.traced (replicate table_numbers 0) table
       (replicate list_numbers 0) list
       (replicate state_size 0) state
-  pub sizes : SizesTold bytes answer.counted
+  pub sizes : SizesTold bytes answer.counted.counts
   pub text :
       Puts (or_refused answer.counted.number answer.counted.place
-      (trace_text answer.traced answer.counted.queues answer.counted.semaphores state)) room 0 room_now end
+      (trace_text answer.traced answer.counted.counts.queues answer.counted.counts.semaphores state)) room 0 room_now end

@@ -26,7 +26,7 @@ pub fn trace(plan: &[u8], trace: &[u8], out: &mut [u8]) -> usize
 fn answered(out: &mut [u8], told: TraceTold, state: &[u64]) -> usize
     requires { length state.now ≡ state_size }
     ensures { Puts (or_refused told.counted.number told.counted.place
-        (trace_text told.traced told.counted.queues told.counted.semaphores state.now))
+        (trace_text told.traced told.counted.counts.queues told.counted.counts.semaphores state.now))
         out.old 0 out.new result }
 {
     let c = told.counted;
@@ -37,9 +37,9 @@ fn answered(out: &mut [u8], told: TraceTold, state: &[u64]) -> usize
     let mut text = Text::new(out);
     line(&mut text, traced.step, traced.followed);
     text.words(b"\nqueues");
-    numbers(&mut text, &state[..MOST_QUEUES], c.queues);
+    numbers(&mut text, &state[..MOST_QUEUES], c.counts.queues);
     text.words(b"\nsemaphores");
-    numbers(&mut text, &state[MOST_QUEUES..], c.semaphores);
+    numbers(&mut text, &state[MOST_QUEUES..], c.counts.semaphores);
     text.byte(b'\n');
     text.len()
 }

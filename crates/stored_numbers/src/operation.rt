@@ -98,6 +98,7 @@ impl<'a> Reader<'a> {
     }
 
     // The same in the form that is told.
+    #[inline(always)]
     pub fn operation(&mut self, wide: bool, counts: Counts) -> Result<(), Reason>
         requires { RoomFor block_numbers self.old }
         ensures { Reads (operation_below (width_by wide) counts.queues counts.semaphores counts.buffers) block_numbers
@@ -111,6 +112,7 @@ impl<'a> Reader<'a> {
     }
 
     // So many operations, one after another.
+    #[inline(always)]
     pub fn several(&mut self, many: u64, wide: bool, counts: Counts) -> Result<(), Reason>
         requires { RoomFor (block_numbers * many) self.old }
         ensures room { self.new.numbers.ghost_name ≡ self.old.numbers.ghost_name }

@@ -4,7 +4,7 @@
 
 ghost use Rattle.std.specs.Prelude.{◌≡◌, ◌+◌, ◌<◌, ◌≤◌, length};
 
-use plan_format::Told;
+use plan_format::Refusal;
 
 // The plan T3: three queues, two semaphores, one buffer, three operations.
 fn t3() -> [u8; 96]
@@ -69,11 +69,19 @@ fn sizes(rt: &impl Print, plan: &[u8]) {
     line_end(rt);
 }
 
-fn show(rt: &impl Print, told: Told) {
+fn show(rt: &impl Print, outcome: Result<(), Refusal>) {
     text(rt, b"  check");
-    number(rt, u64::from(told.number));
-    number(rt, told.place);
-    number(rt, told.answer);
+    match outcome {
+        Ok(()) => {
+            number(rt, 0);
+            number(rt, 0);
+        }
+        Err(e) => {
+            number(rt, u64::from(e.reason.number()));
+            number(rt, e.place);
+        }
+    }
+    number(rt, 0);
 }
 
 // A plan through the check, with a table and a list of these lengths.

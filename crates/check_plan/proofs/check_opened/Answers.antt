@@ -12,7 +12,7 @@ pub returns-in-Err : goal.returns-in-Err
 returns-in-Err c =
     let l = head_loads c.in-Err.stop c.in-Err.ensures.means in
     let bad = reason_given c.in-Err.stop.reason in
-    rw (c.lists_none.ensures, c.at.ensures) (record {
+    rw (c.unread.ensures, c.at.ensures) (record {
       checked = checked _ _ _ _ _ _ (not_read _ _ _ _ (tells_as l.number l.place) bad);
       sizes = l.sizes;
       refused = λ _. (refl, refl);

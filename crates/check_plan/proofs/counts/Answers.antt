@@ -17,5 +17,5 @@ returns-in_err-loaded c =
 
 pub returns : goal.returns
 returns c =
-    rw c.from.ensures
+    rw c.sizes.ensures
     (loaded_counts (c.in_ok-loaded.ensures _ (head_known c.in_ok-h.ensures.form c.in_ok-h.ensures.means)).0)

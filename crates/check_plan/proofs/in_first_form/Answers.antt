@@ -11,7 +11,7 @@ use Rattle.check_plan.proofs.in_first_form.Goals as goal
 pub returns-in-Err : goal.returns-in-Err
 returns-in-Err c =
     let l = head_loads c.in-Err.stop (in_first c.requires c.in-Err.ensures.means) in
-    rw (c.counts_none.ensures, c.at.ensures) (record {
+    rw (c.unread.ensures, c.at.ensures) (record {
       checked = checked _ _ _ _ _ _ (not_read _ _ _ _ (tells_as l.number l.place) (reason_given c.in-Err.stop.reason));
       sizes = l.sizes;
     })

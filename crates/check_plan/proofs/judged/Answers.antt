@@ -19,13 +19,13 @@ returns-in-Err c =
     let loaded = c.in-Err.ensures _ c.requires.0 in
     let l = loaded.0 in
     let bad = reason_given c.in-Err.e.reason in
-    rw c.lists_none.ensures (record {
+    rw c.unread.ensures (record {
       checked = checked _ _ _ _ _ _ (not_read _ _ _ _ (tells_as l.number l.place) bad);
       sizes = l.sizes;
       refused = loaded_none l;
-      read = loaded_read l _ _ (λ z. absurd (bad (l.number ∙ z)));
+      read = loaded_read l _ (λ z. absurd (bad (l.number ∙ z)));
       opened = λ z. absurd (bad z);
-      kept = kept_refused l loaded.2 _ _ bad;
+      kept = kept_refused l loaded.2 _ bad;
     })
 
 pub overflow_add-first : goal.overflow_add-first
@@ -50,15 +50,14 @@ returns c =
     let l = loaded.0 in
     let owners = owners_part _ c.args.head.now (2 + c.args.h.queues) c.args.h.semaphores
     loaded.1 in
-    let of_plan = rw (← c.told_passed-told.ensures) at
-    (c.judge_columns.ensures.of_plans _ (loaded_given l refl _ owners)) in
+    let of_plan = c.judge_columns-outcome.ensures.of_plans _ (loaded_given l refl _ owners) in
     let whole = checked _ _ _ _ _ _ (read_says _ _ _ _ _ _ (loaded_clean l refl) of_plan.0) in
-    let read = loaded_read l _ _ (λ _. of_plan.1) in
+    let read = loaded_read l _ (λ _. of_plan.1) in
     rw c.with_lists.ensures (record {
       checked = whole;
       sizes = l.sizes;
       refused = loaded_none l;
       read = read;
-      opened = λ z. opened_plan l.sizes whole z (read (loaded_clean l refl));
-      kept = kept_judged l loaded.2 _ _ refl (sources_kept c.judge_columns.ensures.sources);
+      opened = λ z. opened_plan l.sizes whole z refl (read (loaded_clean l refl));
+      kept = kept_judged l loaded.2 _ refl (sources_kept c.judge_columns-outcome.ensures.sources);
     })

@@ -3,4 +3,4 @@ use Rattle.cundvrest_c.proofs.cundvrest_check.Goals as goal
 
 pub returns : goal.returns
 returns c =
-    rw c.tell.ensures c.check_plan.ensures
+    rw (c.tell.ensures, c.passed.ensures) c.check_plan.ensures

@@ -5,7 +5,7 @@ use Rattle.print_check.proofs.check.Goals as goal
 
 pub checked-requires : goal.checked-requires
 checked-requires c =
-    let few = few_counts _ c.check_counted-counts.result c.check_counted-counts.ensures.sizes in (
+    let few = few_counts _ c.check_counted-counted.result.counts c.check_counted-counted.ensures.sizes in (
       record {
         few_operations = few.0;
         few_queues = few.1;
@@ -17,10 +17,10 @@ checked-requires c =
 pub returns : goal.returns
 returns c =
     record {
-      counts = c.check_counted-counts.result;
+      counted = c.check_counted-counted.result;
       table = _;
       list = _;
-      checked = c.check_counted-counts.ensures.checked;
-      sizes = c.check_counted-counts.ensures.sizes;
+      checked = c.check_counted-counted.ensures.checked;
+      sizes = c.check_counted-counted.ensures.sizes;
       text = c.checked.ensures;
     }
