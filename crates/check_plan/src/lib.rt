@@ -23,11 +23,11 @@ ghost use Rattle.check_plan.specs.declared.Opened.{Opened};
 
 use check_columns::{MarkColumn, QueueColumn, SignalColumn, SignalValues, WaitColumn};
 use check_load::Loaded;
+use plan_format::Refusal;
 use plan_format::limits::{
     HEAD_NUMBERS, HeadNumbers, MARK_PLACES, MOST_MARKS, MOST_OPERATIONS, MOST_SIGNALS, MOST_WAITS,
     SIGNAL_PLACES, WAIT_PLACES,
 };
-use plan_format::Refusal;
 use stored_numbers::{FIRST_HEAD_NUMBERS, FirstHeadNumbers, Head};
 
 // For how many operations columns are made; for all that a plan can have where it has more than either.
