@@ -37,15 +37,18 @@ refused_as n i = record { number = n; place = i; frontier = pack [] false }
 -- ---- after the check
 module _ {bs t x l y : List ℕ} (k : Counted) (j c : ℕ)
     (checked : Checked bs (outcome_told k.outcome) t x l y) where
-  pub plan_refused : (r : Sent) → ((outcome_told k.outcome).number ≡ 0 → ⊥) → r ≡ refused_as (outcome_told k.outcome).number (outcome_told k.outcome).place →
+  pub plan_refused : (r : Sent) → ((outcome_told k.outcome).number ≡ 0 → ⊥) →
+      r ≡ refused_as (outcome_told k.outcome).number (outcome_told k.outcome).place →
       FrontierRight bs j c r t x l y
   plan_refused r h e =
       frontier_right bs j c r t x l y (subst (λ (a : Sent). FrontierSays bs j c a t x l y) (sym e)
       (plan_said bs j c t x l y (outcome_told k.outcome).number (outcome_told k.outcome).place checked.says h))
 
-  pub then_answered : (r : Sent) → (outcome_told k.outcome).number ≡ 0 → SentTells (plan_in bs) j c r → FrontierRight bs j c r t x l y
+  pub then_answered : (r : Sent) → (outcome_told k.outcome).number ≡ 0 → SentTells (plan_in bs) j c r →
+      FrontierRight bs j c r t x l y
   then_answered r z a =
-      frontier_right bs j c r t x l y (asked_said bs j c t x l y (outcome_told k.outcome).number (outcome_told k.outcome).place checked.says z a)
+      frontier_right bs j c r t x l y (asked_said bs j c t x l y (outcome_told k.outcome).number
+      (outcome_told k.outcome).place checked.says z a)
 
 -- a plan that passes, opened
 pub sent_given : {p : Plan} {o : Opened} {c : Lent} {table : List ℕ} → OpenedPlan p o c table →

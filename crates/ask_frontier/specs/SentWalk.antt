@@ -36,7 +36,8 @@ pub record FrontierGiven (j capacity : ℕ) (c : Counted) (head table : List ℕ
         place = (outcome_told c.outcome).place;
         frontier = pack [] false;
       }
-  pub answered : (outcome_told c.outcome).number ≡ 0 → (p : Plan) → SentGiven p c.counts head table → SentTells p j capacity r
+  pub answered : (outcome_told c.outcome).number ≡ 0 → (p : Plan) → SentGiven p c.counts head table →
+      SentTells p j capacity r
 
 -- the entries of so many queues from one on, of the row that begins at `first` in the table; the axes come after their
 -- count

@@ -172,4 +172,5 @@ asked_of q b {o} h {r} a =
     (by_cases (eqb (outcome_told o.counted.outcome).number 0)
     (λ e. let passed = eqb-true (outcome_told o.counted.outcome).number 0 e in
     then_asked q b h.checked passed (a.answered passed _ (question_given (h.opened passed))))
-    (λ e. let bad = eqb-false (outcome_told o.counted.outcome).number 0 e in rw (a.refused bad) (plan_refused q b h.checked bad)))
+    (λ e. let bad = eqb-false (outcome_told o.counted.outcome).number 0 e in
+    rw (a.refused bad) (plan_refused q b h.checked bad)))

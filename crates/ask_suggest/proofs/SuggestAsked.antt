@@ -79,7 +79,8 @@ module _ {p : Plan} {o : Opened} {queue ssem sval sop mark mop rows : List ℕ}
     known_queue : q < queues p
     known_queue = omega (arith, given_plan.question.queues_are)
 
-    pub no_buffer : o.counted.counts.buffers ≤ b → {r : Suggested} → r ≡ suggested 13 b NoneNeeded → r ≡ suggested_of p q b
+    pub no_buffer : o.counted.counts.buffers ≤ b → {r : Suggested} → r ≡ suggested 13 b NoneNeeded →
+        r ≡ suggested_of p q b
     no_buffer h e =
         e ∙
         refused_as (thirteen_is p q b known_queue (omega (arith, given_plan.question.buffers_are))) (λ z. omega arith)
@@ -248,4 +249,5 @@ asked_of q b {o} h a =
     by_cases (eqb (outcome_told o.counted.outcome).number 0)
     (λ e. let passed = eqb-true (outcome_told o.counted.outcome).number 0 e in
     then_asked q b h.checked passed (a.answered passed _ (suggest_given (h.opened passed))))
-    (λ e. let bad = eqb-false (outcome_told o.counted.outcome).number 0 e in plan_refused q b h.checked bad (a.refused bad))
+    (λ e. let bad = eqb-false (outcome_told o.counted.outcome).number 0 e in
+    plan_refused q b h.checked bad (a.refused bad))

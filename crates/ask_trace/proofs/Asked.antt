@@ -155,10 +155,12 @@ module _ (bs ts t x l y s : List ℕ) (o : Opened) (c : Lent)
   -- no refusal: the plan passes, and there is room
   passes : given here ≡ false → (outcome_told o.counted.outcome).number ≡ 0
   passes f =
-      by_cases (eqb (outcome_told o.counted.outcome).number 0) (λ a. eqb-true (outcome_told o.counted.outcome).number 0 a)
+      by_cases (eqb (outcome_told o.counted.outcome).number 0)
+      (λ a. eqb-true (outcome_told o.counted.outcome).number 0 a)
       (λ a. let bad = eqb-false (outcome_told o.counted.outcome).number 0 a in
       clash (given here) (ap given (check_first (outcome_told o.counted.outcome) ts (length s) bad) ∙
-      other_given (refusal (outcome_told o.counted.outcome).number (outcome_told o.counted.outcome).place) (unfold refusal in bad)) f)
+      other_given (refusal (outcome_told o.counted.outcome).number (outcome_told o.counted.outcome).place)
+      (unfold refusal in bad)) f)
 
   room : given here ≡ false → state_size ≤ length s
   room f =

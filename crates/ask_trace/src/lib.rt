@@ -12,8 +12,8 @@ ghost use Rattle.check_plan.specs.Counting.{outcome_told, SizesTold};
 ghost use Rattle.ask_trace.specs.Answer.{told, first_refusal, answer_by, state_by, counted_as};
 
 use check_plan::{Opened, PlanColumns, PlanCounts};
-use plan_format::{Refusal, Told};
 use plan_format::limits::{MOST_QUEUES, STATE_SIZE};
+use plan_format::{Refusal, Told};
 use plan_trace::{Followed, Traced};
 
 // The counts of a plan beside 0 and 0, or beside the number of a refusal and its place.

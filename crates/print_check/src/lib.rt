@@ -48,14 +48,12 @@ fn sizes(text: &mut Text, counts: PlanCounts)
     ensures { Adds (sizes_text counts) text.old text.new }
 {
     text.words(b"passed 0\nsize ");
-    text.line(
-        &[
-            counts.queues as u64,
-            counts.semaphores as u64,
-            counts.buffers as u64,
-            counts.operations as u64,
-        ],
-    );
+    text.line(&[
+        counts.queues as u64,
+        counts.semaphores as u64,
+        counts.buffers as u64,
+        counts.operations as u64,
+    ]);
 }
 
 // The lines of the run and of the ready numbers, each after the end of the line before.
