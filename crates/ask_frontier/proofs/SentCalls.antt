@@ -47,8 +47,8 @@ module _ {bs t x l y : List ℕ} (k : Counted) (j c : ℕ)
   pub then_answered : (r : Sent) → (outcome_told k.outcome).number ≡ 0 → SentTells (plan_in bs) j c r →
       FrontierRight bs j c r t x l y
   then_answered r z a =
-      frontier_right bs j c r t x l y
-      (asked_said bs j c t x l y (outcome_told k.outcome).number (outcome_told k.outcome).place checked.says z a)
+      frontier_right bs j c r t x l y (asked_said bs j c t x l y (outcome_told k.outcome).number
+      (outcome_told k.outcome).place checked.says z a)
 
 -- a plan that passes, opened
 pub sent_given : {p : Plan} {o : Opened} {c : Lent} {table : List ℕ} → OpenedPlan p o c table →

@@ -43,6 +43,6 @@ pub record CheckPrinted (bytes room room_now : List ℕ) (end : ℕ) : Type 0 wh
   pub list : List ℕ
   pub checked : Checked bytes (told_of counted) (replicate table_numbers 0) table (replicate list_numbers 0) list
   pub sizes : SizesTold bytes counted.counts
-  pub text :
-      Puts (or_refused (told_of counted).number (told_of counted).place (passed_text counted.counts table list)) room 0
+  pub text : Puts (or_refused (told_of counted).number (told_of counted).place
+      (passed_text counted.counts table list)) room 0
       room_now end

@@ -52,5 +52,5 @@ pub record TracePrinted (bytes trace room room_now : List ℕ) (end : ℕ) : Typ
   pub sizes : SizesTold bytes answer.counted.counts
   pub text :
       Puts (or_refused answer.counted.number answer.counted.place
-      (trace_text answer.traced answer.counted.counts.queues answer.counted.counts.semaphores state)) room 0
-      room_now end
+      (trace_text answer.traced answer.counted.counts.queues answer.counted.counts.semaphores state)) room 0 room_now
+      end
