@@ -14,7 +14,7 @@ ghost use Rattle.frontier.specs.Frontiers.{number_of_unfit, verdict};
 ghost use Rattle.frontier.specs.Meaning.{Looked, MergeRight, RaiseRight, DominanceMeans};
 ghost use Rattle.frontier.specs.Walks.{left_number};
 
-use cuts::{clear, first_slots};
+use cuts::{clear_both, first_slots};
 use form::{left, number};
 use frontier_slots::formed;
 use side::{Formed, Slots};
@@ -196,8 +196,7 @@ fn with_one(f: Frontier, axis: u64, epoch: u64, capacity: u32) -> Merged
         tainted: f.tainted,
     };
     let r = x.join_one(axis, epoch, capacity as usize, &mut axes, &mut epochs);
-    clear(&mut axes, r.len);
-    clear(&mut epochs, r.len);
+    clear_both(&mut axes, &mut epochs, r.len);
     let frontier = Frontier {
         axes: first_slots(&axes),
         epochs: first_slots(&epochs),
