@@ -178,7 +178,6 @@ fn finished(plan: &[u8], cursor: Cursor, read: Result<(), Reason>) -> Result<u64
 
 impl<'a> Reader<'a> {
     // What comes before the operations of a plan, in the form that is told.
-    #[inline(always)]
     fn front(&mut self, wide: bool) -> Result<Head, Stop>
         requires begins { Begins (form_by wide) self.old }
         requires room { front_numbers (form_by wide) + 1 ≤ length self.old.numbers.now }
@@ -205,7 +204,6 @@ impl<'a> Reader<'a> {
     }
 
     // The numbers of bytes taken as a plan in the form that is told, and how many they are.
-    #[inline(always)]
     fn whole(&mut self, wide: bool) -> Result<u64, Refusal>
         requires begins { Begins (form_by wide) self.old }
         requires room { form_numbers (form_by wide) ≤ length self.old.numbers.now }

@@ -112,7 +112,6 @@ impl<'a> Reader<'a> {
     }
 
     // So many operations, one after another.
-    #[inline(always)]
     pub fn several(&mut self, many: u64, wide: bool, counts: Counts) -> Result<(), Reason>
         requires { RoomFor (block_numbers * many) self.old }
         ensures room { self.new.numbers.ghost_name ≡ self.old.numbers.ghost_name }

@@ -42,7 +42,6 @@ pub fn lead(wide: bool) -> usize
 
 impl<'a> Reader<'a> {
     // The section of queues; how many there are.
-    #[inline(always)]
     fn axes(&mut self) -> Result<u64, Reason>
         requires { RoomFor (1 + most_queues) self.old }
         ensures { ReadsSection (counted 0 most_queues 1 axis_field) most_queues self.old result self.new }
@@ -55,7 +54,6 @@ impl<'a> Reader<'a> {
     }
 
     // The count of the semaphores: as many as the form has room for, and in the second form more than in the first.
-    #[inline(always)]
     fn semaphores(&mut self, wide: bool) -> Result<u64, Reason>
         requires { RoomFor 1 self.old }
         ensures { ReadsNumber (width_by wide)
@@ -70,7 +68,6 @@ impl<'a> Reader<'a> {
     }
 
     // The section of semaphores; how many there are.
-    #[inline(always)]
     fn owners(&mut self, wide: bool, queues: u64) -> Result<u64, Reason>
         requires { RoomFor (1 + (form_by wide).semaphores_most) self.old }
         ensures { ReadsSection (owned (form_by wide) (limited queues 4)) (form_by wide).semaphores_most self.old result
@@ -84,7 +81,6 @@ impl<'a> Reader<'a> {
     }
 
     // The section of buffers; how many there are.
-    #[inline(always)]
     fn sizes(&mut self) -> Result<u64, Reason>
         requires { RoomFor (1 + most_buffers) self.old }
         ensures { ReadsSection (counted 0 most_buffers 2 size_field) most_buffers self.old result self.new }
@@ -97,7 +93,6 @@ impl<'a> Reader<'a> {
     }
 
     // What comes before the operations: three sections and the count of the fourth.
-    #[inline(always)]
     pub fn head(&mut self, wide: bool) -> Result<(Counts, u64), Reason>
         requires begins { Begins (form_by wide) self.old }
         requires room { front_numbers (form_by wide) + 1 ≤ length self.old.numbers.now }
@@ -117,7 +112,6 @@ impl<'a> Reader<'a> {
     }
 
     // The four sections.
-    #[inline(always)]
     pub fn sections(&mut self, wide: bool) -> Result<(), Reason>
         requires begins { Begins (form_by wide) self.old }
         requires room { form_numbers (form_by wide) ≤ length self.old.numbers.now }
