@@ -58,12 +58,12 @@ module _ (bs cs : List ℕ) (read : ReadsAlike (scanned bs) (scanned cs)) where
   pub answered_alike : (q : Question) (o x : List ℕ) (e : ℕ) → Answered q bs o x e → Answered q cs o x e
   unfolding Answered
   answered_alike Check o x e w = record {
-    counts = w.counts;
+    counted = w.counted;
     table = w.table;
     list = w.list;
     checked = checked cs _ _ w.table _ w.list
         (check_says_alike bs cs read _ _ w.table _ w.list w.checked.says);
-    sizes = sizes_alike w.counts w.sizes;
+    sizes = sizes_alike w.counted.counts w.sizes;
     text = w.text;
   }
   answered_alike (Reuse q b) o x e w = record {
