@@ -45,7 +45,7 @@ fn write(rt: &HostRuntime, out: &mut [u8]) -> Result<usize, Said> {
     Ok(print_input::written(&list, kept, out))
 }
 
-// The text of what is asked.
+// The text of what is asked; or that a line on standard error says why there is none.
 fn answer(rt: &HostRuntime, out: &mut [u8]) -> Result<usize, Said> {
     match arguments::read_words(rt)? {
         Asked::Plan(question) => on_plan(rt, question, out),

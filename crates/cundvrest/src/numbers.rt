@@ -5,7 +5,7 @@ use base_decimal::NoNumber;
 use std::fmt;
 use std::io::{ErrorKind, Read};
 
-// What comes after so many numbers is none, or is one of 2^64 or more.
+// After so many numbers comes what is no number, or is one of 2^64 or more.
 #[derive(Clone, Copy, Debug, PartialEq, Eq, Hash)]
 struct Fault {
     before: u64,

@@ -60,7 +60,7 @@ fn shown(b: u8) -> char {
     }
 }
 
-// A whole line. Where standard error takes none, there is nowhere to say so.
+// A line after the program's name. Where standard error takes none, there is nowhere to say so.
 pub fn say(rt: &HostRuntime, line: &str) -> Said {
     let _ = eprintln!(rt; "cundvrest: {line}");
     Said
