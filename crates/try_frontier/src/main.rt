@@ -171,10 +171,15 @@ fn rows(rt: &impl Print) -> io::Result<()> {
     row(rt, frontier_rows::reaching(&low, &high[..2]))
 }
 
-fn main(rt: HostRuntime) -> io::Result<()> {
-    forms(&rt)?;
-    searches(&rt)?;
-    raises(&rt)?;
-    merges(&rt)?;
-    rows(&rt)
+fn cases(rt: &impl Print) -> io::Result<()> {
+    forms(rt)?;
+    searches(rt)?;
+    raises(rt)?;
+    merges(rt)?;
+    rows(rt)
+}
+
+// A write that fails is let go: where standard output takes none, there is nowhere to say so.
+fn main(rt: HostRuntime) {
+    let _ = cases(&rt);
 }

@@ -143,10 +143,15 @@ fn ends(rt: &impl Print) -> io::Result<()> {
     into_rooms(rt, &[37, 38, 39, 0])
 }
 
-fn main(rt: HostRuntime) -> io::Result<()> {
-    cuts(&rt)?;
-    counts(&rt)?;
-    positions(&rt)?;
-    values(&rt)?;
-    ends(&rt)
+fn cases(rt: &impl Print) -> io::Result<()> {
+    cuts(rt)?;
+    counts(rt)?;
+    positions(rt)?;
+    values(rt)?;
+    ends(rt)
+}
+
+// A write that fails is let go: where standard output takes none, there is nowhere to say so.
+fn main(rt: HostRuntime) {
+    let _ = cases(&rt);
 }

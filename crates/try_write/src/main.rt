@@ -38,13 +38,13 @@ fn changed(rt: &impl Print, changes: &[(usize, u64)]) -> io::Result<()> {
     Ok(())
 }
 
-// T3 with so many zeros after it, a megabyte of them at most.
-fn longer(rt: &impl Print, more: usize) -> io::Result<()>
-    requires { more ≤ 131072 }
+// T3 and zeros after it, so many numbers in all, a megabyte of them at most.
+fn longer<const NUMBERS: usize>(rt: &impl Print) -> io::Result<()>
+    requires { (38 ≤ NUMBERS) × (NUMBERS ≤ 131110) }
 {
-    let mut long = [0u64; 131110];
+    let mut long = [0u64; NUMBERS];
     long[..38].copy_from_slice(&T3);
-    write(rt, &long[..38 + more])
+    write(rt, &long)
 }
 
 // T3 written into the first bytes of 98, each 7, for each size of room: what is handed back, then the bytes.
@@ -61,14 +61,14 @@ fn into_rooms(rt: &impl Print, sizes: &[usize]) -> io::Result<()> {
     Ok(())
 }
 
-fn main(rt: HostRuntime) -> io::Result<()> {
+fn cases(rt: &impl Print) -> io::Result<()> {
     println!(rt; "cut short")?;
     for n in 0..39usize {
-        write(&rt, &T3[..n])?;
+        write(rt, &T3[..n])?;
     }
     println!(rt; "counts one over their limits")?;
     changed(
-        &rt,
+        rt,
         &[
             (0, 17),
             (4, 1025),
@@ -80,22 +80,27 @@ fn main(rt: HostRuntime) -> io::Result<()> {
         ],
     )?;
     println!(rt; "no such owner, queue, semaphore, buffer, kind")?;
-    changed(&rt, &[(6, 3), (10, 3), (13, 2), (32, 2), (36, 1), (37, 2)])?;
+    changed(rt, &[(6, 3), (10, 3), (13, 2), (32, 2), (36, 1), (37, 2)])?;
     println!(rt; "numbers that look good in their low bytes")?;
     changed(
-        &rt,
+        rt,
         &[(0, 259), (6, 257), (7, 65537), (10, 256), (36, 65536)],
     )?;
     println!(rt; "an axis twice")?;
-    changed(&rt, &[(2, 1), (3, 1), (3, 2)])?;
+    changed(rt, &[(2, 1), (3, 1), (3, 2)])?;
     println!(rt; "waits for 0, one after the other; a signal of 0")?;
-    changed(&rt, &[(21, 0), (33, 0), (14, 0)])?;
+    changed(rt, &[(21, 0), (33, 0), (14, 0)])?;
     println!(rt; "numbers after the last field")?;
-    longer(&rt, 1)?;
-    longer(&rt, 2)?;
-    longer(&rt, 131072)?;
+    longer::<39>(rt)?;
+    longer::<40>(rt)?;
+    longer::<131110>(rt)?;
     println!(rt; "sizes of buffers")?;
-    changed(&rt, &[(8, 4294967295), (8, 4294967296), (8, u64::MAX)])?;
+    changed(rt, &[(8, 4294967295), (8, 4294967296), (8, u64::MAX)])?;
     println!(rt; "room")?;
-    into_rooms(&rt, &[0, 95, 96, 97])
+    into_rooms(rt, &[0, 95, 96, 97])
+}
+
+// A write that fails is let go: where standard output takes none, there is nowhere to say so.
+fn main(rt: HostRuntime) {
+    let _ = cases(&rt);
 }
