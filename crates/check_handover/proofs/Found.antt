@@ -11,6 +11,8 @@ use lib.Dec.{leb, eqb}
 use lib.ListN.{length, get_or, set, drop, replicate, length-set, length-replicate, get_or-replicate}
 use lib.Seq.{get_or-set_same, get_or-set_other}
 use borrow.Author.Tests.{leb-true, leb-false, le-leb, lt-leb, lt-ltb, le-ltb, eqb-true, eqb-false, not-true, not-false}
+use Rattle.std.specs.Prelude.{unwrap_or, IfSome}
+use Rattle.std.specs.Prelude as option
 use Rattle.base_lists.specs.Lists.{place_or}
 use Rattle.base_lists.proofs.Tests.{by_cases, by_option, clash, either}
 use Rattle.base_lists.proofs.Pairwise.{Pairwise, pairwise_head, pairwise_tail}
@@ -109,13 +111,13 @@ module _ (p : Plan) (n semaphores signals : ℕ) (owned : Bool) (queue ssem sop 
       let q : x.operation ≡ g = cc in subst (λ (z : ℕ). z < count p) q (h x (Memᴰ.head refl)))
       (λ f. earlier_inside s g xs (λ y m. h y (Memᴰ.tail m)) (rw f at e))
 
-  walked : (k : ℕ) (table : List ℕ) (bs xs : List Signal) → drop k (plan_signals p) ≡ xs →
+  walked : (m k : ℕ) (table : List ℕ) (bs xs : List Signal) → drop k (plan_signals p) ≡ xs →
       ((y : Signal) → Memᴰ y xs → Memᴰ y (plan_signals p)) →
       ((y : Signal) → Memᴰ y bs → y.operation < count p) → Shows semaphores table bs →
-      turn_walk queue rows ssem sop n (length xs) k table ≡ first_out out n bs xs
+      turn_walk queue rows ssem sop m (length xs) k table ≡ first_out out m bs xs
   unfolding turn_walk first_out
-  walked k table bs [] e sub below w = refl
-  walked k table bs (x ∷ xs) e sub below w =
+  walked m k table bs [] e sub below w = refl
+  walked m k table bs (x ∷ xs) e sub below w =
       let d = begins no_signal (plan_signals p) k x xs e in
       let in_plan = sub x (Memᴰ.head refl) in
       let kn = known x in_plan in
@@ -135,9 +137,9 @@ module _ (p : Plan) (n semaphores signals : ℕ) (owned : Bool) (queue ssem sop 
         sem,
         cut,
         test,
-        walked (suc k) (set table x.semaphore x.operation) (x ∷ bs) xs d.on
-            (λ y m. sub y (Memᴰ.tail m))
-            (λ y m. either (Memᴰ.cases_cons m)
+        walked m (suc k) (set table x.semaphore x.operation) (x ∷ bs) xs d.on
+            (λ y u. sub y (Memᴰ.tail u))
+            (λ y u. either (Memᴰ.cases_cons u)
             (λ q. subst (λ (z : Signal). z.operation < count p) (sym q) kn.0)
             (λ t. below y t))
             (shows_more semaphores table bs x kn.1 w),
@@ -217,11 +219,16 @@ module _ (p : Plan) where
       (λ u. clash (met forced a) (head_met o x f a u) e)
       (λ u. out_least n (x ∷ bs) xs (pairwise_tail Sooner no_signal x xs rise) a u e)))
 
-  lowest_out : first_out apart (count p) [] (plan_signals p) ≡ place_or (count p) (disordered p)
+  lowest_inside : (i : ℕ) → disordered p ≡ some i → i < count p
+  lowest_inside i e =
+      let w = (disordered_some p i e).0 in omega (arith, w.1.own, handover_inside p w.0 w.1.among)
+
+  -- any number from the plan's length on may stand for none
+  lowest_out : (m : ℕ) → count p ≤ m → first_out apart m [] (plan_signals p) ≡ place_or m (disordered p)
   unfolding place_or handovers
-  lowest_out =
-      let r = first_out apart (count p) [] (plan_signals p) in
-      let found = out_found (count p) [] (plan_signals p) in
+  lowest_out m far =
+      let r = first_out apart m [] (plan_signals p) in
+      let found = out_found m [] (plan_signals p) in
       by_option (disordered p)
       (λ e. rw e (either found (λ q. q) (λ w. clash (met forced w.0) (disordered_none p e w.0 w.1) w.2)))
       (λ i e. let s = disordered_some p i e in
@@ -230,33 +237,51 @@ module _ (p : Plan) where
       let low : r ≤ i = omega (
         arith,
         u.own,
-        out_least (count p) [] (plan_signals p) (plan_rising p) a u.among u.unforced,
+        out_least m [] (plan_signals p) (plan_rising p) a u.among u.unforced,
       ) in
-      let in_it : i < count p = omega (arith, u.own, handover_inside p a u.among) in
+      let in_it : i < count p = lowest_inside i e in
       rw e (either found (λ q. absurd (omega (arith, q)))
       (λ w. by_cases (leb i r) (λ t. omega (arith, leb-true i r t))
       (λ f. clash (met forced w.0) (s.1 w.0 w.1 (omega (arith, w.3, leb-false i r f))) w.2))))
 
-unturned_found : (p : Plan) (n semaphores signals : ℕ) (owned : Bool) (queue ssem sop rows : List ℕ) →
-    HandoversGiven p n semaphores signals owned queue ssem sop rows →
-    first_unturned queue rows ssem sop owned n semaphores signals ≡ place_or n (disordered p)
+unturned_past : (p : Plan) (n semaphores signals : ℕ) (owned : Bool) (queue ssem sop rows : List ℕ) →
+    HandoversGiven p n semaphores signals owned queue ssem sop rows → (m : ℕ) → n ≤ m →
+    first_unturned queue rows ssem sop owned m semaphores signals ≡ place_or m (disordered p)
 unfolding first_unturned turns_found place_or
-unturned_found p n semaphores signals owned queue ssem sop rows c =
+unturned_past p n semaphores signals owned queue ssem sop rows c m far =
     let all : held signals ssem sop ≡ length (plan_signals p) =
     omega (arith, c.signals_shown.semaphore_room, c.signals_shown.operation_room, c.signals_shown.all) in
     by_cases owned
     (λ t. rw (t, in_turn p (c.only_owners t)) refl)
-    (λ f. rw (all, f, ← c.many)
-    (walked p (count p) semaphores signals owned queue ssem sop rows
-    (subst (λ (z : ℕ). HandoversGiven p z semaphores signals owned queue ssem sop rows) (sym c.many) c) 0
-    (none_yet semaphores) [] (plan_signals p) refl (λ y m. m) (λ y m. absurd (Memᴰ.not-nil m))
+    (λ f. rw (all, f)
+    (walked p n semaphores signals owned queue ssem sop rows c m 0
+    (none_yet semaphores) [] (plan_signals p) refl (λ y u. u) (λ y u. absurd (Memᴰ.not-nil u))
     (shows_none semaphores c.few_semaphores)
-    ∙ lowest_out p))
+    ∙ lowest_out p m (omega (arith, c.many))))
 
-pub plans_by : {p : Plan} {n semaphores signals : ℕ} {owned : Bool} {queue ssem sop rows : List ℕ} {r : ℕ} →
-    r ≡ first_unturned queue rows ssem sop owned n semaphores signals →
-    HandoversGiven p n semaphores signals owned queue ssem sop rows → r ≡ place_or n (disordered p)
-plans_by e c = e ∙ unturned_found _ _ _ _ _ _ _ _ _ c
+pub unturned_found : (p : Plan) (n semaphores signals : ℕ) (owned : Bool) (queue ssem sop rows : List ℕ) →
+    HandoversGiven p n semaphores signals owned queue ssem sop rows →
+    first_unturned queue rows ssem sop owned n semaphores signals ≡ place_or n (disordered p)
+unturned_found p n semaphores signals owned queue ssem sop rows c =
+    unturned_past p n semaphores signals owned queue ssem sop rows c n (omega arith)
+
+module _ {p : Plan} {n semaphores signals : ℕ} {owned : Bool} {queue ssem sop rows : List ℕ} where
+  pub plans_by : {r : ℕ} → r ≡ first_unturned queue rows ssem sop owned n semaphores signals →
+      HandoversGiven p n semaphores signals owned queue ssem sop rows → r ≡ place_or n (disordered p)
+  plans_by e c = e ∙ unturned_found _ _ _ _ _ _ _ _ _ c
+
+  -- an operation that is given whatever stands for none is one of the plan
+  pub below_by : (r : option.Option ℕ) →
+      ((m : ℕ) → unwrap_or r m ≡ first_unturned queue rows ssem sop owned m semaphores signals) →
+      HandoversGiven p n semaphores signals owned queue ssem sop rows → IfSome r (λ i. i < n)
+  unfolding place_or
+  below_by option.None e c = tt
+  below_by (option.Some i) e c =
+      let here = e n ∙ unturned_found _ _ _ _ _ _ _ _ _ c in
+      let further = e (suc n) ∙ unturned_past _ _ _ _ _ _ _ _ _ c (suc n) (omega arith) in
+      by_option (disordered p)
+      (λ z. absurd (omega (arith, rw z at here, rw z at further)))
+      (λ j z. omega (arith, rw z at here, lowest_inside p j z, c.many))
 
 -- what is found: none where only owners are said to signal, else by the walk with places for the last signallers
 module _ (queue rows ssem sop : List ℕ) (n semaphores signals : ℕ) (owned : Bool) where

@@ -3,7 +3,7 @@
 // signal's operation tell whether it is the same or before.
 #![tactic(auto)]
 
-ghost use Rattle.std.specs.Prelude.{◌≡◌, ℕ, ◌≤◌, ◌<◌, unwrap_or, replicate};
+ghost use Rattle.std.specs.Prelude.{◌≡◌, ℕ, ◌≤◌, ◌<◌, IfSome, unwrap_or, replicate};
 ghost use Rattle.base_lists.specs.Lists.{place_or};
 ghost use Rattle.plan_format.specs.Sizes.{most_semaphores, most_operations, no_operation};
 ghost use Rattle.plan_format.specs.Plan.{Plan};
@@ -23,8 +23,8 @@ const MOST: u16 = MOST_OPERATIONS as u16;
 // None where only owners are said to signal, and no row is looked at. Else the operation of the first signal that is
 // neither in nor after the operation of the signal before it on its semaphore, if there is one. Of the signals only
 // those count that both columns hold. By the columns of a plan, where what is said of owners is so, it is the lowest
-// operation with a signal out of turn. The last signallers have places for 64 semaphores, or for all that a plan can
-// have where it has more; past them operation 0 counts as the last one.
+// operation with a signal out of turn, and below n. The last signallers have places for 64 semaphores, or for all that
+// a plan can have where it has more; past them operation 0 counts as the last one.
 #[tactic(auto, using(crate::proofs::Found::owners_is, crate::proofs::Found::walk_few, crate::proofs::Found::walk_many))]
 pub fn disordered(
     n: u16,
@@ -36,8 +36,12 @@ pub fn disordered(
     sop: &[u16],
     rows: &Rows,
 ) -> Option<usize>
+    ensures exact { (m : ℕ) → unwrap_or result m ≡ first_unturned queue.now rows.now ssem.now
+        sop.now owned m semaphores signals }
     ensures found { unwrap_or result n ≡ first_unturned queue.now rows.now ssem.now
         sop.now owned n semaphores signals }
+    ensures below { (p : Plan) → HandoversGiven p n semaphores signals owned queue.now
+        ssem.now sop.now rows.now → IfSome result (λ i. i < n) }
     ensures of_plans { (p : Plan) → HandoversGiven p n semaphores signals owned queue.now
         ssem.now sop.now rows.now → unwrap_or result n ≡ place_or n (out_of_turn p) }
 {

@@ -11,7 +11,7 @@ use lib.Dec.{ltb, eqb}
 use lib.ListN.{length, length-set, length-replicate, get_or-replicate}
 use lib.Seq.{get_or-set_same, get_or-set_other}
 use borrow.Author.Tests.{ltb-true, ltb-false, eqb-true, eqb-false, eq-eqb, ne_eqb}
-use Rattle.std.specs.Prelude.{unwrap_or}
+use Rattle.std.specs.Prelude.{unwrap_or, IfSome}
 use Rattle.std.specs.Bool.{then_some}
 use Rattle.std.specs.Prelude as option
 use Rattle.base_lists.specs.Lists.{place_or}
@@ -123,6 +123,11 @@ freed_after : (m : Marked) (ms : List Marked) (b : ℕ) →
     freed_by (of_buffer b (m ∷ ms)) ≡ after (λ b. freed_by (of_buffer b ms)) m b
 unfolding of_buffer after freed_by free_after
 freed_after m ms b = by_cases (eqb m.buffer b) (λ t. rw t) (λ f. rw f)
+
+-- the broken mark's operation is one of the plan
+broken_inside : (p : Plan) (i : ℕ) → broken p ≡ some i → i < count p
+broken_inside p i e =
+    let w = (broken_some p i e).0 in omega (arith, w.1.asked, (asked_marks p w.1.buffer w.0 w.1.among).inside)
 
 -- ---- the passes find the first that is not met
 module _ (p : Plan) (sound : Sound p) (few : length p.sizes ≤ 256) (f : List ℕ) (full : is_full p f ≡ true)
@@ -250,7 +255,7 @@ module _ (p : Plan) (sound : Sound p) (few : length p.sizes ≤ 256) (f : List �
       (λ i e. let s = broken_some p i e in
       let a = s.0.0 in
       let b = s.0.1 in
-      let inside : i < count p = omega (arith, b.asked, (asked_marks p b.buffer a b.among).inside) in
+      let inside = broken_inside p i e in
       let first = none_lower us (uses_all p known) i inside e in
       let second = none_lower rs (reuses_all p known) i inside e in
       rw e (either (all_asks_split p a (all_asks_has p b.buffer a b.known b.among))
@@ -281,7 +286,15 @@ lower_found n o many held cut x y lowest queue mark operation rows r n_is h c l 
     (λ t. rw (r_is, t) (sym n_is ∙ sym (eqb-true lowest o t) ∙ all))
     (λ f. rw (r_is, f) all)
 
-broken_found : (p : Plan) (n many : ℕ) (queue mark operation rows : List ℕ) →
+-- and the number for none is not handed back
+pub lower_apart : (n o lowest : ℕ) (r : option.Option ℕ) → o ≡ n → r ≡ then_some (not (eqb lowest o)) lowest →
+    IfSome r (λ i. i ≡ n → ⊥)
+lower_apart n o lowest r n_is r_is =
+    by_cases (eqb lowest o)
+    (λ t. rw (r_is, t) tt)
+    (λ f. rw (r_is, f) (λ e. eqb-false lowest o f (e ∙ sym n_is)))
+
+pub broken_found : (p : Plan) (n many : ℕ) (queue mark operation rows : List ℕ) →
     MarksGiven p n many queue mark operation rows →
     first_broken queue rows n many mark operation ≡ place_or n (broken p)
 unfolding first_broken
@@ -300,7 +313,18 @@ broken_found p n many queue mark operation rows c =
     )
     (lowest_found p c.sound c.few_buffers c.run c.full queue rows c.queues_shown c.rows_shown)
 
-pub plans_by : {p : Plan} {n many r : ℕ} {queue mark operation rows : List ℕ} →
-    r ≡ first_broken queue rows n many mark operation → MarksGiven p n many queue mark operation rows →
-    r ≡ place_or n (broken p)
-plans_by e c = e ∙ broken_found _ _ _ _ _ _ _ c
+module _ {p : Plan} {n many : ℕ} {queue mark operation rows : List ℕ} where
+  pub plans_by : {r : ℕ} → r ≡ first_broken queue rows n many mark operation →
+      MarksGiven p n many queue mark operation rows → r ≡ place_or n (broken p)
+  plans_by e c = e ∙ broken_found _ _ _ _ _ _ _ c
+
+  -- an operation other than n is one of the plan
+  pub below_by : (r : option.Option ℕ) → unwrap_or r n ≡ first_broken queue rows n many mark operation →
+      IfSome r (λ i. i ≡ n → ⊥) → MarksGiven p n many queue mark operation rows → IfSome r (λ i. i < n)
+  unfolding place_or
+  below_by option.None e apart c = tt
+  below_by (option.Some i) e apart c =
+      let here = e ∙ broken_found _ _ _ _ _ _ _ c in
+      by_option (broken p)
+      (λ z. absurd (apart (rw z at here)))
+      (λ j z. omega (arith, rw z at here, broken_inside p j z, c.many))

@@ -4,7 +4,7 @@
 // for a mark does not branch on it.
 #![tactic(auto)]
 
-ghost use Rattle.std.specs.Prelude.{◌≡◌, cond, List, ℕ, ◌+◌, ◌*◌, ◌%◌, ◌<◌, ◌≤◌, eqb, length, unwrap_or};
+ghost use Rattle.std.specs.Prelude.{◌≡◌, cond, List, ℕ, ◌+◌, ◌*◌, ◌%◌, ◌<◌, ◌≤◌, eqb, length, IfSome, unwrap_or};
 ghost use Rattle.plan_format.specs.Sizes.{most_operations, row_width, no_operation};
 ghost use Rattle.plan_format.specs.Plan.{Plan};
 ghost use Rattle.plan_order.specs.Holdings.{broken as broken_mark};
@@ -21,8 +21,8 @@ use plan_format::limits::{MOST_BUFFERS, MOST_OPERATIONS, NO_OPERATION, ROW_WIDTH
 const NO_ROW: u16 = (ROW_WIDTH * NO_OPERATION) as u16;
 
 // The lower of what the two passes find by the marks that the columns hold, if they find something. By the columns of a
-// plan it is the lowest operation with a broken mark. The passes give n for none, which is above every operation, so
-// that the lower of their answers is the least number.
+// plan it is the lowest operation with a broken mark, and below n. The passes give n for none, which is above every
+// operation of a plan, so that the lower of their answers is the least number; n itself is never handed back.
 pub fn broken(
     n: u16,
     marks: usize,
@@ -33,6 +33,10 @@ pub fn broken(
 ) -> Option<usize>
     ensures found { unwrap_or result n ≡ first_broken queue.now rows.now n marks mark.now
         mop.now }
+    ensures apart { IfSome result (λ i. i ≡ n → ⊥) }
+    ensures below { (p : Plan) →
+        MarksGiven p n marks queue.now mark.now mop.now rows.now →
+        IfSome result (λ i. i < n) }
     ensures of_plans { (p : Plan) →
         MarksGiven p n marks queue.now mark.now mop.now rows.now →
         unwrap_or result n ≡ place_or n (broken_mark p) }
