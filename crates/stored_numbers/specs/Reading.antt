@@ -1,6 +1,6 @@
 -- What the reader's functions say: the reading that a cursor stands for, and what is handed back of it.
 -- Assumes nothing: these are definitions.
-use Rattle.std.specs.Prelude.{◌≡◌, Bool, false, cond, List, [], ◌∷◌, ◌++◌, ℕ, ◌+◌, ◌*◌, ◌≤◌, ◌<◌, min, eqb, length}
+use Rattle.std.specs.Prelude.{◌≡◌, Bool, cond, List, [], ◌∷◌, ◌++◌, ℕ, ◌+◌, ◌*◌, ◌≤◌, ◌<◌, min, eqb, length}
 use Rattle.std.specs.Prelude.{take, drop, Result, Ok, Err, IfOk}
 use Rattle.base_lists.specs.Lists.{in_front}
 use Rattle.plan_format.specs.Sizes.{most_queues, first_semaphores, most_buffers, most_operations, head_numbers}
@@ -171,7 +171,20 @@ pub record ToldHead : Type 0 where
   pub buffers : ℕ
   pub operations : ℕ
 
--- R53, what is told by a head that was read, or by where its reading stopped: beside a refusal the counts are 0
+-- beside a refusal the counts are 0
+abbrev pub refused_head : (number at got : ℕ) → ToldHead
+refused_head number at got =
+    record {
+      number = number;
+      at = at;
+      got = got;
+      queues = 0;
+      semaphores = 0;
+      buffers = 0;
+      operations = 0;
+    }
+
+-- R53, what is told by a head that was read, or by where its reading stopped
 abbrev pub head_told : Result Head Stop → ToldHead
 head_told (Ok h) =
     record {
@@ -183,21 +196,12 @@ head_told (Ok h) =
       buffers = h.buffers;
       operations = h.operations;
     }
-head_told (Err s) =
-    record {
-      number = number_of s.reason;
-      at = s.at;
-      got = s.got;
-      queues = 0;
-      semaphores = 0;
-      buffers = 0;
-      operations = 0;
-    }
+head_told (Err s) = refused_head (number_of s.reason) s.at s.got
 
--- R8, whether a head that was read is in the second form; where its reading stopped, nothing more is read by that
+-- R8, whether a head is in the second form, be it read, or its reading stopped
 abbrev pub is_wide : Result Head Stop → Bool
 is_wide (Ok h) = h.wide
-is_wide (Err s) = false
+is_wide (Err s) = s.wide
 
 -- what `read_head` hands back of that reading, and the array
 pub record HeadTold (s : Scan) (nums : List ℕ) (h : ToldHead) (nums_now : List ℕ) : Type 0 where
@@ -253,7 +257,7 @@ head_of (Ok (k, n)) c =
       buffers = k.buffers;
       operations = n;
     }
-head_of (Err e) c = head_told (Err (record { reason = e; at = c.at; got = c.got }))
+head_of (Err e) c = refused_head (number_of e) c.at c.got
 
 -- a head is read
 pub record HeadReads (F : Form) (old : Reader) (r : Result (Counts × ℕ) Reason) (new : Reader) : Type 0 where

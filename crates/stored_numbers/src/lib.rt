@@ -7,7 +7,7 @@ mod operation;
 mod reader;
 mod section;
 
-ghost use Rattle.std.specs.Prelude.{◌≡◌, List, false, ℕ, ◌+◌, ◌≤◌, length, take, IfOk};
+ghost use Rattle.std.specs.Prelude.{◌≡◌, List, false, ℕ, ◌+◌, ◌≤◌, length, take, IfErr};
 ghost use Rattle.base_lists.specs.Lists.{in_front};
 ghost use Rattle.plan_format.specs.Form.{is_second, first_form, form_in, form_by, width_by, scanned_by};
 ghost use Rattle.plan_format.specs.Grammar.{bytes, ended};
@@ -57,12 +57,14 @@ pub struct End {
     pub got: usize,
 }
 
-// Where a reading stopped, and why: the reason; the place, a byte; how many numbers are stored.
+// Where a reading stopped, and why: the reason; the place, a byte; how many numbers are stored; and whether it was of
+// the second form, in which a semaphore's position takes two bytes.
 #[derive(Clone, Copy, Debug, PartialEq, Eq, Hash)]
 pub struct Stop {
     pub reason: Reason,
     pub at: usize,
     pub got: usize,
+    pub wide: bool,
 }
 
 impl From<Stop> for Refusal {
@@ -84,7 +86,7 @@ pub fn is_second(plan: &[u8]) -> bool
 // The numbers before the operations, in front of the array, with the four counts; or the first of refusals 1, 2, 4 and
 // 5 that is met there, and where. Past the numbers read the array stays.
 pub fn read_head(plan: &[u8], numbers: &mut [u64; HEAD_NUMBERS]) -> Result<Head, Stop>
-    ensures form { IfOk result (λ head. head.wide ≡ is_second plan.now) }
+    ensures form { is_wide result ≡ is_second plan.now }
     ensures told { HeadTold (head_scan plan.now) numbers.old (head_told result) numbers.new }
     ensures means { HeadRead (form_in plan.now) plan.now (head_told result) numbers.new }
 {
@@ -103,7 +105,7 @@ pub fn read_head(plan: &[u8], numbers: &mut [u64; HEAD_NUMBERS]) -> Result<Head,
 
 // The same of bytes taken as a plan in the first form, whatever the first byte is: fewer numbers have to be cleared.
 pub fn read_first_head(plan: &[u8], numbers: &mut FirstHeadNumbers) -> Result<Head, Stop>
-    ensures form { IfOk result (λ head. head.wide ≡ false) }
+    ensures form { is_wide result ≡ false }
     ensures told { HeadTold (head_scan_by first_form plan.now) numbers.old (head_told result) numbers.new }
     ensures means { HeadRead first_form plan.now (head_told result) numbers.new }
 {
@@ -130,6 +132,7 @@ pub fn read_operation(
     ensures told { OperationTold (width_by wide) queues semaphores buffers plan.now at window.old (end_told result)
         window.new }
     ensures means { OperationRead (width_by wide) queues semaphores buffers plan.now at (end_told result) window.new }
+    ensures form { IfErr result (λ stop. stop.wide ≡ wide) }
 {
     let counts = Counts {
         queues,
@@ -149,7 +152,12 @@ pub fn read_operation(
     let Cursor { at, got } = reader.cursor;
     match read {
         Ok(()) => Ok(End { at, got }),
-        Err(reason) => Err(Stop { reason, at, got }),
+        Err(reason) => Err(Stop {
+            reason,
+            at,
+            got,
+            wide,
+        }),
     }
 }
 
@@ -182,25 +190,33 @@ impl<'a> Reader<'a> {
         requires begins { Begins (form_by wide) self.old }
         requires room { front_numbers (form_by wide) + 1 ≤ length self.old.numbers.now }
         ensures same_room { self.new.numbers.ghost_name ≡ self.old.numbers.ghost_name }
-        ensures form { IfOk result (λ head. head.wide ≡ wide) }
+        ensures form { is_wide result ≡ wide }
         ensures told { HeadTold (head_scan_by (form_by wide) self.old.plan.now) self.old.numbers.now
             (head_told result) self.new.numbers.now }
         ensures means { HeadRead (form_by wide) self.old.plan.now (head_told result) self.new.numbers.now }
     {
         let head = self.head(wide);
         let Cursor { at, got } = self.cursor;
-        match head {
-            Ok((counts, operations)) => Ok(Head {
-                at,
-                got,
-                queues: counts.queues,
-                semaphores: counts.semaphores,
-                buffers: counts.buffers,
-                operations,
-                wide,
-            }),
-            Err(reason) => Err(Stop { reason, at, got }),
-        }
+        let (counts, operations) = match head {
+            Ok(read) => read,
+            Err(reason) => {
+                return Err(Stop {
+                    reason,
+                    at,
+                    got,
+                    wide,
+                });
+            }
+        };
+        Ok(Head {
+            at,
+            got,
+            queues: counts.queues,
+            semaphores: counts.semaphores,
+            buffers: counts.buffers,
+            operations,
+            wide,
+        })
     }
 
     // The numbers of bytes taken as a plan in the form that is told, and how many they are.

@@ -9,7 +9,6 @@ use lib.ListN.{length, get_or, take, drop, replicate, length-drop, drop_of_lengt
 use lib.Seq.{take_at, take_all}
 use mir.Syntax.{w8}
 use mir.Val.{Fits}
-use Rattle.std.specs.Prelude.{IfOk}
 use Rattle.base_lists.specs.Lists.{in_front}
 use Rattle.plan_format.specs.Form.{form_in, form_by, is_second, first_form, scanned_by}
 use Rattle.plan_format.specs.Grammar.{bytes, Scan}
@@ -23,7 +22,7 @@ use Rattle.plan_format.specs.declared.refusal.Reason.TheVariants.{RoomTooShort}
 use Rattle.plan_format.proofs.HandedBack.{answer_long, not_read, no_room, stored}
 use Rattle.plan_format.proofs.Judged.{zero_not_given}
 use Rattle.plan_format.proofs.RoundTripRoom.{bytes_by, read_means}
-use Rattle.stored_numbers.specs.Reading.{head_scan, head_told, HeadTold, HeadRead, Ends}
+use Rattle.stored_numbers.specs.Reading.{head_scan, head_told, is_wide, HeadTold, HeadRead, Ends}
 use Rattle.stored_numbers.proofs.Fields.{reason_given}
 use Rattle.stored_numbers.proofs.Rests.{rest_by}
 use Rattle.stored_read.specs.declared.Heading.{Heading}
@@ -97,7 +96,7 @@ module _ (bs : List ℕ) (fit : (i : ℕ) → Fits w8 (get_or bs i 0)) (at : ℕ
   -- what `read_head` says of a part of the bytes
   abbrev pub Says : (part : List ℕ) → Type 0
   Says part =
-      IfOk h.head (λ x. x.wide ≡ is_second part)
+      (is_wide h.head ≡ is_second part)
       × (HeadTold (head_scan part) (replicate head_numbers 0) (head_told h.head) h.numbers
       × HeadRead (form_in part) part (head_told h.head) h.numbers)
 

@@ -1,6 +1,6 @@
 -- What is said of a plan that is read in two parts: its head, and from a place on the rest. Assumes nothing: these are
 -- definitions.
-use Rattle.std.specs.Prelude.{◌≡◌, true, List, ℕ, length, drop, replicate, IfOk}
+use Rattle.std.specs.Prelude.{◌≡◌, true, List, ℕ, length, drop, replicate}
 use Rattle.plan_format.specs.Form.{form_in, width_by, is_second}
 use Rattle.plan_format.specs.Refusal.{or_refusal}
 use Rattle.plan_format.specs.Sizes.{head_numbers}
@@ -11,7 +11,7 @@ use Rattle.stored_read.specs.declared.Heading.{Heading}
 
 -- the head of the plan that begins at a place, and its numbers in front of zeros; what was lent are bytes
 pub record HeadingTold (bytes : List ℕ) (at : ℕ) (h : Heading) : Type 0 where
-  pub form : IfOk h.head (λ x. x.wide ≡ is_second (drop at bytes))
+  pub form : is_wide h.head ≡ is_second (drop at bytes)
   pub told : HeadTold (head_scan (drop at bytes)) (replicate head_numbers 0) (head_told h.head) h.numbers
   pub means : HeadRead (form_in (drop at bytes)) (drop at bytes) (head_told h.head) h.numbers
   pub are_bytes : all_bytes bytes ≡ true
