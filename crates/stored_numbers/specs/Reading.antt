@@ -18,6 +18,7 @@ use Rattle.plan_format.specs.Stored.{scanned, Tells}
 use Rattle.plan_format.specs.declared.Told.{Told}
 use Rattle.stored_numbers.specs.declared.End.{End}
 use Rattle.stored_numbers.specs.declared.Head.{Head}
+use Rattle.stored_numbers.specs.declared.RefusedFor.{RefusedFor}
 use Rattle.stored_numbers.specs.declared.Stop.{Stop}
 use Rattle.stored_numbers.specs.declared.reader.Cursor.{Cursor}
 use Rattle.stored_numbers.specs.declared.operation.Counts.{Counts}
@@ -184,9 +185,9 @@ refused_head number at got =
       operations = 0;
     }
 
--- R53, what is told by a head that was read, or by where its reading stopped
-abbrev pub head_told : Result Head Stop → ToldHead
-head_told (Ok h) =
+-- R53, what is told by a head that was read, or by where its reading stopped, for a reason that has a number
+abbrev pub head_told_by : {R : Type 0} → (number : R → ℕ) → Result Head (Stop R) → ToldHead
+head_told_by number (Ok h) =
     record {
       number = 0;
       at = h.at;
@@ -196,10 +197,13 @@ head_told (Ok h) =
       buffers = h.buffers;
       operations = h.operations;
     }
-head_told (Err s) = refused_head (number_of s.reason) s.at s.got
+head_told_by number (Err s) = refused_head (number s.reason) s.at s.got
+
+abbrev pub head_told : Result Head (Stop Reason) → ToldHead
+head_told r = head_told_by number_of r
 
 -- R8, whether a head is in the second form, be it read, or its reading stopped
-abbrev pub is_wide : Result Head Stop → Bool
+abbrev pub is_wide : {R : Type 0} → Result Head (Stop R) → Bool
 is_wide (Ok h) = h.wide
 is_wide (Err s) = s.wide
 
@@ -282,7 +286,7 @@ operation_scan width q m b bs at =
     (scan (drop from bs) from [] none_given)
 
 -- R53, how far a reading has come by the end of an operation, or by where its reading stopped
-abbrev pub end_told : Result End Stop → Reached
+abbrev pub end_told : Result End (Stop Reason) → Reached
 end_told (Ok e) = record { number = 0; at = e.at; got = e.got }
 end_told (Err s) = record { number = number_of s.reason; at = s.at; got = s.got }
 
@@ -300,6 +304,11 @@ pub record OperationRead (width q m b : ℕ) (bs : List ℕ) (at : ℕ) (r : Rea
     pub few : r.got ≤ block_numbers
 
 -- ---- a plan
+-- R13, R37: the number and the place of a refusal whose reason has a number, or 0 and 0 with the answer
+abbrev pub told_for : {R : Type 0} → (number : R → ℕ) → Result ℕ (RefusedFor R) → Told
+told_for number (Ok n) = record { number = 0; place = 0; answer = n }
+told_for number (Err e) = record { number = number e.reason; place = e.place; answer = 0 }
+
 -- what is told of a reading that has come to its end: its refusal, or how many numbers it got
 unfoldable pub Ends : Scan → Told → Type 0
 Ends s r = Tells s.fault (length s.got) r
