@@ -199,6 +199,7 @@ head_told_by number (Ok h) =
     }
 head_told_by number (Err s) = refused_head (number s.reason) s.at s.got
 
+-- which is this for a reason of the reader
 abbrev pub head_told : Result Head (Stop Reason) → ToldHead
 head_told r = head_told_by number_of r
 

@@ -9,6 +9,7 @@ use Rattle.plan_format.specs.declared.refusal.Reason.TheVariants.{BadFrontier, B
 use Rattle.plan_format.specs.declared.refusal.Reason.TheVariants.{NoSignalFrees, NoSuchOperation, BadTrace}
 use Rattle.plan_format.specs.Told.{number_of}
 
+-- every reason has a number
 pub reason_given : (e : Reason) → number_of e ≡ 0 → ⊥
 reason_given CutShort z = omega arith
 reason_given CountOverLimit z = omega arith
@@ -30,5 +31,6 @@ reason_given NoSignalFrees z = omega arith
 reason_given NoSuchOperation z = omega arith
 reason_given BadTrace z = omega arith
 
+-- and so has any number above 0
 pub above_0_given : (n : ℕ) → 0 < n → n ≡ 0 → ⊥
 above_0_given n above z = omega (arith, above, z)
