@@ -7,6 +7,7 @@ use native.Mathlib.Omega.{arith}
 use lib.ListN.{length, take, drop, length-drop}
 use lib.Seq.{take_all}
 use Rattle.std.specs.Prelude.{Result, Ok, Err}
+use Rattle.plan_format.specs.declared.refusal.Reason.{Reason}
 use Rattle.plan_format.specs.Form.{form_in, form_by, first_form, is_second}
 use Rattle.plan_format.specs.Plan.{Plan}
 use Rattle.plan_format.specs.Sound.{rules_refusal}
@@ -82,7 +83,7 @@ unfolding form_by
 in_first {bs} {nums} {h} e read = subst (λ (b : Bool). HeadRead (form_by b) bs h nums) (sym e) read
 
 -- a head that is refused: nothing is loaded, whatever the columns are
-pub head_loads : {bs nums : List ℕ} (s : Stop) → HeadRead (form_in bs) bs (head_told (Err s)) nums →
+pub head_loads : {bs nums : List ℕ} (s : Stop Reason) → HeadRead (form_in bs) bs (head_told (Err s)) nums →
     Loads bs (load_told (Err (refused_by s.reason s.at))) nums (columns [] [] [] [] [] [] [] [])
 head_loads {bs} s head =
     refused_loads (head_refused head (read_in bs) (reason_given s.reason)) (reason_given s.reason)

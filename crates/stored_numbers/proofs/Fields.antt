@@ -14,11 +14,7 @@ use lib.Seq.{drop-drop, drop-set-lt, take-suc-set}
 use borrow.Author.Tests.{lt-ltb, le-ltb, ne_eqb, eqb-true, eqb-false}
 use Rattle.base_lists.proofs.Tests.{by_cases}
 use Rattle.plan_format.specs.declared.refusal.Reason.{Reason}
-use Rattle.plan_format.specs.declared.refusal.Reason.TheVariants.{CutShort, CountOverLimit, BytesFollow, NotInList}
-use Rattle.plan_format.specs.declared.refusal.Reason.TheVariants.{AxisTwice, SignalNotHigher, WaitTooHigh, RoomTooShort}
-use Rattle.plan_format.specs.declared.refusal.Reason.TheVariants.{Stuck, BrokenMark, NoSuchQueue, NoSuchBuffer}
-use Rattle.plan_format.specs.declared.refusal.Reason.TheVariants.{BadFrontier, BadCapacity, WaitForZero, OutOfTurn}
-use Rattle.plan_format.specs.declared.refusal.Reason.TheVariants.{NoSignalFrees, NoSuchOperation, BadTrace}
+use Rattle.plan_format.specs.declared.refusal.Reason.TheVariants.{CutShort}
 use Rattle.plan_format.specs.Told.{number_of}
 use Rattle.plan_format.specs.Refusal.{refusal, none_given, given}
 use Rattle.plan_format.specs.Grammar.{Check, field, value, bytes, Scan, scan, refused, field_number}
@@ -27,6 +23,7 @@ use Rattle.plan_format.specs.Sections.{limited}
 use Rattle.plan_format.proofs.Judged.{other_given}
 use Rattle.plan_format.proofs.Seams.{last_snoc}
 use Rattle.stored_numbers.specs.declared.reader.Reader.{Reader}
+pub use Rattle.stored_numbers.specs.Why.{reason_given}
 use Rattle.stored_numbers.specs.Reading.{Reached, fault_of, here, reading, Word, SameLent, ReadsField}
 use Rattle.stored_numbers.specs.Reading.{ReadsNumber}
 
@@ -66,28 +63,6 @@ pub fault_none : (c : Reached) → (fault_of c).number ≡ 0 → c.number ≡ 0
 fault_none c e =
     by_cases (eqb c.number 0) (λ t. eqb-true c.number 0 t)
     (λ f. sym (fault_number c (eqb-false c.number 0 f)) ∙ e)
-
--- every reason has a number
-pub reason_given : (e : Reason) → number_of e ≡ 0 → ⊥
-reason_given CutShort z = omega arith
-reason_given CountOverLimit z = omega arith
-reason_given BytesFollow z = omega arith
-reason_given NotInList z = omega arith
-reason_given AxisTwice z = omega arith
-reason_given SignalNotHigher z = omega arith
-reason_given WaitTooHigh z = omega arith
-reason_given RoomTooShort z = omega arith
-reason_given Stuck z = omega arith
-reason_given BrokenMark z = omega arith
-reason_given NoSuchQueue z = omega arith
-reason_given NoSuchBuffer z = omega arith
-reason_given BadFrontier z = omega arith
-reason_given BadCapacity z = omega arith
-reason_given WaitForZero z = omega arith
-reason_given OutOfTurn z = omega arith
-reason_given NoSignalFrees z = omega arith
-reason_given NoSuchOperation z = omega arith
-reason_given BadTrace z = omega arith
 
 here_refused : (bs : List ℕ) (e : Reason) (a k : ℕ) (nums : List ℕ) →
     here bs (record { number = number_of e; at = a; got = k }) nums ≡

@@ -1,6 +1,6 @@
 -- What the reader's functions say: the reading that a cursor stands for, and what is handed back of it.
 -- Assumes nothing: these are definitions.
-use Rattle.std.specs.Prelude.{◌≡◌, Bool, false, cond, List, [], ◌∷◌, ◌++◌, ℕ, ◌+◌, ◌*◌, ◌≤◌, ◌<◌, min, eqb, length}
+use Rattle.std.specs.Prelude.{◌≡◌, Bool, cond, List, [], ◌∷◌, ◌++◌, ℕ, ◌+◌, ◌*◌, ◌≤◌, ◌<◌, min, eqb, length}
 use Rattle.std.specs.Prelude.{take, drop, Result, Ok, Err, IfOk}
 use Rattle.base_lists.specs.Lists.{in_front}
 use Rattle.plan_format.specs.Sizes.{most_queues, first_semaphores, most_buffers, most_operations, head_numbers}
@@ -18,6 +18,7 @@ use Rattle.plan_format.specs.Stored.{scanned, Tells}
 use Rattle.plan_format.specs.declared.Told.{Told}
 use Rattle.stored_numbers.specs.declared.End.{End}
 use Rattle.stored_numbers.specs.declared.Head.{Head}
+use Rattle.stored_numbers.specs.declared.RefusedFor.{RefusedFor}
 use Rattle.stored_numbers.specs.declared.Stop.{Stop}
 use Rattle.stored_numbers.specs.declared.reader.Cursor.{Cursor}
 use Rattle.stored_numbers.specs.declared.operation.Counts.{Counts}
@@ -171,9 +172,22 @@ pub record ToldHead : Type 0 where
   pub buffers : ℕ
   pub operations : ℕ
 
--- R53, what is told by a head that was read, or by where its reading stopped: beside a refusal the counts are 0
-abbrev pub head_told : Result Head Stop → ToldHead
-head_told (Ok h) =
+-- beside a refusal the counts are 0
+abbrev pub refused_head : (number at got : ℕ) → ToldHead
+refused_head number at got =
+    record {
+      number = number;
+      at = at;
+      got = got;
+      queues = 0;
+      semaphores = 0;
+      buffers = 0;
+      operations = 0;
+    }
+
+-- R53, what is told by a head that was read, or by where its reading stopped, for a reason that has a number
+abbrev pub head_told_by : {R : Type 0} → (number : R → ℕ) → Result Head (Stop R) → ToldHead
+head_told_by number (Ok h) =
     record {
       number = 0;
       at = h.at;
@@ -183,21 +197,16 @@ head_told (Ok h) =
       buffers = h.buffers;
       operations = h.operations;
     }
-head_told (Err s) =
-    record {
-      number = number_of s.reason;
-      at = s.at;
-      got = s.got;
-      queues = 0;
-      semaphores = 0;
-      buffers = 0;
-      operations = 0;
-    }
+head_told_by number (Err s) = refused_head (number s.reason) s.at s.got
 
--- R8, whether a head that was read is in the second form; where its reading stopped, nothing more is read by that
-abbrev pub is_wide : Result Head Stop → Bool
+-- which is this for a reason of the reader
+abbrev pub head_told : Result Head (Stop Reason) → ToldHead
+head_told r = head_told_by number_of r
+
+-- R8, whether a head is in the second form, be it read, or its reading stopped
+abbrev pub is_wide : {R : Type 0} → Result Head (Stop R) → Bool
 is_wide (Ok h) = h.wide
-is_wide (Err s) = false
+is_wide (Err s) = s.wide
 
 -- what `read_head` hands back of that reading, and the array
 pub record HeadTold (s : Scan) (nums : List ℕ) (h : ToldHead) (nums_now : List ℕ) : Type 0 where
@@ -253,7 +262,7 @@ head_of (Ok (k, n)) c =
       buffers = k.buffers;
       operations = n;
     }
-head_of (Err e) c = head_told (Err (record { reason = e; at = c.at; got = c.got }))
+head_of (Err e) c = refused_head (number_of e) c.at c.got
 
 -- a head is read
 pub record HeadReads (F : Form) (old : Reader) (r : Result (Counts × ℕ) Reason) (new : Reader) : Type 0 where
@@ -278,7 +287,7 @@ operation_scan width q m b bs at =
     (scan (drop from bs) from [] none_given)
 
 -- R53, how far a reading has come by the end of an operation, or by where its reading stopped
-abbrev pub end_told : Result End Stop → Reached
+abbrev pub end_told : Result End (Stop Reason) → Reached
 end_told (Ok e) = record { number = 0; at = e.at; got = e.got }
 end_told (Err s) = record { number = number_of s.reason; at = s.at; got = s.got }
 
@@ -296,6 +305,11 @@ pub record OperationRead (width q m b : ℕ) (bs : List ℕ) (at : ℕ) (r : Rea
     pub few : r.got ≤ block_numbers
 
 -- ---- a plan
+-- R13, R37: the number and the place of a refusal whose reason has a number, or 0 and 0 with the answer
+abbrev pub told_for : {R : Type 0} → (number : R → ℕ) → Result ℕ (RefusedFor R) → Told
+told_for number (Ok n) = record { number = 0; place = 0; answer = n }
+told_for number (Err e) = record { number = number e.reason; place = e.place; answer = 0 }
+
 -- what is told of a reading that has come to its end: its refusal, or how many numbers it got
 unfoldable pub Ends : Scan → Told → Type 0
 Ends s r = Tells s.fault (length s.got) r

@@ -7,16 +7,19 @@ mod operation;
 mod reader;
 mod section;
 
-ghost use Rattle.std.specs.Prelude.{◌≡◌, List, false, ℕ, ◌+◌, ◌≤◌, length, take, IfOk};
+ghost use Rattle.std.specs.Prelude.{◌≡◌, List, false, ℕ, ◌+◌, ◌≤◌, length, take, IfErr};
+ghost use Rattle.std.specs.Int.NonZero.{non_zero_u32_get};
 ghost use Rattle.base_lists.specs.Lists.{in_front};
 ghost use Rattle.plan_format.specs.Form.{is_second, first_form, form_in, form_by, width_by, scanned_by};
 ghost use Rattle.plan_format.specs.Grammar.{bytes, ended};
 ghost use Rattle.plan_format.specs.Sizes.{plan_numbers};
 ghost use Rattle.plan_format.specs.Stored.{scanned};
-ghost use Rattle.plan_format.specs.Told.{refused_by, told_by};
+ghost use Rattle.plan_format.specs.Told.{number_of, refused_by, told_by};
 ghost use Rattle.stored_numbers.specs.Reading.{here, reached, head_scan, head_scan_by, front_numbers, form_numbers};
-ghost use Rattle.stored_numbers.specs.Reading.{first_numbers, head_told, is_wide, HeadTold, HeadRead, end_told};
+ghost use Rattle.stored_numbers.specs.Reading.{first_numbers, head_told_by, head_told, is_wide, HeadTold, HeadRead};
+ghost use Rattle.stored_numbers.specs.Reading.{end_told, told_for};
 ghost use Rattle.stored_numbers.specs.Reading.{OperationTold, OperationRead, Ends, NumbersRead, rest_scan, Begins};
+ghost use Rattle.stored_numbers.specs.Why.{reason_given, above_0_given};
 
 use crate::operation::Counts;
 use crate::reader::{Cursor, Reader};
@@ -26,6 +29,7 @@ use plan_format::limits::{
     PLAN_NUMBERS, WINDOW,
 };
 use plan_format::{Reason, Refusal};
+use std::num::NonZeroU32;
 
 // The most numbers before the operations of a plan in the first form.
 pub const FIRST_HEAD_NUMBERS: usize = 4 + MOST_QUEUES + FIRST_SEMAPHORES + MOST_BUFFERS;
@@ -57,20 +61,100 @@ pub struct End {
     pub got: usize,
 }
 
-// Where a reading stopped, and why: the reason; the place, a byte; how many numbers are stored.
-#[derive(Clone, Copy, Debug, PartialEq, Eq, Hash)]
-pub struct Stop {
-    pub reason: Reason,
-    pub at: usize,
-    pub got: usize,
+// Why a reading stopped: a reason, or any other number that isn't 0.
+pub trait Why: Copy {
+    ghost number: { Self → ℕ };
+
+    // The number.
+    fn number(self) -> u32
+        ensures { result ≡ number self };
+
+    // What stands for a reason: it has the reason's number.
+    fn of(reason: Reason) -> Self
+        ensures { number result ≡ number_of reason };
+
+    ghost given: { (why : Self) → number why ≡ 0 → ⊥ };
 }
 
-impl From<Stop> for Refusal {
+impl Why for Reason {
+    ghost number = { number_of };
+
+    ghost given = { reason_given };
+
+    fn number(self) -> u32 {
+        Reason::number(self)
+    }
+
+    fn of(reason: Reason) -> Reason {
+        reason
+    }
+}
+
+impl Why for NonZeroU32 {
+    ghost number = { non_zero_u32_get };
+
+    ghost given = { λ why. above_0_given (non_zero_u32_get why) why.ok };
+
+    fn number(self) -> u32 {
+        self.get()
+    }
+
+    fn of(reason: Reason) -> NonZeroU32 {
+        match NonZeroU32::new(reason.number()) {
+            Some(number) => number,
+            None => unreachable!(),
+        }
+    }
+}
+
+// Where a reading stopped, and why: the reason; the place, a byte; how many numbers are stored; and whether it was of
+// the second form, in which a semaphore's position takes two bytes.
+#[derive(Clone, Copy, Debug, PartialEq, Eq, Hash)]
+pub struct Stop<R> {
+    pub reason: R,
+    pub at: usize,
+    pub got: usize,
+    pub wide: bool,
+}
+
+impl From<Stop<Reason>> for Refusal {
     ghost from_gives = { λ stop refusal. refusal ≡ refused_by stop.reason stop.at };
 
     // The refusal where the reading stopped.
-    fn from(stop: Stop) -> Refusal {
+    fn from(stop: Stop<Reason>) -> Refusal {
         stop.reason.at(stop.at)
+    }
+}
+
+// A refusal whose reason is of such a kind, and its place.
+#[derive(Clone, Copy, Debug, PartialEq, Eq, Hash)]
+pub struct RefusedFor<R> {
+    pub reason: R,
+    pub place: u64,
+}
+
+impl<R: Why> From<Refusal> for RefusedFor<R> {
+    ghost from_gives = { λ refusal told.
+        (R.number told.reason ≡ number_of refusal.reason) × (told.place ≡ refusal.place) };
+
+    // The same refusal: its reason's number, and its place.
+    fn from(refusal: Refusal) -> RefusedFor<R> {
+        RefusedFor {
+            reason: R::of(refusal.reason),
+            place: refusal.place,
+        }
+    }
+}
+
+impl From<RefusedFor<Reason>> for Refusal {
+    ghost from_gives = { λ refused refusal. refusal ≡ record { reason = refused.reason; place = refused.place } };
+
+    // The same refusal.
+    fn from(refused: RefusedFor<Reason>) -> Refusal {
+        Refusal {
+            reason: refused.reason,
+            place: refused.place,
+        }
     }
 }
 
@@ -83,8 +167,8 @@ pub fn is_second(plan: &[u8]) -> bool
 
 // The numbers before the operations, in front of the array, with the four counts; or the first of refusals 1, 2, 4 and
 // 5 that is met there, and where. Past the numbers read the array stays.
-pub fn read_head(plan: &[u8], numbers: &mut [u64; HEAD_NUMBERS]) -> Result<Head, Stop>
-    ensures form { IfOk result (λ head. head.wide ≡ is_second plan.now) }
+pub fn read_head(plan: &[u8], numbers: &mut [u64; HEAD_NUMBERS]) -> Result<Head, Stop<Reason>>
+    ensures form { is_wide result ≡ is_second plan.now }
     ensures told { HeadTold (head_scan plan.now) numbers.old (head_told result) numbers.new }
     ensures means { HeadRead (form_in plan.now) plan.now (head_told result) numbers.new }
 {
@@ -102,8 +186,8 @@ pub fn read_head(plan: &[u8], numbers: &mut [u64; HEAD_NUMBERS]) -> Result<Head,
 }
 
 // The same of bytes taken as a plan in the first form, whatever the first byte is: fewer numbers have to be cleared.
-pub fn read_first_head(plan: &[u8], numbers: &mut FirstHeadNumbers) -> Result<Head, Stop>
-    ensures form { IfOk result (λ head. head.wide ≡ false) }
+pub fn read_first_head(plan: &[u8], numbers: &mut FirstHeadNumbers) -> Result<Head, Stop<Reason>>
+    ensures form { is_wide result ≡ false }
     ensures told { HeadTold (head_scan_by first_form plan.now) numbers.old (head_told result) numbers.new }
     ensures means { HeadRead first_form plan.now (head_told result) numbers.new }
 {
@@ -126,10 +210,11 @@ pub fn read_operation(
     semaphores: u64,
     buffers: u64,
     window: &mut [u64; WINDOW],
-) -> Result<End, Stop>
+) -> Result<End, Stop<Reason>>
     ensures told { OperationTold (width_by wide) queues semaphores buffers plan.now at window.old (end_told result)
         window.new }
     ensures means { OperationRead (width_by wide) queues semaphores buffers plan.now at (end_told result) window.new }
+    ensures form { IfErr result (λ stop. stop.wide ≡ wide) }
 {
     let counts = Counts {
         queues,
@@ -149,7 +234,12 @@ pub fn read_operation(
     let Cursor { at, got } = reader.cursor;
     match read {
         Ok(()) => Ok(End { at, got }),
-        Err(reason) => Err(Stop { reason, at, got }),
+        Err(reason) => Err(Stop {
+            reason,
+            at,
+            got,
+            wide,
+        }),
     }
 }
 
@@ -178,29 +268,37 @@ fn finished(plan: &[u8], cursor: Cursor, read: Result<(), Reason>) -> Result<u64
 
 impl<'a> Reader<'a> {
     // What comes before the operations of a plan, in the form that is told.
-    fn front(&mut self, wide: bool) -> Result<Head, Stop>
+    fn front(&mut self, wide: bool) -> Result<Head, Stop<Reason>>
         requires begins { Begins (form_by wide) self.old }
         requires room { front_numbers (form_by wide) + 1 ≤ length self.old.numbers.now }
         ensures same_room { self.new.numbers.ghost_name ≡ self.old.numbers.ghost_name }
-        ensures form { IfOk result (λ head. head.wide ≡ wide) }
+        ensures form { is_wide result ≡ wide }
         ensures told { HeadTold (head_scan_by (form_by wide) self.old.plan.now) self.old.numbers.now
             (head_told result) self.new.numbers.now }
         ensures means { HeadRead (form_by wide) self.old.plan.now (head_told result) self.new.numbers.now }
     {
         let head = self.head(wide);
         let Cursor { at, got } = self.cursor;
-        match head {
-            Ok((counts, operations)) => Ok(Head {
-                at,
-                got,
-                queues: counts.queues,
-                semaphores: counts.semaphores,
-                buffers: counts.buffers,
-                operations,
-                wide,
-            }),
-            Err(reason) => Err(Stop { reason, at, got }),
-        }
+        let (counts, operations) = match head {
+            Ok(read) => read,
+            Err(reason) => {
+                return Err(Stop {
+                    reason,
+                    at,
+                    got,
+                    wide,
+                });
+            }
+        };
+        Ok(Head {
+            at,
+            got,
+            queues: counts.queues,
+            semaphores: counts.semaphores,
+            buffers: counts.buffers,
+            operations,
+            wide,
+        })
     }
 
     // The numbers of bytes taken as a plan in the form that is told, and how many they are.
@@ -256,19 +354,21 @@ pub fn read_first_numbers(plan: &[u8], numbers: &mut FirstPlanNumbers) -> Result
 }
 
 // The rest of a plan whose head was read, from a place on: the head's numbers and then those of its operations in front
-// of the array, with their length as the answer; or the head's refusal at that place, or the first of refusals 1 to 4
-// and 16 after it. Past the numbers read the array stays.
-pub fn read_rest(
+// of the array, with their length as the answer; or the head's refusal, whatever its number is, at that place, or the
+// first of refusals 1 to 4 and 16 after it. Past the numbers read the array stays.
+pub fn read_rest<R: Why>(
     plan: &[u8],
     at: usize,
-    head: Result<Head, Stop>,
+    head: Result<Head, Stop<R>>,
     front: &[u64; HEAD_NUMBERS],
     numbers: &mut [u64; PLAN_NUMBERS],
-) -> Result<u64, Refusal>
-    ensures told { Ends (rest_scan (width_by (is_wide head)) plan.now at (head_told head) front.now) (told_by result) }
+) -> Result<u64, RefusedFor<R>>
+    ensures told { Ends (rest_scan (width_by (is_wide head)) plan.now at (head_told_by R.number head) front.now)
+        (told_for R.number result) }
     ensures array { numbers.new ≡
-        in_front (rest_scan (width_by (is_wide head)) plan.now at (head_told head) front.now).got numbers.old }
-    ensures few { (told_by result).answer ≤ plan_numbers }
+        in_front (rest_scan (width_by (is_wide head)) plan.now at (head_told_by R.number head) front.now).got
+        numbers.old }
+    ensures few { (told_for R.number result).answer ≤ plan_numbers }
     ensures long { length numbers.new ≡ plan_numbers }
 {
     let place = at.min(plan.len());
@@ -276,7 +376,10 @@ pub fn read_rest(
         Ok(h) => h,
         Err(stop) => {
             copy(front, stop.got.min(HEAD_NUMBERS), numbers);
-            return Err(stop.reason.at(place));
+            return Err(RefusedFor {
+                reason: stop.reason,
+                place: place as u64,
+            });
         }
     };
     let before = h.got.min(HEAD_NUMBERS);
@@ -296,5 +399,5 @@ pub fn read_rest(
     };
     let many = h.operations.min(OPERATIONS);
     let read = reader.several(many, h.wide, counts);
-    finished(plan, reader.cursor, read)
+    Ok(finished(plan, reader.cursor, read)?)
 }

@@ -1,12 +1,12 @@
 // Operations: a queue, waits, signals and marks. A semaphore's position has WIDTH bytes.
-ghost use Rattle.std.specs.Prelude.{◌≡◌, ◌+◌, ◌*◌, ◌≤◌};
+ghost use Rattle.std.specs.Prelude.{◌≡◌, ◌+◌, ◌*◌, ◌≤◌, length};
 ghost use Rattle.plan_format.specs.Form.{width_by};
 ghost use Rattle.plan_format.specs.Grammar.{counted};
 ghost use Rattle.plan_format.specs.Sections.{repeat, point_below, mark_below, operation_below};
 ghost use Rattle.plan_format.specs.Sizes.{most_marks, block_numbers};
-ghost use Rattle.stored_numbers.specs.Reading.{RoomFor, Reads};
+ghost use Rattle.stored_numbers.specs.Reading.{RoomFor, Reads, ReadsOn, reading, reached};
 
-use crate::reader::Reader;
+use crate::reader::{Cursor, Reader};
 use plan_format::Reason;
 use plan_format::limits::{
     FIRST_WIDTH, LEAST_SIGNAL, LEAST_WAIT, MOST_MARKS, MOST_SIGNALS, MOST_WAITS, SECOND_WIDTH,
@@ -112,7 +112,8 @@ impl<'a> Reader<'a> {
     }
 
     // So many operations, one after another.
-    pub fn several(&mut self, many: u64, wide: bool, counts: Counts) -> Result<(), Reason>
+    #[inline(always)]
+    fn each(&mut self, many: u64, wide: bool, counts: Counts) -> Result<(), Reason>
         requires { RoomFor (block_numbers * many) self.old }
         ensures room { self.new.numbers.ghost_name ≡ self.old.numbers.ghost_name }
         ensures reads { Reads
@@ -124,4 +125,41 @@ impl<'a> Reader<'a> {
         }
         Ok(())
     }
+
+    // The same, by a reader whose cursor nothing refers to while it reads.
+    pub fn several(&mut self, many: u64, wide: bool, counts: Counts) -> Result<(), Reason>
+        requires { RoomFor (block_numbers * many) self.old }
+        ensures room { self.new.numbers.ghost_name ≡ self.old.numbers.ghost_name }
+        ensures reads { Reads
+            (repeat many (operation_below (width_by wide) counts.queues counts.semaphores counts.buffers))
+            (block_numbers * many) self.old result self.new }
+    {
+        let (cursor, read) = from_cursor(self.plan, self.cursor, self.numbers, many, wide, counts);
+        self.cursor = cursor;
+        read
+    }
+}
+
+// So many operations from a cursor on, which comes back by value: so it is kept in registers.
+fn from_cursor(
+    plan: &[u8],
+    cursor: Cursor,
+    numbers: &mut [u64],
+    many: u64,
+    wide: bool,
+    counts: Counts,
+) -> (Cursor, Result<(), Reason>)
+    requires inside { cursor.at ≤ length plan.now }
+    requires room { cursor.got + block_numbers * many ≤ length numbers.old }
+    ensures { ReadsOn (repeat many (operation_below (width_by wide) counts.queues counts.semaphores counts.buffers))
+        (block_numbers * many) plan.now (reading cursor.at cursor.got) numbers.old (reached result.1 result.0)
+        numbers.new }
+{
+    let mut reader = Reader {
+        plan,
+        numbers,
+        cursor,
+    };
+    let read = reader.each(many, wide, counts);
+    (reader.cursor, read)
 }

@@ -5,10 +5,11 @@ ghost use Rattle.plan_format.specs.Form.{is_second, form_by, width_by};
 ghost use Rattle.plan_format.specs.Grammar.{counted, count_check};
 ghost use Rattle.plan_format.specs.Sections.{axis_field, size_field, owned, limited};
 ghost use Rattle.stored_numbers.specs.Reading.{RoomFor, ReadsNumber, ReadsSection, form_numbers, front_numbers};
-ghost use Rattle.stored_numbers.specs.Reading.{Begins, HeadReads, PlanReads};
+ghost use Rattle.stored_numbers.specs.Reading.{Begins, HeadReads, HeadTold, HeadRead, head_of, head_scan_by, Past};
+ghost use Rattle.stored_numbers.specs.Reading.{PlanReads};
 
 use crate::operation::Counts;
-use crate::reader::Reader;
+use crate::reader::{Cursor, Reader};
 use plan_format::Reason;
 use plan_format::limits::{
     FIRST_SEMAPHORES, FIRST_WIDTH, MOST_BUFFERS, MOST_OPERATIONS, MOST_QUEUES, MOST_SEMAPHORES,
@@ -92,8 +93,9 @@ impl<'a> Reader<'a> {
         Ok(count)
     }
 
-    // What comes before the operations: three sections and the count of the fourth.
-    pub fn head(&mut self, wide: bool) -> Result<(Counts, u64), Reason>
+    // Three sections and the count of the fourth.
+    #[inline(always)]
+    fn before_operations(&mut self, wide: bool) -> Result<(Counts, u64), Reason>
         requires begins { Begins (form_by wide) self.old }
         requires room { front_numbers (form_by wide) + 1 ≤ length self.old.numbers.now }
         ensures room { self.new.numbers.ghost_name ≡ self.old.numbers.ghost_name }
@@ -111,6 +113,18 @@ impl<'a> Reader<'a> {
         Ok((counts, operations))
     }
 
+    // What comes before the operations, by a reader whose cursor nothing refers to while it reads.
+    pub fn head(&mut self, wide: bool) -> Result<(Counts, u64), Reason>
+        requires begins { Begins (form_by wide) self.old }
+        requires room { front_numbers (form_by wide) + 1 ≤ length self.old.numbers.now }
+        ensures room { self.new.numbers.ghost_name ≡ self.old.numbers.ghost_name }
+        ensures reads { HeadReads (form_by wide) self.old result self.new }
+    {
+        let (cursor, read) = head_from(self.plan, self.cursor, self.numbers, wide);
+        self.cursor = cursor;
+        read
+    }
+
     // The four sections.
     pub fn sections(&mut self, wide: bool) -> Result<(), Reason>
         requires begins { Begins (form_by wide) self.old }
@@ -121,4 +135,29 @@ impl<'a> Reader<'a> {
         let (counts, operations) = self.head(wide)?;
         self.several(operations, wide, counts)
     }
+}
+
+// What comes before the operations of a plan, from the cursor before its first section on, which comes back by value:
+// so it is kept in registers.
+fn head_from(
+    plan: &[u8],
+    cursor: Cursor,
+    numbers: &mut [u64],
+    wide: bool,
+) -> (Cursor, Result<(Counts, u64), Reason>)
+    requires begins { (cursor.at ≡ length (form_by wide).lead) × (cursor.got ≡ 0) }
+    requires inside { cursor.at ≤ length plan.now }
+    requires room { front_numbers (form_by wide) + 1 ≤ length numbers.old }
+    ensures told { HeadTold (head_scan_by (form_by wide) plan.now) numbers.old (head_of result.1 result.0) numbers.new }
+    ensures means { HeadRead (form_by wide) plan.now (head_of result.1 result.0) numbers.new }
+    ensures past { Past result.0.got numbers.old numbers.new }
+    ensures few { result.0.got ≤ front_numbers (form_by wide) + 1 }
+{
+    let mut reader = Reader {
+        plan,
+        numbers,
+        cursor,
+    };
+    let read = reader.before_operations(wide);
+    (reader.cursor, read)
 }

@@ -9,7 +9,6 @@ use lib.ListN.{length, get_or, take, drop, replicate, length-drop, drop_of_lengt
 use lib.Seq.{take_at, take_all}
 use mir.Syntax.{w8}
 use mir.Val.{Fits}
-use Rattle.std.specs.Prelude.{IfOk}
 use Rattle.base_lists.specs.Lists.{in_front}
 use Rattle.plan_format.specs.Form.{form_in, form_by, is_second, first_form, scanned_by}
 use Rattle.plan_format.specs.Grammar.{bytes, Scan}
@@ -17,13 +16,15 @@ use Rattle.plan_format.specs.Meaning.{ReadMeans}
 use Rattle.plan_format.specs.Refusal.{Refusal, none_given, given, or_refusal}
 use Rattle.plan_format.specs.Sizes.{head_numbers}
 use Rattle.plan_format.specs.Stored.{all_bytes, scanned, room_for, read_refusal, Tells, Fills, ReadSays}
-use Rattle.plan_format.specs.Told.{Refused, refused_by, told_by}
+use Rattle.plan_format.specs.Told.{number_of, Refused, refused_by, told_by}
 use Rattle.plan_format.specs.declared.Told.{Told}
+use Rattle.plan_format.specs.declared.refusal.Reason.{Reason}
 use Rattle.plan_format.specs.declared.refusal.Reason.TheVariants.{RoomTooShort}
 use Rattle.plan_format.proofs.HandedBack.{answer_long, not_read, no_room, stored}
 use Rattle.plan_format.proofs.Judged.{zero_not_given}
 use Rattle.plan_format.proofs.RoundTripRoom.{bytes_by, read_means}
-use Rattle.stored_numbers.specs.Reading.{head_scan, head_told, HeadTold, HeadRead, Ends}
+use Rattle.stored_numbers.specs.declared.RefusedFor.{RefusedFor}
+use Rattle.stored_numbers.specs.Reading.{head_scan, head_told, is_wide, HeadTold, HeadRead, Ends, told_for}
 use Rattle.stored_numbers.proofs.Fields.{reason_given}
 use Rattle.stored_numbers.proofs.Rests.{rest_by}
 use Rattle.stored_read.specs.declared.Heading.{Heading}
@@ -49,6 +50,12 @@ module _ (got room : List ℕ) where
 pub refused_read : {f : Refusal} (got : List ℕ) (e : Refused) → Tells f (length got) (told_by (Err e)) →
     (room : List ℕ) → Fills (or_refusal f (room_for (length got) (length room))) got (told_by (Err e)) room room
 refused_read {f} got e t room = not_read f got t room (reason_given e.reason)
+
+pub refused_rest : {f : Refusal} (got : List ℕ) {R : Type 0} (number : R → ℕ) →
+    ((why : R) → number why ≡ 0 → ⊥) → (e : RefusedFor R) → Tells f (length got) (told_for number (Err e)) →
+    (room : List ℕ) →
+    Fills (or_refusal f (room_for (length got) (length room))) got (told_for number (Err e)) room room
+refused_rest {f} got number given e t room = not_read f got t room (given e.reason)
 
 -- the numbers that were told, and the room for them
 module _ {f : Refusal} (got nums : List ℕ) {told : Told} (t : Tells f (length got) told) (z : told.number ≡ 0)
@@ -93,11 +100,11 @@ past_end bs at h = sym (drop_of_length-le bs {i = at} (omega arith))
 part_from : (bs : List ℕ) (at : ℕ) → take (length bs - at) (drop at bs) ≡ drop at bs
 part_from bs at = take_all (length bs - at) (drop at bs) (rw (length-drop at bs) (omega arith))
 
-module _ (bs : List ℕ) (fit : (i : ℕ) → Fits w8 (get_or bs i 0)) (at : ℕ) (h : Heading) where
+module _ (bs : List ℕ) (fit : (i : ℕ) → Fits w8 (get_or bs i 0)) (at : ℕ) (h : Heading Reason) where
   -- what `read_head` says of a part of the bytes
   abbrev pub Says : (part : List ℕ) → Type 0
   Says part =
-      IfOk h.head (λ x. x.wide ≡ is_second part)
+      (is_wide h.head ≡ is_second part)
       × (HeadTold (head_scan part) (replicate head_numbers 0) (head_told h.head) h.numbers
       × HeadRead (form_in part) part (head_told h.head) h.numbers)
 
@@ -119,8 +126,8 @@ module _ (s : Scan) (r : Told) (old : List ℕ) {new : List ℕ} (t : Ends s r) 
       ∙ take_at s.got (drop (length s.got) old) (length s.got) refl
 
 -- from where the head ends on, the rest makes the plan
-pub rest_reads : (bs : List ℕ) (h : Heading) → HeadingTold bs 0 h → (t : Told) (o x : List ℕ) →
-    RestSays bs (head_told h.head).at h t o x → ReadSays bs t o x × ReadMeans bs t o x
+pub rest_reads : (bs : List ℕ) (h : Heading Reason) → HeadingTold bs 0 h → (t : Told) (o x : List ℕ) →
+    RestSays number_of bs (head_told h.head).at h t o x → ReadSays bs t o x × ReadMeans bs t o x
 unfolding RestSays ReadSays read_refusal
 rest_reads bs h head t o x r =
     let says : ReadSays bs t o x =

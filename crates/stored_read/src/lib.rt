@@ -6,11 +6,12 @@ ghost use Rattle.plan_format.specs.Form.{is_second};
 ghost use Rattle.plan_format.specs.Meaning.{ReadMeans};
 ghost use Rattle.plan_format.specs.Stored.{room_for, Fills, ReadSays};
 ghost use Rattle.plan_format.specs.Told.{told_by};
+ghost use Rattle.stored_numbers.specs.Reading.{told_for};
 ghost use Rattle.stored_read.specs.Rest.{HeadingTold, RestSays};
 
 use plan_format::limits::{HEAD_NUMBERS, PLAN_NUMBERS};
 use plan_format::{Reason, Refusal};
-use stored_numbers::{FIRST_PLAN_NUMBERS, Head, Stop};
+use stored_numbers::{FIRST_PLAN_NUMBERS, Head, RefusedFor, Stop, Why};
 
 // Numbers in front of the room, if they fit, with their length as the answer.
 fn into_room(numbers: &[u64], room: &mut [u64]) -> Result<u64, Refusal>
@@ -58,13 +59,13 @@ pub fn read_plan(plan: &[u8], room: &mut [u64]) -> Result<u64, Refusal>
 
 // The head of a plan, or where its reading stopped; and the numbers before its operations.
 #[derive(Clone, Copy, Debug, PartialEq, Eq, Hash)]
-pub struct Heading {
-    pub head: Result<Head, Stop>,
+pub struct Heading<R> {
+    pub head: Result<Head, Stop<R>>,
     pub numbers: [u64; HEAD_NUMBERS],
 }
 
 // The head of the plan that begins at a place; past the end there are no bytes.
-pub fn read_heading(plan: &[u8], at: usize) -> Heading
+pub fn read_heading(plan: &[u8], at: usize) -> Heading<Reason>
     ensures { HeadingTold plan.now at result }
 {
     let mut numbers = [0u64; HEAD_NUMBERS];
@@ -80,11 +81,16 @@ pub fn read_heading(plan: &[u8], at: usize) -> Heading
 }
 
 // The numbers of a plan whose head was read, its operations from a place on, in front of the room, with their length as
-// the answer; or a refusal, and the room untouched.
-pub fn read_rest(plan: &[u8], at: usize, h: Heading, room: &mut [u64]) -> Result<u64, Refusal>
-    ensures { RestSays plan.now at h (told_by result) room.old room.new }
+// the answer; or a refusal, the head's whatever its number is, and the room untouched.
+pub fn read_rest<R: Why>(
+    plan: &[u8],
+    at: usize,
+    h: Heading<R>,
+    room: &mut [u64],
+) -> Result<u64, RefusedFor<R>>
+    ensures { RestSays R.number plan.now at h (told_for R.number result) room.old room.new }
 {
     let mut numbers = [0u64; PLAN_NUMBERS];
     let many = stored_numbers::read_rest(plan, at, h.head, &h.numbers, &mut numbers)?;
-    into_room(&numbers[..many as usize], room)
+    Ok(into_room(&numbers[..many as usize], room)?)
 }

@@ -6,10 +6,11 @@ ghost use Rattle.std.specs.Prelude.{◌≡◌};
 ghost use Rattle.plan_format.specs.Meaning.{ReadMeans};
 ghost use Rattle.plan_format.specs.Stored.{ReadSays};
 ghost use Rattle.plan_format.specs.Told.{told_by};
-ghost use Rattle.stored_numbers.specs.Reading.{head_told};
+ghost use Rattle.stored_numbers.specs.Reading.{head_told_by, told_for};
 ghost use Rattle.stored_read.specs.Rest.{HeadingTold, RestSays};
 
-use plan_format::Refusal;
+use plan_format::{Reason, Refusal};
+use stored_numbers::{RefusedFor, Why};
 use stored_read::Heading;
 
 // The bytes of a plan, lent, and a place in them.
@@ -28,15 +29,15 @@ impl<'a> Reader<'a> {
     }
 
     // The head of the plan that begins at the reader's place.
-    pub fn head(self) -> Heading
+    pub fn head(self) -> Heading<Reason>
         ensures { HeadingTold self.entry.src.now self.entry.at result }
     {
         stored_read::read_heading(self.src, self.at)
     }
 
     // The reader handed on, to where its head ends, or where the reading of it stopped.
-    pub fn moved(self, h: Heading) -> Reader<'a>
-        ensures { (result.src ≡ self.entry.src) × (result.at ≡ (head_told h.head).at) }
+    pub fn moved<R: Why>(self, h: Heading<R>) -> Reader<'a>
+        ensures { (result.src ≡ self.entry.src) × (result.at ≡ (head_told_by R.number h.head).at) }
     {
         let at = match h.head {
             Ok(head) => head.at,
@@ -46,9 +47,10 @@ impl<'a> Reader<'a> {
     }
 
     // The plan whose head was read, its operations from the reader's place on: the length of its numbers, which are in
-    // front of the room; or a refusal, and the room untouched.
-    pub fn rest(self, h: Heading, room: &mut [u64]) -> Result<u64, Refusal>
-        ensures { RestSays self.entry.src.now self.entry.at h (told_by result) room.old room.new }
+    // front of the room; or a refusal, the head's whatever its number is, and the room untouched.
+    pub fn rest<R: Why>(self, h: Heading<R>, room: &mut [u64]) -> Result<u64, RefusedFor<R>>
+        ensures { RestSays R.number self.entry.src.now self.entry.at h (told_for R.number result)
+            room.old room.new }
     {
         stored_read::read_rest(self.src, self.at, h, room)
     }
@@ -61,5 +63,5 @@ pub fn read_through(plan: &[u8], room: &mut [u64]) -> Result<u64, Refusal>
 {
     let r = Reader::new(plan);
     let h = r.head();
-    r.moved(h).rest(h, room)
+    Ok(r.moved(h).rest(h, room)?)
 }
