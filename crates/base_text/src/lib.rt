@@ -1,7 +1,7 @@
 // Text made in lent room.
 #![tactic(auto)]
 
-ghost use Rattle.std.specs.Prelude.{◌≡◌, [], ◌∷◌, map, ℕ};
+ghost use Rattle.std.specs.Prelude.{◌≡◌, [], ◌∷◌, map, ℕ, take};
 ghost use Rattle.base_text.specs.Text.{Puts, Adds, decimal, after_blank, blanked, spaced, refused_text};
 
 // A number that text shows in decimal.
@@ -28,7 +28,7 @@ impl Number for u64 {
     }
 }
 
-// The room that is lent, and how many of its first bytes are text. What goes past the end of the room is left out.
+// The room that is lent, and where its text ends. What goes past the end of the room is left out.
 #[derive(Drop)]
 pub struct Text<'a> {
     room: &'a mut [u8],
@@ -45,7 +45,16 @@ impl<'a> Text<'a> {
         Text { room, len: 0 }
     }
 
-    // How many bytes there are.
+    // Text from a place of the room on: the bytes before it stay, and past the end there is no room.
+    pub fn from_place(room: &'a mut [u8], at: usize) -> Text<'a>
+        ensures same_room { result.room.ghost_name ≡ room.entry.ghost_name }
+        ensures room_is { result.room.now ≡ room.old }
+        ensures place { result.len ≡ at }
+    {
+        Text { room, len: at }
+    }
+
+    // Where the text ends.
     pub fn len(&self) -> usize
         ensures { result ≡ self.now.len }
     {
@@ -106,6 +115,13 @@ impl<'a> Text<'a> {
             self.number(*first);
             self.list(rest);
         }
+    }
+
+    // The first n of them, or all where there are fewer, with a blank between.
+    pub fn first(&mut self, numbers: &[u64], n: usize)
+        ensures { Adds (spaced (take n numbers.now)) self.old self.new }
+    {
+        self.line(&numbers[..n.min(numbers.len())]);
     }
 }
 

@@ -29,12 +29,12 @@ module _ (ran : List ℕ) where
 
 -- a, b and c are the sources of j, and x, y and z tell whether they have run
 module _ (source ran : List ℕ) (j : ℕ) (a x : ℕ) (a_is : a ≡ get_or source (3 * j) 0) (x_is : x ≡ get_or ran a 0) where
-  held_first : x ≡ 0 → a ≡ blocker_of source ran j
+  pub held_first : x ≡ 0 → a ≡ blocker_of source ran j
   unfolding blocker_of
   held_first e = rw (← a_is) (sym (held_yes ran a _ (sym x_is ∙ e)))
 
   module _ (x_ran : x ≡ 0 → ⊥) (b y : ℕ) (b_is : b ≡ get_or source (3 * j + 1) 0) (y_is : y ≡ get_or ran b 0) where
-    held_second : y ≡ 0 → b ≡ blocker_of source ran j
+    pub held_second : y ≡ 0 → b ≡ blocker_of source ran j
     unfolding blocker_of
     held_second e =
         rw (← a_is, ← b_is) (sym (held_no ran a _ (λ z. x_ran (x_is ∙ z)) ∙ held_yes ran b _ (sym y_is ∙ e)))
@@ -44,7 +44,7 @@ module _ (source ran : List ℕ) (j : ℕ) (a x : ℕ) (a_is : a ≡ get_or sour
       passed last = held_no ran a (held_by ran b last) (λ u. x_ran (x_is ∙ u))
           ∙ held_no ran b last (λ u. y_ran (y_is ∙ u))
 
-      held_third : z ≡ 0 → c ≡ blocker_of source ran j
+      pub held_third : z ≡ 0 → c ≡ blocker_of source ran j
       unfolding blocker_of
       held_third e = rw (← a_is, ← b_is, ← c_is)
           (sym (passed (held_by ran c no_operation) ∙ held_yes ran c no_operation (sym z_is ∙ e)))

@@ -103,7 +103,7 @@ module _ (p : Plan) (n : ℕ) (queue rows : List ℕ) (sound : Sound p) (many : 
       (others_zero j w.inside (not-true (member j (standard p)) w.passes))))
 
   -- what the columns show of the plan
-  first_missing : first_zero n queue rows ≡ place_or n (missing p)
+  pub first_missing : first_zero n queue rows ≡ place_or n (missing p)
   first_missing =
       by_option (lowest_below n (own_zero queue rows))
       (λ e. sym (no_zero n queue rows (none_zero e)) ∙ stuck_nowhere (none_zero e))

@@ -64,7 +64,7 @@ left_stored m xs es axes epochs n at e t ca ce h l long q = left_same q (record 
         (λ t. get_or-set_other epochs at k e 0 (λ z. eqb-false at k t (sym z)) ∙ ce.same k b
         ∙ sym (get_or-set_other es at k e 0 (λ z. eqb-false at k t (sym z))))
 
--- THE LOOP that clears a row
+-- THE LOOPS that clear and copy a row
 pub record Clearing (from : ℕ) (row₀ row : List ℕ) (i : ℕ) : Type 0 where
   pub long : length row ≡ most_of_two
   pub start : from ≤ i
@@ -99,6 +99,28 @@ module _ (from : ℕ) (row₀ : List ℕ) where
     zero = λ k m. by_cases (ltb k i) (λ t. w.zero k m (ltb-true k i t))
         (λ t. get_or-eq_default row 0 (omega (arith, ltb-false k i t, w.long)));
   }
+
+pub record Copying (from row : List ℕ) (i : ℕ) : Type 0 where
+  pub long : length row ≡ most_of_two
+  pub inside : i ≤ most_entries
+  pub same : (k : ℕ) → k < i → get_or row k 0 ≡ get_or from k 0
+
+module _ (from row : List ℕ) where
+  pub copy_none : length row ≡ most_of_two → Copying from row 0
+  copy_none l = record { long = l; inside = omega arith; same = λ k h. absurd (omega arith) }
+
+  pub copy_more : (i : ℕ) → Copying from row i → i < most_entries → Copying from (set row i (get_or from i 0)) (i + 1)
+  copy_more i w h = record {
+    long = length-set row i (get_or from i 0) ∙ w.long;
+    inside = omega arith;
+    same = λ k l. by_cases (eqb k i)
+        (λ t. rw (eqb-true k i t) (get_or-set_same row i (get_or from i 0) 0 (omega (arith, w.long))))
+        (λ t. get_or-set_other row i k (get_or from i 0) 0 (λ z. eqb-false k i t z)
+        ∙ w.same k (omega (arith, eqb-false k i t)));
+  }
+
+  pub copy_end : (i : ℕ) → Copying from row i → most_entries ≤ i → Copied from row
+  copy_end i w h = record { long = w.long; same = λ k l. w.same k (omega arith) }
 
 -- CLEARED
 all_zero_by : (row : List ℕ) → ((k : ℕ) → get_or row k 0 ≡ 0) → all_zero row ≡ true

@@ -73,7 +73,7 @@ module _ {xs bytes₀ bytes₁ : List ℕ} {r₁ r : Told} {bytes : List ℕ} (f
 abbrev Says : (xs : List ℕ) → Result ℕ Refused → (room room_now : List ℕ) → Type 0
 Says xs r room room_now = WriteSays xs (told_by r) room room_now × WriteMeans xs (told_by r) room room_now
 
-both : (xs : List ℕ) (r : Result ℕ Refused) (room room_now : List ℕ) → WriteSays xs (told_by r) room room_now →
+pub both : (xs : List ℕ) (r : Result ℕ Refused) (room room_now : List ℕ) → WriteSays xs (told_by r) room room_now →
     Says xs r room room_now
 both xs r room room_now w = (w, write_means xs (told_by r) room room_now w)
 
