@@ -12,10 +12,11 @@ use lib.ListN.{length, get_or}
 use borrow.Author.Tests.{ltb-true, ltb-false, eqb-true, eqb-false, eq-eqb, ne_eqb, lt-ltb}
 use Rattle.base_lists.specs.Lists.{tabulate_from}
 use Rattle.base_lists.proofs.Tests.{by_cases}
+use Rattle.axis_search.specs.declared.Slot.{Slot}
 use Rattle.axis_search.specs.Halving.{Rise, Halving, searched}
 use Rattle.axis_search.proofs.Halves.{searched_means, five_read}
 use Rattle.frontier.specs.declared.Frontier.{Frontier}
-use Rattle.std.specs.Prelude.{Option}
+use Rattle.std.specs.Prelude.{Option, option_map}
 use Rattle.std.specs.Prelude.{Some, None}
 use Rattle.std.proofs.lemmas.Option.{none-some, same_Some}
 use Rattle.frontier_slots.specs.declared.Entry.{Entry}
@@ -190,7 +191,7 @@ module _ (axes epochs : List ℕ) (len axis : ℕ) where
           (i : ℕ) × (i < len) × (len ≤ most_entries) × (slot axes epochs i ≡ record { axis = axis; epoch = e })
       by None h q = absurd (none-some e q)
       by (Some i) h q =
-          by_cases (ltb i (length epochs))
+          by_cases (ltb i most_entries && ltb i (length epochs))
           (λ t. let w = h i refl in (i, w.0, w.1, same_entry w.3 (same_Some (get_or epochs i 0) e (rw t at q))))
           (λ f. absurd (none-some e (rw f at q)))
 
@@ -212,9 +213,28 @@ module _ (axes epochs : List ℕ) (len axis : ℕ) where
       by (Some i) h k =
           let w = h i refl in
           let inside : i < length epochs = omega (arith, w.0, a.1) in
-          rw (lt-ltb i (length epochs) inside) (sym (find_at axes epochs len s axis i w.0 w.3))
+          rw (lt-ltb i most_entries (omega (arith, w.0, w.1)), lt-ltb i (length epochs) inside)
+          (sym (find_at axes epochs len s axis i w.0 w.3))
       by None h k = absent_by (find axis (slots axes epochs len 0))
           (λ e q. let j = slot_of e q in none-some j.0 (k j.0 (omega (arith, j.1)) j.2))
+
+  -- what the search by halving finds is what there is from the first slot on
+  pub halved_from : len ≤ most_entries → AllSlots axes epochs → {r : Slot} → r ≡ searched axes axis len →
+      SlotFrom axes epochs len 0 axis r.at
+  unfolding lookup_at
+  halved_from l a e = rw e (record {
+    found = λ s. in_epochs (searched axes axis len).at means.of_axis
+        ∙ looked_found l a (sorted 0 (slots axes epochs len 0) s)
+        ∙ ap (find axis) (sym (rest_all axes epochs len));
+    of_axis = λ i q. let w = means.of_axis i q in (w.0, w.3);
+  })
+    where
+      in_epochs : (at : Option ℕ) → ((i : ℕ) → at ≡ Some i → (i < len) × (len ≤ most_entries) × (len ≤ length axes)
+          × (get_or axes i 0 ≡ axis)) → option_map (λ i. get_or epochs i 0) at ≡ lookup_at epochs at
+      in_epochs (Some i) h =
+          let w = h i refl in
+          rw (lt-ltb i most_entries (omega (arith, w.0, w.1)), lt-ltb i (length epochs) (omega (arith, w.0, a.1))) refl
+      in_epochs None h = refl
 
 -- R60: of a frontier
 pub looked : (f : Frontier) (axis : ℕ) (r : Option ℕ) → r ≡ looked_up f axis → Looked f axis r

@@ -2,6 +2,7 @@
 -- Assumes nothing.
 use mathlib.Core.Path.{◌≡◌, refl, sym, ap, ◌∙◌}
 use mathlib.Core.Bool.{Bool, true, false, cond}
+use mir.Val.{bool_byte}
 use mathlib.Core.Logic.{inl, inr}
 use mathlib.Core.List.{List, ◌∷◌, ◌++◌, append_assoc, append-nil}
 use Prim.Native.Nat.{ℕ, zero, suc, ◌+◌, ◌-◌, ◌≤◌, ◌<◌, zero-le}
@@ -106,6 +107,13 @@ module _ (xs es : List ℕ) (n : ℕ) (b : Entry) where
       m + exceeding b (rest xs es n (i + 1)) ≡ exceeding b (slots xs es n 0)
   unfolding exceeding
   count_skip m i h e w = let w' = rw (rest_more xs es n i h, e) at w in omega arith
+
+  pub count_turn : (m i : ℕ) (more : Bool) → i < n → more ≡ exceeds (slot xs es i) b →
+      m + exceeding b (rest xs es n i) ≡ exceeding b (slots xs es n 0) →
+      m + bool_byte more + exceeding b (rest xs es n (i + 1)) ≡ exceeding b (slots xs es n 0)
+  count_turn m i more h k w =
+      by_cases more (λ t. rw t (count_more m i h (sym k ∙ t) w))
+      (λ t. rw t (omega (arith, count_skip m i h (sym k ∙ t) w)))
 
   pub count_end : (m i : ℕ) → n ≤ i → m + exceeding b (rest xs es n i) ≡ exceeding b (slots xs es n 0) →
       m ≡ exceeding b (slots xs es n 0)

@@ -19,7 +19,7 @@ pub fn first_slots(row: &Room) -> [u64; Frontier::SLOTS]
     first
 }
 
-// How many entries exceed one.
+// How many entries exceed one. No branch goes by an entry: several are compared at once.
 fn count_above<'a>(axes: &'a [u64], epochs: &'a [u64], len: usize, bound: Entry) -> usize
     requires { (len ≤ length axes.now) × (len ≤ length epochs.now) }
     ensures { result ≡ exceeding bound (slots axes.now epochs.now len 0) }
@@ -28,10 +28,7 @@ fn count_above<'a>(axes: &'a [u64], epochs: &'a [u64], len: usize, bound: Entry)
     for i in 0..len {
         let axis = axes[i];
         let epoch = epochs[i];
-        if !exceeds(Entry { axis, epoch }, bound) {
-            continue;
-        }
-        n += 1;
+        n += exceeds(Entry { axis, epoch }, bound) as usize;
     }
     n
 }

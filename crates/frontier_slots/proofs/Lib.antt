@@ -1,3 +1,4 @@
 pub mod Slots
 pub mod Steps
 pub mod Form
+pub mod Halved

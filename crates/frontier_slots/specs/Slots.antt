@@ -50,9 +50,9 @@ slots_formed axes epochs len =
 
 -- LOOKUP
 
--- R60: what a slot says of its axis: its epoch, or nothing where there is no such slot
+-- R60: what a slot says of its axis: its epoch, or nothing where it is not below sixteen or there is no such epoch
 unfoldable pub lookup_at : (epochs : List ℕ) → (at : Option ℕ) → Option ℕ
-lookup_at epochs (Some at) = cond (ltb at (length epochs)) (Some (get_or epochs at 0)) None
+lookup_at epochs (Some at) = cond (ltb at most_entries && ltb at (length epochs)) (Some (get_or epochs at 0)) None
 lookup_at epochs None = None
 
 -- R60: what is in the slot that the search by halving finds, and the slot that it gave
