@@ -82,10 +82,14 @@ pub in_first : {bs nums : List ℕ} {h : ToldHead} → is_second bs ≡ false �
 unfolding form_by
 in_first {bs} {nums} {h} e read = subst (λ (b : Bool). HeadRead (form_by b) bs h nums) (sym e) read
 
+-- columns with nothing in them
+abbrev pub no_columns : Columns
+no_columns = columns [] [] [] [] [] [] [] []
+
 -- a head that is refused: nothing is loaded, whatever the columns are
 pub head_loads : {bs nums : List ℕ} (s : Stop Reason) → HeadRead (form_in bs) bs (head_told (Err s)) nums →
-    Loads bs (load_told (Err (refused_by s.reason s.at))) nums (columns [] [] [] [] [] [] [] [])
-head_loads {bs} s head =
+    (cs : Columns) → Loads bs (load_told (Err (refused_by s.reason s.at))) nums cs
+head_loads {bs} s head cs =
     refused_loads (head_refused head (read_in bs) (reason_given s.reason)) (reason_given s.reason)
 
 -- the owners in the part of the head from a place on

@@ -4,13 +4,13 @@ use Rattle.plan_format.proofs.Telling.{tells_as}
 use Rattle.plan_order.proofs.Checks.{checked}
 use Rattle.stored_numbers.proofs.Fields.{reason_given}
 use Rattle.check_plan.proofs.Told.{not_read}
-use Rattle.check_plan.proofs.Columns.{head_loads}
+use Rattle.check_plan.proofs.Columns.{head_loads, no_columns}
 use Rattle.check_plan.proofs.Left.{left_after, left_head}
 use Rattle.check_plan.proofs.check_opened.Goals as goal
 
 pub returns-in-Err : goal.returns-in-Err
 returns-in-Err c =
-    let l = head_loads c.in-Err.stop c.in-Err.ensures.means in
+    let l = head_loads c.in-Err.stop c.in-Err.ensures.means no_columns in
     let bad = reason_given c.in-Err.stop.reason in
     rw (c.unread.ensures, c.at.ensures) (record {
       checked = checked _ _ _ _ _ _ (not_read _ _ _ _ (tells_as l.number l.place) bad);
