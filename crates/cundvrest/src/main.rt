@@ -23,6 +23,7 @@ const FIRST_TRACE_BYTES: usize = TRACE_BYTES + 1;
 const TEXT_ROOM: usize = 262144;
 
 // The answer to a question on the plan of standard input.
+#[inline(never)]
 fn on_plan(rt: &HostRuntime, question: Question, out: &mut [u8]) -> Result<usize, Said> {
     let mut plan = [0u8; FIRST_BYTES];
     let kept = input::plan(rt, &mut plan)?;
@@ -30,6 +31,7 @@ fn on_plan(rt: &HostRuntime, question: Question, out: &mut [u8]) -> Result<usize
 }
 
 // A recorded trace held against the plan of standard input.
+#[inline(never)]
 fn on_trace(rt: &HostRuntime, out: &mut [u8]) -> Result<usize, Said> {
     let mut trace = [0u8; FIRST_TRACE_BYTES];
     let recorded = input::trace(rt, &mut trace)?;
@@ -39,13 +41,15 @@ fn on_trace(rt: &HostRuntime, out: &mut [u8]) -> Result<usize, Said> {
 }
 
 // The stored plan of the numbers of standard input.
+#[inline(never)]
 fn write(rt: &HostRuntime, out: &mut [u8]) -> Result<usize, Said> {
     let mut list = [0u64; FIRST_NUMBERS];
     let kept = numbers::from_input(rt, &mut list)?;
     Ok(print_input::written(&list, kept, out))
 }
 
-// The text of what is asked; or that a line on standard error says why there is none.
+// The text of what is asked; or that a line on standard error says why there is none. What reads input is not inlined
+// here: the stack has the arrays of what is asked, and no others beside them.
 fn answer(rt: &HostRuntime, out: &mut [u8]) -> Result<usize, Said> {
     match arguments::read_words(rt)? {
         Asked::Plan(question) => on_plan(rt, question, out),
