@@ -1,5 +1,5 @@
 -- Slots of two arrays as a list of entries: from the front, from a place on, and with one slot more. Assumes nothing.
-use mathlib.Core.Path.{◌≡◌, refl, ap, ap₂, ◌∙◌}
+use mathlib.Core.Path.{◌≡◌, refl, sym, ap, ap₂, ◌∙◌}
 use mathlib.Core.Bool.{true}
 use mathlib.Core.List.{List, [], ◌∷◌, ◌++◌}
 use Prim.Native.Nat.{ℕ, zero, suc, ◌+◌, ◌≤◌, ◌<◌}
@@ -8,11 +8,12 @@ use native.Mathlib.Numerals.{add-one}
 use native.Mathlib.Omega.{arith}
 use lib.ListN.{length, get_or, set, take, drop}
 use lib.Dec.{eqb}
-use lib.Seq.{get_or-set_same, get_or-set_other, get_or-take}
+use lib.Seq.{get_or-set_same, get_or-set_other, get_or-take, take_all, take-suc, take-suc-set}
 use Rattle.base_lists.specs.Lists.{tabulate_from}
 use Rattle.base_lists.proofs.Tests.{and_left, and_right, and_both}
 use Rattle.base_lists.proofs.Tables.{tabulate_length, tabulate_last}
 use Rattle.frontier_slots.specs.declared.Entry.{Entry}
+use Rattle.frontier_slots.specs.Entries.{most_entries, most_of_two}
 use Rattle.frontier_slots.specs.Slots.{slot, slots, all_zero, rest, floor}
 use Rattle.frontier_slots.proofs.Slots.{rest_all, rest_more}
 use Rattle.frontier.proofs.Sorted.{Sorted, same_entry}
@@ -97,3 +98,15 @@ unfolding slots slot
 slots_first xs es m n h =
     tabulate_same n 0 (slot (take m xs) (take m es)) (slot xs es)
     (λ k l p. same_entry (get_or-take m xs k 0 (omega arith)) (get_or-take m es k 0 (omega arith)))
+
+-- one slot more is copied
+pub take_copied : (to from : List ℕ) (i : ℕ) → length to ≡ most_entries → length from ≡ most_of_two → i < most_entries →
+    take i to ≡ take i from → take (i + 1) (set to i (get_or from i 0)) ≡ take (i + 1) from
+take_copied to from i p q h e =
+    rw (add-one i) (take-suc-set to i (get_or from i 0) (omega arith) ∙ ap (λ l. l ++ (get_or from i 0 ∷ [])) e
+    ∙ sym (take-suc from i 0 (omega arith)))
+
+pub first_copied : (to from : List ℕ) (i : ℕ) → i ≤ most_entries → most_entries ≤ i → length to ≡ most_entries →
+    take i to ≡ take i from → to ≡ take most_entries from
+first_copied to from i h l e q = let z : i ≡ most_entries = omega arith in sym (take_all most_entries to (omega arith))
+    ∙ (rw z at q)

@@ -9,17 +9,19 @@ use crate::Frontier;
 use crate::lent::Room;
 use frontier_slots::{Entry, exceeds};
 
-// The first sixteen slots.
+// The first sixteen slots. A loop copies them: with `copy_from_slice` a merge takes a seventh more instructions.
 pub fn first_slots(row: &Room) -> [u64; Frontier::SLOTS]
     requires { length row.now ≡ most_of_two }
     ensures { result ≡ take most_entries row.now }
 {
     let mut first = [0u64; Frontier::SLOTS];
-    first.copy_from_slice(&row[..Frontier::SLOTS]);
+    for i in 0..Frontier::SLOTS {
+        first[i] = row[i];
+    }
     first
 }
 
-// How many entries exceed one. No branch goes by an entry: several are compared at once.
+// How many entries exceed one. No branch goes by an entry: each adds 0 or 1.
 fn count_above<'a>(axes: &'a [u64], epochs: &'a [u64], len: usize, bound: Entry) -> usize
     requires { (len ≤ length axes.now) × (len ≤ length epochs.now) }
     ensures { result ≡ exceeding bound (slots axes.now epochs.now len 0) }
