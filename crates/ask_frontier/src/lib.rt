@@ -34,9 +34,9 @@ pub fn frontier_of(
     ensures { FrontierRight plan.now operation capacity result table.old table.new
         list.old list.new }
 {
-    check_plan::ask(plan, table, list, |o, columns, rows| {
-        asked(o.counted, columns, rows, operation, capacity)
-    })
+    let mut columns = PlanColumns::cleared();
+    let o = columns.open(plan, table, list);
+    asked(o.counted, &columns, table, operation, capacity)
 }
 
 // The question on an opened plan, by its counts, its axes and its rows in the table.

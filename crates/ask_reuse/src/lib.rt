@@ -40,9 +40,9 @@ pub fn reuse_question(
     ensures { ReuseAsked plan.now queue buffer result table.old table.new
         list.old list.new }
 {
-    check_plan::ask(plan, table, list, |o, columns, rows| {
-        asked(o, queue as usize, buffer as usize, columns, rows)
-    })
+    let mut columns = PlanColumns::cleared();
+    let o = columns.open(plan, table, list);
+    asked(o, queue as usize, buffer as usize, &columns, table)
 }
 
 // The question on an opened plan, by its counts, its columns and its rows in the table.

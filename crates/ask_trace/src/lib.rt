@@ -45,7 +45,6 @@ pub fn trace_question(
         state.new }
     ensures sizes { SizesTold plan.now result.counted.counts }
 {
-    // Of a closure that `check_plan::ask` calls a proof knows what it gives, and not what it leaves in the state.
     let mut columns = PlanColumns::cleared();
     let o = columns.open(plan, table, list);
     answer(o, trace, &columns, table, state)

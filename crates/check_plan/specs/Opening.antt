@@ -1,7 +1,5 @@
 -- The opened plan: what the check hands on to those who ask further. Assumes nothing: these are definitions.
 use Rattle.std.specs.Prelude.{◌≡◌, List, [], ℕ, ◌*◌, ◌<◌, length, replicate}
-use Rattle.std.specs.Fn.{FnOnceReturns, Once}
-use denote.Ref.{Bor}
 use Rattle.base_lists.specs.Lists.{in_front}
 use Rattle.plan_format.specs.Limits.{Limits}
 use Rattle.plan_format.specs.Plan.{Plan, count, queues}
@@ -104,9 +102,3 @@ pub record Handed (bytes : List ℕ) (o : Opened) (before : Lent) (c : PlanColum
   pub read : (scanned bytes).fault.number ≡ 0 → ReadPlan (plan_in bytes) o (lent_of c)
   pub opened : (outcome_told o.counted.outcome).number ≡ 0 → OpenedPlan (plan_in bytes) o (lent_of c) table_now
   pub left : LentLeft bytes o before (lent_of c)
-
--- a call at an opened plan, its columns and a table may give the result
-abbrev pub GivenAt : {F R : Type 0} → Once F (Opened × (Bor PlanColumns × (Bor (List ℕ) × Unit {0}))) R → F →
-    Opened → PlanColumns → (table : List ℕ) → (result : R) → Type 0
-GivenAt g f o c t r =
-    (p : Bor PlanColumns) × (q : Bor (List ℕ)) × FnOnceReturns g f (o, (p, (q, tt))) r × (p.now ≡ c) × (q.now ≡ t)

@@ -17,7 +17,7 @@ ghost use Rattle.check_load.specs.Loading.{HeadKnown, load_told};
 ghost use Rattle.std.specs.Prelude.{Ok, Err};
 ghost use Rattle.check_plan.specs.Counting.{outcome_told, SizesTold, CountsTold, counts_of, opened_of};
 ghost use Rattle.check_plan.specs.Opening.{ReadPlan, OpenedPlan, LentKept, LentLeft, lent};
-ghost use Rattle.check_plan.specs.Opening.{lent_of, cleared, Handed, GivenAt};
+ghost use Rattle.check_plan.specs.Opening.{lent_of, cleared, Handed};
 ghost use Rattle.check_plan.specs.declared.PlanColumns.{PlanColumns};
 ghost use Rattle.check_plan.specs.declared.Opened.{Opened};
 
@@ -298,23 +298,6 @@ impl PlanColumns {
             list,
         )
     }
-}
-
-// The check in columns of its own, which begin as zeros: f is handed the answer beside the counts, the columns and the
-// table, and gives the result.
-pub fn ask<R, F: FnOnce(Opened, &PlanColumns, &[u32]) -> R>(
-    plan: &[u8],
-    table: &mut [u32],
-    list: &mut [u32],
-    f: F,
-) -> R
-    requires { F.IsAlwaysCallable f }
-    ensures { (o : Opened) × (c : PlanColumns) ×
-        Handed plan.now o cleared c table.old table.new list.old list.new × GivenAt F.FnOnce f o c table.new result }
-{
-    let mut columns = PlanColumns::cleared();
-    let o = columns.open(plan, table, list);
-    f(o, &columns, table)
 }
 
 // For how many operations a column of queues and one of waits have places. A call tells the proof how long two lent
