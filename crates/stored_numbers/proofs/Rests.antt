@@ -6,10 +6,10 @@ use Prim.Native.Nat.{ℕ, ◌+◌, ◌*◌, ◌≤◌, min}
 use native.Mathlib.Omega.{arith}
 use lib.ListN.{length, take, drop, length-append, length-take, length-drop}
 use lib.Seq.{take_at, drop_at, length-take-le}
-use Rattle.std.specs.Prelude.{Result, Ok, Err, IsErrAnd}
+use Rattle.std.specs.Prelude.{Result, Ok, Err, IfOk, IsErrAnd}
 use Rattle.base_lists.specs.Lists.{in_front}
 use Rattle.plan_format.specs.Sizes.{most_operations, head_numbers, block_numbers, plan_numbers}
-use Rattle.plan_format.specs.Grammar.{Grammar, bytes, Scan, scan, ended}
+use Rattle.plan_format.specs.Grammar.{Grammar, bytes, Scan, scan, times, ended}
 use Rattle.plan_format.specs.Form.{Form, form_in, width_by, is_second}
 use Rattle.plan_format.specs.Sections.{repeat, operation_below}
 use Rattle.plan_format.specs.Stored.{scanned}
@@ -101,6 +101,13 @@ module _ (width : ℕ) (bs head nums₀ : List ℕ) (at : ℕ) (h : ToldHead) {a
       × (nums_now ≡ in_front rest.got nums₀)
   rest_told = (λ t e. subst (λ (s : Scan). Ends s t) (sym rest_is) (e nums_now fits), rest_array)
 
+-- ---- beside a refusal of the head no operation is read, and the width says nothing
+pub rest_of_none : (width other : ℕ) (bs : List ℕ) (at : ℕ) (h : ToldHead) (nums : List ℕ) → h.operations ≡ 0 →
+    rest_scan width bs at h nums ≡ rest_scan other bs at h nums
+unfolding rest_scan times
+rest_of_none width other bs at h nums z =
+    let none : min h.operations most_operations ≡ 0 = omega (arith, z) in rw none refl
+
 -- ---- from the head's own place on it is the plan
 pub rest_plan : {F : Form} {bs nums : List ℕ} {h : ToldHead} → ReadIn F bs → HeadRead F bs h nums →
     rest_scan F.semaphore_width bs h.at h nums ≡ scanned bs
@@ -118,12 +125,20 @@ rest_plan {F} {bs} {nums} {h} form head =
     ∙ sym head.plan)
     ∙ sym form
 
--- so of a head that was read, and where its reading stopped
-pub rest_by : {bs nums : List ℕ} (r : Result Head (Stop Reason)) → is_wide r ≡ is_second bs →
+-- so of a head that was read, and where its reading stopped, whatever form is told beside a refusal
+pub rest_by : {bs nums : List ℕ} (r : Result Head (Stop Reason)) → IfOk r (λ h. h.wide ≡ is_second bs) →
     HeadRead (form_in bs) bs (head_told r) nums →
     rest_scan (width_by (is_wide r)) bs (head_told r).at (head_told r) nums ≡ scanned bs
-rest_by {bs} {nums} r form head =
-    ap (λ (b : Bool). rest_scan (width_by b) bs (head_told r).at (head_told r) nums) form ∙ rest_plan (read_in bs) head
+rest_by {bs} {nums} (Ok h) form head =
+    ap (λ (b : Bool). rest_scan (width_by b) bs h.at (head_told (Ok h)) nums) form ∙ rest_plan (read_in bs) head
+rest_by {bs} {nums} (Err s) form head =
+    rest_of_none (width_by s.wide) (form_in bs).semaphore_width bs s.at (head_told (Err s)) nums refl
+    ∙ rest_plan (read_in bs) head
+
+-- whose premise holds where the form is told beside a refusal too
+pub form_of_ok : {R : Type 0} {b : Bool} (r : Result Head (Stop R)) → is_wide r ≡ b → IfOk r (λ h. h.wide ≡ b)
+form_of_ok (Ok h) e = e
+form_of_ok (Err s) e = tt
 
 -- ---- a refusal that is handed on with a reason of another kind tells the same
 pub told_on : {R : Type 0} (number : R → ℕ) (r : Result ℕ (RefusedFor R)) (e : Refused) →

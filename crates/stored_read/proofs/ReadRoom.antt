@@ -2,7 +2,7 @@
 use mathlib.Core.Path.{◌≡◌, refl, sym, ap, ◌∙◌, subst}
 use mathlib.Core.Bool.{Bool, true, false}
 use mathlib.Core.List.{List, [], ◌++◌}
-use Rattle.std.specs.Prelude.{Ok, Err}
+use Rattle.std.specs.Prelude.{Ok, Err, IfOk}
 use Prim.Native.Nat.{ℕ, ◌-◌, ◌≤◌, ◌<◌}
 use native.Mathlib.Omega.{arith}
 use lib.ListN.{length, get_or, take, drop, replicate, length-drop, drop_of_length-le}
@@ -26,7 +26,7 @@ use Rattle.plan_format.proofs.RoundTripRoom.{bytes_by, read_means}
 use Rattle.stored_numbers.specs.declared.RefusedFor.{RefusedFor}
 use Rattle.stored_numbers.specs.Reading.{head_scan, head_told, is_wide, HeadTold, HeadRead, Ends, told_for}
 use Rattle.stored_numbers.proofs.Fields.{reason_given}
-use Rattle.stored_numbers.proofs.Rests.{rest_by}
+use Rattle.stored_numbers.proofs.Rests.{rest_by, form_of_ok}
 use Rattle.stored_read.specs.declared.Heading.{Heading}
 use Rattle.stored_read.specs.Rest.{HeadingTold, RestSays}
 
@@ -125,12 +125,19 @@ module _ (s : Scan) (r : Told) (old : List ℕ) {new : List ℕ} (t : Ends s r) 
   rest_taken = ap (λ (l : List ℕ). take (length s.got) l) a
       ∙ take_at s.got (drop (length s.got) old) (length s.got) refl
 
--- from where the head ends on, the rest makes the plan
-pub rest_reads : (bs : List ℕ) (h : Heading Reason) → HeadingTold bs 0 h → (t : Told) (o x : List ℕ) →
+-- from where the head ends on, the rest makes the plan, whatever form is told beside a refusal
+pub rest_makes : (bs : List ℕ) (h : Heading Reason) → IfOk h.head (λ x. x.wide ≡ is_second bs) →
+    HeadRead (form_in bs) bs (head_told h.head) h.numbers → all_bytes bs ≡ true → (t : Told) (o x : List ℕ) →
     RestSays number_of bs (head_told h.head).at h t o x → ReadSays bs t o x × ReadMeans bs t o x
 unfolding RestSays ReadSays read_refusal
-rest_reads bs h head t o x r =
+rest_makes bs h form means are_bytes t o x r =
     let says : ReadSays bs t o x =
     subst (λ (s : Scan). Fills (or_refusal s.fault (room_for (length s.got) (length o))) s.got t o x)
-    (rest_by h.head head.form head.means) r in
-    (says, read_means bs head.are_bytes t o x says)
+    (rest_by h.head form means) r in
+    (says, read_means bs are_bytes t o x says)
+
+-- so of what is told of a heading
+pub rest_reads : (bs : List ℕ) (h : Heading Reason) → HeadingTold bs 0 h → (t : Told) (o x : List ℕ) →
+    RestSays number_of bs (head_told h.head).at h t o x → ReadSays bs t o x × ReadMeans bs t o x
+rest_reads bs h head t o x r =
+    rest_makes bs h (form_of_ok h.head head.form) head.means head.are_bytes t o x r
